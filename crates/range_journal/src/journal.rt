@@ -1,0 +1,189 @@
+//! A journal of accepted versions.
+ghost use Rattle.std.specs.Prelude.{◌≡◌, ◌≤◌, [], length, None, OnOk, OnErr, IfOk, slice_get};
+ghost use Rattle.std.specs.Option.{option_copied};
+ghost use Rattle.vclock.specs.Answer.{Answers};
+ghost use Rattle.range_journal.specs.Log.{IsLog};
+ghost use Rattle.range_journal.specs.Journal.{with_entry, append_fault, reserve_fault, held, NeverCrowded};
+
+use std::alloc::Global;
+use std::marker::Model;
+use vclock::bytes::Bytes;
+use vclock::refusal::Refusal;
+use version_set::set::VersionSet;
+use version_set::version::Version;
+
+/// How a version came to a range.
+#[derive(Clone, Copy, Debug, PartialEq, Eq)]
+pub enum Source {
+    /// A client put it here.
+    Client,
+    /// The node that took a client's put sent a copy.
+    Copy,
+    /// A carrier kept it as a hint while this replica was down.
+    Hint,
+    /// A partner had it in a leaf of its tree.
+    Partner,
+}
+
+/// A version that was accepted.
+#[derive(Debug, Drop)]
+pub struct Entry {
+    /// The entry's place in the journal, from 0.
+    pub number: u64,
+    /// The seat of the caller that brought it.
+    pub seat: u16,
+    /// How it came here.
+    pub source: Source,
+    /// The key, 1 to 255 bytes where a range took it.
+    pub key: Bytes,
+    /// The version.
+    pub version: Version,
+}
+
+/// The accepted versions in order, up to a limit. Entries are never changed, nor taken out.
+#[derive(Debug, Drop)]
+pub struct Journal {
+    entries: Vec<Entry>,
+    limit: u64,
+    room: u64,
+}
+
+impl Model for Journal {
+    ghost use Rattle.range_journal.specs.Log.{Log, IsLog};
+    ghost use Rattle.std.specs.Vec.{vec_capacity};
+    ghost use Rattle.std.specs.Prelude.{◌≤◌, ◌+◌, length};
+
+    ghost Value = { Log };
+
+    ghost view = { λ j. record { entries = j.entries.items; limit = j.limit; room = j.room } };
+
+    ghost invariant = { λ j. IsLog (record { entries = j.entries.items; limit = j.limit; room = j.room }) × (length j.entries.items + j.room ≤ vec_capacity j.entries) };
+}
+
+impl Journal {
+    /// An empty journal of at most so many entries. It takes no memory.
+    pub fn new(alloc: Global, limit: u64) -> Journal
+        ensures { result ≡ record { entries = []; limit = limit; room = 0 } }
+    {
+        Journal {
+            entries: Vec::new(alloc),
+            limit,
+            room: 0,
+        }
+    }
+
+    /// How many entries there are.
+    pub fn len(&self) -> u64
+        ensures count { result ≡ length self.now.entries }
+        ensures valid { IsLog self.now }
+    {
+        self.entries.len() as u64
+    }
+
+    /// How many entries can be added without memory.
+    pub fn room(&self) -> u64
+        ensures { result ≡ self.now.room }
+    {
+        self.room
+    }
+
+    /// The entry of a number, which counts from 0.
+    pub fn get(&self, number: u64) -> Option<&Entry>
+        ensures { option_copied result ≡ slice_get self.now.entries number }
+    {
+        self.entries.get(number as usize)
+    }
+
+    /// Makes room for so many more entries, so that they can be added without memory.
+    ///
+    /// Refused, in order: JournalFull (they would pass the limit), NoMemory. The entries stay, and room is not less.
+    pub fn reserve(&mut self, entries: u64) -> Result<(), Refusal>
+        ensures answers { Answers result (reserve_fault self.old entries) (λ _. entries ≤ self.new.room) }
+        ensures same { self.new.entries ≡ self.old.entries }
+        ensures limit { self.new.limit ≡ self.old.limit }
+        ensures not_less { self.old.room ≤ self.new.room }
+    {
+        let len = self.entries.len() as u64;
+        if entries > self.limit - len {
+            return Err(Refusal::JournalFull);
+        }
+        if entries > self.room {
+            self.entries.reserve(entries as usize)?;
+            self.room = entries;
+        }
+        Ok(())
+    }
+
+    /// Adds an entry at the end, and gives its number.
+    ///
+    /// Refused, in order: JournalFull (the limit is reached), NoMemory. The journal is then as it was.
+    pub fn append(
+        &mut self,
+        seat: u16,
+        source: Source,
+        key: Bytes,
+        version: Version,
+    ) -> Result<u64, Refusal>
+        ensures answers { Answers result (append_fault self.old) (λ number. number ≡ length self.old.entries) }
+        ensures added { OnOk result (self.new ≡ with_entry self.old (record { number = length self.old.entries; seat = seat; source = source; key = key; version = version })) }
+        ensures err { OnErr result (self.new ≡ self.old) }
+    {
+        let number = self.entries.len() as u64;
+        if number >= self.limit {
+            return Err(Refusal::JournalFull);
+        }
+        self.entries.push(Entry {
+            number,
+            seat,
+            source,
+            key,
+            version,
+        })?;
+        self.room = self.room.saturating_sub(1);
+        Ok(number)
+    }
+
+    /// Adds an entry at the end, where there is room, and gives its number. It takes no memory.
+    pub fn append_reserved(
+        &mut self,
+        seat: u16,
+        source: Source,
+        key: Bytes,
+        version: Version,
+    ) -> u64
+        requires { 1 ≤ self.old.room }
+        ensures number { result ≡ length self.old.entries }
+        ensures added { self.new ≡ with_entry self.old (record { number = length self.old.entries; seat = seat; source = source; key = key; version = version }) }
+    {
+        let number = self.entries.len() as u64;
+        self.entries
+            .push(Entry {
+                number,
+                seat,
+                source,
+                key,
+                version,
+            })
+            .unwrap();
+        self.room -= 1;
+        number
+    }
+
+    /// The versions that are held for a key: those accepted that are below no other. They are found by offering the
+    /// accepted ones, in order, to an empty set.
+    ///
+    /// Refused: Crowded, where the entries up to some number hold over 64 versions; NoMemory.
+    pub fn held_set(&self, alloc: Global, key: &[u8]) -> Result<VersionSet, Refusal>
+        ensures held { IfOk result (λ set. set ≡ held self.now.entries key.now) }
+        ensures answers { NeverCrowded self.now.entries key.now
+            → Answers result None (λ set. set ≡ held self.now.entries key.now) }
+    {
+        let mut set = VersionSet::empty(alloc);
+        for entry in &self.entries {
+            if entry.key.as_slice() == key {
+                set.offer(entry.version.try_clone()?)?;
+            }
+        }
+        Ok(set)
+    }
+}

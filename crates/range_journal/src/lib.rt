@@ -1,0 +1,5 @@
+//! The journal of a range: the versions that it accepted, in order.
+#![tactic(auto)]
+
+pub mod journal;
+pub mod laws;

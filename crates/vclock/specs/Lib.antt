@@ -1,0 +1,5 @@
+pub mod Answer
+pub mod Clock
+pub mod Format
+pub mod Keys
+pub mod Refusal

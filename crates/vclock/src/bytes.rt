@@ -1,0 +1,60 @@
+//! Bytes that are kept: a key, a value or a text.
+ghost use Rattle.std.specs.Prelude.{◌≡◌, IfOk};
+ghost use Rattle.vclock.specs.Answer.{Answers};
+ghost use Rattle.std.specs.Prelude.{None};
+
+use crate::refusal::Refusal;
+use std::alloc::Global;
+use std::marker::Model;
+
+/// A list of bytes.
+#[derive(Debug, Drop)]
+pub struct Bytes {
+    bytes: Vec<u8>,
+}
+
+impl Model for Bytes {
+    ghost use Rattle.std.specs.Prelude.{List, ℕ};
+
+    ghost Value = { List ℕ };
+
+    ghost view = { λ b. b.bytes.items };
+}
+
+impl Bytes {
+    /// The bytes of a slice. Refused: NoMemory.
+    pub fn copy_of(alloc: Global, bytes: &[u8]) -> Result<Bytes, Refusal>
+        ensures { Answers result None (λ copy. copy ≡ bytes.now) }
+    {
+        Ok(Bytes {
+            bytes: Vec::from_slice(alloc, bytes)?,
+        })
+    }
+
+    /// Equal bytes. Refused: NoMemory.
+    pub fn try_clone(&self) -> Result<Bytes, Refusal>
+        ensures { Answers result None (λ copy. copy ≡ self.now) }
+    {
+        Ok(Bytes {
+            bytes: self.bytes.clone()?,
+        })
+    }
+
+    /// The bytes in order.
+    pub fn as_slice(&self) -> &[u8]
+        ensures { result.now ≡ self.now }
+    {
+        &self.bytes
+    }
+}
+
+impl From<Vec<u8>> for Bytes {
+    ghost use Rattle.std.specs.Prelude.{◌≡◌};
+
+    ghost from_gives = { λ bytes kept. kept ≡ bytes.items };
+
+    /// The bytes of a vector, which is taken as it is.
+    fn from(bytes: Vec<u8>) -> Bytes {
+        Bytes { bytes }
+    }
+}

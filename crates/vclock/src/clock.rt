@@ -1,0 +1,243 @@
+//! Vector clocks.
+ghost use Rattle.std.specs.Prelude.{◌≡◌, ◌≢◌, ℕ, ◌+◌, ◌<◌, ◌≤◌, ◌^◌, ◌==◌, ◌↔◌, IsTrue, IfOk, OnOk, OnErr, length, false, None, replicate};
+ghost use Rattle.vclock.specs.Clock.{counter, at_most, IsAtMost, IsClock, Pairs, Rises, order_of, with_counter, raised, raise_fault, pairs_fault, has_node, has_repeat, is_bad_pair, clock_of};
+ghost use Rattle.std.specs.List.{list_any};
+ghost use Rattle.vclock.specs.Answer.{Answers};
+
+use crate::refusal::Refusal;
+use std::alloc::{AllocError, Global};
+use std::marker::Model;
+
+/// How many pairs a clock has at the most.
+const MOST_PAIRS: usize = 32;
+
+/// The greatest node number.
+const LAST_NODE: u64 = 65_535;
+
+/// How two clocks lie.
+#[derive(Clone, Copy, Debug, PartialEq, Eq)]
+pub enum ClockOrder {
+    /// Each counter is at most the other's, and the clocks differ.
+    Before,
+    /// Each counter is at least the other's, and the clocks differ.
+    After,
+    /// The same counters.
+    Equal,
+    /// Neither has seen all that the other has.
+    Apart,
+}
+
+/// A vector clock (the paper of 2007, section 4.4): a finite map from nodes, 1 to 65,535, to counters, 1 to 2^64 - 1.
+/// An absent node has the counter 0. There are at most 32 pairs.
+#[derive(Debug, Drop)]
+pub struct Clock {
+    pairs: Vec<(u16, u64)>,
+}
+
+impl Model for Clock {
+    ghost use Rattle.vclock.specs.Clock.{Pairs, IsClock};
+
+    ghost Value = { Pairs };
+
+    ghost view = { λ c. c.pairs.items };
+
+    ghost invariant = { λ c. IsClock c.pairs.items };
+}
+
+impl Clock {
+    /// The clock of pairs of node and counter, in any order.
+    ///
+    /// Refused, in order: BadClock (node 0 or over 65,535, counter 0, or a node twice), ClockFull (over 32 pairs),
+    /// NoMemory. It takes time in proportion to the pairs.
+    pub fn from_pairs(alloc: Global, pairs: &[(u64, u64)]) -> Result<Clock, Refusal>
+        ensures answers { Answers result (pairs_fault pairs.now) (λ c. c ≡ clock_of pairs.now) }
+        ensures counters { IfOk result (λ c. (n : ℕ) → counter c n ≡ counter pairs.now n) }
+    {
+        if has_bad_pair(pairs) || has_repeat(pairs) {
+            return Err(Refusal::BadClock);
+        }
+        if pairs.len() > MOST_PAIRS {
+            return Err(Refusal::ClockFull);
+        }
+        let mut kept = Vec::with_capacity(alloc, pairs.len())?;
+        for i in (0..pairs.len()).rev() {
+            let (node, counter) = pairs[i];
+            put(&mut kept, node as u16, counter)?;
+        }
+        Ok(Clock { pairs: kept })
+    }
+
+    /// The clock with the counter of a node, 1 to 65,535, raised by one.
+    ///
+    /// Refused, in order: ClockFull (a 33rd pair), CounterFull (the counter is 2^64 - 1), NoMemory.
+    pub fn raise(&self, alloc: Global, node: u16) -> Result<Clock, Refusal>
+        requires { 1 ≤ node }
+        ensures answers { Answers result (raise_fault self.now node) (λ c. c ≡ raised self.now node) }
+        ensures raises { IfOk result (λ c. counter c node ≡ counter self.now node + 1) }
+        ensures others { IfOk result (λ c. (n : ℕ) → n ≢ node → counter c n ≡ counter self.now n) }
+    {
+        let counter = self.get(node);
+        if (counter == 0) & (self.pairs.len() >= MOST_PAIRS) {
+            return Err(Refusal::ClockFull);
+        }
+        if counter == u64::MAX {
+            return Err(Refusal::CounterFull);
+        }
+        let mut pairs = copy_with_room(alloc, &self.pairs)?;
+        put(&mut pairs, node, counter + 1)?;
+        Ok(Clock { pairs })
+    }
+
+    /// The pairs of node and counter, by rising node.
+    pub fn pairs(&self) -> &[(u16, u64)]
+        ensures all { result.now ≡ self.now }
+        ensures valid { IsClock self.now }
+    {
+        &self.pairs
+    }
+
+    /// The counter of a node, 0 where the node is absent.
+    pub fn get(&self, node: u16) -> u64
+        ensures { result ≡ counter self.now node }
+    {
+        for &(n, counter) in &self.pairs {
+            if n == node {
+                return counter;
+            }
+        }
+        0
+    }
+
+    /// An equal clock. Refused: NoMemory.
+    pub fn try_clone(&self) -> Result<Clock, Refusal>
+        ensures { Answers result None (λ copy. copy ≡ self.now) }
+    {
+        Ok(Clock {
+            pairs: self.pairs.clone()?,
+        })
+    }
+
+    /// How the clock lies to another, by the counters of all nodes.
+    #[tactic(auto, using(crate::proofs::CompareRules::compare_rules))]
+    pub fn compare(&self, other: &Clock) -> ClockOrder
+        ensures order { result ≡ order_of (at_most self.now other.now) (at_most other.now self.now) }
+        ensures at_most { IsTrue (at_most self.now other.now) ↔ IsAtMost self.now other.now }
+        ensures at_least { IsTrue (at_most other.now self.now) ↔ IsAtMost other.now self.now }
+        ensures equal { (result ≡ ClockOrder.Equal) ↔ (self.now ≡ other.now) }
+    {
+        match walk(&self.pairs, &other.pairs) {
+            (true, true) => ClockOrder::Equal,
+            (true, false) => ClockOrder::Before,
+            (false, true) => ClockOrder::After,
+            (false, false) => ClockOrder::Apart,
+        }
+    }
+}
+
+// Whether each counter of the first is at most the second's, and the other way round.
+fn walk(a: &[(u16, u64)], b: &[(u16, u64)]) -> (bool, bool)
+    requires first { Rises 0 a.now }
+    requires second { Rises 0 b.now }
+    ensures at_most { result.0 ≡ at_most a.now b.now }
+    ensures at_least { result.1 ≡ at_most b.now a.now }
+{
+    let (mut le, mut ge) = (true, true);
+    let (mut i, mut j) = (0, 0);
+    while i < a.len() && j < b.len() {
+        let (m, c) = a[i];
+        let (n, d) = b[j];
+        if m < n {
+            le = false;
+            i += 1;
+        } else if n < m {
+            ge = false;
+            j += 1;
+        } else {
+            le = le & (c <= d);
+            ge = ge & (d <= c);
+            i += 1;
+            j += 1;
+        }
+    }
+    (le & (i == a.len()), ge & (j == b.len()))
+}
+
+// The same pairs, with room for one more.
+fn copy_with_room(alloc: Global, pairs: &[(u16, u64)]) -> Result<Vec<(u16, u64)>, AllocError>
+    ensures { IfOk result (λ copy. copy.items ≡ pairs.now) }
+{
+    let mut copy = Vec::with_capacity(alloc, pairs.len() + 1)?;
+    copy.extend_from_slice(pairs)?;
+    Ok(copy)
+}
+
+// Sets the counter of a node.
+fn put(pairs: &mut Vec<(u16, u64)>, node: u16, counter: u64) -> Result<(), AllocError>
+    ensures ok { OnOk result (pairs.new.items ≡ with_counter pairs.old.items node counter) }
+    ensures err { OnErr result (pairs.new.items ≡ pairs.old.items) }
+{
+    let mut i = 0;
+    while i < pairs.len() && pairs[i].0 < node {
+        i += 1;
+    }
+    if i < pairs.len() && pairs[i].0 == node {
+        pairs[i] = (node, counter);
+        return Ok(());
+    }
+    pairs.insert(i, (node, counter))?;
+    Ok(())
+}
+
+// Whether some pair is none of a clock.
+fn has_bad_pair(pairs: &[(u64, u64)]) -> bool
+    ensures { result ≡ list_any is_bad_pair pairs.now }
+{
+    pairs
+        .iter()
+        .any(|pair| pair.0 == 0 || pair.0 > LAST_NODE || pair.1 == 0)
+}
+
+// Whether some node comes twice. Few pairs are compared with one another; for more, a table says which nodes came.
+fn has_repeat(pairs: &[(u64, u64)]) -> bool
+    requires { list_any is_bad_pair pairs.now ≡ false }
+    ensures { result ≡ has_repeat pairs.now }
+{
+    if pairs.len() <= MOST_PAIRS {
+        return has_repeat_among_few(pairs);
+    }
+    let mut seen = [false; 65_536];
+    has_repeat_by_table(pairs, &mut seen)
+}
+
+fn has_repeat_among_few(pairs: &[(u64, u64)]) -> bool
+    ensures { result ≡ has_repeat pairs.now }
+{
+    for i in 0..pairs.len() {
+        if contains_node(&pairs[i + 1..], pairs[i].0) {
+            return true;
+        }
+    }
+    false
+}
+
+fn contains_node(pairs: &[(u64, u64)], node: u64) -> bool
+    ensures { result ≡ has_node pairs.now node }
+{
+    pairs.iter().any(|pair| pair.0 == node)
+}
+
+// The same by a table of the nodes that came, which is empty at first.
+fn has_repeat_by_table(pairs: &[(u64, u64)], seen: &mut [bool]) -> bool
+    requires good { list_any is_bad_pair pairs.now ≡ false }
+    requires empty { seen.old ≡ replicate 65536 false }
+    ensures { result ≡ has_repeat pairs.now }
+{
+    for pair in pairs {
+        let node = pair.0 as usize;
+        if seen[node] {
+            return true;
+        }
+        seen[node] = true;
+    }
+    false
+}

@@ -1,0 +1,25 @@
+//! The two formats of rows, trees and messages.
+
+/// A format: what rows, trees and messages look like, and how long a value may be.
+#[derive(Clone, Copy, Debug, PartialEq, Eq)]
+pub enum Format {
+    /// Live versions alone, and a tree of depth 2 with 256 leaves.
+    One,
+    /// Tombstones too, longer values, and a tree of depth 3 with 4,096 leaves.
+    Two,
+}
+
+impl Format {
+    ghost use Rattle.std.specs.Prelude.{◌≡◌};
+    ghost use Rattle.vclock.specs.Format.{value_limit};
+
+    /// How many bytes a value has at the most: 4,096, or 65,536 in format 2.
+    pub fn value_limit(self) -> usize
+        ensures { result ≡ value_limit self }
+    {
+        match self {
+            Format::One => 4_096,
+            Format::Two => 65_536,
+        }
+    }
+}

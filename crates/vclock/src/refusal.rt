@@ -1,0 +1,264 @@
+//! Why a call was refused.
+ghost use Rattle.std.specs.Prelude.{◌≡◌, [], ◌∷◌, ◌++◌, OnOk, OnErr};
+
+use crate::clock::Clock;
+use std::alloc::{AllocError, AllocFailed, Global};
+use std::error::Error;
+use std::fmt;
+use std::marker::Model;
+
+/// Clocks in a list.
+#[derive(Debug, Drop)]
+pub struct Clocks {
+    clocks: Vec<Clock>,
+}
+
+impl Model for Clocks {
+    ghost use Rattle.std.specs.Prelude.{List, ℕ};
+
+    ghost Value = { List (List (ℕ × ℕ)) };
+
+    ghost view = { λ c. c.clocks.items };
+}
+
+impl Clocks {
+    /// A list of no clock. It takes no memory.
+    pub fn new(alloc: Global) -> Clocks
+        ensures { result ≡ [] }
+    {
+        Clocks {
+            clocks: Vec::new(alloc),
+        }
+    }
+
+    /// Adds a clock at the end.
+    pub fn push(&mut self, clock: Clock) -> Result<(), AllocError>
+        ensures ok { OnOk result (self.new ≡ self.old ++ clock ∷ []) }
+        ensures err { OnErr result (self.new ≡ self.old) }
+    {
+        self.clocks.push(clock)?;
+        Ok(())
+    }
+
+    /// The clocks in order.
+    pub fn as_slice(&self) -> &[Clock]
+        ensures { result.now ≡ self.now }
+    {
+        &self.clocks
+    }
+}
+
+/// What a caller's pass and a journal differ in.
+#[derive(Clone, Copy, Debug, PartialEq, Eq)]
+pub enum PassPart {
+    /// What the caller was told that the journal has.
+    Receipt,
+    /// What the caller was told that a key holds.
+    Reading,
+}
+
+/// Why a call was refused, in the order of the numbers that scripts print.
+///
+/// A call tests its causes in the order that its own page lists, answers the first that is present, and leaves its
+/// value as it was.
+#[derive(Debug, Drop)]
+pub enum Refusal {
+    /// A pair has node 0, a node over 65,535 or counter 0, or a node comes twice.
+    BadClock,
+    /// The clock would have more than 32 pairs.
+    ClockFull,
+    /// The counter to raise is 2^64 - 1.
+    CounterFull,
+    /// The key's length is not 1 to 255 bytes.
+    BadKey,
+    /// The value is too long for the format, or a tombstone stands where none may.
+    BadValue,
+    /// Some held version has seen the put's clock: the clocks that are held, in the order of the set.
+    StaleContext(Clocks),
+    /// A key's set would have over 64 versions.
+    Crowded,
+    /// The entries would not fit the journal's limit.
+    JournalFull,
+    /// The key, offer or command is of a range that is not held here.
+    OtherRange,
+    /// Some node of the tree has no digest.
+    Dirty,
+    /// The node is not in the tree, a child of it is dirty, or its text differs now.
+    Stale,
+    /// No record has this id.
+    UnknownSession,
+    /// The node is not outstanding.
+    NotAsked,
+    /// The text's digest is not the expected one.
+    WrongDigest,
+    /// The digest is right, and the text is no node text of that node.
+    NotCanonical,
+    /// The offer's format is not the range's.
+    OtherFormat,
+    /// There are 64 open sessions or 1,024 records, or the last offer number was used.
+    SessionsFull,
+    /// No slot is free.
+    NoSlot,
+    /// A moment before the greatest accepted one.
+    ClockBack,
+    /// No pending hint has this id with this owner, key and version.
+    UnknownHint,
+    /// 10,000 hints are pending, or the last id was used.
+    HintsFull,
+    /// The pool has no such offer.
+    Gone,
+    /// The journal is shorter than what the caller saw, or a receipt of the caller is not covered.
+    Behind {
+        /// The length of the journal that the caller saw.
+        seen: u64,
+        /// The length of the journal now.
+        held: u64,
+        /// The number of the receipt that is not covered.
+        missing: Option<u64>,
+    },
+    /// The first place where a caller's pass and the journal differ.
+    Unsettled {
+        /// The seat of the pass.
+        seat: u16,
+        /// Whether a receipt or a reading differs.
+        part: PassPart,
+        /// Which of them, from 0.
+        place: u64,
+    },
+    /// A seat is missing at the close, or the owner of a hint is not the range's node.
+    Stranger,
+    /// The link failed in this call.
+    LinkLost,
+    /// The ring or the journal's limit is outside the limits, a node comes twice, or a named node is not on the ring.
+    BadRing,
+    /// A named node is down.
+    Down,
+    /// A script line is no command.
+    BadLine,
+    /// A row's text is broken: the offset of the first byte of the field that is wrong.
+    RowBroken(u64),
+    /// No message, one of another kind than is awaited, or a node that the tree has not.
+    BadMessage,
+    /// A growth was refused.
+    NoMemory,
+}
+
+impl Refusal {
+    ghost use Rattle.vclock.specs.Refusal.{number_of, name_of};
+
+    /// The number that scripts print, 1 to 32.
+    pub fn number(&self) -> u64
+        ensures { result ≡ number_of self.now }
+    {
+        match self {
+            Refusal::BadClock => 1,
+            Refusal::ClockFull => 2,
+            Refusal::CounterFull => 3,
+            Refusal::BadKey => 4,
+            Refusal::BadValue => 5,
+            Refusal::StaleContext(_) => 6,
+            Refusal::Crowded => 7,
+            Refusal::JournalFull => 8,
+            Refusal::OtherRange => 9,
+            Refusal::Dirty => 10,
+            Refusal::Stale => 11,
+            Refusal::UnknownSession => 12,
+            Refusal::NotAsked => 13,
+            Refusal::WrongDigest => 14,
+            Refusal::NotCanonical => 15,
+            Refusal::OtherFormat => 16,
+            Refusal::SessionsFull => 17,
+            Refusal::NoSlot => 18,
+            Refusal::ClockBack => 19,
+            Refusal::UnknownHint => 20,
+            Refusal::HintsFull => 21,
+            Refusal::Gone => 22,
+            Refusal::Behind { .. } => 23,
+            Refusal::Unsettled { .. } => 24,
+            Refusal::Stranger => 25,
+            Refusal::LinkLost => 26,
+            Refusal::BadRing => 27,
+            Refusal::Down => 28,
+            Refusal::BadLine => 29,
+            Refusal::RowBroken(_) => 30,
+            Refusal::BadMessage => 31,
+            Refusal::NoMemory => 32,
+        }
+    }
+
+    /// The name that scripts print.
+    pub fn name(&self) -> &'static str
+        ensures { result.now ≡ name_of self.now }
+    {
+        match self {
+            Refusal::BadClock => "BadClock",
+            Refusal::ClockFull => "ClockFull",
+            Refusal::CounterFull => "CounterFull",
+            Refusal::BadKey => "BadKey",
+            Refusal::BadValue => "BadValue",
+            Refusal::StaleContext(_) => "StaleContext",
+            Refusal::Crowded => "Crowded",
+            Refusal::JournalFull => "JournalFull",
+            Refusal::OtherRange => "OtherRange",
+            Refusal::Dirty => "Dirty",
+            Refusal::Stale => "Stale",
+            Refusal::UnknownSession => "UnknownSession",
+            Refusal::NotAsked => "NotAsked",
+            Refusal::WrongDigest => "WrongDigest",
+            Refusal::NotCanonical => "NotCanonical",
+            Refusal::OtherFormat => "OtherFormat",
+            Refusal::SessionsFull => "SessionsFull",
+            Refusal::NoSlot => "NoSlot",
+            Refusal::ClockBack => "ClockBack",
+            Refusal::UnknownHint => "UnknownHint",
+            Refusal::HintsFull => "HintsFull",
+            Refusal::Gone => "Gone",
+            Refusal::Behind { .. } => "Behind",
+            Refusal::Unsettled { .. } => "Unsettled",
+            Refusal::Stranger => "Stranger",
+            Refusal::LinkLost => "LinkLost",
+            Refusal::BadRing => "BadRing",
+            Refusal::Down => "Down",
+            Refusal::BadLine => "BadLine",
+            Refusal::RowBroken(_) => "RowBroken",
+            Refusal::BadMessage => "BadMessage",
+            Refusal::NoMemory => "NoMemory",
+        }
+    }
+}
+
+impl fmt::Display for Refusal {
+    ghost use Rattle.std.specs.Prelude.{Some};
+    ghost use Rattle.vclock.specs.Refusal.{name_of};
+
+    ghost output = { λ r. Some (name_of r) };
+
+    fn fmt<W: fmt::Write>(&self, f: &mut fmt::Formatter<W>) -> fmt::Result {
+        let name = self.name();
+        write!(f, "{name}")
+    }
+}
+
+impl Error for Refusal {}
+
+impl From<AllocError> for Refusal {
+    ghost use Rattle.std.specs.Prelude.{◌≡◌};
+    ghost use Rattle.vclock.specs.declared.refusal.Refusal.TheVariants.{NoMemory};
+
+    ghost from_gives = { λ _ e. e ≡ NoMemory };
+
+    fn from(_e: AllocError) -> Refusal {
+        Refusal::NoMemory
+    }
+}
+
+impl<T: Drop> From<AllocFailed<T>> for Refusal {
+    ghost use Rattle.std.specs.Prelude.{◌≡◌};
+    ghost use Rattle.vclock.specs.declared.refusal.Refusal.TheVariants.{NoMemory};
+
+    ghost from_gives = { λ _ e. e ≡ NoMemory };
+
+    fn from(_e: AllocFailed<T>) -> Refusal {
+        Refusal::NoMemory
+    }
+}

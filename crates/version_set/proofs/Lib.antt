@@ -1,0 +1,3 @@
+pub mod SetLaws
+pub mod TextOrder
+pub mod OfferLemmas

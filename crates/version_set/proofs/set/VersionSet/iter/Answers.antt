@@ -1,0 +1,14 @@
+use Rattle.std.proofs.Common.{◌≡◌, subst}
+use Rattle.version_set.specs.Version.{IsVersionSet}
+use Rattle.version_set.proofs.SetLaws.{none-is_below}
+use Rattle.version_set.proofs.TextOrder.{ascends_by_text, ascends_by_live_text}
+use Rattle.version_set.proofs.set.VersionSet.iter.Goals as goal
+
+pub returns-clause-apart : goal.returns-clause-apart
+returns-clause-apart c = none-is_below c.args.self.now (subst IsVersionSet c.self.view_is c.self.invariant)
+
+pub returns-clause-text : goal.returns-clause-text
+returns-clause-text c texts = ascends_by_text c.args.self.now (subst IsVersionSet c.self.view_is c.self.invariant).ascending texts
+
+pub returns-clause-live : goal.returns-clause-live
+returns-clause-live c texts live = ascends_by_live_text c.args.self.now (subst IsVersionSet c.self.view_is c.self.invariant).ascending texts live

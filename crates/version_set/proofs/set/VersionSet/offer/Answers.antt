@@ -1,0 +1,46 @@
+use Rattle.std.proofs.Common.{◌≡◌, ◌≤◌, ◌<◌, ◌+◌, false, not, filter, length, None, Some, sym, subst, ◌∙◌, arith, refl, inl, inr, List}
+use Rattle.std.proofs.lemmas.Bool.{lt-ltb, le-ltb, both_ways}
+use Rattle.version_set.proofs.OfferLemmas.{Made, made, crowded, not_crowded}
+use Rattle.std.proofs.lemmas.Result.{err_from_is_err_and}
+use Rattle.version_set.specs.declared.version.Version.{Version}
+use Rattle.version_set.specs.Version.{is_below, covered, with_version, offered, offer_fault, IsVersionSet}
+use Rattle.vclock.specs.Clock.{IsClock}
+use Rattle.vclock.specs.declared.refusal.Refusal.TheVariants.{Crowded}
+use Rattle.version_set.proofs.set.VersionSet.offer.Goals as goal
+
+made_here : (c : goal.After-insert) → Made c.args.version c.args.self.now c.insert.new.versions.items
+made_here c =
+    let set = subst IsVersionSet c.self.view_is c.self.invariant in
+    let f : covered c.args.version c.args.self.now ≡ false = cc (c.is_covered.ensures, c.deref.ensures.value, c.self.view_is, c.if-is_covered.false) in
+    let room : length (filter (λ w. not (is_below w c.args.version)) c.args.self.now) < 64 =
+    let n : length (filter (λ w. not (is_below w c.args.version)) c.args.self.now) ≡ c.count_kept.result = cc (c.count_kept.ensures, c.deref-2.ensures.value, c.self.view_is) in
+    omega (arith, n, c.if-count_kept-ge-MOST_VERSIONS.false) in
+    let e : c.insert.new.versions.items ≡ with_version c.args.version (filter (λ w. not (is_below w c.args.version)) c.args.self.now) = cc (c.insert.ensures, c.drop_below.ensures.kept, c.in_ok-reserve.ensures.items, c.self.view_is) in
+    made c.args.version c.args.self.now c.insert.new.versions.items c.pairs-valid.ensures.valid set f room e
+
+pub returns-then-count_kept-ge-MOST_VERSIONS-clause-answers : goal.returns-then-count_kept-ge-MOST_VERSIONS-clause-answers
+returns-then-count_kept-ge-MOST_VERSIONS-clause-answers c =
+    let set = subst IsVersionSet c.self.view_is c.self.invariant in
+    let f : covered c.args.version c.args.self.now ≡ false = cc (c.is_covered.ensures, c.deref.ensures.value, c.self.view_is, c.if-is_covered.false) in
+    let n : length (filter (λ w. not (is_below w c.args.version)) c.args.self.now) ≡ c.count_kept.result = cc (c.count_kept.ensures, c.deref-2.ensures.value, c.self.view_is) in
+    inr (crowded c.args.version c.args.self.now set f (omega (arith, n, c.if-count_kept-ge-MOST_VERSIONS.true)))
+
+is_new : (c : goal.After-insert) → covered c.args.version c.args.self.now ≡ false
+is_new c = cc (c.is_covered.ensures, c.deref.ensures.value, c.self.view_is, c.if-is_covered.false)
+
+pub returns-clause-set : goal.returns-clause-set
+returns-clause-set c = (made_here c).is
+
+pub invariant_of-self-2 : goal.invariant_of-self-2
+invariant_of-self-2 c = (made_here c).set
+
+pub returns-clause-answers : goal.returns-clause-answers
+returns-clause-answers c = ((made_here c).none, ((λ e. cc), (λ t. absurd (both_ways _ (is_new c) t))))
+
+pub returns-in_err-reserve-clause-answers : goal.returns-in_err-reserve-clause-answers
+returns-in_err-reserve-clause-answers c =
+    let set = subst IsVersionSet c.self.view_is c.self.invariant in
+    let f : covered c.args.version c.args.self.now ≡ false = cc (c.is_covered.ensures, c.deref.ensures.value, c.self.view_is, c.if-is_covered.false) in
+    let n : length (filter (λ w. not (is_below w c.args.version)) c.args.self.now) ≡ c.count_kept.result = cc (c.count_kept.ensures, c.deref-2.ensures.value, c.self.view_is) in
+    let p = err_from_is_err_and c.from_residual.result c.from_residual.ensures.1 in
+    rw (p.1, p.2) (inl (not_crowded c.args.version c.args.self.now set f (omega (arith, n, c.if-count_kept-ge-MOST_VERSIONS.false)), refl))

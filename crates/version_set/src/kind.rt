@@ -1,0 +1,41 @@
+//! The kinds of versions.
+ghost use Rattle.std.specs.Prelude.{◌≡◌, ⊤};
+ghost use Rattle.vclock.specs.Answer.{AnswersAtOnce};
+ghost use Rattle.version_set.specs.Kind.{kind_byte, value_fault};
+
+use vclock::format::Format;
+use vclock::refusal::Refusal;
+
+/// Whether a version has a value or says that there is none.
+#[derive(Clone, Copy, Debug, PartialEq, Eq)]
+pub enum Kind {
+    /// A value that was put.
+    Live,
+    /// A key that was deleted: its value is empty. Format 1 has none.
+    Tombstone,
+}
+
+impl Kind {
+    /// The byte that stands for the kind in texts: 0 for a live version, 1 for a tombstone.
+    pub fn byte(self) -> u8
+        ensures { result ≡ kind_byte self }
+    {
+        match self {
+            Kind::Live => 0,
+            Kind::Tombstone => 1,
+        }
+    }
+
+    /// Whether a version of this kind may have the value: a live one up to the format's limit, a tombstone of
+    /// format 2 the empty one. Refused: BadValue.
+    pub fn check_value(self, format: Format, value: &[u8]) -> Result<(), Refusal>
+        ensures { AnswersAtOnce result (value_fault format self value.now) (λ _. ⊤) }
+    {
+        let fits = match (self, format) {
+            (Kind::Live, _) => value.len() <= format.value_limit(),
+            (Kind::Tombstone, Format::One) => false,
+            (Kind::Tombstone, Format::Two) => value.is_empty(),
+        };
+        if fits { Ok(()) } else { Err(Refusal::BadValue) }
+    }
+}

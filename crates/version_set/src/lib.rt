@@ -1,0 +1,6 @@
+//! Versions, and sets of versions of which none is below another.
+#![tactic(auto)]
+
+pub mod kind;
+pub mod set;
+pub mod version;

@@ -1,0 +1,258 @@
+//! Sets of versions.
+ghost use Rattle.std.specs.Prelude.{◌≡◌, ◌≢◌, ◌<◌, ◌≤◌, ◌+◌, ◌↔◌, ◌||◌, [], not, filter, map, length, None, Some, IfOk, IfErr, OnOk, OnErr, IsTrue, if◌then◌else◌};
+ghost use Rattle.std.specs.List.{AllByRecursion};
+ghost use Rattle.std.specs.Slice.Iter.{iter_rest};
+ghost use Rattle.std.specs.Vec.{vec_len, vec_capacity};
+ghost use Rattle.vclock.specs.Answer.{Answers};
+ghost use Rattle.version_set.specs.Version.{is_below, is_same, covered, IsCovered, with_version, offered, offer_fault, IsVersionSet, NoneIsBelow, AscendsBy, HasText, IsLive, text_cmp};
+
+use crate::version::Version;
+use std::alloc::Global;
+use std::cmp::Ordering;
+use std::marker::Model;
+use std::slice::Iter;
+use vclock::format::Format;
+use vclock::refusal::{Clocks, Refusal};
+
+/// How many versions a set has at the most.
+const MOST_VERSIONS: usize = 64;
+
+/// Whether an offered version was new to the set.
+#[derive(Clone, Copy, Debug, PartialEq, Eq)]
+pub enum Offered {
+    /// The version is a member now.
+    Added,
+    /// The version was a member or below one: the set is as it was.
+    Known,
+}
+
+/// The maximal ones of some versions: none is below another, at most 64, in ascending order of their texts.
+#[derive(Debug, Drop)]
+pub struct VersionSet {
+    versions: Vec<Version>,
+}
+
+impl Model for VersionSet {
+    ghost use Rattle.std.specs.Prelude.{List};
+    ghost use Rattle.version_set.specs.declared.version.Version.{Version};
+    ghost use Rattle.version_set.specs.Version.{IsVersionSet};
+
+    ghost Value = { List Version };
+
+    ghost view = { λ s. s.versions.items };
+
+    ghost invariant = { λ s. IsVersionSet s.versions.items };
+}
+
+impl VersionSet {
+    /// The set with no member. It takes no memory.
+    pub fn empty(alloc: Global) -> VersionSet
+        ensures { result ≡ [] }
+    {
+        VersionSet {
+            versions: Vec::new(alloc),
+        }
+    }
+
+    /// The members, in ascending order of their texts, none below another.
+    pub fn iter(&self) -> Iter<'_, Version>
+        ensures all { iter_rest result ≡ self.now }
+        ensures valid { IsVersionSet self.now }
+        ensures apart { NoneIsBelow self.now }
+        ensures text { AllByRecursion HasText self.now → AscendsBy (text_cmp Format.Two) self.now }
+        ensures live { AllByRecursion HasText self.now → AllByRecursion IsLive self.now
+            → AscendsBy (text_cmp Format.One) self.now }
+    {
+        self.versions.iter()
+    }
+
+    /// The members in the same order, as a slice.
+    pub fn as_slice(&self) -> &[Version]
+        ensures all { result.now ≡ self.now }
+        ensures valid { IsVersionSet self.now }
+    {
+        &self.versions
+    }
+
+    /// How many members there are, at most 64.
+    pub fn len(&self) -> usize
+        ensures { result ≡ length self.now }
+    {
+        self.versions.len()
+    }
+
+    /// Whether there is no member.
+    pub fn is_empty(&self) -> bool
+        ensures { IsTrue result ↔ (self.now ≡ []) }
+    {
+        self.versions.is_empty()
+    }
+
+    /// An equal set. Refused: NoMemory.
+    pub fn try_clone(&self, alloc: Global) -> Result<VersionSet, Refusal>
+        ensures { Answers result None (λ copy. copy ≡ self.now) }
+    {
+        let mut versions = Vec::new(alloc);
+        for version in &self.versions {
+            versions.push(version.try_clone()?)?;
+        }
+        Ok(VersionSet { versions })
+    }
+
+    /// The clocks of the members, in order: one for each member. Refused: NoMemory.
+    pub fn clocks(&self, alloc: Global) -> Result<Clocks, Refusal>
+        ensures { Answers result None (λ clocks. clocks ≡ map (λ v. v.clock) self.now) }
+    {
+        let mut clocks = Clocks::new(alloc);
+        for version in &self.versions {
+            clocks.push(version.clock.try_clone()?)?;
+        }
+        Ok(clocks)
+    }
+
+    /// Whether the version is a member or below one.
+    pub fn covers(&self, version: &Version) -> bool
+        ensures test { result ≡ covered version.now self.now }
+        ensures fact { IsTrue result ↔ IsCovered version.now self.now }
+    {
+        let _valid = version.clock.pairs();
+        is_covered(&self.versions, version)
+    }
+
+    /// Whether an offer of the version is refused as Crowded: the set would have over 64 members.
+    pub fn crowds(&self, version: &Version) -> bool
+        ensures { offer_fault version.now self.now ≡ (if result then Some Refusal.Crowded else None) }
+    {
+        if is_covered(&self.versions, version) {
+            return false;
+        }
+        count_kept(&self.versions, version) >= MOST_VERSIONS
+    }
+
+    /// The set with room for one more version, so that an offer needs no memory: for calls that make room in several
+    /// places before they change one. Refused: NoMemory, and then the set is handed back.
+    pub fn with_room(self) -> Result<RoomySet, SetWithoutRoom>
+        ensures ok { IfOk result (λ roomy. roomy ≡ self) }
+        ensures err { IfErr result (λ failed. failed.set ≡ self) }
+    {
+        let VersionSet { mut versions } = self;
+        match versions.reserve(1) {
+            Ok(()) => Ok(RoomySet { versions }),
+            Err(_) => Err(SetWithoutRoom {
+                set: VersionSet { versions },
+            }),
+        }
+    }
+
+    /// Takes a version into the set, unless it is covered: then the members below it leave.
+    ///
+    /// Refused, in order: Crowded (the set would have over 64 members), NoMemory. The set is then as it was.
+    pub fn offer(&mut self, version: Version) -> Result<Offered, Refusal>
+        ensures answers { Answers result (offer_fault version self.old) (λ offered. (offered ≡ Offered.Known) ↔ IsTrue (covered version self.old)) }
+        ensures set { OnOk result (self.new ≡ offered version self.old) }
+        ensures err { OnErr result (self.new ≡ self.old) }
+    {
+        let _valid = version.clock.pairs();
+        if is_covered(&self.versions, &version) {
+            return Ok(Offered::Known);
+        }
+        if count_kept(&self.versions, &version) >= MOST_VERSIONS {
+            return Err(Refusal::Crowded);
+        }
+        self.versions.reserve(1)?;
+        drop_below(&mut self.versions, &version);
+        insert(&mut self.versions, version);
+        Ok(Offered::Added)
+    }
+}
+
+/// A set that has room for one more version.
+#[derive(Debug, Drop)]
+pub struct RoomySet {
+    versions: Vec<Version>,
+}
+
+impl Model for RoomySet {
+    ghost use Rattle.std.specs.Prelude.{List, ◌<◌};
+    ghost use Rattle.std.specs.Vec.{vec_len, vec_capacity};
+    ghost use Rattle.version_set.specs.declared.version.Version.{Version};
+    ghost use Rattle.version_set.specs.Version.{IsVersionSet};
+
+    ghost Value = { List Version };
+
+    ghost view = { λ s. s.versions.items };
+
+    ghost invariant = { λ s. IsVersionSet s.versions.items × (vec_len s.versions < vec_capacity s.versions) };
+}
+
+impl RoomySet {
+    /// Takes a version into the set, unless it is covered: then the members below it leave. It takes no memory.
+    pub fn offer(self, version: Version) -> VersionSet
+        requires { offer_fault version self ≡ None }
+        ensures { result ≡ offered version self }
+    {
+        let _valid = version.clock.pairs();
+        let RoomySet { mut versions } = self;
+        if is_covered(&versions, &version) {
+            return VersionSet { versions };
+        }
+        drop_below(&mut versions, &version);
+        insert(&mut versions, version);
+        VersionSet { versions }
+    }
+}
+
+/// Room was refused to a set, which is as it was.
+#[derive(Debug, Drop)]
+pub struct SetWithoutRoom {
+    /// The set.
+    pub set: VersionSet,
+}
+
+fn is_covered(versions: &[Version], version: &Version) -> bool
+    ensures { result ≡ covered version.now versions.now }
+{
+    versions.iter().any(|held| is_covered_by(version, held))
+}
+
+// Whether a version is the held one or below it.
+fn is_covered_by(version: &Version, held: &Version) -> bool
+    ensures { result ≡ (is_same version.now held.now || is_below version.now held.now) }
+{
+    version.text_order(held) == Ordering::Equal || version.is_below(held)
+}
+
+// How many are not below the version.
+fn count_kept(versions: &[Version], version: &Version) -> usize
+    ensures { result ≡ length (filter (λ w. not (is_below w version.now)) versions.now) }
+{
+    versions
+        .iter()
+        .filter(|held| !held.is_below(version))
+        .count()
+}
+
+// Keeps those that are not below the version.
+fn drop_below(versions: &mut Vec<Version>, version: &Version)
+    ensures kept { versions.new.items ≡ filter (λ w. not (is_below w version.now)) versions.old.items }
+    ensures room { vec_capacity versions.new ≡ vec_capacity versions.old }
+    ensures bound { vec_len versions.new ≤ vec_len versions.old }
+{
+    versions.retain(|held| !held.is_below(version));
+}
+
+// Puts a version into its place, where no version has its text.
+fn insert(versions: &mut Vec<Version>, version: Version)
+    requires { vec_len versions.old < vec_capacity versions.old }
+    ensures { versions.new.items ≡ with_version version versions.old.items }
+{
+    let mut i = 0;
+    while i < versions.len() {
+        match version.text_order(&versions[i]) {
+            Ordering::Less => break,
+            Ordering::Equal => return,
+            Ordering::Greater => i += 1,
+        }
+    }
+    versions.insert(i, version).unwrap();
+}

@@ -1,0 +1,67 @@
+//! Versions.
+ghost use Rattle.std.specs.Prelude.{◌≡◌, ◌↔◌, IsTrue, None};
+ghost use Rattle.vclock.specs.Answer.{Answers};
+ghost use Rattle.version_set.specs.Version.{is_below, IsBelow, version_cmp, text_cmp, HasText, IsLive};
+
+use crate::kind::Kind;
+use std::cmp::Ordering;
+use vclock::bytes::Bytes;
+use vclock::clock::{Clock, ClockOrder};
+use vclock::format::Format;
+use vclock::refusal::Refusal;
+
+/// A value or a tombstone, with the clock under which it was put.
+#[derive(Debug, Drop)]
+pub struct Version {
+    /// What the version has seen.
+    pub clock: Clock,
+    /// Whether there is a value.
+    pub kind: Kind,
+    /// The value, which is empty for a tombstone.
+    pub value: Bytes,
+}
+
+impl Version {
+    /// An equal version. Refused: NoMemory.
+    pub fn try_clone(&self) -> Result<Version, Refusal>
+        ensures { Answers result None (λ copy. copy ≡ self.now) }
+    {
+        Ok(Version {
+            clock: self.clock.try_clone()?,
+            kind: self.kind,
+            value: self.value.try_clone()?,
+        })
+    }
+
+    /// Whether the other's clock is later: each counter is at most the other's, and the clocks differ.
+    pub fn is_below(&self, other: &Version) -> bool
+        ensures test { result ≡ is_below self.now other.now }
+        ensures fact { IsTrue result ↔ IsBelow self.now other.now }
+    {
+        let _valid = self.clock.pairs();
+        let _other_valid = other.clock.pairs();
+        match self.clock.compare(&other.clock) {
+            ClockOrder::Before => true,
+            ClockOrder::After | ClockOrder::Equal | ClockOrder::Apart => false,
+        }
+    }
+
+    /// How the texts of two versions lie: the kind, the number of pairs, the pairs, the length of the value, the
+    /// value. For live versions that is the order of format 1's texts too, which have no kind.
+    pub fn text_order(&self, other: &Version) -> Ordering
+        ensures fields { result ≡ version_cmp self.now other.now }
+        ensures text { HasText self.now → HasText other.now → result ≡ text_cmp Format.Two self.now other.now }
+        ensures live { HasText self.now → HasText other.now → IsLive self.now → IsLive other.now
+            → result ≡ text_cmp Format.One self.now other.now }
+    {
+        let (pairs, others) = (self.clock.pairs(), other.clock.pairs());
+        let (value, other_value) = (self.value.as_slice(), other.value.as_slice());
+        self.kind
+            .byte()
+            .cmp(&other.kind.byte())
+            .then(pairs.len().cmp(&others.len()))
+            .then(pairs.cmp(&others))
+            .then(value.len().cmp(&other_value.len()))
+            .then(value.cmp(&other_value))
+    }
+}
