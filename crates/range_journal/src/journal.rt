@@ -1,5 +1,5 @@
 //! A journal of accepted versions.
-ghost use Rattle.std.specs.Prelude.{◌≡◌, ◌≤◌, [], length, None, OnOk, OnErr, IfOk, slice_get};
+ghost use Rattle.std.specs.Prelude.{◌≡◌, ◌≤◌, [], length, max, ⊤, None, OnOk, OnErr, IfOk, slice_get};
 ghost use Rattle.std.specs.Option.{option_copied};
 ghost use Rattle.vclock.specs.Answer.{Answers};
 ghost use Rattle.range_journal.specs.Log.{IsLog};
@@ -96,15 +96,13 @@ impl Journal {
 
     /// Makes room for so many more entries, so that they can be added without memory.
     ///
-    /// Refused, in order: JournalFull (they would pass the limit), NoMemory. The entries stay, and room is not less.
+    /// Refused, in order: JournalFull (they would pass the limit), NoMemory. The journal is then as it was.
     pub fn reserve(&mut self, entries: u64) -> Result<(), Refusal>
-        ensures answers { Answers result (reserve_fault self.old entries) (λ _. entries ≤ self.new.room) }
-        ensures same { self.new.entries ≡ self.old.entries }
-        ensures limit { self.new.limit ≡ self.old.limit }
-        ensures not_less { self.old.room ≤ self.new.room }
+        ensures answers { Answers result (reserve_fault self.old entries) (λ _. ⊤) }
+        ensures ok { OnOk result (self.new ≡ record self.old { room = max self.old.room entries }) }
+        ensures err { OnErr result (self.new ≡ self.old) }
     {
-        let len = self.entries.len() as u64;
-        if entries > self.limit - len {
+        if entries > self.limit - self.len() {
             return Err(Refusal::JournalFull);
         }
         if entries > self.room {
@@ -128,19 +126,8 @@ impl Journal {
         ensures added { OnOk result (self.new ≡ with_entry self.old (record { number = length self.old.entries; seat = seat; source = source; key = key; version = version })) }
         ensures err { OnErr result (self.new ≡ self.old) }
     {
-        let number = self.entries.len() as u64;
-        if number >= self.limit {
-            return Err(Refusal::JournalFull);
-        }
-        self.entries.push(Entry {
-            number,
-            seat,
-            source,
-            key,
-            version,
-        })?;
-        self.room = self.room.saturating_sub(1);
-        Ok(number)
+        self.reserve(1)?;
+        Ok(self.append_reserved(seat, source, key, version))
     }
 
     /// Adds an entry at the end, where there is room, and gives its number. It takes no memory.
@@ -155,16 +142,15 @@ impl Journal {
         ensures number { result ≡ length self.old.entries }
         ensures added { self.new ≡ with_entry self.old (record { number = length self.old.entries; seat = seat; source = source; key = key; version = version }) }
     {
-        let number = self.entries.len() as u64;
-        self.entries
-            .push(Entry {
-                number,
-                seat,
-                source,
-                key,
-                version,
-            })
-            .unwrap();
+        let number = self.len();
+        let entry = Entry {
+            number,
+            seat,
+            source,
+            key,
+            version,
+        };
+        self.entries.push(entry).unwrap();
         self.room -= 1;
         number
     }

@@ -10,29 +10,25 @@ ghost use Rattle.range_journal.specs.Journal.{versions_of, accepted, held, AreNe
 pub fn accepted_versions_are_the_entries()
     ensures { (entries : List Entry) (key : List ℕ) (version : Version)
         → Contains (accepted entries key) version
-            ↔ Any (λ e. (e.key ≡ key) × (e.version ≡ version)) entries }
-{
-}
+        ↔ Any (λ e. (e.key ≡ key) × (e.version ≡ version)) entries }
+{}
 
 /// What the held versions of a key cover is what its accepted ones cover.
 pub fn held_versions_cover_the_accepted()
     ensures { (entries : List Entry) (key : List ℕ) (version : Version)
         → covered version (held entries key) ≡ covered version (versions_of entries key) }
-{
-}
+{}
 
 /// A journal in which each entry was news stays so when an entry comes whose version is not covered.
 pub fn news_stay_news()
     ensures { (entries : List Entry) (entry : Entry) → AreNews entries
         → covered entry.version (versions_of entries entry.key) ≡ false
         → AreNews (entries ++ entry ∷ []) }
-{
-}
+{}
 
 /// An entry more is an offer to the held versions of its key, and leaves those of every other key.
 pub fn held_versions_grow_by_an_offer()
     ensures { (entries : List Entry) (entry : Entry) (key : List ℕ)
         → held (entries ++ entry ∷ []) key
-            ≡ (if bytes_eq entry.key key then offered entry.version (held entries key) else held entries key) }
-{
-}
+        ≡ (if bytes_eq entry.key key then offered entry.version (held entries key) else held entries key) }
+{}

@@ -93,7 +93,7 @@ impl Clock {
         ensures all { result.now ≡ self.now }
         ensures valid { IsClock self.now }
     {
-        &self.pairs
+        self.pairs.as_slice()
     }
 
     /// The counter of a node, 0 where the node is absent.

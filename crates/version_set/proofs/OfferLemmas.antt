@@ -1,5 +1,5 @@
 -- What an offer makes of a set.
-use Rattle.std.proofs.Common.{◌≡◌, ◌≤◌, ◌<◌, ◌+◌, false, not, filter, length, None, Some, sym, ◌∙◌, subst, arith, refl, List, inl, inr, ℕ, ap}
+use Rattle.std.proofs.Common.{◌≡◌, ◌≤◌, ◌<◌, ◌+◌, false, not, filter, length, None, Some, sym, ◌∙◌, subst, arith, refl, List, inl, inr}
 use Rattle.std.proofs.lemmas.Bool.{lt-ltb, le-ltb, cases_lt}
 use Rattle.version_set.proofs.SetLaws.{maximal-with_version, grown, length-grown}
 use Rattle.version_set.specs.declared.version.Version.{Version}

@@ -13,7 +13,6 @@ use Rattle.vclock.specs.Clock.{Pairs, Rises}
 use Rattle.std.specs.List.{AllByRecursion}
 use Rattle.vclock.specs.declared.format.Format.TheVariants.{One, Two}
 use Rattle.version_set.specs.Kind.{kind_byte}
-use Rattle.version_set.specs.declared.kind.Kind.TheVariants.{Live}
 use Rattle.version_set.specs.declared.version.Version.{Version}
 use Rattle.version_set.specs.Version.{version_cmp, pair_cmp, pair_text, plain_text, text_cmp, HasText, IsLive, Ascends, AscendsBy}
 

@@ -12,7 +12,6 @@ use Rattle.vclock.specs.declared.refusal.Refusal.TheVariants.{Crowded}
 use Rattle.vclock.specs.declared.format.Format.{Format}
 use Rattle.vclock.specs.declared.format.Format.TheVariants.{One, Two}
 use Rattle.version_set.specs.Kind.{kind_byte}
-use Rattle.version_set.specs.declared.kind.Kind.{Kind}
 use Rattle.version_set.specs.declared.kind.Kind.TheVariants.{Live}
 use Rattle.version_set.specs.declared.version.Version.{Version}
 

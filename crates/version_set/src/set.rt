@@ -71,7 +71,7 @@ impl VersionSet {
         ensures all { result.now ≡ self.now }
         ensures valid { IsVersionSet self.now }
     {
-        &self.versions
+        self.versions.as_slice()
     }
 
     /// How many members there are, at most 64.

@@ -1,11 +1,10 @@
-use Rattle.std.proofs.Common.{◌≡◌, ◌<◌, ◌+◌, ◌^◌, ◌∙◌, ℕ, true, false, ◌||◌, length, get_or, take, sym, ap, arith, refl, subst, inl, inr, length-set, set, List, eqb, Bool}
+use Rattle.std.proofs.Common.{◌≡◌, ◌<◌, ◌+◌, ◌∙◌, ℕ, true, false, ◌||◌, length, get_or, take, sym, ap, arith, refl, subst, inl, inr, length-set, set, List, Bool}
 use Rattle.std.proofs.lemmas.Bool.{or_from, cases_eq, or_right}
 use Rattle.std.proofs.lemmas.List.{get_or-set_same, get_or-set_other, get_or-replicate, length-replicate}
 use Rattle.std.proofs.lemmas.Bool.{eq-eqb, ne_eqb}
-use Rattle.vclock.specs.Clock.{Pairs, has_node, has_repeat}
+use Rattle.vclock.specs.Clock.{Pairs, has_node}
 use Rattle.vclock.proofs.ClockLemmas.{good_at, good_pair, or-false, has_node_more, has_repeat_more, has_repeat_found}
 use Rattle.vclock.proofs.clock.has_repeat_by_table.Goals as goal
-
 
 -- the table says which nodes came, one pair on
 came_more : (ps : Pairs) (seen : List Bool) (i n m : ℕ) → i < length ps → m ≡ (get_or ps i (0, 0)).0 → m < length seen → get_or seen n false ≡ has_node (take i ps) n → get_or (set seen m true) n false ≡ has_node (take (i + 1) ps) n

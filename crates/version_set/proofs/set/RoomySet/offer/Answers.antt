@@ -1,4 +1,4 @@
-use Rattle.std.proofs.Common.{◌≡◌, ◌∙◌, false, not, filter, subst, sym}
+use Rattle.std.proofs.Common.{◌≡◌, false, not, filter, subst}
 use Rattle.version_set.proofs.OfferLemmas.{Made, made, has_room}
 use Rattle.version_set.specs.Version.{is_below, covered, with_version, IsVersionSet}
 use Rattle.version_set.proofs.set.RoomySet.offer.Goals as goal

@@ -1,4 +1,4 @@
-use Rattle.std.proofs.Common.{◌≡◌, subst}
+use Rattle.std.proofs.Common.{subst}
 use Rattle.version_set.specs.Version.{IsVersionSet}
 use Rattle.version_set.proofs.SetLaws.{none-is_below}
 use Rattle.version_set.proofs.TextOrder.{ascends_by_text, ascends_by_live_text}

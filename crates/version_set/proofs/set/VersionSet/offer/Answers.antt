@@ -1,11 +1,8 @@
-use Rattle.std.proofs.Common.{◌≡◌, ◌≤◌, ◌<◌, ◌+◌, false, not, filter, length, None, Some, sym, subst, ◌∙◌, arith, refl, inl, inr, List}
-use Rattle.std.proofs.lemmas.Bool.{lt-ltb, le-ltb, both_ways}
+use Rattle.std.proofs.Common.{◌≡◌, ◌<◌, false, not, filter, length, subst, arith, refl, inl, inr}
+use Rattle.std.proofs.lemmas.Bool.{both_ways}
 use Rattle.version_set.proofs.OfferLemmas.{Made, made, crowded, not_crowded}
 use Rattle.std.proofs.lemmas.Result.{err_from_is_err_and}
-use Rattle.version_set.specs.declared.version.Version.{Version}
-use Rattle.version_set.specs.Version.{is_below, covered, with_version, offered, offer_fault, IsVersionSet}
-use Rattle.vclock.specs.Clock.{IsClock}
-use Rattle.vclock.specs.declared.refusal.Refusal.TheVariants.{Crowded}
+use Rattle.version_set.specs.Version.{is_below, covered, with_version, IsVersionSet}
 use Rattle.version_set.proofs.set.VersionSet.offer.Goals as goal
 
 made_here : (c : goal.After-insert) → Made c.args.version c.args.self.now c.insert.new.versions.items

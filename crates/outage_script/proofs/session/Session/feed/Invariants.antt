@@ -1,0 +1,11 @@
+use Rattle.std.proofs.Common.{length}
+use Rattle.outage_script.specs.Moves.{place_of}
+use Rattle.outage_script.proofs.FeedLemmas.{Fed}
+use Rattle.outage_script.proofs.session.Session.feed.Given as goal
+
+-- the lines so far are taken
+abbrev pub invariant-loop-at : goal.invariant-loop-at
+invariant-loop-at g l = Fed (place_of l.fn.self.number l.fn.self.world l.fn.self.line.items) l.piece l.rest (place_of l.self.number l.self.world l.self.line.items) (g.W.Write.contents l.fn.writer) (g.W.Write.contents l.writer)
+
+abbrev pub decreases-loop-at : goal.decreases-loop-at
+decreases-loop-at g l = length l.rest

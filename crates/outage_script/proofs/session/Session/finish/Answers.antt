@@ -1,0 +1,13 @@
+use Rattle.std.proofs.Common.{rules, []}
+use Rattle.outage_script.specs.Moves.{place_of}
+use Rattle.outage_script.proofs.Known.{appends_nothing}
+use Rattle.outage_script.proofs.LineLemmas.{nothing_to_come, finished}
+use Rattle.outage_script.proofs.session.Session.finish.Goals as goal
+
+pub returns-then-is_empty : goal.returns-then-is_empty
+returns-then-is_empty g c = ([], appends_nothing _, nothing_to_come (place_of c.args.self.now.number c.args.self.now.world c.args.self.now.line.items) (search rules))
+
+pub returns : goal.returns
+returns g c =
+    let p = place_of c.args.self.now.number c.args.self.now.world c.args.self.now.line.items in
+    finished p (place_of c.end_line.new.self.number c.end_line.new.self.world c.end_line.new.self.line.items) c.end_line.result _ _ (search rules) c.args.self.now.inside c.end_line.ensures.feeds c.end_line.ensures.cleared

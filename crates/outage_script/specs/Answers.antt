@@ -1,0 +1,81 @@
+-- What the commands answer.
+use Rattle.std.specs.Prelude.{ℕ, List, [], ◌∷◌, ◌++◌, codes}
+use Rattle.serde_json.specs.Data.{Data, Items, no_items, item, no_members, member, null, number, unsigned, string, array, object}
+use Rattle.serde_json.specs.Written.{compact_text}
+use Rattle.hex.specs.Hex.{encode_lower}
+use Rattle.vclock.specs.Clock.{Pairs}
+use Rattle.version_set.specs.declared.kind.Kind.{Kind}
+use Rattle.version_set.specs.declared.kind.Kind.TheVariants.{Live, Tombstone}
+use Rattle.version_set.specs.declared.version.Version.{Version}
+use Rattle.vclock.specs.Refusal.{number_of, name_of}
+use Rattle.vclock.specs.declared.refusal.Refusal.{Refusal}
+use Rattle.vclock.specs.declared.refusal.Refusal.TheVariants.{StaleContext}
+
+-- an item for each of a list
+abbrev pub items_of : {A : Type 0} → (A → Data) → List A → Items
+items_of f [] = no_items
+items_of f (a ∷ more) = item (f a) (items_of f more)
+
+-- the list of these
+abbrev pub list_data : {A : Type 0} → (A → Data) → List A → Data
+list_data f list = array (items_of f list)
+
+-- a whole number
+abbrev pub number_data : ℕ → Data
+number_data n = number (unsigned n)
+
+-- a node and its counter
+abbrev pub pair_data : ℕ × ℕ → Data
+pair_data p = array (item (number_data p.0) (item (number_data p.1) no_items))
+
+-- the pairs of a clock, by rising node
+abbrev pub clock_data : Pairs → Data
+clock_data c = list_data pair_data c
+
+-- bytes as hexadecimal digits in lower case
+abbrev pub bytes_data : List ℕ → Data
+bytes_data bytes = string (encode_lower bytes)
+
+-- the members of a put's answer, in ascending order
+unfoldable pub put_members : Data → ℕ → ℕ → ℕ → Data
+put_members clock copied hinted n = object (member (codes "clock") clock (member (codes "copied") (number_data copied) (member (codes "hinted") (number_data hinted) (member (codes "number") (number_data n) no_members))))
+
+-- a put: the clock of the new version, how many replicas took or knew it, how many hints are kept, the entry's number
+unfoldable pub put_answer : Pairs → ℕ → ℕ → ℕ → Data
+put_answer clock copied hinted n = put_members (clock_data clock) copied hinted n
+
+-- the members of a refusal's answer
+unfoldable pub cause_members : List ℕ → ℕ → Data
+cause_members cause n = object (member (codes "cause") (string cause) (member (codes "refused") (number_data n) no_members))
+
+-- the same with the clocks that are held
+unfoldable pub held_members : List ℕ → Data → ℕ → Data
+held_members cause held n = object (member (codes "cause") (string cause) (member (codes "held") held (member (codes "refused") (number_data n) no_members)))
+
+-- a refusal: its name and its number, and with StaleContext the clocks that are held
+unfoldable pub refusal_answer : Refusal → Data
+refusal_answer (StaleContext held) = held_members (codes "StaleContext") (list_data clock_data held) 6
+refusal_answer refusal = cause_members (name_of refusal) (number_of refusal)
+
+-- the text of an answer, with its line feed
+abbrev pub answer_line : Data → List ℕ
+answer_line d = compact_text d ++ 10 ∷ []
+
+-- a value, or null where there is none
+abbrev pub value_data : Kind → List ℕ → Data
+value_data Live value = bytes_data value
+value_data Tombstone value = null
+
+-- the members of a version, in ascending order
+unfoldable pub version_members : Data → Data → Data
+version_members clock value = object (member (codes "clock") clock (member (codes "value") value no_members))
+
+abbrev pub version_data : Version → Data
+version_data v = version_members (clock_data v.clock) (value_data v.kind v.value)
+
+unfoldable pub versions_members : Data → Data
+versions_members versions = object (member (codes "versions") versions no_members)
+
+-- the versions that are held for a key, in the order of the set
+unfoldable pub versions_answer : List Version → Data
+versions_answer versions = versions_members (list_data version_data versions)

@@ -1,0 +1,40 @@
+-- What a run of a script wrote.
+use Rattle.std.specs.Prelude.{◌≡◌, ℕ, List, [], ◌++◌, Option, Some, None, ⊤}
+use Rattle.std.specs.Io.KnownBytes.{Appends}
+use Rattle.outage_script.specs.declared.ScriptEnd.{ScriptEnd}
+use Rattle.outage_script.specs.declared.ScriptEnd.TheVariants.{Done, BadLine, Device, NoMemory}
+use Rattle.outage_script.specs.Script.{Outcome, script_outcome}
+
+-- they begin with these
+abbrev pub Begins : List ℕ → List ℕ → Type 0
+Begins whole front = (more : List ℕ) × (whole ≡ front ++ more)
+
+-- all was written, and there is no bad line
+pub record IsDone (written : List ℕ) (script : Outcome) : Type 0 where
+  pub text : script.text ≡ written
+  pub bad : script.bad ≡ None
+
+-- all was written, up to the first bad line, which has this number
+pub record IsBadAt (n : ℕ) (written : List ℕ) (script : Outcome) : Type 0 where
+  pub text : script.text ≡ written
+  pub bad : script.bad ≡ Some n
+
+-- what was written is right, where these bytes were read and these are left: for what was read, and for the whole input
+abbrev pub IsRight : ScriptEnd → List ℕ → List ℕ → List ℕ → Type 0
+IsRight Done bytes left written = (left ≡ []) × IsDone written (script_outcome bytes)
+IsRight (BadLine n) bytes left written = IsBadAt n written (script_outcome bytes) × IsBadAt n written (script_outcome (bytes ++ left))
+IsRight Device bytes left written = Begins (script_outcome bytes).text written × Begins (script_outcome (bytes ++ left)).text written
+IsRight NoMemory bytes left written = Begins (script_outcome bytes).text written × Begins (script_outcome (bytes ++ left)).text written
+
+-- a run that found and left these in the reader and the writer: it claims nothing where the reader does not tell its bytes
+abbrev pub Runs : ScriptEnd → Option (List ℕ) → Option (List ℕ) → Option (List ℕ) → Option (List ℕ) → Type 0
+Runs end None left before after = ⊤
+Runs end (Some input) None before after = ⊥
+Runs end (Some input) (Some left) before after = (bytes : List ℕ) × (written : List ℕ) × (input ≡ bytes ++ left) × Appends before after written × IsRight end bytes left written
+
+-- the same of a run over memory, in terms of the whole input
+abbrev pub IsAnswer : ScriptEnd → List ℕ → List ℕ → Type 0
+IsAnswer Done input written = IsDone written (script_outcome input)
+IsAnswer (BadLine n) input written = IsBadAt n written (script_outcome input)
+IsAnswer Device input written = Begins (script_outcome input).text written
+IsAnswer NoMemory input written = Begins (script_outcome input).text written

@@ -1,0 +1,11 @@
+pub mod Lines
+pub mod Asks
+pub mod Reading
+pub mod Commands
+pub mod Orders
+pub mod Answers
+pub mod State
+pub mod Acts
+pub mod Script
+pub mod Ends
+pub mod Moves

@@ -1,0 +1,16 @@
+-- What a command that was read asks for.
+use Rattle.outage_script.specs.Asks.{PutAsk, GetAsk, Ask, put, get}
+use Rattle.outage_script.specs.declared.command.Command.{Command}
+use Rattle.outage_script.specs.declared.command.Command.TheVariants as Variants
+use Rattle.outage_script.specs.declared.command.Put.{Put}
+use Rattle.outage_script.specs.declared.command.Get.{Get}
+
+abbrev pub put_ask : Put → PutAsk
+put_ask p = record { node = p.node; key = p.key; context = p.context.items; value = p.value; lose = p.lose.items }
+
+abbrev pub get_ask : Get → GetAsk
+get_ask g = record { node = g.node; key = g.key }
+
+abbrev pub ask_of : Command → Ask
+ask_of (Variants.Put p) = put (put_ask p)
+ask_of (Variants.Get g) = get (get_ask g)

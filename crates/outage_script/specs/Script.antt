@@ -1,0 +1,60 @@
+-- What a script writes, and which line of it is bad.
+use Rattle.std.specs.Prelude.{◌≡◌, ℕ, ◌+◌, List, [], ◌∷◌, ◌++◌, codes, length, nat_lt, if◌then◌else◌, Option, Some, None, option_map, option_and_then}
+use Rattle.std.specs.List.{list_all}
+use Rattle.serde_json.specs.Data.{Data, object, member, no_members, number, unsigned, string}
+use Rattle.serde_json.specs.Written.{compact_text}
+use Rattle.outage_script.specs.Lines.{lines_of, is_space}
+use Rattle.outage_script.specs.State.{State, start}
+use Rattle.outage_script.specs.Asks.{Ask}
+use Rattle.outage_script.specs.Acts.{act}
+use Rattle.outage_script.specs.Answers.{answer_line}
+use Rattle.outage_script.specs.Reading.{value_of}
+use Rattle.outage_script.specs.Commands.{command_of}
+
+-- how many bytes a line has at the most, without its line feed
+abbrev pub line_limit : ℕ
+line_limit = 1048576
+
+-- a line's answer and the state after it; none where it is a bad line
+abbrev pub Turn : Type 0
+Turn = Option (List ℕ × State)
+
+abbrev pub turn_of : State → Ask → List ℕ × State
+turn_of s ask = (answer_line (act ask s).0, (act ask s).1)
+
+unfoldable pub step : State → List ℕ → Turn
+step s line = if nat_lt line_limit (length line) then None else if list_all is_space line then Some ([], s) else option_map (turn_of s) (option_and_then command_of (value_of line))
+
+abbrev pub bad_answer : ℕ → Data
+bad_answer n = object (member (codes "cause") (string (codes "BadLine")) (member (codes "line") (number (unsigned n)) (member (codes "refused") (number (unsigned 29)) no_members)))
+
+unfoldable pub bad_line : ℕ → List ℕ
+bad_line n = answer_line (bad_answer n)
+
+-- what is written, and the number of the first bad line, if there is one
+pub record Outcome : Type 0 where
+  pub text : List ℕ
+  pub bad : Option ℕ
+
+-- what was written, and then the outcome
+abbrev pub preceded : List ℕ → Outcome → Outcome
+preceded some rest = record { text = some ++ rest.text; bad = rest.bad }
+
+-- the outcome of line n and of the lines after it: a bad line ends the script
+abbrev pub goes_on : ℕ → Turn → (State → Outcome) → Outcome
+goes_on n None more = record { text = bad_line n; bad = Some n }
+goes_on n (Some t) more = preceded t.0 (more t.1)
+
+-- the outcome of the lines from number n on
+abbrev pub outcome_of : ℕ → State → List (List ℕ) → Outcome
+outcome_of n s [] = record { text = []; bad = None }
+outcome_of n s (line ∷ lines) = goes_on n (step s line) (λ next. outcome_of (n + 1) next lines)
+
+-- the outcome of a script: lines are counted from 1
+unfoldable pub script_outcome : List ℕ → Outcome
+script_outcome bytes = outcome_of 1 start (lines_of bytes)
+
+-- what a turn gave: the text and the state after it, or no text for a bad line
+abbrev pub IsTurn : Option (List ℕ) → State → Turn → Type 0
+IsTurn None after t = t ≡ None
+IsTurn (Some text) after t = t ≡ Some (text, after)

@@ -1,0 +1,138 @@
+//! The answers of the commands, as JSON.
+ghost use Rattle.std.specs.Prelude.{◌≡◌, false, IfOk, string_bytes};
+ghost use Rattle.outage_script.specs.Answers.{pair_data, clock_data, put_answer, put_members, refusal_answer, cause_members, held_members, answer_line, version_data, version_members, versions_members, versions_answer};
+ghost use Rattle.serde_json.specs.Written.{has_float};
+ghost use Rattle.serde_json.specs.View.{view};
+
+use crate::json::{ToValue, list_value};
+use serde_json::{Value, json};
+use std::alloc::{AllocError, Global};
+use vclock::clock::Clock;
+use vclock::refusal::Refusal;
+use version_set::kind::Kind;
+use version_set::version::Version;
+
+impl ToValue for (u16, u64) {
+    ghost shown = { pair_data };
+
+    /// A node and its counter.
+    fn to_value(&self, alloc: Global) -> Result<Value, AllocError> {
+        json!(in alloc; [self.0, self.1])
+    }
+}
+
+impl ToValue for Clock {
+    ghost shown = { clock_data };
+
+    /// The pairs, by rising node.
+    fn to_value(&self, alloc: Global) -> Result<Value, AllocError> {
+        list_value(alloc, self.pairs())
+    }
+}
+
+impl ToValue for Version {
+    ghost shown = { version_data };
+
+    /// The clock, and the value, which is null for a tombstone.
+    fn to_value(&self, alloc: Global) -> Result<Value, AllocError> {
+        let value = match self.kind {
+            Kind::Live => self.value.to_value(alloc)?,
+            Kind::Tombstone => Value::Null,
+        };
+        version_members(alloc, self.clock.to_value(alloc)?, value)
+    }
+}
+
+/// The text of an answer, with its line feed.
+pub(crate) fn answer_line(alloc: Global, answer: &Value) -> Result<String, AllocError>
+    requires { has_float (view answer.now) ≡ false }
+    ensures { IfOk result (λ s. string_bytes s ≡ answer_line (view answer.now)) }
+{
+    let mut text = answer.to_string(alloc)?;
+    text.push('\n')?;
+    Ok(text)
+}
+
+/// The answer of a put.
+#[tactic(auto, unfolding(crate::specs::Answers::put_answer))]
+pub(crate) fn put_answer(
+    alloc: Global,
+    clock: &Clock,
+    copied: u64,
+    hinted: u64,
+    number: u64,
+) -> Result<Value, AllocError>
+    ensures { IfOk result (λ v. view v ≡ put_answer clock.now copied hinted number) }
+{
+    put_members(alloc, clock.to_value(alloc)?, copied, hinted, number)
+}
+
+/// The answer of a refusal.
+#[tactic(auto, unfolding(crate::specs::Answers::refusal_answer))]
+pub(crate) fn refusal_answer(alloc: Global, refusal: &Refusal) -> Result<Value, AllocError>
+    ensures { IfOk result (λ v. view v ≡ refusal_answer refusal.now) }
+{
+    match refusal {
+        Refusal::StaleContext(held) => held_members(
+            alloc,
+            refusal.name(),
+            list_value(alloc, held.as_slice())?,
+            refusal.number(),
+        ),
+        _ => cause_members(alloc, refusal.name(), refusal.number()),
+    }
+}
+
+/// The members of a put's answer.
+#[tactic(auto, unfolding(crate::specs::Answers::put_members))]
+fn put_members(
+    alloc: Global,
+    clock: Value,
+    copied: u64,
+    hinted: u64,
+    number: u64,
+) -> Result<Value, AllocError>
+    ensures { IfOk result (λ v. view v ≡ put_members (view clock) copied hinted number) }
+{
+    json!(in alloc; {"clock": clock, "copied": copied, "hinted": hinted, "number": number})
+}
+
+/// The members of a refusal's answer.
+#[tactic(auto, unfolding(crate::specs::Answers::cause_members))]
+fn cause_members(alloc: Global, cause: &str, number: u64) -> Result<Value, AllocError>
+    ensures { IfOk result (λ v. view v ≡ cause_members cause.now number) }
+{
+    json!(in alloc; {"cause": cause, "refused": number})
+}
+
+/// The same with the clocks that are held.
+#[tactic(auto, unfolding(crate::specs::Answers::held_members))]
+fn held_members(alloc: Global, cause: &str, held: Value, number: u64) -> Result<Value, AllocError>
+    ensures { IfOk result (λ v. view v ≡ held_members cause.now (view held) number) }
+{
+    json!(in alloc; {"cause": cause, "held": held, "refused": number})
+}
+
+/// The answer of a get.
+#[tactic(auto, unfolding(crate::specs::Answers::versions_answer))]
+pub(crate) fn versions_answer(alloc: Global, versions: &[Version]) -> Result<Value, AllocError>
+    ensures { IfOk result (λ v. view v ≡ versions_answer versions.now) }
+{
+    versions_members(alloc, list_value(alloc, versions)?)
+}
+
+/// The members of a version.
+#[tactic(auto, unfolding(crate::specs::Answers::version_members))]
+fn version_members(alloc: Global, clock: Value, value: Value) -> Result<Value, AllocError>
+    ensures { IfOk result (λ v. view v ≡ version_members (view clock) (view value)) }
+{
+    json!(in alloc; {"clock": clock, "value": value})
+}
+
+/// The member of a get's answer.
+#[tactic(auto, unfolding(crate::specs::Answers::versions_members))]
+fn versions_members(alloc: Global, versions: Value) -> Result<Value, AllocError>
+    ensures { IfOk result (λ v. view v ≡ versions_members (view versions)) }
+{
+    json!(in alloc; {"versions": versions})
+}

@@ -1,0 +1,26 @@
+// A script over memory, and what its lines are.
+ghost use Rattle.std.specs.Prelude.{◌≡◌, ◌++◌, ◌∷◌, ℕ, List, IsTrue};
+ghost use Rattle.std.specs.List.{list_all};
+ghost use Rattle.outage_script.specs.Ends.{IsAnswer};
+ghost use Rattle.outage_script.specs.Lines.{lines_of, is_inside};
+
+use crate::{ScriptEnd, run_script};
+use std::alloc::Global;
+
+/// Runs the script of these bytes, and answers how it ended and what it wrote.
+#[tactic(auto, using(crate::proofs::RunLemmas::runs_memory))]
+pub fn run_bytes(alloc: Global, input: &[u8]) -> (ScriptEnd, Vec<u8>)
+    ensures { IsAnswer result.0 input.now result.1.items }
+{
+    let mut reader = input;
+    let mut out = Vec::new(alloc);
+    let end = run_script(alloc, &mut reader, &mut out);
+    (end, out)
+}
+
+/// The law of the lines of a text, in its contract: nothing is run.
+#[tactic(auto, using(crate::proofs::LineLemmas::whole_line))]
+pub fn line_law()
+    ensures a_line_feed_ends_a_line { (line : List ℕ) → (rest : List ℕ)
+        → IsTrue (list_all is_inside line) → lines_of (line ++ 10 ∷ rest) ≡ line ∷ lines_of rest }
+{}

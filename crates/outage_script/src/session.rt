@@ -1,0 +1,202 @@
+// A run in progress: the world, and what has come of the line that is not whole yet.
+ghost use Rattle.std.specs.Prelude.{Some, ◌≡◌, ◌≤◌, ◌+◌, ◌^◌, ◌<◌, ◌∷◌, ◌++◌, [], ℕ, List, IsTrue, length, vec_len, false, IfOk, IfNone, option_map, string_bytes};
+ghost use Rattle.std.specs.List.{list_all};
+ghost use Rattle.std.specs.Io.KnownBytes.{Appends};
+ghost use Rattle.serde_json.specs.View.{view};
+ghost use Rattle.outage_script.specs.Lines.{is_inside, is_space};
+ghost use Rattle.outage_script.specs.Moves.{Ends, Feeds, Finishes, place_of, to_come};
+ghost use Rattle.outage_script.specs.Script.{step, IsTurn, bad_line, bad_answer};
+ghost use Rattle.outage_script.specs.State.{start};
+
+use crate::ScriptEnd;
+use crate::answer::answer_line;
+use crate::command::command_in;
+use crate::world::World;
+use crate::write::write_whole;
+use memchr::memchr;
+use serde_json::{Value, json};
+use std::alloc::{AllocError, Global};
+use std::io::Write;
+
+/// How many bytes a line has at the most.
+const LINE_LIMIT: usize = 1_048_576;
+
+/// A run in progress: the world, the line that is not whole yet, and its number.
+#[derive(Drop)]
+pub(crate) struct Session {
+    world: World,
+    line: Vec<u8>,
+    number: u64,
+    ghost short: { vec_len line ≤ 1048576 },
+    ghost inside: { IsTrue (list_all is_inside line.items) },
+}
+
+impl Session {
+    /// A run that has read nothing.
+    pub(crate) fn new(alloc: Global) -> Session
+        ensures { place_of result.number result.world result.line.items ≡ place_of 1 start [] }
+    {
+        Session {
+            world: World::new(alloc),
+            line: Vec::new(alloc),
+            number: 1,
+        }
+    }
+
+    /// Takes the next bytes, up to the end of the run.
+    pub(crate) fn feed<W: Write>(
+        &mut self,
+        alloc: Global,
+        piece: &[u8],
+        writer: &mut W,
+    ) -> Option<ScriptEnd>
+        requires { self.old.number + length piece.now < 2 ^ 64 }
+        ensures number { self.new.number ≤ self.old.number + length piece.now }
+        ensures feeds { Feeds (place_of self.old.number self.old.world self.old.line.items)
+            piece.now (place_of self.new.number self.new.world self.new.line.items) result
+            (W.contents writer.old) (W.contents writer.new) }
+    {
+        let mut rest = piece;
+        while let Some(at) = memchr(b'\n', rest) {
+            if let Some(end) = self.take_line(alloc, &rest[..at], writer) {
+                return Some(end);
+            }
+            rest = &rest[at + 1..];
+        }
+        self.take_part(alloc, rest, writer)
+    }
+
+    /// Answers the last line, which lacks its line feed, if there is one.
+    pub(crate) fn finish<W: Write>(&mut self, alloc: Global, writer: &mut W) -> Option<ScriptEnd>
+        requires { self.old.number + 1 < 2 ^ 64 }
+        ensures { (some : List ℕ) × Appends (W.contents writer.old) (W.contents writer.new) some
+            × Finishes result (to_come (place_of self.old.number self.old.world self.old.line.items) []) some }
+    {
+        if self.line.is_empty() {
+            return None;
+        }
+        self.end_line(alloc, writer)
+    }
+
+    /// Takes the bytes that a line ends with, and its line feed.
+    fn take_line<W: Write>(
+        &mut self,
+        alloc: Global,
+        bytes: &[u8],
+        writer: &mut W,
+    ) -> Option<ScriptEnd>
+        requires number { self.old.number + 1 < 2 ^ 64 }
+        requires inside { IsTrue (list_all is_inside bytes.now) }
+        ensures number { self.new.number ≤ self.old.number + 1 }
+        ensures feeds { Feeds (place_of self.old.number self.old.world self.old.line.items)
+            (bytes.now ++ 10 ∷ []) (place_of self.new.number self.new.world self.new.line.items) result
+            (W.contents writer.old) (W.contents writer.new) }
+    {
+        if let Some(end) = self.take_part(alloc, bytes, writer) {
+            return Some(end);
+        }
+        self.end_line(alloc, writer)
+    }
+
+    /// Takes the next bytes of a line, which have no line feed.
+    fn take_part<W: Write>(
+        &mut self,
+        alloc: Global,
+        bytes: &[u8],
+        writer: &mut W,
+    ) -> Option<ScriptEnd>
+        requires { IsTrue (list_all is_inside bytes.now) }
+        ensures number { self.new.number ≡ self.old.number }
+        ensures feeds { Feeds (place_of self.old.number self.old.world self.old.line.items)
+            bytes.now (place_of self.new.number self.new.world self.new.line.items) result
+            (W.contents writer.old) (W.contents writer.new) }
+    {
+        if bytes.len() > LINE_LIMIT - self.line.len() {
+            return Some(refuse(alloc, self.number, writer));
+        }
+        match self.line.extend_from_slice(bytes) {
+            Ok(()) => None,
+            Err(_) => Some(ScriptEnd::NoMemory),
+        }
+    }
+
+    /// Takes the end of the line.
+    fn end_line<W: Write>(&mut self, alloc: Global, writer: &mut W) -> Option<ScriptEnd>
+        requires { self.old.number + 1 < 2 ^ 64 }
+        ensures number { self.new.number ≤ self.old.number + 1 }
+        ensures feeds { Feeds (place_of self.old.number self.old.world self.old.line.items)
+            (10 ∷ []) (place_of self.new.number self.new.world self.new.line.items) result
+            (W.contents writer.old) (W.contents writer.new) }
+        ensures cleared { IfNone result (self.new.line.items ≡ []) }
+    {
+        let text = match turn(alloc, &mut self.world, self.line.as_slice()) {
+            Ok(Some(text)) => text,
+            Ok(None) => return Some(refuse(alloc, self.number, writer)),
+            Err(_) => return Some(ScriptEnd::NoMemory),
+        };
+        if !write_whole(writer, text.as_bytes()) {
+            return Some(ScriptEnd::Device);
+        }
+        self.line.clear();
+        self.number += 1;
+        None
+    }
+}
+
+/// Writes that the line of that number is bad, and answers how the run ends.
+fn refuse<W: Write>(alloc: Global, number: u64, writer: &mut W) -> ScriptEnd
+    ensures { (some : List ℕ) × Appends (W.contents writer.old) (W.contents writer.new) some
+        × Ends result (record { text = bad_line number; bad = Some number }) some }
+{
+    let Ok(text) = bad_line(alloc, number) else {
+        return ScriptEnd::NoMemory;
+    };
+    if write_whole(writer, text.as_bytes()) {
+        ScriptEnd::BadLine(number)
+    } else {
+        ScriptEnd::Device
+    }
+}
+
+/// The text that answers a bad line.
+#[tactic(auto, unfolding(crate::specs::Script::bad_line))]
+fn bad_line(alloc: Global, number: u64) -> Result<String, AllocError>
+    ensures { IfOk result (λ s. string_bytes s ≡ bad_line number) }
+{
+    let answer = bad_answer(alloc, number)?;
+    answer_line(alloc, &answer)
+}
+
+/// The answer to a bad line.
+fn bad_answer(alloc: Global, number: u64) -> Result<Value, AllocError>
+    ensures { IfOk result (λ v. view v ≡ bad_answer number) }
+{
+    json!(in alloc; {"cause": "BadLine", "line": number, "refused": 29u64})
+}
+
+/// What is written for a line, or none if it is bad, and the world after it.
+#[tactic(auto, unfolding(crate::specs::Script::step), using(crate::proofs::AnswerLemmas::reply_plain))]
+fn turn(alloc: Global, world: &mut World, line: &[u8]) -> Result<Option<String>, AllocError>
+    ensures { IfOk result (λ o. IsTurn (option_map string_bytes o) world.new
+        (step world.old line.now)) }
+{
+    if line.len() > LINE_LIMIT {
+        return Ok(None);
+    }
+    if is_blank(line) {
+        return Ok(Some(String::new(alloc)));
+    }
+    let Some(command) = command_in(alloc, line)? else {
+        return Ok(None);
+    };
+    let answer = world.act(alloc, command)?;
+    Ok(Some(answer_line(alloc, &answer)?))
+}
+
+/// Whether there is nothing but spaces, tabs and carriage returns.
+fn is_blank(line: &[u8]) -> bool
+    ensures { result ≡ list_all is_space line.now }
+{
+    line.iter()
+        .all(|b| *b == b' ' || *b == b'\t' || *b == b'\r')
+}
