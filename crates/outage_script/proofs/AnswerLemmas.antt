@@ -8,7 +8,7 @@ use Rattle.serde_json.specs.declared.value.Value.{Value}
 use Rattle.vclock.specs.Clock.{Pairs}
 use Rattle.vclock.specs.declared.refusal.Refusal.{Refusal}
 use Rattle.vclock.specs.declared.refusal.Refusal.TheVariants.{StaleContext}
-use Rattle.outage_script.specs.Answers.{items_of, pair_data, clock_data, put_members, put_answer, cause_members, held_members, refusal_answer, value_data, version_members, version_data, versions_members, versions_answer}
+use Rattle.outage_script.specs.Answers.{items_of, pair_data, clock_data, put_members, put_answer, cause_members, held_members, line_members, bad_line_answer, refusal_answer, value_data, version_members, version_data, versions_members, versions_answer}
 use Rattle.version_set.specs.declared.kind.Kind.{Kind}
 use Rattle.version_set.specs.declared.kind.Kind.TheVariants.{Live, Tombstone}
 use Rattle.version_set.specs.declared.version.Version.{Version}
@@ -63,6 +63,11 @@ pub refusal_answer_plain : (refusal : Refusal) → has_float (refusal_answer ref
 unfolding refusal_answer cause_members held_members
 refusal_answer_plain (StaleContext held) = rw (items_plain clock_data clock_plain held) refl
 refusal_answer_plain refusal = refl
+
+-- the answer to a bad line has no float
+pub bad_line_plain : (line : ℕ) → has_float (bad_line_answer line) ≡ false
+unfolding bad_line_answer line_members
+bad_line_plain line = refl
 
 -- the value of a version has no float
 value_plain : (kind : Kind) (value : List ℕ) → has_float (value_data kind value) ≡ false

@@ -9,7 +9,7 @@ use Rattle.version_set.specs.declared.kind.Kind.TheVariants.{Live, Tombstone}
 use Rattle.version_set.specs.declared.version.Version.{Version}
 use Rattle.vclock.specs.Refusal.{number_of, name_of}
 use Rattle.vclock.specs.declared.refusal.Refusal.{Refusal}
-use Rattle.vclock.specs.declared.refusal.Refusal.TheVariants.{StaleContext}
+use Rattle.vclock.specs.declared.refusal.Refusal.TheVariants.{StaleContext, BadLine}
 
 -- an item for each of a list
 abbrev pub items_of : {A : Type 0} → (A → Data) → List A → Items
@@ -54,8 +54,16 @@ held_members cause held n = object (member (codes "cause") (string cause) (membe
 
 -- a refusal: its name and its number, and with StaleContext the clocks that are held
 unfoldable pub refusal_answer : Refusal → Data
-refusal_answer (StaleContext held) = held_members (codes "StaleContext") (list_data clock_data held) 6
+refusal_answer (StaleContext held) = held_members (name_of (StaleContext held)) (list_data clock_data held) (number_of (StaleContext held))
 refusal_answer refusal = cause_members (name_of refusal) (number_of refusal)
+
+-- the members of a bad line's answer
+unfoldable pub line_members : List ℕ → ℕ → ℕ → Data
+line_members cause line n = object (member (codes "cause") (string cause) (member (codes "line") (number_data line) (member (codes "refused") (number_data n) no_members)))
+
+-- the answer to the line of that number, which is no command
+unfoldable pub bad_line_answer : ℕ → Data
+bad_line_answer line = line_members (name_of BadLine) line (number_of BadLine)
 
 -- the text of an answer, with its line feed
 abbrev pub answer_line : Data → List ℕ

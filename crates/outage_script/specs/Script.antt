@@ -1,13 +1,11 @@
 -- What a script writes, and which line of it is bad.
-use Rattle.std.specs.Prelude.{◌≡◌, ℕ, ◌+◌, List, [], ◌∷◌, ◌++◌, codes, length, nat_lt, if◌then◌else◌, Option, Some, None, option_map, option_and_then}
+use Rattle.std.specs.Prelude.{◌≡◌, ℕ, ◌+◌, List, [], ◌∷◌, ◌++◌, length, nat_lt, if◌then◌else◌, Option, Some, None, option_map, option_and_then}
 use Rattle.std.specs.List.{list_all}
-use Rattle.serde_json.specs.Data.{Data, object, member, no_members, number, unsigned, string}
-use Rattle.serde_json.specs.Written.{compact_text}
 use Rattle.outage_script.specs.Lines.{lines_of, is_space}
 use Rattle.outage_script.specs.State.{State, start}
 use Rattle.outage_script.specs.Asks.{Ask}
 use Rattle.outage_script.specs.Acts.{act}
-use Rattle.outage_script.specs.Answers.{answer_line}
+use Rattle.outage_script.specs.Answers.{answer_line, bad_line_answer}
 use Rattle.outage_script.specs.Reading.{value_of}
 use Rattle.outage_script.specs.Commands.{command_of}
 
@@ -25,11 +23,9 @@ turn_of s ask = (answer_line (act ask s).0, (act ask s).1)
 unfoldable pub step : State → List ℕ → Turn
 step s line = if nat_lt line_limit (length line) then None else if list_all is_space line then Some ([], s) else option_map (turn_of s) (option_and_then command_of (value_of line))
 
-abbrev pub bad_answer : ℕ → Data
-bad_answer n = object (member (codes "cause") (string (codes "BadLine")) (member (codes "line") (number (unsigned n)) (member (codes "refused") (number (unsigned 29)) no_members)))
-
+-- what is written for a bad line
 unfoldable pub bad_line : ℕ → List ℕ
-bad_line n = answer_line (bad_answer n)
+bad_line n = answer_line (bad_line_answer n)
 
 -- what is written, and the number of the first bad line, if there is one
 pub record Outcome : Type 0 where

@@ -1,6 +1,6 @@
 //! The answers of the commands, as JSON.
 ghost use Rattle.std.specs.Prelude.{◌≡◌, false, IfOk, string_bytes};
-ghost use Rattle.outage_script.specs.Answers.{pair_data, clock_data, put_answer, put_members, refusal_answer, cause_members, held_members, answer_line, version_data, version_members, versions_members, versions_answer};
+ghost use Rattle.outage_script.specs.Answers.{pair_data, clock_data, put_answer, put_members, refusal_answer, cause_members, held_members, line_members, bad_line_answer, answer_line, version_data, version_members, versions_members, versions_answer};
 ghost use Rattle.serde_json.specs.Written.{has_float};
 ghost use Rattle.serde_json.specs.View.{view};
 
@@ -83,6 +83,15 @@ pub(crate) fn refusal_answer(alloc: Global, refusal: &Refusal) -> Result<Value, 
     }
 }
 
+/// The answer to the line of that number, which is no command.
+#[tactic(auto, unfolding(crate::specs::Answers::bad_line_answer))]
+pub(crate) fn bad_line_answer(alloc: Global, line: u64) -> Result<Value, AllocError>
+    ensures { IfOk result (λ v. view v ≡ bad_line_answer line) }
+{
+    let refusal = Refusal::BadLine;
+    line_members(alloc, refusal.name(), line, refusal.number())
+}
+
 /// The members of a put's answer.
 #[tactic(auto, unfolding(crate::specs::Answers::put_members))]
 fn put_members(
@@ -103,6 +112,14 @@ fn cause_members(alloc: Global, cause: &str, number: u64) -> Result<Value, Alloc
     ensures { IfOk result (λ v. view v ≡ cause_members cause.now number) }
 {
     json!(in alloc; {"cause": cause, "refused": number})
+}
+
+/// The members of a bad line's answer.
+#[tactic(auto, unfolding(crate::specs::Answers::line_members))]
+fn line_members(alloc: Global, cause: &str, line: u64, number: u64) -> Result<Value, AllocError>
+    ensures { IfOk result (λ v. view v ≡ line_members cause.now line number) }
+{
+    json!(in alloc; {"cause": cause, "line": line, "refused": number})
 }
 
 /// The same with the clocks that are held.

@@ -5,16 +5,15 @@ ghost use Rattle.std.specs.Io.KnownBytes.{Appends};
 ghost use Rattle.serde_json.specs.View.{view};
 ghost use Rattle.outage_script.specs.Lines.{is_inside, is_space};
 ghost use Rattle.outage_script.specs.Moves.{Ends, Feeds, Finishes, place_of, to_come};
-ghost use Rattle.outage_script.specs.Script.{step, IsTurn, bad_line, bad_answer};
+ghost use Rattle.outage_script.specs.Script.{step, IsTurn, bad_line};
 ghost use Rattle.outage_script.specs.State.{start};
 
 use crate::ScriptEnd;
-use crate::answer::answer_line;
+use crate::answer::{answer_line, bad_line_answer};
 use crate::command::command_in;
 use crate::world::World;
 use crate::write::write_whole;
 use memchr::memchr;
-use serde_json::{Value, json};
 use std::alloc::{AllocError, Global};
 use std::io::Write;
 
@@ -159,19 +158,12 @@ fn refuse<W: Write>(alloc: Global, number: u64, writer: &mut W) -> ScriptEnd
 }
 
 /// The text that answers a bad line.
-#[tactic(auto, unfolding(crate::specs::Script::bad_line))]
+#[tactic(auto, unfolding(crate::specs::Script::bad_line), using(crate::proofs::AnswerLemmas::bad_line_plain))]
 fn bad_line(alloc: Global, number: u64) -> Result<String, AllocError>
     ensures { IfOk result (λ s. string_bytes s ≡ bad_line number) }
 {
-    let answer = bad_answer(alloc, number)?;
+    let answer = bad_line_answer(alloc, number)?;
     answer_line(alloc, &answer)
-}
-
-/// The answer to a bad line.
-fn bad_answer(alloc: Global, number: u64) -> Result<Value, AllocError>
-    ensures { IfOk result (λ v. view v ≡ bad_answer number) }
-{
-    json!(in alloc; {"cause": "BadLine", "line": number, "refused": 29u64})
 }
 
 /// What is written for a line, or none if it is bad, and the world after it.

@@ -1,4 +1,4 @@
-use Rattle.std.proofs.Common.{List, ℕ, ◌≡◌, true, refl, inr, ap, Some, sym, ◌∙◌}
+use Rattle.std.proofs.Common.{List, ℕ, ◌≡◌, true, inr, ap, Some, sym}
 use Rattle.std.specs.List.{list_any}
 use Rattle.vclock.specs.Clock.{at_most}
 use Rattle.vclock.specs.declared.refusal.Refusal.TheVariants.{StaleContext}

@@ -1,0 +1,14 @@
+// What ends the program before its work is done.
+
+use thiserror::Error;
+
+/// Why the program could not do its work. Its text goes to standard error.
+#[derive(Clone, Copy, Debug, PartialEq, Eq, Error)]
+pub(crate) enum Fault {
+    /// A read or a write failed.
+    #[error("device fault")]
+    Device,
+    /// Memory ran out.
+    #[error("no memory")]
+    NoMemory,
+}

@@ -1,0 +1,55 @@
+//! The command line of the replica synchronisation service.
+#![tactic(auto)]
+
+mod fault;
+mod status;
+mod words;
+
+use clap::Error;
+use fault::Fault;
+use outage_script::run_script;
+use status::{code_of, code_of_refusal, fault_code, usage_code};
+use std::env::Env;
+use std::io;
+use std::io::BufWriter;
+use std::process::ExitCode;
+use words::{Task, task_in, words_of};
+
+fn main(rt: HostRuntime) -> ExitCode {
+    match obey(&rt) {
+        Ok(code) => code,
+        Err(fault) => {
+            let _ = eprintln!(rt; "antientropy: {fault}");
+            fault_code()
+        }
+    }
+}
+
+/// Does what the words of the command line ask for.
+fn obey<R: Env + Input + Print + Eprint + AllocGlobal>(rt: &R) -> Result<ExitCode, Fault> {
+    let Some(words) = words_of(rt)? else {
+        let _ = eprintln!(rt; "antientropy: the words are no text");
+        return Ok(usage_code());
+    };
+    match task_in(rt.alloc(), words.as_slice()) {
+        Ok(Task::Run) => run(rt),
+        Err(refusal) => show(rt, &refusal),
+    }
+}
+
+/// Runs the script of standard input.
+fn run<R: Input + Print + AllocGlobal>(rt: &R) -> Result<ExitCode, Fault> {
+    let alloc = rt.alloc();
+    let mut reader = rt.reader();
+    let mut writer = BufWriter::new(alloc, io::writer(rt)).map_err(|_| Fault::NoMemory)?;
+    code_of(run_script(alloc, &mut reader, &mut writer))
+}
+
+/// Shows the help or the version, or what is wrong with the words.
+fn show<R: Print + Eprint>(rt: &R, refusal: &Error) -> Result<ExitCode, Fault> {
+    let code = code_of_refusal(refusal)?;
+    match refusal.print(rt) {
+        Err(_) if !refusal.use_stderr() => Err(Fault::Device),
+        _ => Ok(code),
+    }
+}

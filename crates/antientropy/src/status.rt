@@ -1,0 +1,71 @@
+// The status that the program ends with.
+ghost use Rattle.std.specs.Prelude.{◌≡◌, ◌≢◌, ℕ, Err, IsOkAnd, ◌⊎◌};
+ghost use Rattle.std.specs.Process.{exit_status};
+ghost use Rattle.clap.specs.Values.{kind_of};
+
+use crate::fault::Fault;
+use clap::Error;
+use clap::error::ErrorKind;
+use outage_script::ScriptEnd;
+use std::process::ExitCode;
+
+/// All was read and answered, or the help was shown.
+const DONE: u8 = 0;
+
+/// A line of the script is no command.
+const BAD_LINE: u8 = 1;
+
+/// The words of the command line ask for nothing that the program does.
+const USAGE: u8 = 2;
+
+/// A device failed, or memory ran out.
+const FAULT: u8 = 3;
+
+/// The status of a script's end, or the fault that ended it.
+pub(crate) fn code_of(end: ScriptEnd) -> Result<ExitCode, Fault>
+    ensures done { end ≡ ScriptEnd.Done → IsOkAnd result (λ code. exit_status code ≡ 0) }
+    ensures bad_line { (number : ℕ) → end ≡ ScriptEnd.BadLine number
+        → IsOkAnd result (λ code. exit_status code ≡ 1) }
+    ensures device { end ≡ ScriptEnd.Device → result ≡ Err Fault.Device }
+    ensures no_memory { end ≡ ScriptEnd.NoMemory → result ≡ Err Fault.NoMemory }
+{
+    match end {
+        ScriptEnd::Done => Ok(ExitCode::from(DONE)),
+        ScriptEnd::BadLine(_) => Ok(ExitCode::from(BAD_LINE)),
+        ScriptEnd::Device => Err(Fault::Device),
+        ScriptEnd::NoMemory => Err(Fault::NoMemory),
+    }
+}
+
+/// The status where the words were not taken: they ask for help or the version, or they are wrong.
+pub(crate) fn code_of_refusal(refusal: &Error) -> Result<ExitCode, Fault>
+    ensures no_memory { kind_of refusal.now ≡ ErrorKind.OutOfMemory
+        → result ≡ Err Fault.NoMemory }
+    ensures shown { (kind_of refusal.now ≡ ErrorKind.DisplayHelp)
+        ⊎ (kind_of refusal.now ≡ ErrorKind.DisplayVersion)
+        → IsOkAnd result (λ code. exit_status code ≡ 0) }
+    ensures mistake { kind_of refusal.now ≢ ErrorKind.OutOfMemory
+        → kind_of refusal.now ≢ ErrorKind.DisplayHelp
+        → kind_of refusal.now ≢ ErrorKind.DisplayVersion
+        → IsOkAnd result (λ code. exit_status code ≡ 2) }
+{
+    match refusal.kind() {
+        ErrorKind::OutOfMemory => Err(Fault::NoMemory),
+        ErrorKind::DisplayHelp | ErrorKind::DisplayVersion => Ok(ExitCode::from(DONE)),
+        _ => Ok(usage_code()),
+    }
+}
+
+/// The status where the words are wrong.
+pub(crate) fn usage_code() -> ExitCode
+    ensures { exit_status result ≡ 2 }
+{
+    ExitCode::from(USAGE)
+}
+
+/// The status of every fault.
+pub(crate) fn fault_code() -> ExitCode
+    ensures { exit_status result ≡ 3 }
+{
+    ExitCode::from(FAULT)
+}

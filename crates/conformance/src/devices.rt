@@ -1,0 +1,174 @@
+// Scripts over readers and writers that fail.
+use outage_script::{ScriptEnd, run_script};
+use std::io;
+use std::io::{Read, Write};
+use std::process::Abort;
+use std::test::Fail;
+
+/// Which call of a device fails.
+#[derive(Clone, Copy, Debug, PartialEq, Eq)]
+enum Fault {
+    /// A read.
+    Read,
+    /// A write.
+    Write,
+    /// A write that takes nothing.
+    Nothing,
+    /// A flush.
+    Flush,
+}
+
+/// Calls, of which one fails, and those after it do not.
+#[derive(Drop)]
+struct Calls {
+    before: u64,
+    failed: bool,
+}
+
+impl Calls {
+    /// Whether the call that comes now fails.
+    fn fails(&mut self) -> bool {
+        if self.failed {
+            return false;
+        }
+        self.failed = self.before == 0;
+        self.before = self.before.saturating_sub(1);
+        self.failed
+    }
+}
+
+/// A reader that gives a byte a call.
+#[derive(Drop)]
+struct Source<'a> {
+    rest: &'a [u8],
+    reads: Calls,
+}
+
+impl Read for Source<'_> {
+    fn read(&mut self, buf: &mut [u8]) -> io::Result<usize> {
+        if self.reads.fails() {
+            return Err(io::Error::from(io::ErrorKind::Other));
+        }
+        let count = buf.len().min(1);
+        self.rest.read(&mut buf[..count])
+    }
+}
+
+/// A writer that takes a byte a call.
+#[derive(Drop)]
+struct Sink {
+    bytes: Vec<u8>,
+    writes: Calls,
+    nothings: Calls,
+    flushes: Calls,
+}
+
+impl Sink {
+    /// Whether no call of its own can fail any more.
+    fn has_failed(&self) -> bool {
+        self.writes.failed && self.nothings.failed && self.flushes.failed
+    }
+}
+
+impl Write for Sink {
+    fn write(&mut self, buf: &[u8]) -> io::Result<usize> {
+        if self.writes.fails() {
+            return Err(io::Error::from(io::ErrorKind::Other));
+        }
+        if self.nothings.fails() {
+            return Ok(0);
+        }
+        match buf.first() {
+            Some(byte) => {
+                self.bytes.push(*byte)?;
+                Ok(1)
+            }
+            None => Ok(0),
+        }
+    }
+
+    fn flush(&mut self) -> io::Result<()> {
+        if self.flushes.fails() {
+            return Err(io::Error::from(io::ErrorKind::Other));
+        }
+        Ok(())
+    }
+}
+
+/// The calls of a kind, of which the one after so many fails, if it is of the kind of the fault.
+fn calls_before(before: u64, kind: Fault, fault: Fault) -> Calls {
+    Calls {
+        before,
+        failed: kind != fault,
+    }
+}
+
+/// Runs the script with a fault after more and more calls of its kind, up to the run that meets no fault: that one is
+/// right. The others end as a device's, and what they write begins the output. Gives how many there are of those.
+fn count_faults(
+    rt: &(impl AllocGlobal + Abort),
+    (input, output, end): (&str, &str, ScriptEnd),
+    fault: Fault,
+) -> u64 {
+    for before in 0..10_000 {
+        let mut reader = Source {
+            rest: input.as_bytes(),
+            reads: calls_before(before, Fault::Read, fault),
+        };
+        let mut writer = Sink {
+            bytes: Vec::new(rt.alloc()),
+            writes: calls_before(before, Fault::Write, fault),
+            nothings: calls_before(before, Fault::Nothing, fault),
+            flushes: calls_before(before, Fault::Flush, fault),
+        };
+        let ended = run_script(rt.alloc(), &mut reader, &mut writer);
+        if !(reader.reads.failed && writer.has_failed()) {
+            assert_eq!(rt; ended, end);
+            assert!(rt; writer.bytes.as_slice() == output.as_bytes());
+            return before;
+        }
+        assert_eq!(rt; ended, ScriptEnd::Device, "{fault:?} after {before}");
+        assert!(rt;
+            output.as_bytes().starts_with(&writer.bytes),
+            "{fault:?} after {before}"
+        );
+    }
+    0
+}
+
+/// A script with an update that is refused.
+const UPDATES: &str = r#"{"put":{"node":1,"key":"61","context":[],"value":"78"}}
+{"put":{"node":1,"key":"61","context":[[1,1]],"value":"79"}}
+{"put":{"node":1,"key":"61","context":[[1,1]],"value":"79"}}
+{"get":{"node":1,"key":"61"}}
+"#;
+
+/// What it writes.
+const UPDATE_ANSWERS: &str = r#"{"clock":[[1,1]],"copied":0,"hinted":0,"number":0}
+{"clock":[[1,2]],"copied":0,"hinted":0,"number":1}
+{"cause":"StaleContext","held":[[[1,2]]],"refused":6}
+{"versions":[{"clock":[[1,2]],"value":"79"}]}
+"#;
+
+/// A script whose third line is bad.
+const BAD_LINE: &str = "{\"put\":{\"node\":1,\"key\":\"61\",\"context\":[],\"value\":\"78\"}}\n \n\
+     {\"put\":{\"node\":1}}\n{\"get\":{\"node\":1,\"key\":\"61\"}}\n";
+
+/// What it writes.
+const BAD_LINE_ANSWERS: &str = r#"{"clock":[[1,1]],"copied":0,"hinted":0,"number":0}
+{"cause":"BadLine","line":3,"refused":29}
+"#;
+
+#[test]
+fn each_fault_of_a_device_ends_the_script(rt: HostRuntime) {
+    for script in [
+        (UPDATES, UPDATE_ANSWERS, ScriptEnd::Done),
+        (BAD_LINE, BAD_LINE_ANSWERS, ScriptEnd::BadLine(3)),
+    ] {
+        let bytes = script.1.len() as u64;
+        assert!(rt; count_faults(&rt, script, Fault::Read) > 70);
+        assert_eq!(rt; count_faults(&rt, script, Fault::Write), bytes);
+        assert_eq!(rt; count_faults(&rt, script, Fault::Nothing), bytes);
+        assert_eq!(rt; count_faults(&rt, script, Fault::Flush), 1);
+    }
+}

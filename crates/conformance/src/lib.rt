@@ -1,0 +1,15 @@
+//! Tests across the crates: worked examples, vectors and calls.
+#![tactic(auto)]
+
+#[cfg(test)]
+mod clocks;
+#[cfg(test)]
+mod devices;
+#[cfg(test)]
+mod journals;
+#[cfg(test)]
+mod places;
+#[cfg(test)]
+mod scripts;
+#[cfg(test)]
+mod sets;

@@ -1,0 +1,121 @@
+// Versions and sets of them.
+use std::alloc::Global;
+use std::fmt::Write;
+use std::test::Fail;
+use vclock::bytes::Bytes;
+use vclock::clock::Clock;
+use vclock::format::Format;
+use vclock::refusal::Refusal;
+use version_set::kind::Kind;
+use version_set::set::{Offered, VersionSet};
+use version_set::version::Version;
+
+/// The version with a clock of one pair.
+pub(crate) fn version(
+    alloc: Global,
+    pair: (u64, u64),
+    kind: Kind,
+    value: &[u8],
+) -> Result<Version, Refusal> {
+    Ok(Version {
+        clock: Clock::from_pairs(alloc, &[pair])?,
+        kind,
+        value: Bytes::copy_of(alloc, value)?,
+    })
+}
+
+/// The members of a set, each on a line.
+fn members(alloc: Global, set: &VersionSet) -> Result<String, Fail> {
+    let mut text = String::new(alloc);
+    for version in set.iter() {
+        let (pairs, kind, value) = (
+            version.clock.pairs(),
+            version.kind,
+            version.value.as_slice(),
+        );
+        writeln!(text, "{pairs:?} {kind:?} {value:?}")?;
+    }
+    Ok(text)
+}
+
+#[test]
+fn later_versions_take_the_place_of_earlier_ones(rt: HostRuntime) -> Result<(), Fail> {
+    let alloc = rt.alloc();
+    let mut set = VersionSet::empty(alloc);
+    assert!(rt; set.is_empty());
+    for (counter, value, answer, text) in [
+        (1, b"x", Offered::Added, "[(1, 1)] Live [120]\n"),
+        (2, b"y", Offered::Added, "[(1, 2)] Live [121]\n"),
+        (1, b"x", Offered::Known, "[(1, 2)] Live [121]\n"),
+        (
+            2,
+            b"a",
+            Offered::Added,
+            "[(1, 2)] Live [97]\n[(1, 2)] Live [121]\n",
+        ),
+    ] {
+        let offered = set.offer(version(alloc, (1, counter), Kind::Live, value)?)?;
+        assert_eq!(rt; offered, answer, "after {text}");
+        assert_eq!(rt; members(alloc, &set)?.as_str(), text);
+        assert_eq!(rt; members(alloc, &set.try_clone(alloc)?)?.as_str(), text);
+    }
+    assert_eq!(rt; set.len(), 2);
+    Ok(())
+}
+
+#[test]
+fn a_tombstone_stands_beside_a_value_of_its_clock(rt: HostRuntime) -> Result<(), Fail> {
+    let alloc = rt.alloc();
+    let mut set = VersionSet::empty(alloc);
+    set.offer(version(alloc, (1, 1), Kind::Tombstone, b"")?)?;
+    set.offer(version(alloc, (1, 1), Kind::Live, b"x")?)?;
+    assert_eq!(rt;
+        members(alloc, &set)?.as_str(),
+        "[(1, 1)] Live [120]\n[(1, 1)] Tombstone []\n"
+    );
+    Ok(())
+}
+
+#[test]
+fn a_set_has_at_most_64_members(rt: HostRuntime) -> Result<(), Fail> {
+    let alloc = rt.alloc();
+    let mut set = VersionSet::empty(alloc);
+    for node in 100..164 {
+        set.offer(version(alloc, (node, 1), Kind::Live, b"x")?)?;
+    }
+    assert_eq!(rt; set.len(), 64);
+    let one_more = version(alloc, (164, 1), Kind::Live, b"x")?;
+    assert!(rt; matches!(&set.offer(one_more), Err(Refusal::Crowded)));
+    assert_eq!(rt; set.len(), 64);
+    let later = version(alloc, (100, 2), Kind::Live, b"y")?;
+    assert!(rt; !set.crowds(&later));
+    let set = set.with_room()?.offer(later);
+    assert_eq!(rt; set.len(), 64);
+    assert!(rt; set.covers(&version(alloc, (100, 2), Kind::Live, b"y")?));
+    Ok(())
+}
+
+#[test]
+fn values_fit_their_format(rt: HostRuntime) -> Result<(), Fail> {
+    let alloc = rt.alloc();
+    for (kind, format, length) in [
+        (Kind::Live, Format::One, 4_096),
+        (Kind::Live, Format::Two, 65_536),
+        (Kind::Tombstone, Format::Two, 0),
+    ] {
+        kind.check_value(format, &vec![in alloc; 0; length]?)?;
+    }
+    for (kind, format, length) in [
+        (Kind::Live, Format::One, 4_097),
+        (Kind::Live, Format::Two, 65_537),
+        (Kind::Tombstone, Format::One, 0),
+        (Kind::Tombstone, Format::Two, 1),
+    ] {
+        let answer = kind.check_value(format, &vec![in alloc; 0; length]?);
+        assert!(rt;
+            matches!(&answer, Err(Refusal::BadValue)),
+            "{kind:?} of {length}"
+        );
+    }
+    Ok(())
+}

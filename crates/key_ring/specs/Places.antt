@@ -1,0 +1,27 @@
+-- Where a key lies: the paper of 2007, sections 4.2, 4.7 and 6.2 (equal ranges), by the number that its MD5 digest spells (RFC 1321).
+use Rattle.std.specs.Prelude.{ℕ, ◌+◌, ◌-◌, ◌*◌, ◌/◌, ◌%◌, ◌^◌, List, [], ◌∷◌, length}
+use Rattle.md5.specs.Md5.{md5}
+use Rattle.vclock.specs.declared.format.Format.{Format}
+use Rattle.vclock.specs.declared.format.Format.TheVariants.{One, Two}
+
+-- the number that bytes spell, the highest first
+abbrev pub number_of : List ℕ → ℕ
+number_of [] = 0
+number_of (byte ∷ bytes) = byte * 256 ^ length bytes + number_of bytes
+
+-- a key's number, of 128 bits
+unfoldable pub key_number : List ℕ → ℕ
+key_number key = number_of (md5 key)
+
+-- the range of a key in a ring of 2^bits equal ranges: the first bits of its number
+unfoldable pub range_at : ℕ → List ℕ → ℕ
+range_at bits key = key_number key / 2 ^ (128 - bits)
+
+-- how many bits a leaf has
+abbrev pub leaf_bits : Format → ℕ
+leaf_bits One = 8
+leaf_bits Two = 12
+
+-- the leaf of a key: the bits after those of the range
+unfoldable pub leaf_at : Format → ℕ → List ℕ → ℕ
+leaf_at format bits key = key_number key / 2 ^ (128 - (bits + leaf_bits format)) % 2 ^ leaf_bits format

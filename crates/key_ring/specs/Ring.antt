@@ -1,0 +1,31 @@
+-- Rings, and who keeps a range: the paper of 2007, sections 4.2, 4.3 and 6.2.
+use Rattle.std.specs.Prelude.{ℕ, ◌%◌, ◌++◌, Bool, false, not, ◌&&◌, ◌||◌, ◌==◌, nat_lt, nat_le, List, [], ◌∷◌, length, take, drop, Option, Some, None, if◌then◌else◌}
+use Rattle.std.specs.List.{list_all, list_any}
+use Rattle.vclock.specs.declared.refusal.Refusal.{Refusal}
+use Rattle.vclock.specs.declared.refusal.Refusal.TheVariants.{BadRing}
+
+-- 2^bits ranges, the nodes in the order of the ring, and how many of them keep a range
+pub record Places : Type 0 where
+  pub bits : ℕ
+  pub nodes : List ℕ
+  pub copies : ℕ
+
+-- a node has a number from 1 to 65,535
+abbrev pub is_node : ℕ → Bool
+is_node n = nat_lt 0 n && nat_lt n 65536
+
+-- whether some number comes twice
+abbrev pub has_repeat : List ℕ → Bool
+has_repeat [] = false
+has_repeat (n ∷ rest) = list_any (λ m. m == n) rest || has_repeat rest
+
+-- at most 8 bits; 1 to 32 nodes, each once; 1 to all of them keep a range
+abbrev pub is_ring : Places → Bool
+is_ring p = nat_le p.bits 8 && nat_lt 0 (length p.nodes) && nat_le (length p.nodes) 32 && list_all is_node p.nodes && not (has_repeat p.nodes) && nat_lt 0 p.copies && nat_le p.copies (length p.nodes)
+
+abbrev pub ring_fault : Places → Option Refusal
+ring_fault p = if is_ring p then None else Some BadRing
+
+-- the nodes in the order in which they are to keep range r: the node list, rotated left by r
+abbrev pub preference_list : List ℕ → ℕ → List ℕ
+preference_list nodes r = drop (r % length nodes) nodes ++ take (r % length nodes) nodes

@@ -1,0 +1,163 @@
+//! The ring: which nodes keep a range, and in what order (the paper of 2007, sections 4.2, 4.3 and 6.2).
+ghost use Rattle.std.specs.Prelude.{◌≡◌, ◌==◌, ◌<◌, ◌^◌, ◌&&◌, nat_le, nat_lt, not, length, slice_get, IsTrue, Some};
+ghost use Rattle.std.specs.List.{list_all, list_any};
+ghost use Rattle.std.specs.List.Sorted.{IsPermutation};
+ghost use Rattle.vclock.specs.Answer.{Answers};
+ghost use Rattle.key_ring.specs.Places.{leaf_at, range_at};
+ghost use Rattle.key_ring.specs.Ring.{has_repeat, is_node, is_ring, preference_list, ring_fault};
+
+use crate::places::place;
+use std::alloc::Global;
+use std::marker::Model;
+use vclock::format::Format;
+use vclock::refusal::Refusal;
+
+/// How many bits a range's number has at the most.
+const MOST_BITS: u64 = 8;
+
+/// How many nodes a ring has at the most.
+const MOST_NODES: usize = 32;
+
+/// The greatest node number.
+const LAST_NODE: u64 = 65_535;
+
+/// The ring (the paper of 2007, sections 4.2, 4.3 and 6.2): the keys in 2^bits equal ranges by their digests, 1 to 256
+/// of them, the nodes in the order of the ring, 1 to 32 of them and each once, and how many nodes keep a range.
+#[derive(Debug, Drop)]
+pub struct Ring {
+    bits: u8,
+    nodes: Vec<u16>,
+    copies: usize,
+}
+
+impl Model for Ring {
+    ghost use Rattle.std.specs.Prelude.{IsTrue};
+    ghost use Rattle.key_ring.specs.Ring.{Places, is_ring};
+
+    ghost Value = { Places };
+
+    ghost view = { λ r. record { bits = r.bits; nodes = r.nodes.items; copies = r.copies } };
+
+    ghost invariant = { λ r. IsTrue (is_ring (record { bits = r.bits; nodes = r.nodes.items; copies = r.copies })) };
+}
+
+impl Ring {
+    /// The ring of 2^bits ranges, at most 8 bits, with the nodes in this order, 1 to 32 of them from 1 to 65,535 and
+    /// each once, of which `copies`, from 1 to all of them, keep a range.
+    ///
+    /// Refused, in order: BadRing (any of these is not so), NoMemory. A list that is too long is refused by its length
+    /// alone.
+    pub fn new(alloc: Global, bits: u64, nodes: &[u64], copies: u64) -> Result<Ring, Refusal>
+        ensures { Answers result (ring_fault (record { bits = bits; nodes = nodes.now; copies = copies })) (λ ring. ring ≡ record { bits = bits; nodes = nodes.now; copies = copies }) }
+    {
+        if !is_ring(bits, nodes, copies) {
+            return Err(Refusal::BadRing);
+        }
+        let mut kept = Vec::with_capacity(alloc, nodes.len())?;
+        for &node in nodes {
+            kept.push(node as u16)?;
+        }
+        Ok(Ring {
+            bits: bits as u8,
+            nodes: kept,
+            copies: copies as usize,
+        })
+    }
+
+    /// The range of a key, from 0: the first bits of its MD5 digest (RFC 1321). It takes no memory.
+    pub fn range_of(&self, key: &[u8]) -> u16
+        ensures place { result ≡ range_at self.now.bits key.now }
+        ensures in_ring { result < 2 ^ self.now.bits }
+    {
+        // A key has the same range in each format.
+        place(Format::One, self.bits, key).range
+    }
+
+    /// The leaf of a key in its range's tree, from 0: the 8 bits of its digest after those of the range, or 12 in
+    /// format 2. It takes no memory.
+    pub fn leaf_of(&self, format: Format, key: &[u8]) -> u16
+        ensures { result ≡ leaf_at format self.now.bits key.now }
+    {
+        place(format, self.bits, key).leaf
+    }
+
+    /// The node at a place of a range's preference list, from 0, which has each node of the ring once: node number
+    /// `range` of the ring, counted round, and those after it. It takes no memory.
+    pub fn preference(&self, range: u16, place: usize) -> u16
+        requires range { range < 2 ^ self.now.bits }
+        requires place { place < length self.now.nodes }
+        ensures node { slice_get (preference_list self.now.nodes range) place ≡ Some result }
+        ensures once { IsPermutation (preference_list self.now.nodes range) self.now.nodes }
+    {
+        self.nodes[(usize::from(range) + place) % self.nodes.len()]
+    }
+
+    /// Whether a node is on the ring. Any number may be asked for.
+    pub fn contains(&self, node: u64) -> bool
+        ensures { result ≡ list_any (λ n. n == node) self.now.nodes }
+    {
+        self.nodes.iter().any(|&n| u64::from(n) == node)
+    }
+
+    /// How many bits a range's number has, 0 to 8.
+    pub fn bits(&self) -> u8
+        ensures { result ≡ self.now.bits }
+    {
+        self.bits
+    }
+
+    /// How many ranges there are, 1 to 256.
+    pub fn ranges(&self) -> u16
+        ensures { result ≡ 2 ^ self.now.bits }
+    {
+        1 << self.bits
+    }
+
+    /// The nodes in the order of the ring, 1 to 32 of them.
+    pub fn nodes(&self) -> &[u16]
+        ensures all { result.now ≡ self.now.nodes }
+        ensures valid { IsTrue (is_ring self.now) }
+    {
+        self.nodes.as_slice()
+    }
+
+    /// How many nodes keep a range, 1 to all of them.
+    pub fn copies(&self) -> usize
+        ensures { result ≡ self.now.copies }
+    {
+        self.copies
+    }
+}
+
+// Whether these are a ring's numbers.
+fn is_ring(bits: u64, nodes: &[u64], copies: u64) -> bool
+    ensures { result ≡ is_ring (record { bits = bits; nodes = nodes.now; copies = copies }) }
+{
+    bits <= MOST_BITS && is_node_list(nodes) && 0 < copies && copies <= nodes.len() as u64
+}
+
+// Whether these are a ring's nodes: not too few, not too many, and each once. Only a short list is searched.
+fn is_node_list(nodes: &[u64]) -> bool
+    ensures { result ≡ (nat_lt 0 (length nodes.now) && nat_le (length nodes.now) 32 && list_all is_node nodes.now && not (has_repeat nodes.now)) }
+{
+    !nodes.is_empty() && nodes.len() <= MOST_NODES && are_nodes(nodes) && !has_repeat(nodes)
+}
+
+// Whether each number is a node's.
+fn are_nodes(nodes: &[u64]) -> bool
+    ensures { result ≡ list_all is_node nodes.now }
+{
+    nodes.iter().all(|&node| 0 < node && node <= LAST_NODE)
+}
+
+// Whether some number comes twice. It takes time in proportion to the square of the length.
+fn has_repeat(nodes: &[u64]) -> bool
+    ensures { result ≡ has_repeat nodes.now }
+{
+    for i in 0..nodes.len() {
+        if nodes[i + 1..].contains(&nodes[i]) {
+            return true;
+        }
+    }
+    false
+}
