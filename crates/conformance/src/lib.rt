@@ -10,6 +10,8 @@ mod journals;
 #[cfg(test)]
 mod places;
 #[cfg(test)]
+mod rows;
+#[cfg(test)]
 mod scripts;
 #[cfg(test)]
 mod sets;

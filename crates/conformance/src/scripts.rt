@@ -135,7 +135,8 @@ fn other_lines_are_bad(rt: HostRuntime) -> Result<(), Fail> {
         r#"{"get":{"node":18446744073709551616,"key":"61"}}"#,
         r#"{"put":{"node":1,"key":"61","context":[],"value":null}}"#,
         r#"{"ring":{"nodes":[1],"journal":1}}"#,
-        r#"{"row":{"node":1,"key":"61"}}"#,
+        r#"{"rows":{"node":1,"key":"61"}}"#,
+        r#"{"row":{"node":1,"key":"61","value":"78"}}"#,
         r#"{"get":{"node":1,"key":"61"},"put":{"node":1,"key":"61","context":[],"value":"78"}}"#,
     ] {
         expect(&rt, line.as_bytes(), BAD_FIRST, ScriptEnd::BadLine(1))?;

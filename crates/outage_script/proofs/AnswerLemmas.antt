@@ -8,12 +8,12 @@ use Rattle.serde_json.specs.declared.value.Value.{Value}
 use Rattle.vclock.specs.Clock.{Pairs}
 use Rattle.vclock.specs.declared.refusal.Refusal.{Refusal}
 use Rattle.vclock.specs.declared.refusal.Refusal.TheVariants.{StaleContext}
-use Rattle.outage_script.specs.Answers.{items_of, pair_data, clock_data, put_members, put_answer, cause_members, held_members, line_members, bad_line_answer, refusal_answer, value_data, version_members, version_data, versions_members, versions_answer}
+use Rattle.outage_script.specs.Answers.{items_of, pair_data, clock_data, put_members, put_answer, cause_members, held_members, line_members, bad_line_answer, refusal_answer, value_data, version_members, version_data, versions_members, versions_answer, row_members, row_answer}
 use Rattle.version_set.specs.declared.kind.Kind.{Kind}
 use Rattle.version_set.specs.declared.kind.Kind.TheVariants.{Live, Tombstone}
 use Rattle.version_set.specs.declared.version.Version.{Version}
 use Rattle.range_journal.specs.Journal.{held}
-use Rattle.outage_script.specs.Asks.{Ask, put, get}
+use Rattle.outage_script.specs.Asks.{Ask, put, get, row}
 use Rattle.outage_script.specs.State.{State}
 use Rattle.outage_script.specs.Acts.{act, settled, put_fault, put_clock, put_entry, get_fault}
 
@@ -84,6 +84,11 @@ pub versions_answer_plain : (versions : List Version) → has_float (versions_an
 unfolding versions_answer versions_members
 versions_answer_plain versions = rw (items_plain version_data version_plain versions) refl
 
+-- the answer of a row has no float
+pub row_answer_plain : (key : List ℕ) (versions : List Version) → has_float (row_answer key versions) ≡ false
+unfolding row_answer row_members
+row_answer_plain key versions = refl
+
 -- no answer has a float
 settled_plain : (cause : Option Refusal) (done : Data × State) (s : State) → has_float done.0 ≡ false → has_float (settled cause done s).0 ≡ false
 settled_plain (Some refusal) done s plain = refusal_answer_plain refusal
@@ -93,3 +98,4 @@ pub reply_plain : (ask : Ask) (s : State) → has_float (act ask s).0 ≡ false
 unfolding act
 reply_plain (put p) s = settled_plain (put_fault p s) (put_answer (put_clock p) 0 0 (length s), s ++ put_entry p s ∷ []) s (put_answer_plain (put_clock p) 0 0 (length s))
 reply_plain (get g) s = settled_plain (get_fault g) (versions_answer (held s g.key), s) s (versions_answer_plain (held s g.key))
+reply_plain (row g) s = settled_plain (get_fault g) (row_answer g.key (held s g.key), s) s (row_answer_plain g.key (held s g.key))

@@ -15,8 +15,8 @@ use Rattle.version_set.specs.declared.version.Version.{Version}
 use Rattle.range_journal.specs.Journal.{append_fault, held}
 use Rattle.range_journal.specs.declared.journal.Entry.{Entry}
 use Rattle.range_journal.specs.declared.journal.Source.TheVariants.{Client}
-use Rattle.outage_script.specs.Asks.{PutAsk, GetAsk, Ask, put, get}
-use Rattle.outage_script.specs.Answers.{put_answer, versions_answer, refusal_answer}
+use Rattle.outage_script.specs.Asks.{PutAsk, GetAsk, Ask, put, get, row}
+use Rattle.outage_script.specs.Answers.{put_answer, versions_answer, row_answer, refusal_answer}
 use Rattle.outage_script.specs.State.{State, is_node, log_of}
 
 -- why the nodes that a command names are refused: one is not on the ring
@@ -58,3 +58,4 @@ settled None done s = done
 unfoldable pub act : Ask → State → Data × State
 act (put p) s = settled (put_fault p s) (put_answer (put_clock p) 0 0 (length s), s ++ put_entry p s ∷ []) s
 act (get g) s = settled (get_fault g) (versions_answer (held s g.key), s) s
+act (row g) s = settled (get_fault g) (row_answer g.key (held s g.key), s) s

@@ -4,6 +4,8 @@ use Rattle.serde_json.specs.Data.{Data, Items, no_items, item, no_members, membe
 use Rattle.serde_json.specs.Written.{compact_text}
 use Rattle.hex.specs.Hex.{encode_lower}
 use Rattle.vclock.specs.Clock.{Pairs}
+use Rattle.vclock.specs.declared.format.Format.TheVariants.{One}
+use Rattle.row_bytes.specs.Rows.{row_text}
 use Rattle.version_set.specs.declared.kind.Kind.{Kind}
 use Rattle.version_set.specs.declared.kind.Kind.TheVariants.{Live, Tombstone}
 use Rattle.version_set.specs.declared.version.Version.{Version}
@@ -87,3 +89,15 @@ versions_members versions = object (member (codes "versions") versions no_member
 -- the versions that are held for a key, in the order of the set
 unfoldable pub versions_answer : List Version → Data
 versions_answer versions = versions_members (list_data version_data versions)
+
+-- a row's text, or none where nothing is held
+abbrev pub text_of : List ℕ → List Version → List ℕ
+text_of key [] = []
+text_of key (v ∷ vs) = row_text One (record { key = key; versions = v ∷ vs })
+
+-- the text of the row of a key
+unfoldable pub row_members : Data → Data
+row_members text = object (member (codes "row") text no_members)
+
+unfoldable pub row_answer : List ℕ → List Version → Data
+row_answer key versions = row_members (bytes_data (text_of key versions))

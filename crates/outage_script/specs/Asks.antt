@@ -15,6 +15,8 @@ pub record GetAsk : Type 0 where
   pub node : ℕ
   pub key : List ℕ
 
+-- the versions that are held, or the text of their row
 pub data Ask : Type 0 where
   put : PutAsk → Ask
   get : GetAsk → Ask
+  row : GetAsk → Ask

@@ -3,7 +3,7 @@ use Rattle.std.specs.Prelude.{ℕ, List, [], codes, if◌then◌else◌, Option,
 use Rattle.std.specs.Str.{bytes_eq}
 use Rattle.serde_json.specs.Data.{Data}
 use Rattle.serde_json.specs.Find.{as_object}
-use Rattle.outage_script.specs.Asks.{PutAsk, GetAsk, Ask, put, get}
+use Rattle.outage_script.specs.Asks.{PutAsk, GetAsk, Ask, put, get, row}
 use Rattle.outage_script.specs.Reading.{◌>>=◌, has_members, number_of, bytes_of, numbers_of, pairs_of, member_of, optional_of, sole_member}
 
 -- the nodes that get no copy: a put has four members, or these and one more
@@ -20,20 +20,20 @@ put_of d = do
   value ← member_of bytes_of (codes "value") d
   Some (record { node = node; key = key; context = context; value = value; lose = lose })
 
--- what the two members of a get say
+-- what the two members of a get or a row say
 abbrev pub get_parts : Data → Option GetAsk
 get_parts d = do
   node ← member_of number_of (codes "node") d
   key ← member_of bytes_of (codes "key") d
   Some (record { node = node; key = key })
 
--- what the members of a get say, if it has no others
+-- what the members of a get or a row say, if it has no others
 unfoldable pub get_of : Data → Option GetAsk
 get_of d = if has_members 2 (as_object d) then get_parts d else None
 
 -- the command of a name, with its members
 abbrev pub named : List ℕ × Data → Option Ask
-named m = if bytes_eq m.0 (codes "put") then option_map put (put_of m.1) else if bytes_eq m.0 (codes "get") then option_map get (get_of m.1) else None
+named m = if bytes_eq m.0 (codes "put") then option_map put (put_of m.1) else if bytes_eq m.0 (codes "get") then option_map get (get_of m.1) else if bytes_eq m.0 (codes "row") then option_map row (get_of m.1) else None
 
 -- an object of one member, which is named as a command
 unfoldable pub command_of : Data → Option Ask

@@ -1,5 +1,5 @@
 -- What a command that was read asks for.
-use Rattle.outage_script.specs.Asks.{PutAsk, GetAsk, Ask, put, get}
+use Rattle.outage_script.specs.Asks.{PutAsk, GetAsk, Ask, put, get, row}
 use Rattle.outage_script.specs.declared.command.Command.{Command}
 use Rattle.outage_script.specs.declared.command.Command.TheVariants as Variants
 use Rattle.outage_script.specs.declared.command.Put.{Put}
@@ -14,3 +14,4 @@ get_ask g = record { node = g.node; key = g.key }
 abbrev pub ask_of : Command → Ask
 ask_of (Variants.Put p) = put (put_ask p)
 ask_of (Variants.Get g) = get (get_ask g)
+ask_of (Variants.Row g) = row (get_ask g)

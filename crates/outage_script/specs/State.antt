@@ -1,5 +1,9 @@
 -- The state of a script: one node, number 1, with one range, whose journal is all that is kept.
-use Rattle.std.specs.Prelude.{ℕ, List, [], Bool, ◌==◌, ◌≡◌}
+use Rattle.std.specs.Prelude.{ℕ, List, [], Bool, ◌==◌, ◌≡◌, None}
+use Rattle.std.specs.List.{AllByRecursion}
+use Rattle.vclock.specs.declared.format.Format.TheVariants.{One}
+use Rattle.version_set.specs.Kind.{value_fault}
+use Rattle.version_set.specs.declared.version.Version.{Version}
 use Rattle.range_journal.specs.Log.{Log}
 use Rattle.range_journal.specs.Journal.{NeverCrowded}
 use Rattle.range_journal.specs.declared.journal.Entry.{Entry}
@@ -23,7 +27,12 @@ journal_limit = 1000000
 abbrev pub log_of : State → ℕ → Log
 log_of s room = record { entries = s; limit = journal_limit; room = room }
 
--- a journal that a script may have: of the limit, and never crowded at any key
+-- a version that has a text of format 1: a live one, with a value within the limit
+abbrev pub FitsFormat : Version → Type 0
+FitsFormat v = value_fault One v.kind v.value ≡ None
+
+-- a journal that a script may have: of the limit, never crowded at any key, and of versions of format 1
 pub record IsStateLog (log : Log) : Type 0 where
   pub limit : log.limit ≡ journal_limit
   pub uncrowded : (key : List ℕ) → NeverCrowded log.entries key
+  pub fits : AllByRecursion (λ e. FitsFormat e.version) log.entries

@@ -1,12 +1,13 @@
 //! The answers of the commands, as JSON.
 ghost use Rattle.std.specs.Prelude.{◌≡◌, false, IfOk, string_bytes};
-ghost use Rattle.outage_script.specs.Answers.{pair_data, clock_data, put_answer, put_members, refusal_answer, cause_members, held_members, line_members, bad_line_answer, answer_line, version_data, version_members, versions_members, versions_answer};
+ghost use Rattle.outage_script.specs.Answers.{pair_data, clock_data, put_answer, put_members, refusal_answer, cause_members, held_members, line_members, bad_line_answer, answer_line, version_data, version_members, versions_members, versions_answer, row_members, bytes_data};
 ghost use Rattle.serde_json.specs.Written.{has_float};
 ghost use Rattle.serde_json.specs.View.{view};
 
 use crate::json::{ToValue, list_value};
 use serde_json::{Value, json};
 use std::alloc::{AllocError, Global};
+use vclock::bytes::Bytes;
 use vclock::clock::Clock;
 use vclock::refusal::Refusal;
 use version_set::kind::Kind;
@@ -152,4 +153,19 @@ fn versions_members(alloc: Global, versions: Value) -> Result<Value, AllocError>
     ensures { IfOk result (λ v. view v ≡ versions_members (view versions)) }
 {
     json!(in alloc; {"versions": versions})
+}
+
+/// The answer of a row, which is its text.
+pub(crate) fn row_answer(alloc: Global, text: &Bytes) -> Result<Value, AllocError>
+    ensures { IfOk result (λ v. view v ≡ row_members (bytes_data text.now)) }
+{
+    row_members(alloc, text.to_value(alloc)?)
+}
+
+/// The member of a row's answer.
+#[tactic(auto, unfolding(crate::specs::Answers::row_members))]
+fn row_members(alloc: Global, text: Value) -> Result<Value, AllocError>
+    ensures { IfOk result (λ v. view v ≡ row_members (view text)) }
+{
+    json!(in alloc; {"row": text})
 }

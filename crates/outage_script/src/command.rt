@@ -41,6 +41,8 @@ pub(crate) enum Command {
     Put(Put),
     /// `get`.
     Get(Get),
+    /// `row`: a get of the row's text.
+    Row(Get),
 }
 
 /// The command that a line is, if it is one.
@@ -68,6 +70,8 @@ fn named_in(alloc: Global, value: &Value) -> Result<Option<Command>, AllocError>
         Ok(put_in(alloc, inner)?.map(Command::Put))
     } else if name == "get" {
         Ok(get_in(alloc, inner)?.map(Command::Get))
+    } else if name == "row" {
+        Ok(get_in(alloc, inner)?.map(Command::Row))
     } else {
         Ok(None)
     }

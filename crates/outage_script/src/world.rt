@@ -1,21 +1,25 @@
 // The world that a script changes: one node, number 1, with one range, whose journal is all that is kept.
 ghost use Rattle.std.specs.Prelude.{◌≡◌, ◌≤◌, ◌++◌, ◌∷◌, [], ⊤, length, None, IfOk, IfErr, OnOk, OnErr, ◌≢◌};
-ghost use Rattle.std.specs.List.{list_any, list_all};
+ghost use Rattle.std.specs.List.{list_any, list_all, AllByRecursion};
 ghost use Rattle.serde_json.specs.View.{view};
 ghost use Rattle.vclock.specs.Answer.{Answers, AnswersAtOnce, AnswersOrNoMemory};
 ghost use Rattle.range_journal.specs.Journal.{held};
-ghost use Rattle.outage_script.specs.State.{start, is_node};
+ghost use Rattle.outage_script.specs.State.{start, is_node, FitsFormat};
 ghost use Rattle.outage_script.specs.Orders.{ask_of, put_ask, get_ask};
-ghost use Rattle.outage_script.specs.Answers.{put_answer, versions_answer, refusal_answer};
+ghost use Rattle.outage_script.specs.Answers.{put_answer, versions_answer, row_answer, text_of, refusal_answer};
+ghost use Rattle.vclock.specs.Keys.{key_fault};
 ghost use Rattle.vclock.specs.Clock.{at_most};
 ghost use Rattle.outage_script.specs.Acts.{act, ring_fault, ask_fault, stale_fault, put_fault, put_clock, put_entry, get_fault};
 
-use crate::answer::{put_answer, refusal_answer, versions_answer};
+use crate::answer::{put_answer, refusal_answer, row_answer, versions_answer};
 use crate::command::{Command, Get, Put};
 use range_journal::journal::{Journal, Source};
+use row_bytes::row::Row;
+use row_bytes::writing::write_row;
 use serde_json::Value;
 use std::alloc::{AllocError, Global};
 use std::marker::Model;
+use vclock::bytes::Bytes;
 use vclock::clock::{Clock, ClockOrder};
 use vclock::format::Format;
 use vclock::key::check_key;
@@ -75,6 +79,10 @@ impl World {
                 let answer = self.get(alloc, &get);
                 answered(alloc, answer)
             }
+            Command::Row(get) => {
+                let answer = self.row(alloc, get);
+                answered(alloc, answer)
+            }
         }
     }
 
@@ -114,9 +122,23 @@ impl World {
         Ok(versions_answer(alloc, held.as_slice())?)
     }
 
-    /// The versions that are held for a key.
+    /// Answers with the text of the row of a key.
+    #[tactic(auto, unfolding(crate::specs::Answers::row_answer))]
+    fn row(&self, alloc: Global, get: Get) -> Result<Value, Refusal>
+        ensures { AnswersOrNoMemory result (get_fault (get_ask get))
+            (λ v. view v ≡ row_answer get.key (held self.now get.key)) }
+    {
+        check_nodes(get.node, &[])?;
+        check_key(get.key.as_slice())?;
+        let versions = self.held(alloc, get.key.as_slice())?;
+        let text = row_text(alloc, get.key, versions)?;
+        Ok(row_answer(alloc, &text)?)
+    }
+
+    /// The versions that are held for a key, each of which has a text.
     fn held(&self, alloc: Global, key: &[u8]) -> Result<VersionSet, Refusal>
-        ensures { Answers result None (λ set. set ≡ held self.now key.now) }
+        ensures held { Answers result None (λ set. set ≡ held self.now key.now) }
+        ensures fits { IfOk result (λ set. AllByRecursion FitsFormat set) }
     {
         self.journal.held_set(alloc, key)
     }
@@ -163,6 +185,18 @@ fn are_nodes(nodes: &[u64]) -> bool
     ensures { result ≡ list_all is_node nodes.now }
 {
     nodes.iter().all(|node| *node == NODE)
+}
+
+/// The text of the row of a key, or none where no version is held.
+fn row_text(alloc: Global, key: Bytes, versions: VersionSet) -> Result<Bytes, Refusal>
+    requires key { key_fault key ≡ None }
+    requires fits { AllByRecursion FitsFormat versions }
+    ensures { Answers result None (λ text. text ≡ text_of key versions) }
+{
+    if versions.is_empty() {
+        return Ok(Bytes::from(Vec::new(alloc)));
+    }
+    Ok(Bytes::from(write_row(alloc, Format::One, &Row { key, versions })?))
 }
 
 /// Whether no version that is held has seen all that the clock has.

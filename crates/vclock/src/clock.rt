@@ -67,6 +67,14 @@ impl Clock {
         Ok(Clock { pairs: kept })
     }
 
+    /// The clock of pairs that are one already: by rising node, at most 32. It takes no memory.
+    pub fn of_ascending(pairs: Vec<(u16, u64)>) -> Clock
+        requires { IsClock pairs.items }
+        ensures { result ≡ pairs.items }
+    {
+        Clock { pairs }
+    }
+
     /// The clock with the counter of a node, 1 to 65,535, raised by one.
     ///
     /// Refused, in order: ClockFull (a 33rd pair), CounterFull (the counter is 2^64 - 1), NoMemory.

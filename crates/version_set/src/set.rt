@@ -54,6 +54,15 @@ impl VersionSet {
         }
     }
 
+    /// The set of versions that are one already: in ascending order of their texts, none below another, at most 64. It
+    /// takes no memory.
+    pub fn of_ascending(members: Vec<Version>) -> VersionSet
+        requires { IsVersionSet members.items }
+        ensures { result ≡ members.items }
+    {
+        VersionSet { versions: members }
+    }
+
     /// The members, in ascending order of their texts, none below another.
     pub fn iter(&self) -> Iter<'_, Version>
         ensures all { iter_rest result ≡ self.now }

@@ -1,0 +1,8 @@
+use Rattle.std.proofs.Common.{◌≡◌, ◌++◌, take, length}
+use Rattle.std.specs.List.{flat_map}
+use Rattle.std.specs.Int.{w16, to_be_bytes}
+use Rattle.version_set.specs.Version.{version_text}
+use Rattle.row_bytes.proofs.writing.put_versions.Given as goal
+
+abbrev pub invariant-loop-version : goal.invariant-loop-version
+invariant-loop-version l = l.out.items ≡ l.fn.out.items ++ to_be_bytes w16 (length l.versions) ++ flat_map (version_text l.format) (take l.version-index l.versions)

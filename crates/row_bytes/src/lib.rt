@@ -1,0 +1,9 @@
+//! Rows as bytes, and back: the texts that replicas must agree on byte for byte.
+#![tactic(auto)]
+
+mod fault;
+mod fields;
+pub mod reading;
+pub mod row;
+pub mod stripping;
+pub mod writing;

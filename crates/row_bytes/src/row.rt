@@ -1,0 +1,73 @@
+//! Rows.
+ghost use Rattle.std.specs.Prelude.{◌≡◌, ◌↔◌, IsTrue, [], length};
+ghost use Rattle.std.specs.Slice.Iter.{iter_rest};
+
+use std::marker::Model;
+use std::slice::Iter;
+use vclock::bytes::Bytes;
+use version_set::set::VersionSet;
+
+/// A key with the versions that are held for it.
+#[derive(Debug, Drop)]
+pub struct Row {
+    /// The key, 1 to 255 bytes where the row has a text.
+    pub key: Bytes,
+    /// The versions, 1 to 64 where the row has a text.
+    pub versions: VersionSet,
+}
+
+/// Rows that were read from one text.
+#[derive(Debug, Drop)]
+pub struct RowList {
+    rows: Vec<Row>,
+}
+
+impl Model for RowList {
+    ghost use Rattle.std.specs.Prelude.{List};
+    ghost use Rattle.row_bytes.specs.declared.row.Row.{Row};
+
+    ghost Value = { List Row };
+
+    ghost view = { λ r. r.rows.items };
+}
+
+impl RowList {
+    /// The rows in order.
+    pub fn as_slice(&self) -> &[Row]
+        ensures { result.now ≡ self.now }
+    {
+        &self.rows
+    }
+
+    /// The rows in order, one by one.
+    pub fn iter(&self) -> Iter<'_, Row>
+        ensures { iter_rest result ≡ self.now }
+    {
+        self.rows.iter()
+    }
+
+    /// How many rows there are.
+    pub fn len(&self) -> usize
+        ensures { result ≡ length self.now }
+    {
+        self.rows.len()
+    }
+
+    /// Whether there is no row.
+    pub fn is_empty(&self) -> bool
+        ensures { IsTrue result ↔ (self.now ≡ []) }
+    {
+        self.rows.is_empty()
+    }
+}
+
+impl From<Vec<Row>> for RowList {
+    ghost use Rattle.std.specs.Prelude.{◌≡◌};
+
+    ghost from_gives = { λ rows kept. kept ≡ rows.items };
+
+    /// The rows of a vector, which is taken as it is.
+    fn from(rows: Vec<Row>) -> RowList {
+        RowList { rows }
+    }
+}

@@ -1,0 +1,90 @@
+//! Writing rows. What a row's text is, this project's profile says.
+ghost use Rattle.std.specs.Prelude.{◌≡◌, ◌++◌, ◌≤◌, length, None, OnOk};
+ghost use Rattle.std.specs.List.{flat_map, AllByRecursion};
+ghost use Rattle.std.specs.Int.{w16, to_be_bytes};
+ghost use Rattle.vclock.specs.Answer.{Answers};
+ghost use Rattle.version_set.specs.Kind.{value_fault};
+ghost use Rattle.version_set.specs.Version.{pair_text, plain_text, version_text};
+ghost use Rattle.row_bytes.specs.Rows.{row_text, FitsText};
+
+use crate::row::Row;
+use std::alloc::{AllocError, Global};
+use vclock::format::Format;
+use vclock::refusal::Refusal;
+use version_set::version::Version;
+
+/// Appends the pairs of a clock: a node in two bytes, then its counter in eight.
+fn put_pairs(out: &mut Vec<u8>, pairs: &[(u16, u64)]) -> Result<(), AllocError>
+    ensures { OnOk result (out.new.items ≡ out.old.items ++ flat_map pair_text pairs.now) }
+{
+    for pair in pairs {
+        out.extend_from_slice(&pair.0.to_be_bytes())?;
+        out.extend_from_slice(&pair.1.to_be_bytes())?;
+    }
+    Ok(())
+}
+
+/// Appends what stands for a version in both formats: all but its kind.
+fn put_plain(out: &mut Vec<u8>, version: &Version) -> Result<(), AllocError>
+    requires { length version.now.value ≤ 65536 }
+    ensures { OnOk result (out.new.items ≡ out.old.items ++ plain_text version.now) }
+{
+    let pairs = version.clock.pairs();
+    out.push(pairs.len() as u8)?;
+    put_pairs(out, pairs)?;
+    let value = version.value.as_slice();
+    out.extend_from_slice(&(value.len() as u32).to_be_bytes())?;
+    out.extend_from_slice(value)?;
+    Ok(())
+}
+
+/// Appends the text of a version, which has a byte for the kind in format 2 alone.
+#[tactic(auto, using(crate::proofs::Limits::value_short))]
+fn put_version(out: &mut Vec<u8>, format: Format, version: &Version) -> Result<(), AllocError>
+    requires { value_fault format version.now.kind version.now.value ≡ None }
+    ensures { OnOk result (out.new.items ≡ out.old.items ++ version_text format version.now) }
+{
+    match format {
+        Format::One => put_plain(out, version),
+        Format::Two => {
+            out.push(version.kind.byte())?;
+            put_plain(out, version)
+        }
+    }
+}
+
+/// Appends how many versions there are, and then their texts.
+fn put_versions(out: &mut Vec<u8>, format: Format, versions: &[Version]) -> Result<(), AllocError>
+    requires few { length versions.now ≤ 64 }
+    requires each { AllByRecursion (λ v. value_fault format v.kind v.value ≡ None) versions.now }
+    ensures { OnOk result (out.new.items ≡ out.old.items ++ to_be_bytes w16 (length versions.now) ++ flat_map (version_text format) versions.now) }
+{
+    out.extend_from_slice(&(versions.len() as u16).to_be_bytes())?;
+    for version in versions {
+        put_version(out, format, version)?;
+    }
+    Ok(())
+}
+
+/// Appends the text of a row (this project's profile). Where memory runs out, some of the text stands at the end of
+/// `out`.
+#[tactic(auto, unfolding(crate::specs::Rows::row_text), using(crate::proofs::Limits::key_short))]
+pub fn put_row(out: &mut Vec<u8>, format: Format, row: &Row) -> Result<(), AllocError>
+    requires { FitsText format row.now }
+    ensures ok { OnOk result (out.new.items ≡ out.old.items ++ row_text format row.now) }
+{
+    let key = row.key.as_slice();
+    out.extend_from_slice(&(key.len() as u16).to_be_bytes())?;
+    out.extend_from_slice(key)?;
+    put_versions(out, format, row.versions.as_slice())
+}
+
+/// The text of a row (this project's profile). Refused: NoMemory.
+pub fn write_row(alloc: Global, format: Format, row: &Row) -> Result<Vec<u8>, Refusal>
+    requires { FitsText format row.now }
+    ensures { Answers result None (λ text. text.items ≡ row_text format row.now) }
+{
+    let mut text = Vec::new(alloc);
+    put_row(&mut text, format, row)?;
+    Ok(text)
+}
