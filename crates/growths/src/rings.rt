@@ -1,0 +1,14 @@
+// Rings.
+use crate::show;
+use key_ring::ring::Ring;
+use std::alloc::Global;
+use std::io;
+use vclock::refusal::Refusal;
+
+pub(crate) fn show_all<R: Print + AllocGlobal>(rt: &R) -> io::Result<()> {
+    show(rt, "a ring", ring(rt.alloc()))
+}
+
+fn ring(alloc: Global) -> Result<u64, Refusal> {
+    Ok(Ring::new(alloc, 4, &[10, 20, 30, 40], 2)?.nodes().len() as u64)
+}
