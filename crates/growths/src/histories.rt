@@ -7,6 +7,7 @@ use std::io;
 use vclock::bytes::Bytes;
 use vclock::refusal::Refusal;
 
+/// Shows the calls on a journal.
 pub(crate) fn show_all<R: Print + AllocGlobal>(rt: &R) -> io::Result<()> {
     let alloc = rt.alloc();
     show(rt, "append", append(alloc))?;

@@ -5,6 +5,7 @@ use std::alloc::Global;
 use std::io;
 use vclock::refusal::Refusal;
 
+/// Shows the calls on a ring.
 pub(crate) fn show_all<R: Print + AllocGlobal>(rt: &R) -> io::Result<()> {
     show(rt, "a ring", ring(rt.alloc()))
 }

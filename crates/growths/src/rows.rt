@@ -11,6 +11,7 @@ use vclock::refusal::Refusal;
 const TEXT: &[u8] =
     b"\x00\x01a\x00\x01\x01\x00\x01\x00\x00\x00\x00\x00\x00\x00\x01\x00\x00\x00\x01x";
 
+/// Shows the calls on row texts.
 pub(crate) fn show_all<R: Print + AllocGlobal>(rt: &R) -> io::Result<()> {
     let alloc = rt.alloc();
     show(rt, "read_row", read(alloc))?;

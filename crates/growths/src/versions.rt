@@ -9,6 +9,7 @@ use version_set::kind::Kind;
 use version_set::set::VersionSet;
 use version_set::version::Version;
 
+/// Shows the calls on versions and sets of them.
 pub(crate) fn show_all<R: Print + AllocGlobal>(rt: &R) -> io::Result<()> {
     let alloc = rt.alloc();
     show(rt, "clone of a version", clone_of_version(alloc))?;

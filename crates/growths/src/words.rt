@@ -6,6 +6,7 @@ use vclock::bytes::Bytes;
 use vclock::clock::Clock;
 use vclock::refusal::Refusal;
 
+/// Shows the calls on clocks and bytes.
 pub(crate) fn show_all<R: Print + AllocGlobal>(rt: &R) -> io::Result<()> {
     let alloc = rt.alloc();
     show(rt, "from_pairs", from_pairs(alloc))?;

@@ -101,12 +101,6 @@ range_below bits key le =
     let e : bits + (128 - bits) ≡ 128 = omega arith in
     shr_below (key_number key) bits (128 - bits) (rw e (key_number_below key))
 
--- no leaf lies past the last one
-pub leaf_below : (format : Format) (bits : ℕ) (key : List ℕ) → leaf_at format bits key < 2 ^ leaf_bits format
-unfolding leaf_at
-leaf_below One bits key = omega arith
-leaf_below Two bits key = omega arith
-
 -- a range's number fits 16 bits
 pub range_fits : (bits : ℕ) (key : List ℕ) → bits ≤ 8 → range_at bits key < 2 ^ 16
 range_fits bits key le =

@@ -257,9 +257,3 @@ pub front_is : (bytes text rest : List ℕ) → bytes ≡ text ++ rest → take 
 front_is bytes text rest e =
     let n : length bytes - length rest ≡ length text = omega (arith, ap length e, length-append text rest) in
     rw (n, e) (take_at text rest (length text) refl)
-
--- two versions' texts, each followed by anything, that are the same bytes
-pub one_version : (format : Format) (u v : Version) (x y : List ℕ) → IsVersion format u → IsVersion format v → version_text format u ++ x ≡ version_text format v ++ y → (u ≡ v) × (x ≡ y)
-one_version format u v x y p q e =
-    let both : (u, x) ≡ (v, y) = ok_is (u, x) (v, y) (sym (version_again format u x p) ∙ (ap (version_at format) e ∙ version_again format v y q)) in
-    (ap (λ (w : Version × List ℕ). w.0) both, ap (λ (w : Version × List ℕ). w.1) both)

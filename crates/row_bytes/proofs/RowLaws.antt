@@ -286,8 +286,3 @@ row_within limit format bytes h =
 -- a broken field stands within the bytes
 pub broken_within : (format : Format) (bytes : List ℕ) (left : ℕ) → row_at format bytes ≡ Err left → left ≤ length bytes
 broken_within format bytes left e = subst (λ (r : Result (Row × List ℕ) ℕ). IsWithin (length bytes) r) e (row_within (length bytes) format bytes (omega arith))
-
--- a row's text is not empty
-pub row_text-some : (format : Format) (r : Row) → 1 ≤ length (row_text format r)
-unfolding row_text
-row_text-some format r = omega arith
