@@ -8,7 +8,11 @@ mod devices;
 #[cfg(test)]
 mod journals;
 #[cfg(test)]
+mod outages;
+#[cfg(test)]
 mod places;
+#[cfg(test)]
+mod ranges;
 #[cfg(test)]
 mod rows;
 #[cfg(test)]

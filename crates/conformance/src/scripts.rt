@@ -19,7 +19,7 @@ const GET: &str = r#"{"get":{"node":1,"key":"61"}}"#;
 const BAD_FIRST: &str = "{\"cause\":\"BadLine\",\"line\":1,\"refused\":29}\n";
 
 /// Runs a script, which is to write the output and to end so.
-fn expect(
+pub(crate) fn expect(
     rt: &(impl AllocGlobal + Abort),
     input: &[u8],
     output: &str,
@@ -32,7 +32,7 @@ fn expect(
 }
 
 /// Runs the script of these lines, which is to write these answers.
-fn expect_answers(rt: &(impl AllocGlobal + Abort), lines: &[(&str, &str)]) -> Result<(), Fail> {
+pub(crate) fn expect_answers(rt: &(impl AllocGlobal + Abort), lines: &[(&str, &str)]) -> Result<(), Fail> {
     let mut input = String::new(rt.alloc());
     let mut output = String::new(rt.alloc());
     for (line, answer) in lines {
@@ -135,6 +135,11 @@ fn other_lines_are_bad(rt: HostRuntime) -> Result<(), Fail> {
         r#"{"get":{"node":18446744073709551616,"key":"61"}}"#,
         r#"{"put":{"node":1,"key":"61","context":[],"value":null}}"#,
         r#"{"ring":{"nodes":[1],"journal":1}}"#,
+        r#"{"ring":{"bits":0,"copies":1,"nodes":[1],"up":[1]}}"#,
+        r#"{"ring":{"bits":0,"copies":1,"limit":1,"format":1}}"#,
+        r#"{"ring":{"bits":0,"copies":1,"nodes":[1],"limit":null}}"#,
+        r#"{"ring":{"bits":0,"copies":1,"nodes":["1"]}}"#,
+        r#"{"ring":{"bits":0,"copies":"1","nodes":[1]}}"#,
         r#"{"rows":{"node":1,"key":"61"}}"#,
         r#"{"row":{"node":1,"key":"61","value":"78"}}"#,
         r#"{"get":{"node":1,"key":"61"},"put":{"node":1,"key":"61","context":[],"value":"78"}}"#,

@@ -3,6 +3,8 @@
 #![tactic(auto)]
 
 mod histories;
+mod leaves;
+mod ranges;
 mod rings;
 mod rows;
 mod versions;
@@ -16,7 +18,9 @@ fn main(rt: HostRuntime) -> io::Result<()> {
     versions::show_all(&rt)?;
     histories::show_all(&rt)?;
     rows::show_all(&rt)?;
-    rings::show_all(&rt)
+    rings::show_all(&rt)?;
+    leaves::show_all(&rt)?;
+    ranges::show_all(&rt)
 }
 
 /// Prints what a call answered: a number that tells its result, or the name of its refusal.

@@ -1,5 +1,5 @@
 -- Lists of answers, and answers without floats.
-use Rattle.std.proofs.Common.{Option, Some, None, ◌≡◌, ℕ, suc, ◌+◌, ◌<◌, ◌≤◌, length, List, [], ◌∷◌, ◌++◌, drop, refl, sym, ap, get_or, false, add-one, drop-cons}
+use Rattle.std.proofs.Common.{Option, Some, None, ◌≡◌, ℕ, suc, ◌+◌, ◌^◌, ◌<◌, ◌≤◌, length, List, [], ◌∷◌, ◌++◌, drop, refl, sym, ap, get_or, false, add-one, drop-cons}
 use Rattle.std.proofs.lemmas.List.{drop_all}
 use Rattle.serde_json.specs.Written.{has_float, items_have_float}
 use Rattle.serde_json.specs.Data.{Data, Items, no_items, item}
@@ -8,14 +8,15 @@ use Rattle.serde_json.specs.declared.value.Value.{Value}
 use Rattle.vclock.specs.Clock.{Pairs}
 use Rattle.vclock.specs.declared.refusal.Refusal.{Refusal}
 use Rattle.vclock.specs.declared.refusal.Refusal.TheVariants.{StaleContext}
-use Rattle.outage_script.specs.Answers.{items_of, pair_data, clock_data, put_members, put_answer, cause_members, held_members, line_members, bad_line_answer, refusal_answer, value_data, version_members, version_data, versions_members, versions_answer, row_members, row_answer}
+use Rattle.outage_script.specs.Answers.{items_of, pair_data, clock_data, put_members, put_answer, cause_members, held_members, line_members, bad_line_answer, refusal_answer, value_data, version_members, version_data, versions_members, versions_answer, row_members, row_answer, ring_answer}
 use Rattle.version_set.specs.declared.kind.Kind.{Kind}
 use Rattle.version_set.specs.declared.kind.Kind.TheVariants.{Live, Tombstone}
 use Rattle.version_set.specs.declared.version.Version.{Version}
-use Rattle.range_journal.specs.Journal.{held}
-use Rattle.outage_script.specs.Asks.{Ask, put, get, row}
-use Rattle.outage_script.specs.State.{State}
-use Rattle.outage_script.specs.Acts.{act, settled, put_fault, put_clock, put_entry, get_fault}
+use Rattle.vclock.specs.declared.format.Format.{Format}
+use Rattle.range_state.specs.State as range
+use Rattle.outage_script.specs.Asks.{Ask, ring, put, get, row}
+use Rattle.outage_script.specs.State.{State, home, replicas_of}
+use Rattle.outage_script.specs.Acts.{act, settled, done_at, new_ring_fault, ring_config, remade, put_fault, put_done, get_fault, get_done, row_done}
 
 -- some items and then more
 abbrev pub joined : Items → Items → Items
@@ -85,17 +86,27 @@ unfolding versions_answer versions_members
 versions_answer_plain versions = rw (items_plain version_data version_plain versions) refl
 
 -- the answer of a row has no float
-pub row_answer_plain : (key : List ℕ) (versions : List Version) → has_float (row_answer key versions) ≡ false
+pub row_answer_plain : (format : Format) (key : List ℕ) (versions : List Version) → has_float (row_answer format key versions) ≡ false
 unfolding row_answer row_members
-row_answer_plain key versions = refl
+row_answer_plain format key versions = refl
+
+-- the answer of a new ring has no float
+ring_answer_plain : (nodes ranges : ℕ) → has_float (ring_answer nodes ranges) ≡ false
+unfolding ring_answer
+ring_answer_plain nodes ranges = refl
 
 -- no answer has a float
 settled_plain : (cause : Option Refusal) (done : Data × State) (s : State) → has_float done.0 ≡ false → has_float (settled cause done s).0 ≡ false
 settled_plain (Some refusal) done s plain = refusal_answer_plain refusal
 settled_plain None done s plain = plain
 
+done_plain : (done : range.State → Data × State) (o : Option range.State) (s : State) → ((h : range.State) → has_float (done h).0 ≡ false) → has_float (done_at done o s).0 ≡ false
+done_plain done None s plain = refl
+done_plain done (Some h) s plain = plain h
+
 pub reply_plain : (ask : Ask) (s : State) → has_float (act ask s).0 ≡ false
 unfolding act
-reply_plain (put p) s = settled_plain (put_fault p s) (put_answer (put_clock p) 0 0 (length s), s ++ put_entry p s ∷ []) s (put_answer_plain (put_clock p) 0 0 (length s))
-reply_plain (get g) s = settled_plain (get_fault g) (versions_answer (held s g.key), s) s (versions_answer_plain (held s g.key))
-reply_plain (row g) s = settled_plain (get_fault g) (row_answer g.key (held s g.key), s) s (row_answer_plain g.key (held s g.key))
+reply_plain (ring r) s = settled_plain (new_ring_fault r) (ring_answer (length r.nodes) (2 ^ r.bits), remade r (ring_config r) s) s (ring_answer_plain (length r.nodes) (2 ^ r.bits))
+reply_plain (put p) s = settled_plain (put_fault p s) _ s (done_plain (put_done p s) (home p.node (replicas_of s p.key)) s (λ h. put_answer_plain _ _ _ _))
+reply_plain (get g) s = settled_plain (get_fault g s) _ s (done_plain (λ h. (get_done g h, s)) (home g.node (replicas_of s g.key)) s (λ h. versions_answer_plain _))
+reply_plain (row g) s = settled_plain (get_fault g s) _ s (done_plain (λ h. (row_done g h, s)) (home g.node (replicas_of s g.key)) s (λ h. row_answer_plain _ _ _))

@@ -1,7 +1,7 @@
 pub mod Known
 pub mod ReadLemmas
 pub mod AnswerLemmas
-pub mod WorldLemmas
+pub mod ReplicaLaws
 pub mod LineLemmas
 pub mod FeedLemmas
 pub mod RunLemmas

@@ -5,13 +5,14 @@ use Rattle.std.specs.Io.KnownBytes.{Appends, Keeps, Consumes, IsAtEnd}
 use Rattle.outage_script.specs.declared.ScriptEnd.{ScriptEnd}
 use Rattle.outage_script.specs.declared.ScriptEnd.TheVariants.{Done, BadLine, Device, NoMemory}
 use Rattle.outage_script.specs.Script.{script_outcome, preceded}
+use Rattle.outage_script.specs.State.{start}
 use Rattle.outage_script.specs.Ends.{Begins, IsRight, IsAnswer, Runs}
 use Rattle.outage_script.specs.Moves.{Place, place_of, to_come, Moves, Ends, Feeds, Finishes}
 use Rattle.outage_script.proofs.Known.{appends_both, appends_none, appends_nothing}
 use Rattle.outage_script.proofs.LineLemmas.{ends_later, stops_later, moves_both, moves_none}
 
 -- a run begins with the whole script to come
-starts : (bytes : List ℕ) → to_come (place_of 1 [] []) bytes ≡ script_outcome bytes
+starts : (bytes : List ℕ) → to_come (place_of 1 start []) bytes ≡ script_outcome bytes
 unfolding to_come script_outcome
 starts bytes = refl
 
@@ -21,7 +22,7 @@ pub record Progress (found left before after : Option (List ℕ)) (p : Place) : 
   pub written : List ℕ
   pub reads : Consumes found left bytes
   pub writes : Appends before after written
-  pub moves : Moves (place_of 1 [] []) bytes p written
+  pub moves : Moves (place_of 1 start []) bytes p written
 
 -- two reads are one
 consumes_both : (a b c : Option (List ℕ)) (x y : List ℕ) → Consumes a b x → Consumes b c y → Consumes a c (x ++ y)
@@ -43,8 +44,8 @@ consumes_start None = tt
 consumes_start (Some a) = refl
 
 -- a run begins with nothing read and nothing written
-pub progress_start : (found before : Option (List ℕ)) → Progress found found before before (place_of 1 [] [])
-progress_start found before = record { bytes = []; written = []; reads = consumes_start found; writes = appends_nothing before; moves = moves_none (place_of 1 [] []) }
+pub progress_start : (found before : Option (List ℕ)) → Progress found found before before (place_of 1 start [])
+progress_start found before = record { bytes = []; written = []; reads = consumes_start found; writes = appends_nothing before; moves = moves_none (place_of 1 start []) }
 
 -- a piece was read and taken
 pub progress_next : (found left left' before after after' : Option (List ℕ)) (p q : Place) (piece : List ℕ) → Progress found left before after p → Consumes left left' piece → Feeds p piece q None after after' → Progress found left' before after' q
@@ -53,7 +54,7 @@ progress_next found left left' before after after' p q piece old reads fed = rec
   written = old.written ++ fed.0;
   reads = consumes_both found left left' old.bytes piece old.reads reads;
   writes = appends_both before after after' old.written fed.0 old.writes fed.1;
-  moves = moves_both (place_of 1 [] []) p q old.bytes piece old.written fed.0 old.moves fed.2;
+  moves = moves_both (place_of 1 start []) p q old.bytes piece old.written fed.0 old.moves fed.2;
 }
 
 -- what is right for the bytes that were read, and for the whole input, is right
@@ -106,7 +107,7 @@ runs_stopped found left left' before after after' after'' p q piece end result o
     (λ rest e. flushed_right end result (old.bytes ++ piece) rest (old.written ++ fed.0) ended (right_of end (old.bytes ++ piece) rest (old.written ++ fed.0) (rw (append-nil (old.bytes ++ piece)) at (cut [])) (cut rest)))
   where
     cut : (rest : List ℕ) → Ends end (script_outcome ((old.bytes ++ piece) ++ rest)) (old.written ++ fed.0)
-    cut rest = rw (← starts ((old.bytes ++ piece) ++ rest)) ((stops_later (place_of 1 [] []) p old.bytes piece old.written fed.0 end old.moves fed.2).right rest)
+    cut rest = rw (← starts ((old.bytes ++ piece) ++ rest)) ((stops_later (place_of 1 start []) p old.bytes piece old.written fed.0 end old.moves fed.2).right rest)
 
 -- how a run ends, once the end of the input was answered
 abbrev pub end_of : Option ScriptEnd → ScriptEnd
@@ -122,7 +123,7 @@ runs_finished found left left' before after after' after'' p some end result old
     (λ rest e. flushed_right (end_of end) result old.bytes rest (old.written ++ some) ended (by_end end last rest (by_left left' at_end rest e)))
   where
     whole : script_outcome old.bytes ≡ preceded old.written (to_come p [])
-    whole = sym (starts old.bytes) ∙ (ap (to_come (place_of 1 [] [])) (sym (append-nil old.bytes)) ∙ old.moves.goes [])
+    whole = sym (starts old.bytes) ∙ (ap (to_come (place_of 1 start [])) (sym (append-nil old.bytes)) ∙ old.moves.goes [])
 
     by_left : (l : Option (List ℕ)) → IsAtEnd l → (rest : List ℕ) → l ≡ Some rest → rest ≡ []
     by_left None h rest e = cc

@@ -4,7 +4,7 @@ use Rattle.serde_json.specs.Data.{Data, Items, no_items, item, no_members, membe
 use Rattle.serde_json.specs.Written.{compact_text}
 use Rattle.hex.specs.Hex.{encode_lower}
 use Rattle.vclock.specs.Clock.{Pairs}
-use Rattle.vclock.specs.declared.format.Format.TheVariants.{One}
+use Rattle.vclock.specs.declared.format.Format.{Format}
 use Rattle.row_bytes.specs.Rows.{row_text}
 use Rattle.version_set.specs.declared.kind.Kind.{Kind}
 use Rattle.version_set.specs.declared.kind.Kind.TheVariants.{Live, Tombstone}
@@ -90,14 +90,18 @@ versions_members versions = object (member (codes "versions") versions no_member
 unfoldable pub versions_answer : List Version → Data
 versions_answer versions = versions_members (list_data version_data versions)
 
--- a row's text, or none where nothing is held
-abbrev pub text_of : List ℕ → List Version → List ℕ
-text_of key [] = []
-text_of key (v ∷ vs) = row_text One (record { key = key; versions = v ∷ vs })
+-- a row's text in a format, or none where nothing is held
+abbrev pub text_of : Format → List ℕ → List Version → List ℕ
+text_of format key [] = []
+text_of format key (v ∷ vs) = row_text format (record { key = key; versions = v ∷ vs })
 
 -- the text of the row of a key
 unfoldable pub row_members : Data → Data
 row_members text = object (member (codes "row") text no_members)
 
-unfoldable pub row_answer : List ℕ → List Version → Data
-row_answer key versions = row_members (bytes_data (text_of key versions))
+unfoldable pub row_answer : Format → List ℕ → List Version → Data
+row_answer format key versions = row_members (bytes_data (text_of format key versions))
+
+-- a new ring: how many nodes and ranges it has
+unfoldable pub ring_answer : ℕ → ℕ → Data
+ring_answer nodes ranges = object (member (codes "nodes") (number_data nodes) (member (codes "ranges") (number_data ranges) no_members))

@@ -1,10 +1,24 @@
 -- Which command a line is.
-use Rattle.std.specs.Prelude.{ℕ, List, [], codes, if◌then◌else◌, Option, Some, None, option_map, option_and_then}
+use Rattle.std.specs.Prelude.{ℕ, ◌+◌, List, [], codes, if◌then◌else◌, Option, Some, None, option_map, option_and_then}
 use Rattle.std.specs.Str.{bytes_eq}
 use Rattle.serde_json.specs.Data.{Data}
 use Rattle.serde_json.specs.Find.{as_object}
-use Rattle.outage_script.specs.Asks.{PutAsk, GetAsk, Ask, put, get, row}
-use Rattle.outage_script.specs.Reading.{◌>>=◌, has_members, number_of, bytes_of, numbers_of, pairs_of, member_of, optional_of, sole_member}
+use Rattle.outage_script.specs.Asks.{RingAsk, PutAsk, GetAsk, Ask, ring, put, get, row}
+use Rattle.outage_script.specs.Reading.{◌>>=◌, has_members, number_of, bytes_of, numbers_of, pairs_of, nullable, member_of, optional_of, count_of, default_of, sole_member}
+
+-- what the members of a ring say
+abbrev pub ring_parts : Data → Option RingAsk
+ring_parts d = do
+  bits ← member_of number_of (codes "bits") d
+  copies ← member_of number_of (codes "copies") d
+  nodes ← member_of numbers_of (codes "nodes") d
+  limit ← default_of 1000000 number_of (codes "limit") d
+  format ← default_of 1 number_of (codes "format") d
+  Some (record { bits = bits; copies = copies; nodes = nodes; limit = limit; format = format })
+
+-- what the members of a ring say, if it has no others
+unfoldable pub ring_of : Data → Option RingAsk
+ring_of d = if has_members (3 + (count_of (codes "limit") d + count_of (codes "format") d)) (as_object d) then ring_parts d else None
 
 -- the nodes that get no copy: a put has four members, or these and one more
 abbrev pub lose_of : Data → Option (List ℕ)
@@ -17,7 +31,7 @@ put_of d = do
   node ← member_of number_of (codes "node") d
   key ← member_of bytes_of (codes "key") d
   context ← member_of pairs_of (codes "context") d
-  value ← member_of bytes_of (codes "value") d
+  value ← member_of (nullable bytes_of) (codes "value") d
   Some (record { node = node; key = key; context = context; value = value; lose = lose })
 
 -- what the two members of a get or a row say
@@ -33,7 +47,7 @@ get_of d = if has_members 2 (as_object d) then get_parts d else None
 
 -- the command of a name, with its members
 abbrev pub named : List ℕ × Data → Option Ask
-named m = if bytes_eq m.0 (codes "put") then option_map put (put_of m.1) else if bytes_eq m.0 (codes "get") then option_map get (get_of m.1) else if bytes_eq m.0 (codes "row") then option_map row (get_of m.1) else None
+named m = if bytes_eq m.0 (codes "ring") then option_map ring (ring_of m.1) else if bytes_eq m.0 (codes "put") then option_map put (put_of m.1) else if bytes_eq m.0 (codes "get") then option_map get (get_of m.1) else if bytes_eq m.0 (codes "row") then option_map row (get_of m.1) else None
 
 -- an object of one member, which is named as a command
 unfoldable pub command_of : Data → Option Ask

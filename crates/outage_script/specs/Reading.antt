@@ -1,10 +1,10 @@
 -- Reading a JSON value: numbers, bytes, lists, and the members of an object.
-use Rattle.std.specs.Prelude.{ℕ, ◌+◌, List, [], ◌∷◌, Bool, false, ◌==◌, if◌then◌else◌, Option, Some, None, option_map, option_and_then, Result, Ok, Err}
+use Rattle.std.specs.Prelude.{ℕ, ◌+◌, List, [], ◌∷◌, Bool, false, ◌==◌, if◌then◌else◌, Option, Some, None, option_map, option_and_then, is_some, Result, Ok, Err}
 use Rattle.std.specs.Str.{is_utf8}
 use Rattle.hex.specs.Hex.{decode_of}
 use Rattle.hex.specs.declared.error.FromHexError.{FromHexError}
 use Rattle.serde_json.specs.Data.{Data, Items, no_items, item, Members, no_members, member}
-use Rattle.serde_json.specs.Find.{get, as_number, as_u64, as_str, as_array, as_object}
+use Rattle.serde_json.specs.Find.{get, as_null, as_number, as_u64, as_str, as_array, as_object}
 use Rattle.serde_json.specs.Events.{members_len}
 use Rattle.serde_json.specs.Read.{read}
 
@@ -66,6 +66,23 @@ member_of f name d = option_and_then f (get name d)
 -- a member that may be left out of an object that has n members without it
 abbrev pub optional_of : {A : Type 0} → A → (Data → Option A) → ℕ → List ℕ → Data → Option A
 optional_of absent f n name d = if has_members n (as_object d) then Some absent else if has_members (n + 1) (as_object d) then member_of f name d else None
+
+-- null, or what f reads
+abbrev pub nullable : {A : Type 0} → (Data → Option A) → Data → Option (Option A)
+nullable f d = if is_some (as_null d) then Some None else option_map Some (f d)
+
+-- how many members of that name there are, none or one
+abbrev pub count_of : List ℕ → Data → ℕ
+count_of name d = if is_some (get name d) then 1 else 0
+
+-- what f reads, or that where there is nothing
+abbrev pub read_or : {A : Type 0} → A → (Data → Option A) → Option Data → Option A
+read_or absent f None = Some absent
+read_or absent f (Some d) = f d
+
+-- a member that may be missing, and is then taken to be that
+abbrev pub default_of : {A : Type 0} → A → (Data → Option A) → List ℕ → Data → Option A
+default_of absent f name d = read_or absent f (get name d)
 
 -- the name and the value of the one member there is
 abbrev pub sole : Members → Option (List ℕ × Data)

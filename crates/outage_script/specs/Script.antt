@@ -4,7 +4,7 @@ use Rattle.std.specs.List.{list_all}
 use Rattle.outage_script.specs.Lines.{lines_of, is_space}
 use Rattle.outage_script.specs.State.{State, start}
 use Rattle.outage_script.specs.Asks.{Ask}
-use Rattle.outage_script.specs.Acts.{act}
+use Rattle.outage_script.specs.Acts.{act, suits}
 use Rattle.outage_script.specs.Answers.{answer_line, bad_line_answer}
 use Rattle.outage_script.specs.Reading.{value_of}
 use Rattle.outage_script.specs.Commands.{command_of}
@@ -20,8 +20,12 @@ Turn = Option (List ℕ × State)
 abbrev pub turn_of : State → Ask → List ℕ × State
 turn_of s ask = (answer_line (act ask s).0, (act ask s).1)
 
+-- the command, if the ring in force has such a one
+abbrev pub suited : State → Ask → Option Ask
+suited s ask = if suits s ask then Some ask else None
+
 unfoldable pub step : State → List ℕ → Turn
-step s line = if nat_lt line_limit (length line) then None else if list_all is_space line then Some ([], s) else option_map (turn_of s) (option_and_then command_of (value_of line))
+step s line = if nat_lt line_limit (length line) then None else if list_all is_space line then Some ([], s) else option_map (turn_of s) (option_and_then (suited s) (option_and_then command_of (value_of line)))
 
 -- what is written for a bad line
 unfoldable pub bad_line : ℕ → List ℕ

@@ -1,38 +1,72 @@
--- The state of a script: one node, number 1, with one range, whose journal is all that is kept.
-use Rattle.std.specs.Prelude.{ℕ, List, [], Bool, ◌==◌, ◌≡◌, None}
-use Rattle.std.specs.List.{AllByRecursion}
+-- The state of a script: the ring, and each replica's journal.
+use Rattle.std.specs.Prelude.{◌≡◌, ℕ, ◌<◌, length, ◌^◌, ◌==◌, List, [], ◌∷◌, map, take, slice_index_or, slice_set, Option, Some, None, if◌then◌else◌}
+use Rattle.std.specs.List.{range_with_len}
+use Rattle.vclock.specs.declared.format.Format.{Format}
 use Rattle.vclock.specs.declared.format.Format.TheVariants.{One}
-use Rattle.version_set.specs.Kind.{value_fault}
-use Rattle.version_set.specs.declared.version.Version.{Version}
-use Rattle.range_journal.specs.Log.{Log}
-use Rattle.range_journal.specs.Journal.{NeverCrowded}
-use Rattle.range_journal.specs.declared.journal.Entry.{Entry}
+use Rattle.key_ring.specs.Places.{range_at}
+use Rattle.key_ring.specs.Ring.{Places, preference_list}
+use Rattle.range_state.specs.Config.{Config}
+use Rattle.range_state.specs.State as range
 
--- the entries of the journal
-abbrev pub State : Type 0
-State = List Entry
+-- a node that keeps a range: which range, and the entries of the node's journal of it
+pub record Replica : Type 0 where
+  pub node : ℕ
+  pub range : range.State
+
+-- the ring, its format, and range by range the replicas, in the order of the range's preference list
+pub record State : Type 0 where
+  pub ring : Places
+  pub format : Format
+  pub replicas : List (List Replica)
+
+-- the range of that number, with an empty journal
+abbrev pub empty_range : Config → ℕ → range.State
+empty_range c r = record { config = record { format = c.format; bits = c.bits; range = r; limit = c.limit }; entries = [] }
+
+-- the replicas of range r: the first nodes of its preference list
+abbrev pub replicas_made : Places → Config → ℕ → List Replica
+replicas_made ring c r = map (λ n. record { node = n; range = empty_range c r }) (take ring.copies (preference_list ring.nodes r))
+
+-- everything anew: each replica of each range has an empty journal
+unfoldable pub made : Places → Config → State
+made ring c = record { ring = ring; format = c.format; replicas = map (replicas_made ring c) (range_with_len 0 (2 ^ ring.bits)) }
+
+-- a range that may not have come about yet: then its journal is empty
+abbrev pub range_in : Config → Option range.State → range.State
+range_in c None = record { config = c; entries = [] }
+range_in c (Some s) = s
+
+-- a script begins with a ring of one node, number 1, with one range
+abbrev pub first_ring : Places
+first_ring = record { bits = 0; nodes = 1 ∷ []; copies = 1 }
+
+abbrev pub first_config : Config
+first_config = record { format = One; bits = 0; range = 0; limit = 1000000 }
 
 abbrev pub start : State
-start = []
+start = made first_ring first_config
 
--- whether a node is on the ring
-abbrev pub is_node : ℕ → Bool
-is_node n = n == 1
+-- the replicas of a key's range
+abbrev pub replicas_of : State → List ℕ → List Replica
+replicas_of s key = slice_index_or s.replicas (range_at s.ring.bits key) []
 
--- how many entries the journal may have
-abbrev pub journal_limit : ℕ
-journal_limit = 1000000
+-- the same state with other replicas of a key's range
+abbrev pub with_replicas : State → List ℕ → List Replica → State
+with_replicas s key reps = record { ring = s.ring; format = s.format; replicas = slice_set s.replicas (range_at s.ring.bits key) reps }
 
--- the journal of these entries
-abbrev pub log_of : State → ℕ → Log
-log_of s room = record { entries = s; limit = journal_limit; room = room }
+-- what a node keeps, if it is one of the replicas
+abbrev pub home : ℕ → List Replica → Option range.State
+home n [] = None
+home n (r ∷ reps) = if r.node == n then Some r.range else home n reps
 
--- a version that has a text of format 1: a live one, with a value within the limit
-abbrev pub FitsFormat : Version → Type 0
-FitsFormat v = value_fault One v.kind v.value ≡ None
+-- the replicas, of which the node keeps that now
+abbrev pub with_home : ℕ → range.State → List Replica → List Replica
+with_home n h [] = []
+with_home n h (r ∷ reps) = if r.node == n then record { node = r.node; range = h } ∷ reps else r ∷ with_home n h reps
 
--- a journal that a script may have: of the limit, never crowded at any key, and of versions of format 1
-pub record IsStateLog (log : Log) : Type 0 where
-  pub limit : log.limit ≡ journal_limit
-  pub uncrowded : (key : List ℕ) → NeverCrowded log.entries key
-  pub fits : AllByRecursion (λ e. FitsFormat e.version) log.entries
+-- the node's replica stands at i
+pub record IsHome (n : ℕ) (reps : List Replica) (i : ℕ) : Type 0 where
+  pub within : i < length reps
+  pub node : (d : Replica) → (slice_index_or reps i d).node ≡ n
+  pub holds : (d : Replica) → home n reps ≡ Some (slice_index_or reps i d).range
+  pub keeps : (h : range.State) (d : Replica) → with_home n h reps ≡ slice_set reps i (record { node = (slice_index_or reps i d).node; range = h })

@@ -1,6 +1,6 @@
 //! The answers of the commands, as JSON.
 ghost use Rattle.std.specs.Prelude.{◌≡◌, false, IfOk, string_bytes};
-ghost use Rattle.outage_script.specs.Answers.{pair_data, clock_data, put_answer, put_members, refusal_answer, cause_members, held_members, line_members, bad_line_answer, answer_line, version_data, version_members, versions_members, versions_answer, row_members, bytes_data};
+ghost use Rattle.outage_script.specs.Answers.{pair_data, clock_data, put_answer, put_members, refusal_answer, cause_members, held_members, line_members, bad_line_answer, answer_line, version_data, version_members, versions_members, versions_answer, row_members, bytes_data, ring_answer};
 ghost use Rattle.serde_json.specs.Written.{has_float};
 ghost use Rattle.serde_json.specs.View.{view};
 
@@ -168,4 +168,12 @@ fn row_members(alloc: Global, text: Value) -> Result<Value, AllocError>
     ensures { IfOk result (λ v. view v ≡ row_members (view text)) }
 {
     json!(in alloc; {"row": text})
+}
+
+/// The answer of a new ring.
+#[tactic(auto, unfolding(crate::specs::Answers::ring_answer))]
+pub(crate) fn ring_answer(alloc: Global, nodes: u64, ranges: u64) -> Result<Value, AllocError>
+    ensures { IfOk result (λ v. view v ≡ ring_answer nodes ranges) }
+{
+    json!(in alloc; {"nodes": nodes, "ranges": ranges})
 }

@@ -1,14 +1,37 @@
 //! From a line to the command that it is.
 ghost use Rattle.std.specs.Prelude.{◌≡◌, IfOk, option_map, option_and_then};
-ghost use Rattle.outage_script.specs.Commands.{put_of, get_of, command_of};
+ghost use Rattle.outage_script.specs.Commands.{ring_of, put_of, get_of, command_of};
 ghost use Rattle.outage_script.specs.Reading.{value_of};
-ghost use Rattle.outage_script.specs.Orders.{ask_of, put_ask, get_ask};
+ghost use Rattle.outage_script.specs.Orders.{ask_of, ring_ask, put_ask, get_ask};
 ghost use Rattle.serde_json.specs.View.{view};
 
-use crate::json::{has_members, list_at, member_at, number_at, optional_list_at, sole_member};
+use crate::json::{
+    count_of, has_members, list_at, member_at, number_at, number_or, optional_list_at, sole_member,
+};
 use serde_json::Value;
 use std::alloc::{AllocError, Global};
 use vclock::bytes::Bytes;
+
+/// How many entries a journal may have where a ring does not say it.
+const JOURNAL_LIMIT: u64 = 1_000_000;
+
+/// The number of the format of a ring that does not say it.
+const FIRST_FORMAT: u64 = 1;
+
+/// A new ring.
+#[derive(Drop)]
+pub(crate) struct NewRing {
+    /// How many bits the number of a range has.
+    pub(crate) bits: u64,
+    /// How many nodes keep a range.
+    pub(crate) copies: u64,
+    /// The nodes in order.
+    pub(crate) nodes: Vec<u64>,
+    /// How many entries each journal may have.
+    pub(crate) limit: u64,
+    /// The number of the format.
+    pub(crate) format: u64,
+}
 
 /// A value put at a node under a key.
 #[derive(Drop)]
@@ -19,8 +42,8 @@ pub(crate) struct Put {
     pub(crate) key: Bytes,
     /// The pairs of the clock that the put is later than.
     pub(crate) context: Vec<(u64, u64)>,
-    /// The value.
-    pub(crate) value: Bytes,
+    /// The value, or none for a tombstone.
+    pub(crate) value: Option<Bytes>,
     /// The nodes that get no copy.
     pub(crate) lose: Vec<u64>,
 }
@@ -37,6 +60,8 @@ pub(crate) struct Get {
 /// A command of a script.
 #[derive(Drop)]
 pub(crate) enum Command {
+    /// `ring`.
+    Ring(NewRing),
     /// `put`.
     Put(Put),
     /// `get`.
@@ -66,7 +91,9 @@ fn named_in(alloc: Global, value: &Value) -> Result<Option<Command>, AllocError>
     let Some((name, inner)) = sole_member(value) else {
         return Ok(None);
     };
-    if name == "put" {
+    if name == "ring" {
+        Ok(ring_in(alloc, inner)?.map(Command::Ring))
+    } else if name == "put" {
         Ok(put_in(alloc, inner)?.map(Command::Put))
     } else if name == "get" {
         Ok(get_in(alloc, inner)?.map(Command::Get))
@@ -75,6 +102,37 @@ fn named_in(alloc: Global, value: &Value) -> Result<Option<Command>, AllocError>
     } else {
         Ok(None)
     }
+}
+
+/// The ring of these members.
+#[tactic(auto, unfolding(crate::specs::Commands::ring_of))]
+fn ring_in(alloc: Global, members: &Value) -> Result<Option<NewRing>, AllocError>
+    ensures { IfOk result (λ o. option_map ring_ask o ≡ ring_of (view members.now)) }
+{
+    let optional = count_of(members, "limit") + count_of(members, "format");
+    if !has_members(members, 3 + optional) {
+        return Ok(None);
+    }
+    let Some(bits) = number_at(members, "bits") else {
+        return Ok(None);
+    };
+    let Some(copies) = number_at(members, "copies") else {
+        return Ok(None);
+    };
+    let Some(nodes) = list_at(alloc, members, "nodes")? else {
+        return Ok(None);
+    };
+    let Some(limit) = number_or(members, "limit", JOURNAL_LIMIT) else {
+        return Ok(None);
+    };
+    let format = number_or(members, "format", FIRST_FORMAT);
+    Ok(format.map(|format| NewRing {
+        bits,
+        copies,
+        nodes,
+        limit,
+        format,
+    }))
 }
 
 /// The put of these members.

@@ -1,6 +1,6 @@
 //! Reading JSON values and building them.
-ghost use Rattle.std.specs.Prelude.{◌≡◌, ◌<◌, ◌+◌, ◌^◌, [], IfOk, option_map};
-ghost use Rattle.outage_script.specs.Reading.{has_members, number_of, bytes_of, pair_of, list_of, member_of, optional_of, sole_member};
+ghost use Rattle.std.specs.Prelude.{◌≡◌, ◌<◌, ◌+◌, ◌^◌, [], IfOk, option_map, is_some};
+ghost use Rattle.outage_script.specs.Reading.{has_members, number_of, bytes_of, pair_of, list_of, nullable, member_of, optional_of, count_of, default_of, sole_member};
 ghost use Rattle.outage_script.specs.Answers.{bytes_data, list_data};
 ghost use Rattle.serde_json.specs.Find.{as_object};
 ghost use Rattle.serde_json.specs.View.{view};
@@ -44,6 +44,18 @@ impl FromValue for Bytes {
             Err(FromHexError::OutOfMemory) => Err(AllocError),
             Err(_) => Ok(None),
         }
+    }
+}
+
+impl FromValue for Option<Bytes> {
+    ghost reads = { nullable bytes_of };
+
+    /// Null, or bytes.
+    fn from_value(alloc: Global, value: &Value) -> Result<Option<Option<Bytes>>, AllocError> {
+        if value.is_null() {
+            return Ok(Some(None));
+        }
+        Ok(Bytes::from_value(alloc, value)?.map(Some))
     }
 }
 
@@ -115,6 +127,23 @@ pub(crate) fn number_at(value: &Value, name: &str) -> Option<u64>
     ensures { result ≡ member_of number_of name.now (view value.now) }
 {
     value.get(name).and_then(Value::as_u64)
+}
+
+/// How many members of that name there are, none or one.
+pub(crate) fn count_of(value: &Value, name: &str) -> usize
+    ensures { result ≡ count_of name.now (view value.now) }
+{
+    usize::from(value.get(name).is_some())
+}
+
+/// The whole number of that name, or that one where the member is missing.
+pub(crate) fn number_or(value: &Value, name: &str, absent: u64) -> Option<u64>
+    ensures { result ≡ default_of absent number_of name.now (view value.now) }
+{
+    match value.get(name) {
+        Some(inner) => inner.as_u64(),
+        None => Some(absent),
+    }
 }
 
 /// What the member of that name is, if it is one.

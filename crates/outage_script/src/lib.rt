@@ -18,6 +18,8 @@ mod answer;
 mod command;
 mod json;
 mod memory;
+mod replica;
+mod replicas;
 mod run;
 mod session;
 mod world;

@@ -22,7 +22,9 @@ pub fn run_script<R: Read, W: Write>(alloc: Global, reader: &mut R, writer: &mut
     let Ok(mut buffer) = zeros(alloc, READ_SIZE) else {
         return ScriptEnd::NoMemory;
     };
-    let mut session = Session::new(alloc);
+    let Ok(mut session) = Session::new(alloc) else {
+        return ScriptEnd::NoMemory;
+    };
     for calls in 0..READ_CALLS {
         let count = match reader.read(buffer.as_mut_slice()) {
             Ok(0) => {

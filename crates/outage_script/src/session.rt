@@ -32,14 +32,15 @@ pub(crate) struct Session {
 
 impl Session {
     /// A run that has read nothing.
-    pub(crate) fn new(alloc: Global) -> Session
-        ensures { place_of result.number result.world result.line.items ≡ place_of 1 start [] }
+    pub(crate) fn new(alloc: Global) -> Result<Session, AllocError>
+        ensures { IfOk result (λ session.
+            place_of session.number session.world session.line.items ≡ place_of 1 start []) }
     {
-        Session {
-            world: World::new(alloc),
+        Ok(Session {
+            world: World::start(alloc)?,
             line: Vec::new(alloc),
             number: 1,
-        }
+        })
     }
 
     /// Takes the next bytes, up to the end of the run.
@@ -181,6 +182,9 @@ fn turn(alloc: Global, world: &mut World, line: &[u8]) -> Result<Option<String>,
     let Some(command) = command_in(alloc, line)? else {
         return Ok(None);
     };
+    if !world.suits(&command) {
+        return Ok(None);
+    }
     let answer = world.act(alloc, command)?;
     Ok(Some(answer_line(alloc, &answer)?))
 }

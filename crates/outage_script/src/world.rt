@@ -1,76 +1,108 @@
-// The world that a script changes: one node, number 1, with one range, whose journal is all that is kept.
-ghost use Rattle.std.specs.Prelude.{◌≡◌, ◌≤◌, ◌++◌, ◌∷◌, [], ⊤, length, None, IfOk, IfErr, OnOk, OnErr, ◌≢◌};
+// The world that a script changes: a ring, and the replicas of its ranges.
+ghost use Rattle.std.specs.Prelude.{◌≡◌, ◌≢◌, ◌<◌, ◌≤◌, ◌^◌, ◌==◌, ⊤, [], length, None, option_map, IfOk, IfErr, OnOk};
 ghost use Rattle.std.specs.List.{list_any, list_all, AllByRecursion};
 ghost use Rattle.serde_json.specs.View.{view};
 ghost use Rattle.vclock.specs.Answer.{Answers, AnswersAtOnce, AnswersOrNoMemory};
-ghost use Rattle.range_journal.specs.Journal.{held};
-ghost use Rattle.outage_script.specs.State.{start, is_node, FitsFormat};
-ghost use Rattle.outage_script.specs.Orders.{ask_of, put_ask, get_ask};
-ghost use Rattle.outage_script.specs.Answers.{put_answer, versions_answer, row_answer, text_of, refusal_answer};
+ghost use Rattle.vclock.specs.Clock.{clock_of};
 ghost use Rattle.vclock.specs.Keys.{key_fault};
-ghost use Rattle.vclock.specs.Clock.{at_most};
-ghost use Rattle.outage_script.specs.Acts.{act, ring_fault, ask_fault, stale_fault, put_fault, put_clock, put_entry, get_fault};
+ghost use Rattle.version_set.specs.Kind.{value_fault};
+ghost use Rattle.outage_script.specs.Acts.{act, ask_fault, done_at, get_done, get_fault, home_fault, is_member, kind_of, new_ring_fault, nodes_fault, put_done, put_fault, remade, ring_config, row_done, suits, value_of};
+ghost use Rattle.outage_script.specs.Answers.{refusal_answer, ring_answer, text_of};
+ghost use Rattle.outage_script.specs.Orders.{ask_of, get_ask, put_ask, ring_ask};
+ghost use Rattle.outage_script.specs.State.{home, made, replicas_of, start};
 
-use crate::answer::{put_answer, refusal_answer, row_answer, versions_answer};
-use crate::command::{Command, Get, Put};
-use range_journal::journal::{Journal, Source};
+use crate::answer::{put_answer, refusal_answer, ring_answer, row_answer, versions_answer};
+use crate::command::{Command, Get, NewRing, Put};
+use crate::replica::Replica;
+use crate::replicas::Replicas;
+use key_ring::ring::Ring;
+use range_state::config::RangeConfig;
 use row_bytes::row::Row;
 use row_bytes::writing::write_row;
 use serde_json::Value;
 use std::alloc::{AllocError, Global};
 use std::marker::Model;
 use vclock::bytes::Bytes;
-use vclock::clock::{Clock, ClockOrder};
+use vclock::clock::Clock;
 use vclock::format::Format;
 use vclock::key::check_key;
 use vclock::refusal::Refusal;
 use version_set::kind::Kind;
 use version_set::set::VersionSet;
-use version_set::version::Version;
 
-/// The one node of the ring.
-const NODE: u64 = 1;
-
-/// How many entries the journal may have.
+/// How many entries a journal of the first ring may have.
 const JOURNAL_LIMIT: u64 = 1_000_000;
-
-/// The seat that the script has in the journal.
-const SEAT: u16 = 0;
 
 /// What the commands change.
 #[derive(Drop)]
 pub(crate) struct World {
-    journal: Journal,
+    ring: Ring,
+    format: Format,
+    ranges: Vec<Replicas>,
 }
 
 impl Model for World {
-    ghost use Rattle.outage_script.specs.State.{State, IsStateLog};
+    ghost use Rattle.std.specs.Prelude.{◌≡◌, ◌^◌, length};
+    ghost use Rattle.outage_script.specs.State.{State};
 
     ghost Value = { State };
 
-    ghost view = { λ w. w.journal.entries };
+    ghost view = { λ w. record { ring = w.ring; format = w.format; replicas = w.ranges.items } };
 
-    ghost invariant = { λ w. IsStateLog w.journal };
+    ghost invariant = { λ w. length w.ranges.items ≡ 2 ^ w.ring.bits };
 }
 
 impl World {
-    /// The world that a script begins with.
-    pub(crate) fn new(alloc: Global) -> World
-        ensures { result ≡ start }
+    /// The world that a script begins with: a ring of node 1, with one range.
+    pub(crate) fn start(alloc: Global) -> Result<World, AllocError>
+        ensures { IfOk result (λ world. world ≡ start) }
     {
-        World {
-            journal: Journal::new(alloc, JOURNAL_LIMIT),
+        let config = RangeConfig::new(1, 0, 0, JOURNAL_LIMIT).unwrap();
+        match Ring::new(alloc, 0, &[1], 1) {
+            Ok(ring) => World::new(alloc, ring, config),
+            Err(_) => Err(AllocError),
         }
     }
 
-    /// What a command answers, and the world after it.
+    /// The world of a ring whose replicas have accepted nothing.
+    #[tactic(auto, unfolding(crate::specs::State::made))]
+    fn new(alloc: Global, ring: Ring, config: RangeConfig) -> Result<World, AllocError>
+        requires { config.bits ≡ ring.bits }
+        ensures { IfOk result (λ world. world ≡ made ring config) }
+    {
+        let mut ranges = Vec::with_capacity(alloc, usize::from(ring.ranges()))?;
+        for range in 0..ring.ranges() {
+            ranges.push(Replicas::new(alloc, &ring, config.for_range(range))?)?;
+        }
+        Ok(World {
+            ring,
+            format: config.format(),
+            ranges,
+        })
+    }
+
+    /// Whether the ring in force has such a command: in format 1 no value is null.
+    pub(crate) fn suits(&self, command: &Command) -> bool
+        ensures { result ≡ suits self.now (ask_of command.now) }
+    {
+        match command {
+            Command::Put(put) => self.format == Format::Two || put.value.is_some(),
+            _ => true,
+        }
+    }
+
+    /// What a command answers, and the world after it. Where memory runs out the script ends, and what a part of the
+    /// command did is of no account.
     #[tactic(auto, unfolding(crate::specs::Acts::act))]
     pub(crate) fn act(&mut self, alloc: Global, command: Command) -> Result<Value, AllocError>
         ensures reply { IfOk result (λ v. view v ≡ (act (ask_of command) self.old).0) }
         ensures after { OnOk result (self.new ≡ (act (ask_of command) self.old).1) }
-        ensures err { OnErr result (self.new ≡ self.old) }
     {
         match command {
+            Command::Ring(ring) => {
+                let answer = self.renew(alloc, &ring);
+                answered(alloc, answer)
+            }
             Command::Put(put) => {
                 let answer = self.put(alloc, put);
                 answered(alloc, answer)
@@ -86,61 +118,103 @@ impl World {
         }
     }
 
-    /// Puts a value, and answers with its clock and number.
-    fn put(&mut self, alloc: Global, put: Put) -> Result<Value, Refusal>
-        ensures answers { AnswersOrNoMemory result (put_fault (put_ask put) self.old)
-            (λ v. view v ≡ put_answer (put_clock (put_ask put)) 0 0 (length self.old)) }
-        ensures ok { OnOk result (self.new ≡ self.old ++ put_entry (put_ask put) self.old ∷ []) }
-        ensures err { OnErr result (self.new ≡ self.old) }
+    /// Makes everything anew.
+    fn renew(&mut self, alloc: Global, ask: &NewRing) -> Result<Value, Refusal>
+        ensures answers { AnswersOrNoMemory result (new_ring_fault (ring_ask ask.now))
+            (λ v. view v ≡ ring_answer (length ask.now.nodes.items) (2 ^ ask.now.bits)) }
+        ensures ok { OnOk result (self.new ≡ remade (ring_ask ask.now) (ring_config (ring_ask ask.now)) self.old) }
+        ensures err { IfErr result (λ e. e ≢ Refusal.NoMemory → self.new ≡ self.old) }
     {
-        let clock = raised_clock(alloc, &put)?;
-        let held = self.held(alloc, put.key.as_slice())?;
-        check_context(alloc, &held, &clock)?;
-        let version = Version {
-            clock,
-            kind: Kind::Live,
-            value: put.value,
+        let Some(config) = RangeConfig::new(ask.format, ask.bits, 0, ask.limit) else {
+            return Err(Refusal::BadRing);
         };
-        if held.crowds(&version) {
-            return Err(Refusal::Crowded);
-        }
-        self.journal.reserve(1)?;
-        let answer = put_answer(alloc, &version.clock, 0, 0, self.journal.len())?;
-        self.journal
-            .append_reserved(SEAT, Source::Client, put.key, version);
+        let ring = Ring::new(alloc, ask.bits, &ask.nodes, ask.copies)?;
+        let (nodes, ranges) = (ring.nodes().len() as u64, u64::from(ring.ranges()));
+        *self = World::new(alloc, ring, config)?;
+        Ok(ring_answer(alloc, nodes, ranges)?)
+    }
+
+    /// Puts a value at a node, sends the copies, and answers with the clock and the number.
+    fn put(&mut self, alloc: Global, put: Put) -> Result<Value, Refusal>
+        ensures answers { AnswersOrNoMemory result (put_fault (put_ask put) self.old) (λ v. view v
+            ≡ (done_at (put_done (put_ask put) self.old) (home put.node (replicas_of self.old put.key)) self.old).0) }
+        ensures ok { OnOk result (self.new
+            ≡ (done_at (put_done (put_ask put) self.old) (home put.node (replicas_of self.old put.key)) self.old).1) }
+        ensures err { IfErr result (λ e. e ≢ Refusal.NoMemory → self.new ≡ self.old) }
+    {
+        let context = self.check_put(alloc, &put)?;
+        let range = usize::from(self.ring.range_of(put.key.as_slice()));
+        let sent = self.ranges[range].put(alloc, &context, put)?;
+        let receipt = sent.receipt;
+        let answer = put_answer(alloc, &receipt.version.clock, sent.copied, 0, receipt.number)?;
         Ok(answer)
     }
 
     /// Answers with the versions that are held for a key.
     fn get(&self, alloc: Global, get: &Get) -> Result<Value, Refusal>
-        ensures { AnswersOrNoMemory result (get_fault (get_ask get.now))
-            (λ v. view v ≡ versions_answer (held self.now get.now.key)) }
+        ensures { AnswersOrNoMemory result (get_fault (get_ask get.now) self.now) (λ v. view v
+            ≡ (done_at (λ h. (get_done (get_ask get.now) h, self.now)) (home get.now.node (replicas_of self.now get.now.key)) self.now).0) }
     {
-        check_nodes(get.node, &[])?;
+        self.check_nodes(get.node, &[])?;
         check_key(get.key.as_slice())?;
-        let held = self.held(alloc, get.key.as_slice())?;
-        Ok(versions_answer(alloc, held.as_slice())?)
+        let Some(replica) = self.replica_of(get.node, get.key.as_slice()) else {
+            return Err(Refusal::OtherRange);
+        };
+        Ok(versions_answer(alloc, replica.versions(get.key.as_slice()))?)
     }
 
     /// Answers with the text of the row of a key.
     #[tactic(auto, unfolding(crate::specs::Answers::row_answer))]
     fn row(&self, alloc: Global, get: Get) -> Result<Value, Refusal>
-        ensures { AnswersOrNoMemory result (get_fault (get_ask get))
-            (λ v. view v ≡ row_answer get.key (held self.now get.key)) }
+        ensures { AnswersOrNoMemory result (get_fault (get_ask get) self.now) (λ v. view v
+            ≡ (done_at (λ h. (row_done (get_ask get) h, self.now)) (home get.node (replicas_of self.now get.key)) self.now).0) }
     {
-        check_nodes(get.node, &[])?;
+        self.check_nodes(get.node, &[])?;
         check_key(get.key.as_slice())?;
-        let versions = self.held(alloc, get.key.as_slice())?;
-        let text = row_text(alloc, get.key, versions)?;
+        let Some(replica) = self.replica_of(get.node, get.key.as_slice()) else {
+            return Err(Refusal::OtherRange);
+        };
+        let versions = replica.version_set(alloc, get.key.as_slice())?;
+        let text = row_text(alloc, replica.format(), get.key, versions)?;
         Ok(row_answer(alloc, &text)?)
     }
 
-    /// The versions that are held for a key, each of which has a text.
-    fn held(&self, alloc: Global, key: &[u8]) -> Result<VersionSet, Refusal>
-        ensures held { Answers result None (λ set. set ≡ held self.now key.now) }
-        ensures fits { IfOk result (λ set. AllByRecursion FitsFormat set) }
+    /// The replica of a key's range at a node.
+    fn replica_of(&self, node: u64, key: &[u8]) -> Option<&Replica>
+        ensures { option_map (λ r. r.now.range) result ≡ home node (replicas_of self.now key.now) }
     {
-        self.journal.held_set(alloc, key)
+        let range = usize::from(self.ring.range_of(key));
+        self.ranges[range].find(node)
+    }
+
+    /// The context of a put, where nothing that it names is refused.
+    fn check_put(&self, alloc: Global, put: &Put) -> Result<Clock, Refusal>
+        ensures { AnswersOrNoMemory result (ask_fault (put_ask put.now) self.now)
+            (λ context. context ≡ clock_of put.now.context.items) }
+    {
+        self.check_nodes(put.node, &put.lose)?;
+        let context = Clock::from_pairs(alloc, &put.context)?;
+        check_key(put.key.as_slice())?;
+        check_value(self.format, &put.value)?;
+        Ok(context)
+    }
+
+    /// Whether a node and the others that a command names are on the ring.
+    fn check_nodes(&self, node: u64, others: &[u64]) -> Result<(), Refusal>
+        ensures { AnswersAtOnce result (nodes_fault self.now node others.now) (λ _. ⊤) }
+    {
+        if self.ring.contains(node) && self.are_nodes(others) {
+            Ok(())
+        } else {
+            Err(Refusal::BadRing)
+        }
+    }
+
+    /// Whether each of these is on the ring.
+    fn are_nodes(&self, nodes: &[u64]) -> bool
+        ensures { result ≡ list_all (is_member self.now) nodes.now }
+    {
+        nodes.iter().all(|node| self.ring.contains(*node))
     }
 }
 
@@ -157,71 +231,29 @@ fn answered(alloc: Global, answer: Result<Value, Refusal>) -> Result<Value, Allo
     }
 }
 
-/// The clock of a put, where nothing that it names is refused.
-fn raised_clock(alloc: Global, put: &Put) -> Result<Clock, Refusal>
-    ensures { AnswersOrNoMemory result (ask_fault (put_ask put.now))
-        (λ clock. clock ≡ put_clock (put_ask put.now)) }
+/// Whether a put may have the value, or none, in a format.
+fn check_value(format: Format, value: &Option<Bytes>) -> Result<(), Refusal>
+    ensures { AnswersAtOnce result (value_fault format (kind_of value.now) (value_of value.now)) (λ _. ⊤) }
 {
-    let node = check_nodes(put.node, &put.lose)?;
-    let context = Clock::from_pairs(alloc, &put.context)?;
-    check_key(put.key.as_slice())?;
-    Kind::Live.check_value(Format::One, put.value.as_slice())?;
-    context.raise(alloc, node)
-}
-
-/// The node of a command, where it and the others that it names are on the ring.
-fn check_nodes(node: u64, others: &[u64]) -> Result<u16, Refusal>
-    ensures { AnswersAtOnce result (ring_fault node others.now) (λ n. (n ≡ node) × (1 ≤ n)) }
-{
-    if node == NODE && are_nodes(others) {
-        Ok(node as u16)
-    } else {
-        Err(Refusal::BadRing)
+    match value {
+        Some(value) => Kind::Live.check_value(format, value.as_slice()),
+        None => Kind::Tombstone.check_value(format, &[]),
     }
 }
 
-/// Whether each of these is on the ring.
-fn are_nodes(nodes: &[u64]) -> bool
-    ensures { result ≡ list_all is_node nodes.now }
-{
-    nodes.iter().all(|node| *node == NODE)
-}
-
 /// The text of the row of a key, or none where no version is held.
-fn row_text(alloc: Global, key: Bytes, versions: VersionSet) -> Result<Bytes, Refusal>
+fn row_text(
+    alloc: Global,
+    format: Format,
+    key: Bytes,
+    versions: VersionSet,
+) -> Result<Bytes, Refusal>
     requires key { key_fault key ≡ None }
-    requires fits { AllByRecursion FitsFormat versions }
-    ensures { Answers result None (λ text. text ≡ text_of key versions) }
+    requires fit { AllByRecursion (λ v. value_fault format v.kind v.value ≡ None) versions }
+    ensures { Answers result None (λ text. text ≡ text_of format key versions) }
 {
     if versions.is_empty() {
         return Ok(Bytes::from(Vec::new(alloc)));
     }
-    Ok(Bytes::from(write_row(alloc, Format::One, &Row { key, versions })?))
-}
-
-/// Whether no version that is held has seen all that the clock has.
-fn check_context(alloc: Global, held: &VersionSet, clock: &Clock) -> Result<(), Refusal>
-    ensures { AnswersOrNoMemory result (stale_fault held.now clock.now) (λ _. ⊤) }
-{
-    if any_has_seen(held.as_slice(), clock) {
-        return Err(Refusal::StaleContext(held.clocks(alloc)?));
-    }
-    Ok(())
-}
-
-/// Whether some version has seen all that the clock has.
-fn any_has_seen(versions: &[Version], clock: &Clock) -> bool
-    ensures { result ≡ list_any (λ v. at_most clock.now v.clock) versions.now }
-{
-    versions.iter().any(|version| has_seen(version, clock))
-}
-
-/// Whether a version has seen all that the clock has.
-fn has_seen(version: &Version, clock: &Clock) -> bool
-    ensures { result ≡ at_most clock.now version.now.clock }
-{
-    match clock.compare(&version.clock) {
-        ClockOrder::Before | ClockOrder::Equal => true,
-        ClockOrder::After | ClockOrder::Apart => false,
-    }
+    Ok(Bytes::from(write_row(alloc, format, &Row { key, versions })?))
 }

@@ -84,18 +84,18 @@ pub AreNumberedFrom-push : (n : ℕ) (es : List Entry) (e : Entry) → AreNumber
 AreNumberedFrom-push n [] e all is = (is ∙ add-zero n, tt)
 AreNumberedFrom-push n (x ∷ es) e all is = (all.0, AreNumberedFrom-push (n + 1) es e all.1 (omega arith))
 
-contains_cons : {X : Type 0} (y : X) (ys : List X) (x : X) → Contains (y ∷ ys) x → (y ≡ x) ⊎ Contains ys x
+pub contains_cons : {X : Type 0} (y : X) (ys : List X) (x : X) → Contains (y ∷ ys) x → (y ≡ x) ⊎ Contains ys x
 contains_cons y ys x (zero, h, e) = inl e
 contains_cons y ys x (suc k, h, e) = inr (k, omega arith, e)
 
-any_cons : {X : Type 0} (P : X → Type 0) (y : X) (ys : List X) → Any P (y ∷ ys) → P y ⊎ Any P ys
+pub any_cons : {X : Type 0} (P : X → Type 0) (y : X) (ys : List X) → Any P (y ∷ ys) → P y ⊎ Any P ys
 any_cons P y ys (zero, x, h, e, p) = inl (subst P (sym e) p)
 any_cons P y ys (suc k, x, h, e, p) = inr (k, x, omega arith, e, p)
 
-contains_later : {X : Type 0} (y : X) (ys : List X) (x : X) → Contains ys x → Contains (y ∷ ys) x
+pub contains_later : {X : Type 0} (y : X) (ys : List X) (x : X) → Contains ys x → Contains (y ∷ ys) x
 contains_later y ys x c = (suc c.0, omega (arith, c.1), c.2)
 
-any_later : {X : Type 0} (P : X → Type 0) (y : X) (ys : List X) → Any P ys → Any P (y ∷ ys)
+pub any_later : {X : Type 0} (P : X → Type 0) (y : X) (ys : List X) → Any P ys → Any P (y ∷ ys)
 any_later P y ys a = (suc a.0, a.1, omega (arith, a.2), a.3, a.4)
 
 -- the versions of a key are those of the entries with that key

@@ -1,5 +1,5 @@
 -- What the two formats fix.
-use Rattle.std.specs.Prelude.{ℕ}
+use Rattle.std.specs.Prelude.{ℕ, ◌==◌, Option, Some, None, if◌then◌else◌}
 use Rattle.vclock.specs.declared.format.Format.{Format}
 use Rattle.vclock.specs.declared.format.Format.TheVariants.{One, Two}
 
@@ -7,3 +7,7 @@ use Rattle.vclock.specs.declared.format.Format.TheVariants.{One, Two}
 abbrev pub value_limit : Format → ℕ
 value_limit One = 4096
 value_limit Two = 65536
+
+-- the format of a number: 1 or 2
+abbrev pub format_of : ℕ → Option Format
+format_of n = if n == 1 then Some One else if n == 2 then Some Two else None

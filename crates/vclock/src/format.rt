@@ -11,7 +11,18 @@ pub enum Format {
 
 impl Format {
     ghost use Rattle.std.specs.Prelude.{◌≡◌};
-    ghost use Rattle.vclock.specs.Format.{value_limit};
+    ghost use Rattle.vclock.specs.Format.{format_of, value_limit};
+
+    /// The format of a number, 1 or 2, as it stands in a ring's line and in an offer.
+    pub fn of_number(number: u64) -> Option<Format>
+        ensures { result ≡ format_of number }
+    {
+        match number {
+            1 => Some(Format::One),
+            2 => Some(Format::Two),
+            _ => None,
+        }
+    }
 
     /// How many bytes a value has at the most: 4,096, or 65,536 in format 2.
     pub fn value_limit(self) -> usize

@@ -7,7 +7,7 @@ ghost use Rattle.vclock.specs.Answer.{Answers};
 ghost use Rattle.version_set.specs.Version.{is_below, is_same, covered, IsCovered, with_version, offered, offer_fault, IsVersionSet, NoneIsBelow, AscendsBy, HasText, IsLive, text_cmp};
 
 use crate::version::Version;
-use std::alloc::Global;
+use std::alloc::{AllocError, Global};
 use std::cmp::Ordering;
 use std::marker::Model;
 use std::slice::Iter;
@@ -165,10 +165,11 @@ impl VersionSet {
         if is_covered(&self.versions, &version) {
             return Ok(Offered::Known);
         }
-        if count_kept(&self.versions, &version) >= MOST_VERSIONS {
+        let kept = count_kept(&self.versions, &version);
+        if kept >= MOST_VERSIONS {
             return Err(Refusal::Crowded);
         }
-        self.versions.reserve(1)?;
+        make_room(&mut self.versions, kept)?;
         drop_below(&mut self.versions, &version);
         insert(&mut self.versions, version);
         Ok(Offered::Added)
@@ -233,12 +234,25 @@ fn is_covered_by(version: &Version, held: &Version) -> bool
 
 // How many are not below the version.
 fn count_kept(versions: &[Version], version: &Version) -> usize
-    ensures { result ≡ length (filter (λ w. not (is_below w version.now)) versions.now) }
+    ensures count { result ≡ length (filter (λ w. not (is_below w version.now)) versions.now) }
+    ensures bound { result ≤ length versions.now }
 {
     versions
         .iter()
         .filter(|held| !held.is_below(version))
         .count()
+}
+
+// Makes room for one version beside those that are kept. Most sets have one version: none has more room than it needs.
+fn make_room(versions: &mut Vec<Version>, kept: usize) -> Result<(), AllocError>
+    requires { kept ≤ length versions.old.items }
+    ensures items { versions.new.items ≡ versions.old.items }
+    ensures room { OnOk result (kept < vec_capacity versions.new) }
+{
+    if kept == versions.len() {
+        versions.reserve_exact(1)?;
+    }
+    Ok(())
 }
 
 // Keeps those that are not below the version.

@@ -1,0 +1,114 @@
+// Range states.
+use crate::sets::version;
+use range_journal::journal::Source;
+use range_state::config::RangeConfig;
+use range_state::event::{Accepted, AcceptEvent, Event, PutEvent, Reply};
+use range_state::state::RangeState;
+use row_bytes::row::Row;
+use row_bytes::writing::write_row;
+use std::alloc::Global;
+use std::test::Fail;
+use vclock::bytes::Bytes;
+use vclock::clock::Clock;
+use vclock::format::Format;
+use vclock::refusal::Refusal;
+use version_set::kind::Kind;
+
+/// A range of a ring with one range.
+fn range(alloc: Global, format: u64, limit: u64) -> Result<RangeState, Fail> {
+    let config = RangeConfig::new(format, 0, 0, limit).ok_or("no such range")?;
+    Ok(RangeState::new(alloc, config)?)
+}
+
+#[test]
+fn a_range_has_a_format_a_place_and_a_limit(rt: HostRuntime) -> Result<(), Fail> {
+    let config = RangeConfig::new(2, 8, 255, 1_000_000).ok_or("no such range")?;
+    assert_eq!(rt; config.format(), Format::Two);
+    assert_eq!(rt; (config.bits(), config.range(), config.limit()), (8, 255, 1_000_000));
+    assert!(rt; RangeConfig::new(1, 0, 0, 1).is_some());
+    for (format, bits, range, limit) in [
+        (1, 0, 1, 1),
+        (0, 0, 0, 1),
+        (3, 0, 0, 1),
+        (1, 9, 0, 1),
+        (1, 4, 16, 1),
+        (1, 0, 0, 0),
+        (1, 0, 0, 1_000_001),
+        (1, 18_446_744_073_709_551_615, 0, 1),
+    ] {
+        assert!(rt; RangeConfig::new(format, bits, range, limit).is_none());
+    }
+    Ok(())
+}
+
+#[test]
+fn versions_with_equal_clocks_are_both_kept(rt: HostRuntime) -> Result<(), Fail> {
+    let alloc = rt.alloc();
+    let mut state = range(alloc, 1, 10)?;
+    for (value, number) in [(b"q", 0), (b"p", 1)] {
+        let copy = version(alloc, (2, 1), Kind::Live, value)?;
+        match state.accept(alloc, 0, Source::Copy, b"a", copy)? {
+            Accepted::Taken(receipt) => assert_eq!(rt; receipt.number, number),
+            Accepted::Known => assert!(rt; false),
+        }
+    }
+    let copy = version(alloc, (2, 1), Kind::Live, b"q")?;
+    let known = state.accept(alloc, 0, Source::Copy, b"a", copy)?;
+    assert!(rt; matches!(&known, Accepted::Known));
+    assert_eq!(rt; state.journal().len(), 2);
+    let row = Row {
+        key: Bytes::copy_of(alloc, b"a")?,
+        versions: state.get(alloc, b"a")?,
+    };
+    let text = b"\x00\x01a\x00\x02\x01\x00\x02\0\0\0\0\0\0\0\x01\0\0\0\x01p\x01\x00\x02\0\0\0\0\0\0\0\x01\0\0\0\x01q";
+    assert_eq!(rt; write_row(alloc, Format::One, &row)?.as_slice(), text.as_slice());
+    Ok(())
+}
+
+#[test]
+fn events_are_answered_in_order(rt: HostRuntime) -> Result<(), Fail> {
+    let alloc = rt.alloc();
+    let mut state = range(alloc, 1, 10)?;
+    let mut events = Vec::new(alloc);
+    events.push(Event::Put(PutEvent {
+        seat: 0,
+        at: 1,
+        key: Bytes::copy_of(alloc, b"a")?,
+        context: Clock::from_pairs(alloc, &[])?,
+        kind: Kind::Live,
+        value: Bytes::copy_of(alloc, b"x")?,
+    }))?;
+    events.push(Event::Accept(AcceptEvent {
+        seat: 0,
+        source: Source::Hint,
+        key: Bytes::copy_of(alloc, b"")?,
+        version: version(alloc, (2, 1), Kind::Live, b"y")?,
+    }))?;
+    events.push(Event::Get(Bytes::copy_of(alloc, b"a")?))?;
+    let replies = state.run_events(alloc, events)?;
+    assert_eq!(rt; replies.len(), 3);
+    assert!(rt; matches!(&replies[0], Reply::Put(Ok(receipt)) if receipt.number == 0));
+    assert!(rt; matches!(&replies[1], Reply::Accept(Err(Refusal::BadKey))));
+    assert!(rt; matches!(&replies[2], Reply::Get(Ok(set)) if set.len() == 1));
+    Ok(())
+}
+
+#[test]
+fn rows_lie_in_the_leaf_of_their_key(rt: HostRuntime) -> Result<(), Fail> {
+    let alloc = rt.alloc();
+    for (format, leaf) in [(1, 12), (2, 204)] {
+        let mut state = range(alloc, format, 1)?;
+        let copy = version(alloc, (1, 1), Kind::Live, b"x")?;
+        state.accept(alloc, 3, Source::Copy, b"a", copy)?;
+        assert_eq!(rt; state.rows(leaf).len(), 1);
+        assert_eq!(rt; state.rows(0).len(), 0);
+        assert_eq!(rt; state.versions(b"a").len(), 1);
+        assert_eq!(rt; state.versions(b"b").len(), 0);
+        let entry = state.journal().get(0).ok_or("no entry 0")?;
+        assert_eq!(rt; (entry.seat, entry.source), (3, Source::Copy));
+        let copy = version(alloc, (1, 1), Kind::Live, b"x")?;
+        let full = state.accept(alloc, 3, Source::Copy, b"b", copy);
+        assert!(rt; matches!(&full, Err(Refusal::JournalFull)));
+    }
+    Ok(())
+}

@@ -1,0 +1,40 @@
+// Shared leaves.
+use crate::versions::version;
+use crate::{show, unchanged};
+use hash_tree::shared::SharedLeaf;
+use std::alloc::Global;
+use std::io;
+use vclock::refusal::Refusal;
+
+/// Shows the calls on shared leaves.
+pub(crate) fn show_all<R: Print + AllocGlobal>(rt: &R) -> io::Result<()> {
+    let alloc = rt.alloc();
+    show(rt, "offer to a leaf", offer(alloc))?;
+    show(rt, "offer to a leaf of two owners", offer_to_a_copy(alloc))
+}
+
+/// Offers a version of another key, until the leaf has had to grow.
+fn grow(alloc: Global, leaf: &mut SharedLeaf) -> Result<u64, Refusal> {
+    for key in [b"c", b"a", b"b", b"e", b"d", b"a"] {
+        let rows = leaf.rows().len();
+        if let Err(refusal) = leaf.offer(alloc, key, version(alloc, 2)?) {
+            return Err(unchanged(refusal, leaf.rows().len() == rows));
+        }
+    }
+    Ok(leaf.rows().len() as u64)
+}
+
+fn offer(alloc: Global) -> Result<u64, Refusal> {
+    grow(alloc, &mut SharedLeaf::empty())
+}
+
+/// The other owner's leaf stays as it was.
+fn offer_to_a_copy(alloc: Global) -> Result<u64, Refusal> {
+    let mut leaf = SharedLeaf::empty();
+    leaf.offer(alloc, b"a", version(alloc, 1)?)?;
+    let other = leaf.share()?;
+    match grow(alloc, &mut leaf) {
+        Ok(rows) => Ok(rows.saturating_add(other.rows().len() as u64)),
+        Err(refusal) => Err(unchanged(refusal, other.rows().len() == 1)),
+    }
+}

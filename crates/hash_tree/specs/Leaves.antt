@@ -1,0 +1,45 @@
+-- Rows in order of key, and the leaves that they are shared out to: the paper of 2007, section 4.7.
+use Rattle.std.specs.Prelude.{◌≡◌, ℕ, ◌<◌, ◌≤◌, ◌++◌, nat_eq, List, [], ◌∷◌, length, filter, take, drop, slice_index_or, slice_set, Option, unwrap_or, option_map}
+use Rattle.std.specs.List.{AllByRecursion}
+use Rattle.std.specs.declared.cmp.Ordering.{Ordering}
+use Rattle.std.specs.declared.cmp.Ordering.TheVariants.{Less}
+use Rattle.std.specs.Ordering.{nat_cmp}
+use Rattle.std.specs.Cmp.Lexicographic.{slice_cmp}
+use Rattle.version_set.specs.declared.version.Version.{Version}
+use Rattle.version_set.specs.Version.{place_by, offered}
+use Rattle.row_bytes.specs.declared.row.Row.{Row}
+
+-- keys are ordered byte by byte
+abbrev pub key_cmp : List ℕ → List ℕ → Ordering
+key_cmp = slice_cmp nat_cmp
+
+-- each row's key is less than the keys of the rows after it
+abbrev pub AscendByKey : List Row → Type 0
+AscendByKey [] = Unit {0}
+AscendByKey (r ∷ rows) = AllByRecursion (λ (x : Row). key_cmp r.key x.key ≡ Less) rows × AscendByKey rows
+
+-- the rows of leaf i, where leaf says in which leaf a key is
+abbrev pub rows_at : (List ℕ → ℕ) → ℕ → List Row → List Row
+rows_at leaf i rows = filter (λ (r : Row). nat_eq (leaf r.key) i) rows
+
+-- the versions that ascending rows have for a key
+abbrev pub versions_in : List ℕ → List Row → List Version
+versions_in k [] = []
+versions_in k (r ∷ rows) = place_by (key_cmp k r.key) [] r.versions (versions_in k rows)
+
+-- the rows after a version was offered to the set of a key
+abbrev pub with_offer : List ℕ → Version → List Row → List Row
+with_offer k v [] = record { key = k; versions = offered v [] } ∷ []
+with_offer k v (r ∷ rows) = place_by (key_cmp k r.key) (record { key = k; versions = offered v [] } ∷ r ∷ rows) (record { key = r.key; versions = offered v r.versions } ∷ rows) (r ∷ with_offer k v rows)
+
+-- the row of the key stands at i
+pub record IsAt (k : List ℕ) (rows : List Row) (i : ℕ) : Type 0 where
+  pub within : i < length rows
+  pub offers : (v : Version) (d : Row) → with_offer k v rows ≡ slice_set rows i (record { key = (slice_index_or rows i d).key; versions = offered v (slice_index_or rows i d).versions })
+  pub holds : (d : Row) → versions_in k rows ≡ (slice_index_or rows i d).versions
+
+-- the key has no row, and one would stand at i
+pub record IsBetween (k : List ℕ) (rows : List Row) (i : ℕ) : Type 0 where
+  pub within : i ≤ length rows
+  pub offers : (v : Version) → with_offer k v rows ≡ take i rows ++ record { key = k; versions = offered v [] } ∷ drop i rows
+  pub holds : versions_in k rows ≡ []

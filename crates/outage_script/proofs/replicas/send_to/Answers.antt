@@ -1,0 +1,24 @@
+use mir.Val.{bool_byte}
+use Rattle.std.proofs.Common.{◌≡◌, ◌<◌, ◌+◌, rules, length, cond, set, sym, ◌∙◌, ap, arith, get_or, refl}
+use Rattle.outage_script.specs.Acts.{takes, after_copy}
+use Rattle.outage_script.specs.State.{Replica}
+use Rattle.outage_script.proofs.ReplicaLaws.{changed, changed_get, changed_next, changed_length, counted_more, byte_is, byte-le}
+use Rattle.outage_script.proofs.replicas.send_to.Goals as goal
+
+pub loop-i-preserved : goal.loop-i-preserved
+loop-i-preserved c =
+    let f = after_copy c.args.node c.args.lose.now c.args.entry.now in
+    let p = takes c.args.node c.args.lose.now c.args.entry.now in
+    let xs = c.args.replicas.now in
+    let i = c.loop-i.i in
+    let r = c.index-replicas-i.result in
+    let inv = c.loop-i.invariant in
+    let long = ap length inv.all ∙ changed_length f xs i in
+    let lt : i < length xs = omega (arith, c.loop-i-test.true, long) in
+    let here : get_or c.loop-i.replicas i r ≡ get_or xs i r = ap (λ t. get_or t i r) inv.all ∙ changed_get f xs i r lt in
+    let one : c.from.result ≡ cond (p (get_or xs i r)) 1 0 = c.from.ensures ∙ ap bool_byte (c.in_ok-send.ensures.taken ∙ ap p here) ∙ byte_is (p (get_or xs i r)) in
+    record {
+      all = ap (λ t. set t i c.send.new.self) inv.all ∙ changed_next f xs i c.send.new.self r lt (c.in_ok-send.ensures.after ∙ ap f here);
+      count = (λ k. inv.count k + one k) ∙ sym (counted_more p xs i r lt);
+      most = omega (arith, inv.most, c.from.ensures, byte-le c.in_ok-send.field-0);
+    }

@@ -1,0 +1,172 @@
+// A replica of a range.
+ghost use Rattle.std.specs.Prelude.{◌≡◌, ◌≤◌, ⊤, [], not, ◌&&◌, ◌==◌, IfOk, OnOk, OnErr, None};
+ghost use Rattle.std.specs.List.{list_any, AllByRecursion};
+ghost use Rattle.vclock.specs.Answer.{Answers, AnswersOrNoMemory};
+ghost use Rattle.version_set.specs.Kind.{value_fault};
+ghost use Rattle.range_journal.specs.Journal.{held};
+ghost use Rattle.range_journal.specs.declared.journal.Source.{Source};
+ghost use Rattle.range_state.specs.State.{accept_fault, accept_step, put_entry, put_fault, journaled};
+ghost use Rattle.outage_script.specs.Acts.{takes, after_copy, is_sent_to};
+
+use range_journal::journal::Source;
+use range_state::config::RangeConfig;
+use range_state::event::Receipt;
+use range_state::state::RangeState;
+use std::alloc::{AllocError, Global};
+use std::marker::Model;
+use vclock::bytes::Bytes;
+use vclock::clock::Clock;
+use vclock::format::Format;
+use vclock::refusal::Refusal;
+use version_set::kind::Kind;
+use version_set::set::VersionSet;
+use version_set::version::Version;
+
+/// The seat that the script has in each journal.
+const SEAT: u16 = 0;
+
+/// A node that keeps a range. It has no state as long as it was sent nothing, for a ring may have thousands of replicas.
+#[derive(Drop)]
+pub(crate) struct Replica {
+    node: u16,
+    config: RangeConfig,
+    state: Option<RangeState>,
+}
+
+impl Model for Replica {
+    ghost use Rattle.std.specs.Prelude.{◌≤◌, ◌≡◌};
+    ghost use Rattle.outage_script.specs.State.{Replica, range_in};
+
+    ghost Value = { Replica };
+
+    ghost view = { λ r. record { node = r.node; range = range_in r.config r.state } };
+
+    ghost invariant = { λ r. (1 ≤ r.node) × ((range_in r.config r.state).config ≡ r.config) };
+}
+
+impl Replica {
+    /// A replica that has accepted nothing.
+    pub(crate) fn new(node: u16, config: RangeConfig) -> Replica
+        requires { 1 ≤ node }
+        ensures { result ≡ record { node = node; range = record { config = config; entries = [] } } }
+    {
+        Replica {
+            node,
+            config,
+            state: None,
+        }
+    }
+
+    /// The node.
+    pub(crate) fn node(&self) -> u16
+        ensures { result ≡ self.now.node }
+    {
+        self.node
+    }
+
+    /// The format of the range's rows.
+    pub(crate) fn format(&self) -> Format
+        ensures { result ≡ self.now.range.config.format }
+    {
+        self.config.format()
+    }
+
+    /// The versions that are held for a key, in order.
+    pub(crate) fn versions(&self, key: &[u8]) -> &[Version]
+        ensures { result.now ≡ held self.now.range.entries key.now }
+    {
+        match &self.state {
+            Some(state) => state.versions(key),
+            None => &[],
+        }
+    }
+
+    /// A copy of the versions that are held for a key, each of which has a text.
+    pub(crate) fn version_set(&self, alloc: Global, key: &[u8]) -> Result<VersionSet, Refusal>
+        ensures held { Answers result None (λ set. set ≡ held self.now.range.entries key.now) }
+        ensures fit { IfOk result (AllByRecursion (λ v.
+            value_fault self.now.range.config.format v.kind v.value ≡ None)) }
+    {
+        match &self.state {
+            Some(state) => state.get(alloc, key),
+            None => Ok(VersionSet::empty(alloc)),
+        }
+    }
+
+    /// Puts a value at the node.
+    pub(crate) fn put(
+        &mut self,
+        alloc: Global,
+        key: &[u8],
+        context: &Clock,
+        kind: Kind,
+        value: Bytes,
+    ) -> Result<Receipt, Refusal>
+        ensures answers { AnswersOrNoMemory result
+            (put_fault self.old.range self.old.node key.now context.now kind value)
+            (λ receipt. receipt ≡ put_entry self.old.range 0 self.old.node key.now context.now kind value) }
+        ensures ok { OnOk result (self.new ≡ record { node = self.old.node; range = journaled self.old.range
+            (put_entry self.old.range 0 self.old.node key.now context.now kind value) }) }
+        ensures err { OnErr result (self.new ≡ self.old) }
+    {
+        if let Some(state) = &mut self.state {
+            return state.put(alloc, SEAT, self.node, key, context, kind, value);
+        }
+        let mut state = RangeState::new(alloc, self.config)?;
+        let receipt = state.put(alloc, SEAT, self.node, key, context, kind, value)?;
+        self.state = Some(state);
+        Ok(receipt)
+    }
+
+    /// Sends the replica a copy of an entry, where it is to get one, and answers whether it took it or knew it.
+    pub(crate) fn send(
+        &mut self,
+        alloc: Global,
+        node: u64,
+        lose: &[u64],
+        entry: &Receipt,
+    ) -> Result<bool, AllocError>
+        ensures taken { IfOk result (λ taken. taken ≡ takes node lose.now entry.now self.old) }
+        ensures after { OnOk result (self.new ≡ after_copy node lose.now entry.now self.old) }
+    {
+        if !is_sent_to(node, lose, self.node) {
+            return Ok(false);
+        }
+        match self.accept(alloc, entry.key.as_slice(), &entry.version) {
+            Ok(()) => Ok(true),
+            Err(Refusal::NoMemory) => Err(AllocError),
+            Err(_) => Ok(false),
+        }
+    }
+
+    /// Takes in a copy of a version, unless it is known.
+    fn accept(
+        &mut self,
+        alloc: Global,
+        key: &[u8],
+        version: &Version,
+    ) -> Result<(), Refusal>
+        ensures answers { AnswersOrNoMemory result (accept_fault self.old.range key.now version.now) (λ _. ⊤) }
+        ensures ok { OnOk result (self.new ≡ record { node = self.old.node;
+            range = accept_step self.old.range 0 Source.Copy key.now version.now }) }
+        ensures err { OnErr result (self.new ≡ self.old) }
+    {
+        let version = version.try_clone()?;
+        if let Some(state) = &mut self.state {
+            state.accept(alloc, SEAT, Source::Copy, key, version)?;
+            return Ok(());
+        }
+        let mut state = RangeState::new(alloc, self.config)?;
+        state.accept(alloc, SEAT, Source::Copy, key, version)?;
+        self.state = Some(state);
+        Ok(())
+    }
+}
+
+/// Whether a replica is sent a copy of a put: it is another node, and not one that is to get none.
+fn is_sent_to(node: u64, lose: &[u64], other: u16) -> bool
+    ensures { result ≡ is_sent_to node lose.now other }
+{
+    let other = u64::from(other);
+    other != node && !lose.contains(&other)
+}

@@ -1,0 +1,51 @@
+use Rattle.std.proofs.Common.{◌≡◌, None, [], ◌∷◌, ◌++◌, false, sym, subst, ap, ◌∙◌, length, arith}
+use Rattle.std.proofs.lemmas.List.{get_or_read}
+use Rattle.std.proofs.lemmas.Result.{err_from_is_err_and}
+use Rattle.range_journal.specs.declared.journal.Entry.{Entry}
+use Rattle.range_journal.specs.Log.{Log}
+use Rattle.range_state.specs.State.{State, AreLeaves, leaf_in, place_fault, full_fault, knows}
+use Rattle.range_state.proofs.StateLaws.{leaf_within, in_vain, admitted, admit_err, room_left}
+use Rattle.range_state.proofs.state.RangeState.admit.Goals as goal
+
+pub index_mut-requires : goal.index_mut-requires
+index_mut-requires c =
+    let ok = subst (λ (s : State). AreLeaves s c.self.inside.leaves.items) c.self.view_is c.self.invariant.1 in
+    let within = leaf_within c.args.self.now c.self.inside.leaves.items c.args.leaf c.args.key.now ok c.requires.leaf in
+    omega (arith, within, c.from.ensures, c.self.inside.leaves.ok)
+
+pub invariant_of-self-in_err-offer : goal.invariant_of-self-in_err-offer
+invariant_of-self-in_err-offer c =
+    let s : State = record { config = c.self.inside.config; entries = c.self.inside.journal.entries } in
+    let ok = subst (λ (s : State). AreLeaves s c.self.inside.leaves.items) c.self.view_is c.self.invariant.1 in
+    let within = leaf_within c.args.self.now c.self.inside.leaves.items c.args.leaf c.args.key.now ok c.requires.leaf in
+    let read = get_or_read c.self.inside.leaves.items _ _ (omega (arith, within, c.from.ensures)) c.index_mut.ensures.value [] in
+    let both = in_vain s c.self.inside.leaves.items c.from.result c.reserve.new.self.entries c.index_mut.result.now c.offer.new.self c.self.invariant.0 c.self.invariant.1 read c.in_err-offer.ensures.err (ap (λ (t : Log). t.entries) c.in_ok-reserve.ensures.ok) in
+    (both.0, both.1, ap (λ (t : Log). t.limit) c.in_ok-reserve.ensures.ok ∙ c.self.invariant.2)
+
+pub returns-in_err-offer-clause-answers : goal.returns-in_err-offer-clause-answers
+returns-in_err-offer-clause-answers c =
+    let s : State = record { config = c.self.inside.config; entries = c.self.inside.journal.entries } in
+    let ok = subst (λ (s : State). AreLeaves s c.self.inside.leaves.items) c.self.view_is c.self.invariant.1 in
+    let at = c.from.ensures ∙ c.requires.leaf in
+    let within = leaf_within c.args.self.now c.self.inside.leaves.items c.from.result c.args.key.now ok at in
+    let read = get_or_read c.self.inside.leaves.items _ _ within c.index_mut.ensures.value [] in
+    let room = subst (λ (s : State). full_fault s ≡ None) c.self.view_is (room_left s c.self.inside.journal (λ i. s.entries) c.self.invariant.2 c.in_ok-reserve.ensures.answers.0) in
+    let p = err_from_is_err_and c.from_residual-in_err-offer.result c.from_residual-in_err-offer.ensures.1 in
+    rw (p.1, p.2) (admit_err c.args.self.now c.self.inside.leaves.items c.from.result c.args.key.now c.args.version c.in_ok-row_version.row_version c.index_mut.result.now c.in_err-offer.field-0.0 ok at read c.in_ok-row_version.ensures.1 room c.in_err-offer.ensures.answers)
+
+pub invariant_of-self-2 : goal.invariant_of-self-2
+invariant_of-self-2 c =
+    let s : State = record { config = c.self.inside.config; entries = c.self.inside.journal.entries } in
+    let e : Entry = record { number = length c.reserve.new.self.entries; seat = c.args.seat; source = c.args.source; key = c.in_ok-entry_key.entry_key; version = c.args.version } in
+    let key : c.args.key.now ≡ c.in_ok-entry_key.entry_key = sym c.in_ok-entry_key.ensures.1 in
+    let back : c.args.self.now ≡ s = sym c.self.view_is in
+    let leaf : c.from.result ≡ leaf_in s.config e.key = c.from.ensures ∙ c.requires.leaf ∙ (λ i. leaf_in (back i).config (key i)) in
+    let here : place_fault s.config e.key e.version.kind e.version.value ≡ None = sym (λ i. place_fault (back i).config (key i) c.args.version.kind c.args.version.value) ∙ c.requires.here in
+    let news : knows s e.key e.version ≡ false = sym (λ i. knows (back i) (key i) c.args.version) ∙ c.requires.news in
+    let within = leaf_within s c.self.inside.leaves.items c.from.result e.key c.self.invariant.1 leaf in
+    let read = get_or_read c.self.inside.leaves.items _ _ within c.index_mut.ensures.value [] in
+    let log = c.append_reserved.ensures.added in
+    let entries = ap (λ (t : Log). t.entries) log ∙ ap (λ (t : Log). t.entries ++ e ∷ []) c.in_ok-reserve.ensures.ok in
+    let both = admitted s c.self.inside.leaves.items c.from.result e c.append_reserved.new.self.entries c.index_mut.result.now c.offer.new.self c.args.key.now c.in_ok-row_version.row_version c.self.invariant.0 c.self.invariant.1 leaf here news
+    read key c.in_ok-row_version.ensures.1 c.in_ok-offer.ensures.ok entries in
+    (both.0, both.1, ap (λ (t : Log). t.limit) log ∙ ap (λ (t : Log). t.limit) c.in_ok-reserve.ensures.ok ∙ c.self.invariant.2)

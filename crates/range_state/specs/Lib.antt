@@ -1,0 +1,5 @@
+pub mod Sent
+pub mod Config
+pub mod Rows
+pub mod State
+pub mod Run

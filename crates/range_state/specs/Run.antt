@@ -1,0 +1,41 @@
+-- Runs of the range machine: what each event may answer and leave.
+use Rattle.std.specs.Prelude.{◌≡◌, Result, List, [], ◌∷◌, ℕ}
+use Rattle.vclock.specs.Answer.{Answers, AnswersOrNoMemory}
+use Rattle.vclock.specs.declared.refusal.Refusal.{Refusal}
+use Rattle.std.specs.Prelude.{None, OnOk, OnErr}
+use Rattle.version_set.specs.declared.version.Version.{Version}
+use Rattle.range_journal.specs.declared.journal.Entry.{Entry}
+use Rattle.range_journal.specs.Journal.{held}
+use Rattle.range_state.specs.declared.event.Accepted.{Accepted}
+use Rattle.range_state.specs.declared.event.Event.{Event}
+use Rattle.range_state.specs.declared.event.Event.TheVariants as events
+use Rattle.range_state.specs.declared.event.PutEvent.{PutEvent}
+use Rattle.range_state.specs.declared.event.AcceptEvent.{AcceptEvent}
+use Rattle.range_state.specs.declared.event.Reply.{Reply}
+use Rattle.range_state.specs.declared.event.Reply.TheVariants as replies
+use Rattle.range_state.specs.State.{State, IsRight, journaled, put_fault, put_entry, accept_fault, accept_step, accept_reply}
+
+-- a put answered its entry, which the journal has from then on; or it was refused, and nothing changed
+abbrev pub PutStep : State → PutEvent → Result Entry Refusal → State → Type 0
+PutStep s p r t = AnswersOrNoMemory r (put_fault s p.at p.key p.context p.kind p.value) (λ e. e ≡ put_entry s p.seat p.at p.key p.context p.kind p.value) × OnOk r (t ≡ journaled s (put_entry s p.seat p.at p.key p.context p.kind p.value)) × OnErr r (t ≡ s)
+
+-- a version was taken or known; or it was refused, and nothing changed
+abbrev pub AcceptStep : State → AcceptEvent → Result Accepted Refusal → State → Type 0
+AcceptStep s a r t = Answers r (accept_fault s a.key a.version) (λ x. x ≡ accept_reply s a.seat a.source a.key a.version) × OnOk r (t ≡ accept_step s a.seat a.source a.key a.version) × OnErr r (t ≡ s)
+
+-- the held versions were answered, and nothing changed
+abbrev pub GetStep : State → List ℕ → Result (List Version) Refusal → State → Type 0
+GetStep s key r t = Answers r None (λ set. set ≡ held s.entries key) × (t ≡ s)
+
+-- from s, the event is answered by the reply, and leaves t
+unfoldable pub IsStep : State → Event → Reply → State → Type 0
+IsStep s (events.Put p) reply t = (r : Result Entry Refusal) × (reply ≡ replies.Put r) × PutStep s p r t
+IsStep s (events.Accept a) reply t = (r : Result Accepted Refusal) × (reply ≡ replies.Accept r) × AcceptStep s a r t
+IsStep s (events.Get key) reply t = (r : Result (List Version) Refusal) × (reply ≡ replies.Get r) × GetStep s key r t
+
+-- from s, the events are answered by the replies, one by one, over states that are all right, and leave t
+unfoldable pub Run : State → List Event → List Reply → State → Type 0
+Run s [] [] t = t ≡ s
+Run s [] (r ∷ rs) t = ⊥
+Run s (e ∷ es) [] t = ⊥
+Run s (e ∷ es) (r ∷ rs) t = (m : State) × IsStep s e r m × IsRight m × Run m es rs t

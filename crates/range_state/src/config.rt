@@ -1,0 +1,91 @@
+//! Which range a state is of.
+ghost use Rattle.std.specs.Prelude.{◌≡◌, ◌<◌, ◌^◌, IsTrue};
+ghost use Rattle.range_state.specs.Config.{config_of, is_config};
+
+use std::marker::Model;
+use vclock::format::Format;
+
+/// How many bits the number of a range has at the most.
+const MOST_BITS: u64 = 8;
+
+/// How many entries a journal has at the most.
+const MOST_ENTRIES: u64 = 1_000_000;
+
+/// Which range a state is of, in which format, and how many entries its journal may have.
+#[derive(Clone, Copy, Debug, PartialEq, Eq)]
+pub struct RangeConfig {
+    format: Format,
+    bits: u8,
+    range: u16,
+    limit: u64,
+}
+
+impl Model for RangeConfig {
+    ghost use Rattle.std.specs.Prelude.{IsTrue};
+    ghost use Rattle.range_state.specs.Config.{Config, is_config};
+
+    ghost Value = { Config };
+
+    ghost view = { λ c. record { format = c.format; bits = c.bits; range = c.range; limit = c.limit } };
+
+    ghost inverse = { λ c. record { format = c.format; bits = c.bits; range = c.range; limit = c.limit } };
+
+    ghost invariant = { λ c. IsTrue (is_config (record { format = c.format; bits = c.bits; range = c.range; limit = c.limit })) };
+}
+
+impl RangeConfig {
+    /// Range number `range`, from 0, of a ring of 2^bits ranges, in format 1 or 2, with a journal of at most so many
+    /// entries. None where the format is neither, the bits are over 8, the ring has no such range, or the limit is not 1
+    /// to 1,000,000. It takes no memory.
+    pub fn new(format: u64, bits: u64, range: u64, limit: u64) -> Option<RangeConfig>
+        ensures { result ≡ config_of format bits range limit }
+    {
+        let format = Format::of_number(format)?;
+        if bits > MOST_BITS || range >= 1 << bits || limit == 0 || limit > MOST_ENTRIES {
+            return None;
+        }
+        Some(RangeConfig {
+            format,
+            bits: bits as u8,
+            range: range as u16,
+            limit,
+        })
+    }
+
+    /// The same for another range of the ring.
+    pub fn for_range(&self, range: u16) -> RangeConfig
+        requires { range < 2 ^ self.now.bits }
+        ensures { result ≡ record self.now { range = range } }
+    {
+        RangeConfig { range, ..*self }
+    }
+
+    /// The format of rows and tree.
+    pub fn format(&self) -> Format
+        ensures { result ≡ self.now.format }
+    {
+        self.format
+    }
+
+    /// How many bits the number of a range has, 0 to 8.
+    pub fn bits(&self) -> u8
+        ensures { result ≡ self.now.bits }
+    {
+        self.bits
+    }
+
+    /// The number of the range, from 0.
+    pub fn range(&self) -> u16
+        ensures { result ≡ self.now.range }
+    {
+        self.range
+    }
+
+    /// How many entries the journal may have, 1 to 1,000,000.
+    pub fn limit(&self) -> u64
+        ensures limit { result ≡ self.now.limit }
+        ensures valid { IsTrue (is_config self.now) }
+    {
+        self.limit
+    }
+}

@@ -1,0 +1,77 @@
+//! The calls of a range as events, and what they answer.
+ghost use Rattle.std.specs.Prelude.{◌≤◌, IsTrue};
+ghost use Rattle.range_state.specs.Sent.{is_sent};
+
+use range_journal::journal::{Entry, Source};
+use vclock::bytes::Bytes;
+use vclock::clock::Clock;
+use vclock::refusal::Refusal;
+use version_set::kind::Kind;
+use version_set::set::VersionSet;
+use version_set::version::Version;
+
+/// What a range tells a caller whose version it journaled: the entry.
+pub type Receipt = Entry;
+
+/// Whether a version was new to a range.
+#[derive(Debug, Drop)]
+pub enum Accepted {
+    /// It was journaled.
+    Taken(Receipt),
+    /// It was covered by those accepted before: nothing was journaled.
+    Known,
+}
+
+/// A value put at a node.
+#[derive(Debug, Drop)]
+pub struct PutEvent {
+    /// The seat of the caller.
+    pub seat: u16,
+    /// The node whose counter is raised, 1 to 65,535.
+    pub at: u16,
+    /// The key.
+    pub key: Bytes,
+    /// The clock that the caller has seen.
+    pub context: Clock,
+    /// Whether there is a value.
+    pub kind: Kind,
+    /// The value.
+    pub value: Bytes,
+    pub ghost node: { 1 ≤ at },
+}
+
+/// A version that another node sent.
+#[derive(Debug, Drop)]
+pub struct AcceptEvent {
+    /// The seat of the caller.
+    pub seat: u16,
+    /// How it comes here: as a copy or as a hint.
+    pub source: Source,
+    /// The key.
+    pub key: Bytes,
+    /// The version.
+    pub version: Version,
+    pub ghost sent: { IsTrue (is_sent source) },
+}
+
+/// A call of a range.
+#[derive(Debug, Drop)]
+pub enum Event {
+    /// `put`.
+    Put(PutEvent),
+    /// `accept`.
+    Accept(AcceptEvent),
+    /// `get` of a key.
+    Get(Bytes),
+}
+
+/// What a call answered.
+#[derive(Debug, Drop)]
+pub enum Reply {
+    /// The entry of a put.
+    Put(Result<Receipt, Refusal>),
+    /// Whether a version was new.
+    Accept(Result<Accepted, Refusal>),
+    /// The versions that are held for a key.
+    Get(Result<VersionSet, Refusal>),
+}

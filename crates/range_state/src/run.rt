@@ -1,0 +1,68 @@
+//! Runs of events.
+ghost use Rattle.std.specs.Prelude.{◌≡◌, None, IfOk, OnOk, OnErr};
+ghost use Rattle.vclock.specs.Answer.{Answers};
+ghost use Rattle.range_state.specs.State.{IsRight};
+ghost use Rattle.range_state.specs.Run.{IsStep, Run};
+
+use crate::event::{Event, Reply};
+use crate::state::RangeState;
+use std::alloc::Global;
+use vclock::refusal::Refusal;
+
+impl RangeState {
+    /// Runs events in order, and answers the reply of each. A refused event is its reply, and changes nothing; the
+    /// events after it are run.
+    ///
+    /// Refused: NoMemory, before any event is run: then nothing changes, and the events are dropped.
+    pub fn run_events(&mut self, alloc: Global, events: Vec<Event>) -> Result<Vec<Reply>, Refusal>
+        ensures run { Answers result None (λ replies. Run self.old events.items replies.items self.new) }
+        ensures err { OnErr result (self.new ≡ self.old) }
+    {
+        let mut replies = Vec::with_capacity(alloc, events.len())?;
+        for event in events {
+            let reply = self.step(alloc, event);
+            replies.push(reply).unwrap();
+        }
+        Ok(replies)
+    }
+
+    /// Runs an event.
+    #[tactic(auto, unfolding(crate::specs::Run::IsStep))]
+    fn step(&mut self, alloc: Global, event: Event) -> Reply
+        ensures step { IsStep self.old event result self.new }
+        ensures right { IsRight self.new }
+    {
+        match event {
+            Event::Put(put) => {
+                let (key, context) = (put.key, put.context);
+                let put = self.put(
+                    alloc,
+                    put.seat,
+                    put.at,
+                    key.as_slice(),
+                    &context,
+                    put.kind,
+                    put.value,
+                );
+                let _right = self.journal();
+                Reply::Put(put)
+            }
+            Event::Accept(accept) => {
+                let key = accept.key;
+                let accepted = self.accept(
+                    alloc,
+                    accept.seat,
+                    accept.source,
+                    key.as_slice(),
+                    accept.version,
+                );
+                let _right = self.journal();
+                Reply::Accept(accepted)
+            }
+            Event::Get(key) => {
+                let _right = self.journal();
+                Reply::Get(self.get(alloc, key.as_slice()))
+            }
+        }
+    }
+}

@@ -1,0 +1,316 @@
+//! The state of a range.
+ghost use Rattle.std.specs.Prelude.{◌≡◌, ◌<◌, ◌≤◌, ⊤, [], false, if◌then◌else◌, None, Some, replicate, IsTrue, IfOk, IfErr, IfSome, IfNone, OnOk, OnErr};
+ghost use Rattle.std.specs.List.{list_any, AllByRecursion};
+ghost use Rattle.vclock.specs.Answer.{Answers, AnswersAtOnce, AnswersOrNoMemory};
+ghost use Rattle.vclock.specs.Clock.{at_most};
+ghost use Rattle.version_set.specs.Kind.{value_fault};
+ghost use Rattle.version_set.specs.Version.{offer_fault};
+ghost use Rattle.range_journal.specs.Journal.{held};
+ghost use Rattle.range_journal.specs.declared.journal.Source.{Source};
+ghost use Rattle.hash_tree.specs.Leaves.{rows_at};
+ghost use Rattle.range_state.specs.Sent.{is_sent};
+ghost use Rattle.range_state.specs.Rows.{rows_of};
+ghost use Rattle.range_state.specs.State.{IsRight, leaf_in, leaf_count, place_fault, ask_fault, stale_fault, admit_fault, accept_fault, put_fault, entry_of, put_entry, put_version, journaled, knows, accept_step, accept_reply};
+
+use crate::config::RangeConfig;
+use crate::event::{Accepted, Receipt};
+use hash_tree::shared::SharedLeaf;
+use key_ring::places::place;
+use range_journal::journal::{Journal, Source};
+use row_bytes::row::Row;
+use std::alloc::Global;
+use std::marker::Model;
+use vclock::bytes::Bytes;
+use vclock::clock::{Clock, ClockOrder};
+use vclock::format::Format;
+use vclock::key::check_key;
+use vclock::refusal::Refusal;
+use version_set::kind::Kind;
+use version_set::set::VersionSet;
+use version_set::version::Version;
+
+/// One replica of a range: the journal of the versions that it accepted, and its rows, which are exactly the maximal
+/// versions of the journal, key by key, in the leaves of the range's tree.
+#[derive(Drop)]
+pub struct RangeState {
+    config: RangeConfig,
+    journal: Journal,
+    leaves: Vec<SharedLeaf>,
+}
+
+impl Model for RangeState {
+    ghost use Rattle.std.specs.Prelude.{◌≡◌};
+    ghost use Rattle.range_state.specs.State.{State, IsRight, AreLeaves};
+
+    ghost Value = { State };
+
+    ghost view = { λ r. record { config = r.config; entries = r.journal.entries } };
+
+    ghost invariant = { λ r. IsRight (record { config = r.config; entries = r.journal.entries })
+        × AreLeaves (record { config = r.config; entries = r.journal.entries }) r.leaves.items
+        × (r.journal.limit ≡ r.config.limit) };
+}
+
+impl RangeState {
+    /// A range that has accepted nothing. Refused: NoMemory.
+    pub fn new(alloc: Global, config: RangeConfig) -> Result<RangeState, Refusal>
+        ensures { Answers result None (λ state. state ≡ record { config = config; entries = [] }) }
+    {
+        let leaf_count = match config.format() {
+            Format::One => 256,
+            Format::Two => 4_096,
+        };
+        Ok(RangeState {
+            config,
+            journal: Journal::new(alloc, config.limit()),
+            leaves: empty_leaves(alloc, leaf_count)?,
+        })
+    }
+
+    /// Which range it is, in which format, and the limit of its journal.
+    pub fn config(&self) -> RangeConfig
+        ensures { result ≡ self.now.config }
+    {
+        self.config
+    }
+
+    /// The journal. Its entries are of this range, and each was news when it came. It takes no memory.
+    pub fn journal(&self) -> &Journal
+        ensures entries { result.now.entries ≡ self.now.entries }
+        ensures limit { result.now.limit ≡ self.now.config.limit }
+        ensures valid { IsRight self.now }
+    {
+        &self.journal
+    }
+
+    /// The rows of a leaf, in ascending order of key. It takes no memory.
+    pub fn rows(&self, leaf: u16) -> &[Row]
+        requires { leaf < leaf_count self.now.config }
+        ensures { result.now ≡ rows_at (leaf_in self.now.config) leaf (rows_of self.now.entries) }
+    {
+        self.leaves[usize::from(leaf)].rows()
+    }
+
+    /// The versions that are held for a key, in the order of their texts: none where the key is not held. It takes no
+    /// memory.
+    pub fn versions(&self, key: &[u8]) -> &[Version]
+        ensures held { result.now ≡ held self.now.entries key.now }
+        ensures fit { AllByRecursion (λ v. value_fault self.now.config.format v.kind v.value ≡ None) result.now }
+    {
+        match self.set_of(self.leaf_of(key), key) {
+            Some(set) => set.as_slice(),
+            None => &[],
+        }
+    }
+
+    /// The versions that are held for a key: an empty set where the key is not held. Refused: NoMemory.
+    pub fn get(&self, alloc: Global, key: &[u8]) -> Result<VersionSet, Refusal>
+        ensures held { Answers result None (λ set. set ≡ held self.now.entries key.now) }
+        ensures fit { IfOk result (AllByRecursion (λ v. value_fault self.now.config.format v.kind v.value ≡ None)) }
+    {
+        match self.set_of(self.leaf_of(key), key) {
+            Some(set) => set.try_clone(alloc),
+            None => Ok(VersionSet::empty(alloc)),
+        }
+    }
+
+    /// Takes in a version that another node sent, as a copy or as a hint, unless it is known: it is the same as one that
+    /// was accepted before, or below one.
+    ///
+    /// Refused, in order: BadKey, BadValue (of the range's format), OtherRange (the key is of another range); then, where
+    /// the version is not known, Crowded (the key would hold over 64 versions), JournalFull, NoMemory. The state is then
+    /// as it was.
+    pub fn accept(
+        &mut self,
+        alloc: Global,
+        seat: u16,
+        source: Source,
+        key: &[u8],
+        version: Version,
+    ) -> Result<Accepted, Refusal>
+        requires { IsTrue (is_sent source) }
+        ensures answers { Answers result (accept_fault self.old key.now version)
+            (λ reply. reply ≡ accept_reply self.old seat source key.now version) }
+        ensures step { OnOk result (self.new ≡ accept_step self.old seat source key.now version) }
+        ensures err { OnErr result (self.new ≡ self.old) }
+    {
+        let leaf = self.home(key, version.kind, version.value.as_slice())?;
+        if self.covers(leaf, key, &version) {
+            return Ok(Accepted::Known);
+        }
+        let receipt = self.admit(alloc, leaf, seat, source, key, version)?;
+        Ok(Accepted::Taken(receipt))
+    }
+
+    /// Puts a value at a node, 1 to 65,535, or a tombstone: the new version's clock is the context with the node's
+    /// counter raised by one (the paper of 2007, section 4.4).
+    ///
+    /// Refused, in order: BadKey, BadValue (of the range's format), OtherRange (the key is of another range), ClockFull
+    /// and CounterFull (the context cannot be raised), StaleContext (some held version has seen all that the raised clock
+    /// has: with the clocks that are held), Crowded (the key would hold over 64 versions), JournalFull, NoMemory. The
+    /// state is then as it was. The raised clock and the list of clocks take memory, so from StaleContext on NoMemory
+    /// may stand in place of the cause.
+    pub fn put(
+        &mut self,
+        alloc: Global,
+        seat: u16,
+        at: u16,
+        key: &[u8],
+        context: &Clock,
+        kind: Kind,
+        value: Bytes,
+    ) -> Result<Receipt, Refusal>
+        requires { 1 ≤ at }
+        ensures answers { AnswersOrNoMemory result (put_fault self.old at key.now context.now kind value)
+            (λ receipt. receipt ≡ put_entry self.old seat at key.now context.now kind value) }
+        ensures early { IfErr result (λ e. e ≡ Refusal.NoMemory
+            → ask_fault self.old.config at key.now context.now kind value ≡ None) }
+        ensures step { OnOk result (self.new
+            ≡ journaled self.old (put_entry self.old seat at key.now context.now kind value)) }
+        ensures err { OnErr result (self.new ≡ self.old) }
+    {
+        let leaf = self.home(key, kind, value.as_slice())?;
+        let clock = context.raise(alloc, at)?;
+        self.check_context(alloc, leaf, key, &clock)?;
+        let version = Version { clock, kind, value };
+        self.admit(alloc, leaf, seat, Source::Client, key, version)
+    }
+
+    /// The leaf of a key.
+    fn leaf_of(&self, key: &[u8]) -> u16
+        ensures { result ≡ leaf_in self.now.config key.now }
+    {
+        place(self.config.format(), self.config.bits(), key).leaf
+    }
+
+    /// The leaf of a key, where a version of that kind and value has its place in this range.
+    fn home(&self, key: &[u8], kind: Kind, value: &[u8]) -> Result<u16, Refusal>
+        ensures { AnswersAtOnce result (place_fault self.now.config key.now kind value.now)
+            (λ leaf. leaf ≡ leaf_in self.now.config key.now) }
+    {
+        check_key(key)?;
+        kind.check_value(self.config.format(), value)?;
+        let at = place(self.config.format(), self.config.bits(), key);
+        if at.range != self.config.range() {
+            return Err(Refusal::OtherRange);
+        }
+        Ok(at.leaf)
+    }
+
+    /// The set of a key, which is of that leaf.
+    fn set_of(&self, leaf: u16, key: &[u8]) -> Option<&VersionSet>
+        requires { leaf ≡ leaf_in self.now.config key.now }
+        ensures some { IfSome result (λ set. set.now ≡ held self.now.entries key.now) }
+        ensures none { IfNone result (held self.now.entries key.now ≡ []) }
+        ensures fit { IfSome result (λ set. AllByRecursion
+            (λ v. value_fault self.now.config.format v.kind v.value ≡ None) set.now) }
+    {
+        self.leaves[usize::from(leaf)].find(key)
+    }
+
+    /// Whether a version is known: the same as one that was accepted, or below one.
+    fn covers(&self, leaf: u16, key: &[u8], version: &Version) -> bool
+        requires { leaf ≡ leaf_in self.now.config key.now }
+        ensures { result ≡ knows self.now key.now version.now }
+    {
+        match self.set_of(leaf, key) {
+            Some(set) => set.covers(version),
+            None => false,
+        }
+    }
+
+    /// Whether no version that is held has seen all that the clock has.
+    fn check_context(
+        &self,
+        alloc: Global,
+        leaf: u16,
+        key: &[u8],
+        clock: &Clock,
+    ) -> Result<(), Refusal>
+        requires { leaf ≡ leaf_in self.now.config key.now }
+        ensures { AnswersOrNoMemory result (stale_fault (held self.now.entries key.now) clock.now) (λ _. ⊤) }
+    {
+        if let Some(set) = self.set_of(leaf, key)
+            && any_has_seen(set.as_slice(), clock)
+        {
+            return Err(Refusal::StaleContext(set.clocks(alloc)?));
+        }
+        Ok(())
+    }
+
+    /// Whether the set of a key would have too many members with the version.
+    fn crowds(&self, leaf: u16, key: &[u8], version: &Version) -> bool
+        requires { leaf ≡ leaf_in self.now.config key.now }
+        ensures { offer_fault version.now (held self.now.entries key.now)
+            ≡ (if result then Some Refusal.Crowded else None) }
+    {
+        self.leaves[usize::from(leaf)].crowds(key, version)
+    }
+
+    /// Journals a version that is not known. Every cause is tested before any growth, and every growth is made before
+    /// anything changes.
+    fn admit(
+        &mut self,
+        alloc: Global,
+        leaf: u16,
+        seat: u16,
+        source: Source,
+        key: &[u8],
+        version: Version,
+    ) -> Result<Receipt, Refusal>
+        requires leaf { leaf ≡ leaf_in self.old.config key.now }
+        requires here { place_fault self.old.config key.now version.kind version.value ≡ None }
+        requires news { knows self.old key.now version ≡ false }
+        ensures answers { Answers result (admit_fault self.old key.now version)
+            (λ receipt. receipt ≡ entry_of self.old seat source key.now version) }
+        ensures step { OnOk result (self.new
+            ≡ journaled self.old (entry_of self.old seat source key.now version)) }
+        ensures err { OnErr result (self.new ≡ self.old) }
+    {
+        if self.crowds(leaf, key, &version) {
+            return Err(Refusal::Crowded);
+        }
+        self.journal.reserve(1)?;
+        let receipt = Receipt {
+            number: self.journal.len(),
+            seat,
+            source,
+            key: Bytes::copy_of(alloc, key)?,
+            version: version.try_clone()?,
+        };
+        let entry_key = Bytes::copy_of(alloc, key)?;
+        let row_version = version.try_clone()?;
+        self.leaves[usize::from(leaf)].offer(alloc, key, row_version)?;
+        self.journal
+            .append_reserved(seat, source, entry_key, version);
+        Ok(receipt)
+    }
+}
+
+/// So many leaves without rows.
+fn empty_leaves(alloc: Global, count: usize) -> Result<Vec<SharedLeaf>, Refusal>
+    ensures { Answers result None (λ leaves. leaves.items ≡ replicate count []) }
+{
+    let mut leaves = Vec::with_capacity(alloc, count)?;
+    for _ in 0..count {
+        leaves.push(SharedLeaf::empty())?;
+    }
+    Ok(leaves)
+}
+
+/// Whether some version has seen all that the clock has.
+fn any_has_seen(versions: &[Version], clock: &Clock) -> bool
+    ensures { result ≡ list_any (λ v. at_most clock.now v.clock) versions.now }
+{
+    versions.iter().any(|version| has_seen(version, clock))
+}
+
+/// Whether a version has seen all that the clock has.
+fn has_seen(version: &Version, clock: &Clock) -> bool
+    ensures { result ≡ at_most clock.now version.now.clock }
+{
+    match clock.compare(&version.clock) {
+        ClockOrder::Before | ClockOrder::Equal => true,
+        ClockOrder::After | ClockOrder::Apart => false,
+    }
+}
