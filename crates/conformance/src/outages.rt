@@ -145,10 +145,7 @@ fn a_full_journal_takes_no_more(rt: HostRuntime) -> Result<(), Fail> {
                 r#"{"put":{"node":2,"key":"62","context":[],"value":"78"}}"#,
                 r#"{"clock":[[2,1]],"copied":0,"hinted":0,"number":0}"#,
             ),
-            (
-                r#"{"get":{"node":1,"key":"62"}}"#,
-                r#"{"versions":[]}"#,
-            ),
+            (r#"{"get":{"node":1,"key":"62"}}"#, r#"{"versions":[]}"#),
         ],
     )
 }
@@ -266,14 +263,21 @@ fn format_two_has_longer_values(rt: HostRuntime) -> Result<(), Fail> {
         digits.push_str("61")?;
     }
     let ring = r#"{"ring":{"bits":0,"copies":1,"format":2,"nodes":[1]}}"#;
-    let fits = format!(in alloc; r#"{{"put":{{"node":1,"key":"61","context":[],"value":"{digits}"}}}}"#)?;
-    let long = format!(in alloc; r#"{{"put":{{"node":1,"key":"61","context":[],"value":"{digits}61"}}}}"#)?;
+    let fits = format!(in alloc;
+        r#"{{"put":{{"node":1,"key":"61","context":[],"value":"{digits}"}}}}"#
+    )?;
+    let long = format!(in alloc;
+        r#"{{"put":{{"node":1,"key":"61","context":[],"value":"{digits}61"}}}}"#
+    )?;
     expect_answers(
         &rt,
         &[
             (ring, r#"{"nodes":1,"ranges":1}"#),
             (&long, r#"{"cause":"BadValue","refused":5}"#),
-            (&fits, r#"{"clock":[[1,1]],"copied":0,"hinted":0,"number":0}"#),
+            (
+                &fits,
+                r#"{"clock":[[1,1]],"copied":0,"hinted":0,"number":0}"#,
+            ),
         ],
     )
 }
@@ -283,7 +287,10 @@ fn null_is_judged_by_the_ring_in_force(rt: HostRuntime) -> Result<(), Fail> {
     let alloc = rt.alloc();
     let null = r#"{"put":{"node":9,"key":"","context":[[0,1]],"value":null}}"#;
     let mut input = String::new(alloc);
-    writeln!(input, r#"{{"ring":{{"bits":0,"copies":1,"format":2,"nodes":[1]}}}}"#)?;
+    writeln!(
+        input,
+        r#"{{"ring":{{"bits":0,"copies":1,"format":2,"nodes":[1]}}}}"#
+    )?;
     writeln!(input, "{null}")?;
     writeln!(input, "{PAIR}")?;
     writeln!(input, "{null}")?;

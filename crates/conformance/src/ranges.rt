@@ -2,7 +2,7 @@
 use crate::sets::version;
 use range_journal::journal::Source;
 use range_state::config::RangeConfig;
-use range_state::event::{Accepted, AcceptEvent, Event, PutEvent, Reply};
+use range_state::event::{AcceptEvent, Accepted, Event, PutEvent, Reply};
 use range_state::state::RangeState;
 use row_bytes::row::Row;
 use row_bytes::writing::write_row;
@@ -24,7 +24,10 @@ fn range(alloc: Global, format: u64, limit: u64) -> Result<RangeState, Fail> {
 fn a_range_has_a_format_a_place_and_a_limit(rt: HostRuntime) -> Result<(), Fail> {
     let config = RangeConfig::new(2, 8, 255, 1_000_000).ok_or("no such range")?;
     assert_eq!(rt; config.format(), Format::Two);
-    assert_eq!(rt; (config.bits(), config.range(), config.limit()), (8, 255, 1_000_000));
+    assert_eq!(rt;
+        (config.bits(), config.range(), config.limit()),
+        (8, 255, 1_000_000)
+    );
     assert!(rt; RangeConfig::new(1, 0, 0, 1).is_some());
     for (format, bits, range, limit) in [
         (1, 0, 1, 1),
@@ -60,8 +63,12 @@ fn versions_with_equal_clocks_are_both_kept(rt: HostRuntime) -> Result<(), Fail>
         key: Bytes::copy_of(alloc, b"a")?,
         versions: state.get(alloc, b"a")?,
     };
-    let text = b"\x00\x01a\x00\x02\x01\x00\x02\0\0\0\0\0\0\0\x01\0\0\0\x01p\x01\x00\x02\0\0\0\0\0\0\0\x01\0\0\0\x01q";
-    assert_eq!(rt; write_row(alloc, Format::One, &row)?.as_slice(), text.as_slice());
+    let text =
+        b"\x00\x01a\x00\x02\x01\x00\x02\0\0\0\0\0\0\0\x01\0\0\0\x01p\x01\x00\x02\0\0\0\0\0\0\0\x01\0\0\0\x01q";
+    assert_eq!(rt;
+        write_row(alloc, Format::One, &row)?.as_slice(),
+        text.as_slice()
+    );
     Ok(())
 }
 

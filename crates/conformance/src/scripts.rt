@@ -32,7 +32,10 @@ pub(crate) fn expect(
 }
 
 /// Runs the script of these lines, which is to write these answers.
-pub(crate) fn expect_answers(rt: &(impl AllocGlobal + Abort), lines: &[(&str, &str)]) -> Result<(), Fail> {
+pub(crate) fn expect_answers(
+    rt: &(impl AllocGlobal + Abort),
+    lines: &[(&str, &str)],
+) -> Result<(), Fail> {
     let mut input = String::new(rt.alloc());
     let mut output = String::new(rt.alloc());
     for (line, answer) in lines {

@@ -13,11 +13,18 @@ pub(crate) fn show_all<R: Print + AllocGlobal>(rt: &R) -> io::Result<()> {
     show(rt, "offer to a leaf of two owners", offer_to_a_copy(alloc))
 }
 
-/// Offers a version of another key, until the leaf has had to grow.
+/// Offers a version to the set of a key.
+fn offer_to(alloc: Global, leaf: &mut SharedLeaf, key: &[u8]) -> Result<(), Refusal> {
+    let version = version(alloc, 2)?;
+    let place = leaf.find(key).place;
+    leaf.offer(alloc, key, place, version)
+}
+
+/// Offers versions of several keys, until the leaf has had to grow.
 fn grow(alloc: Global, leaf: &mut SharedLeaf) -> Result<u64, Refusal> {
     for key in [b"c", b"a", b"b", b"e", b"d", b"a"] {
         let rows = leaf.rows().len();
-        if let Err(refusal) = leaf.offer(alloc, key, version(alloc, 2)?) {
+        if let Err(refusal) = offer_to(alloc, leaf, key) {
             return Err(unchanged(refusal, leaf.rows().len() == rows));
         }
     }
@@ -31,7 +38,7 @@ fn offer(alloc: Global) -> Result<u64, Refusal> {
 /// The other owner's leaf stays as it was.
 fn offer_to_a_copy(alloc: Global) -> Result<u64, Refusal> {
     let mut leaf = SharedLeaf::empty();
-    leaf.offer(alloc, b"a", version(alloc, 1)?)?;
+    offer_to(alloc, &mut leaf, b"a")?;
     let other = leaf.share()?;
     match grow(alloc, &mut leaf) {
         Ok(rows) => Ok(rows.saturating_add(other.rows().len() as u64)),

@@ -15,7 +15,11 @@ use version_set::kind::Kind;
 /// Shows the calls on range states.
 pub(crate) fn show_all<R: Print + AllocGlobal>(rt: &R) -> io::Result<()> {
     let alloc = rt.alloc();
-    show(rt, "a range", range(alloc).map(|state| state.journal().len()))?;
+    show(
+        rt,
+        "a range",
+        range(alloc).map(|state| state.journal().len()),
+    )?;
     show(rt, "put", put(alloc))?;
     show(rt, "a stale put", stale_put(alloc))?;
     show(rt, "accept", accept(alloc))?;

@@ -1,16 +1,15 @@
 -- Where a binary search finds the row of a key, or the place for it.
-use Rattle.std.proofs.Common.{◌≡◌, ◌⊎◌, inl, inr, ℕ, zero, suc, ◌<◌, ◌≤◌, set, List, [], ◌∷◌, ◌++◌, length, take, drop, get_or, refl, ap, sym, subst, ◌∙◌, arith, Result, Ok, Err}
-use Rattle.std.specs.Prelude.{IfOk, IfErr, slice_index_or}
-use Rattle.std.specs.List.{AllWithin, HoldsAt}
-use Rattle.std.specs.List.Sorted.{IsBinarySearchResult, IsSearchInRange, IsNonDecreasingBy, IsPartitionPoint}
+use Rattle.std.proofs.Common.{◌≡◌, inl, inr, ℕ, zero, suc, ◌<◌, ◌≤◌, set, List, [], ◌∷◌, ◌++◌, length, take, drop, get_or, refl, ap, subst, arith, Result, Ok, Err}
+use Rattle.std.specs.List.{AllWithin}
+use Rattle.std.specs.List.Sorted.{IsBinarySearchResult, IsSearchInRange, IsNonDecreasingBy}
 use Rattle.std.specs.declared.cmp.Ordering.{Ordering}
 use Rattle.std.specs.declared.cmp.Ordering.TheVariants.{Less, Equal, Greater}
-use Rattle.std.specs.Ordering.{ordering_reverse, ordering_index}
+use Rattle.std.specs.Ordering.{ordering_index}
 use Rattle.std.proofs.lemmas.Bool.{cases_eq}
 use Rattle.version_set.specs.declared.version.Version.{Version}
 use Rattle.version_set.specs.Version.{offered}
 use Rattle.row_bytes.specs.declared.row.Row.{Row}
-use Rattle.hash_tree.specs.Leaves.{key_cmp, AscendByKey, with_offer, versions_in, IsAt, IsBetween}
+use Rattle.hash_tree.specs.Leaves.{key_cmp, AscendByKey, with_offer, versions_in, IsPlace}
 use Rattle.hash_tree.proofs.KeyOrder.{key_exact, turned, less_trans, all_get, ascend_pair}
 
 abbrev row_cmp : List ℕ → Row → Ordering
@@ -70,17 +69,13 @@ sorted rows k a i j d le within = elim (cases_eq i j) [
 ]
 
 -- What a binary search finds is the row of the key, or the place for it.
-pub found : (rows : List Row) (k : List ℕ) (r : Result ℕ ℕ) → AscendByKey rows → IsSearchInRange r (length rows) → IsBinarySearchResult (row_cmp k) rows r → IfOk r (IsAt k rows)
+pub found : (rows : List Row) (k : List ℕ) (r : Result ℕ ℕ) → AscendByKey rows → IsSearchInRange r (length rows) → IsBinarySearchResult (row_cmp k) rows r → IsPlace k rows r
 found rows k (Ok i) a within at = record {
   within = within;
   offers = λ v d. here_offers rows i k v d a within (at d);
   holds = λ d. here_holds rows i k d a within (at d);
 }
-found rows k (Err i) a within at = tt
-
-pub missed : (rows : List Row) (k : List ℕ) (r : Result ℕ ℕ) → AscendByKey rows → IsSearchInRange r (length rows) → IsBinarySearchResult (row_cmp k) rows r → IfErr r (IsBetween k rows)
-missed rows k (Ok i) a within at = tt
-missed rows k (Err i) a within at =
+found rows k (Err i) a within at =
     let parted = at (sorted rows k a) in
     record {
       within = within;

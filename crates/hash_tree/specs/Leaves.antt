@@ -1,5 +1,5 @@
 -- Rows in order of key, and the leaves that they are shared out to: the paper of 2007, section 4.7.
-use Rattle.std.specs.Prelude.{◌≡◌, ℕ, ◌<◌, ◌≤◌, ◌++◌, nat_eq, List, [], ◌∷◌, length, filter, take, drop, slice_index_or, slice_set, Option, unwrap_or, option_map}
+use Rattle.std.specs.Prelude.{◌≡◌, ℕ, ◌<◌, ◌≤◌, ◌++◌, nat_eq, List, [], ◌∷◌, length, filter, take, drop, slice_index_or, slice_set, Result, Ok, Err}
 use Rattle.std.specs.List.{AllByRecursion}
 use Rattle.std.specs.declared.cmp.Ordering.{Ordering}
 use Rattle.std.specs.declared.cmp.Ordering.TheVariants.{Less}
@@ -43,3 +43,8 @@ pub record IsBetween (k : List ℕ) (rows : List Row) (i : ℕ) : Type 0 where
   pub within : i ≤ length rows
   pub offers : (v : Version) → with_offer k v rows ≡ take i rows ++ record { key = k; versions = offered v [] } ∷ drop i rows
   pub holds : versions_in k rows ≡ []
+
+-- where the row of a key stands, or else where one would stand
+abbrev pub IsPlace : List ℕ → List Row → Result ℕ ℕ → Type 0
+IsPlace k rows (Ok i) = IsAt k rows i
+IsPlace k rows (Err i) = IsBetween k rows i

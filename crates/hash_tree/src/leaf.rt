@@ -1,8 +1,8 @@
 //! The rows of one leaf.
-ghost use Rattle.std.specs.Prelude.{◌≡◌, [], ⊤, None, Some, if◌then◌else◌, IfSome, IfNone, IfOk, IfErr, OnOk, OnErr};
+ghost use Rattle.std.specs.Prelude.{◌≡◌, [], ⊤, None, unwrap_or, option_map, OnOk, OnErr};
 ghost use Rattle.vclock.specs.Answer.{Answers};
 ghost use Rattle.version_set.specs.Version.{offer_fault, offered};
-ghost use Rattle.hash_tree.specs.Leaves.{AscendByKey, IsAt, IsBetween, versions_in, with_offer};
+ghost use Rattle.hash_tree.specs.Leaves.{AscendByKey, IsPlace, versions_in, with_offer};
 
 use row_bytes::row::Row;
 use std::alloc::Global;
@@ -11,6 +11,15 @@ use vclock::bytes::Bytes;
 use vclock::refusal::Refusal;
 use version_set::set::VersionSet;
 use version_set::version::Version;
+
+/// What a leaf has for a key.
+#[derive(Clone, Copy)]
+pub struct FoundRow<'a> {
+    /// The versions that are held for the key, if it has a row.
+    pub set: Option<&'a VersionSet>,
+    /// Where the key's row stands, or else where it would stand.
+    pub place: Result<usize, usize>,
+}
 
 /// Rows in ascending order of key, each key once.
 #[derive(Debug, Drop)]
@@ -62,44 +71,46 @@ impl Leaf {
         Ok(Leaf { rows })
     }
 
-    /// The versions that are held for a key. It takes no memory, and time in proportion to the logarithm of the rows.
-    pub fn find(&self, key: &[u8]) -> Option<&VersionSet>
-        ensures some { IfSome result (λ set. set.now ≡ versions_in key.now self.now) }
-        ensures none { IfNone result (versions_in key.now self.now ≡ []) }
+    /// What is held for a key, and the place of its row, for an offer that comes next. It takes no memory, and time in
+    /// proportion to the logarithm of the rows.
+    pub fn find(&self, key: &[u8]) -> FoundRow<'_>
+        ensures set { unwrap_or (option_map (λ s. s.now) result.set) [] ≡ versions_in key.now self.now }
+        ensures place { IsPlace key.now self.now result.place }
     {
         match find_place(&self.rows, key) {
-            Ok(place) => Some(&self.rows[place].versions),
-            Err(_) => None,
+            Ok(at) => FoundRow {
+                set: Some(&self.rows[at].versions),
+                place: Ok(at),
+            },
+            Err(at) => FoundRow {
+                set: None,
+                place: Err(at),
+            },
         }
     }
 
-    /// Whether an offer of the version to the set of a key is refused as Crowded: the set would have over 64 versions.
-    /// It takes no memory.
-    pub fn crowds(&self, key: &[u8], version: &Version) -> bool
-        ensures { offer_fault version.now (versions_in key.now self.now)
-            ≡ (if result then Some Refusal.Crowded else None) }
-    {
-        match self.find(key) {
-            Some(set) => set.crowds(version),
-            None => false,
-        }
-    }
-
-    /// Offers a version to the set of a key, which has a row from then on.
+    /// Offers a version to the set of a key, whose place was found. The key has a row from then on.
     ///
     /// Refused, in order: Crowded (the set would have over 64 versions), NoMemory. The leaf is then as it was.
-    pub fn offer(&mut self, alloc: Global, key: &[u8], version: Version) -> Result<(), Refusal>
+    pub fn offer(
+        &mut self,
+        alloc: Global,
+        key: &[u8],
+        place: Result<usize, usize>,
+        version: Version,
+    ) -> Result<(), Refusal>
+        requires { IsPlace key.now self.old place }
         ensures answers { Answers result (offer_fault version (versions_in key.now self.old)) (λ _. ⊤) }
         ensures ok { OnOk result (self.new ≡ with_offer key.now version self.old) }
         ensures err { OnErr result (self.new ≡ self.old) }
     {
-        match find_place(&self.rows, key) {
-            Ok(place) => {
-                self.rows[place].versions.offer(version)?;
+        match place {
+            Ok(at) => {
+                self.rows[at].versions.offer(version)?;
             }
-            Err(place) => {
+            Err(at) => {
                 let row = first_row(alloc, key, version)?;
-                self.rows.insert(place, row)?;
+                self.rows.insert(at, row)?;
             }
         }
         Ok(())
@@ -119,8 +130,7 @@ fn first_row(alloc: Global, key: &[u8], version: Version) -> Result<Row, Refusal
 /// Where the row of a key stands, or else where it would stand.
 fn find_place(rows: &[Row], key: &[u8]) -> Result<usize, usize>
     requires { AscendByKey rows.now }
-    ensures here { IfOk result (IsAt key.now rows.now) }
-    ensures between { IfErr result (IsBetween key.now rows.now) }
+    ensures { IsPlace key.now rows.now result }
 {
     rows.binary_search_by(|row| row.key.as_slice().cmp(key))
 }

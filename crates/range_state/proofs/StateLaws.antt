@@ -13,7 +13,7 @@ use Rattle.vclock.proofs.ClockLemmas.{at_most_itself}
 use Rattle.vclock.specs.declared.format.Format.{Format}
 use Rattle.vclock.specs.declared.format.Format.TheVariants.{One, Two}
 use Rattle.vclock.specs.declared.refusal.Refusal.{Refusal}
-use Rattle.vclock.specs.declared.refusal.Refusal.TheVariants.{NoMemory, JournalFull, OtherRange, StaleContext}
+use Rattle.vclock.specs.declared.refusal.Refusal.TheVariants.{NoMemory, Crowded, JournalFull, OtherRange, StaleContext}
 use Rattle.version_set.specs.Kind.{value_fault}
 use Rattle.version_set.specs.declared.version.Version.{Version}
 use Rattle.version_set.specs.Version.{covered, offer_fault, is_below, is_same, with_version, set_from}
@@ -27,7 +27,7 @@ use Rattle.key_ring.specs.Places.{leaf_at, leaf_bits, range_at}
 use Rattle.hash_tree.specs.Leaves.{rows_at, with_offer, versions_in}
 use Rattle.range_state.specs.Config.{Config, is_config}
 use Rattle.range_state.specs.Rows.{rows_of}
-use Rattle.range_state.specs.State.{State, leaf_in, leaf_count, place_fault, journaled, full_fault, admit_fault, knows, stale_fault, IsOwn, IsRight, AreLeaves}
+use Rattle.range_state.specs.State.{State, leaf_in, leaf_count, place_fault, journaled, full_fault, knows, accept_fault, stale_fault, IsOwn, IsRight, AreLeaves}
 use Rattle.range_state.proofs.RowLaws.{leaf_holds, leaf-push}
 
 -- ---- leaves
@@ -44,6 +44,10 @@ leaf_below c key = below c.format _
 -- the leaf of a key is one of the leaves
 pub leaf_within : (s : State) (leaves : List (List Row)) (leaf : ℕ) (key : List ℕ) → AreLeaves s leaves → leaf ≡ leaf_in s.config key → leaf < length leaves
 leaf_within s leaves leaf key ok at = omega (arith, ok.all, at, leaf_below s.config key)
+
+-- the rows of the leaf of a key
+pub rows_here : (s : State) (leaves : List (List Row)) (leaf : ℕ) (key : List ℕ) (rows : List Row) → AreLeaves s leaves → leaf ≡ leaf_in s.config key → rows ≡ get_or leaves leaf [] → rows ≡ rows_at (leaf_in s.config) leaf (rows_of s.entries)
+rows_here s leaves leaf key rows ok at is = is ∙ ok.each leaf (omega (arith, at, leaf_below s.config key))
 
 -- what the leaf of a key has for it is what is held for it
 pub set_here : (s : State) (leaves : List (List Row)) (leaf : ℕ) (key : List ℕ) (rows : List Row) → AreLeaves s leaves → leaf ≡ leaf_in s.config key → rows ≡ get_or leaves leaf [] → versions_in key rows ≡ held s.entries key
@@ -136,15 +140,16 @@ room_left s log entries limit h =
       | inr room ↦ rw (lt-ltb (length s.entries) s.config.limit (omega (arith, room))) refl
     ]
 
--- an offer that was refused, as a cause of the range
-pub admit_err : (s : State) (leaves : List (List Row)) (leaf : ℕ) (key : List ℕ) (v w : Version) (rows : List Row) (e : Refusal) → AreLeaves s leaves → leaf ≡ leaf_in s.config key → rows ≡ get_or leaves leaf [] → w ≡ v → full_fault s ≡ None
-    → ((offer_fault w (versions_in key rows) ≡ None) × (e ≡ NoMemory)) ⊎ (offer_fault w (versions_in key rows) ≡ Some e) → ((admit_fault s key v ≡ None) × (e ≡ NoMemory)) ⊎ (admit_fault s key v ≡ Some e)
-admit_err s leaves leaf key v w rows e ok at is copy room h =
+-- an offer that fits is refused for want of memory alone
+pub admit_err : (s : State) (leaves : List (List Row)) (leaf : ℕ) (key : List ℕ) (v w : Version) (rows : List Row) (e : Refusal) → AreLeaves s leaves → leaf ≡ leaf_in s.config key → rows ≡ get_or leaves leaf [] → w ≡ v
+    → full_fault s ≡ None → offer_fault v (held s.entries key) ≡ None
+    → ((offer_fault w (versions_in key rows) ≡ None) × (e ≡ NoMemory)) ⊎ (offer_fault w (versions_in key rows) ≡ Some e) → ((full_fault s ≡ None) × (e ≡ NoMemory)) ⊎ (full_fault s ≡ Some e)
+admit_err s leaves leaf key v w rows e ok at is copy room fits h =
     let here = set_here s leaves leaf key rows ok at is in
-    let same : offer_fault w (versions_in key rows) ≡ offer_fault v (held s.entries key) = (λ i. offer_fault (copy i) (here i)) in
+    let same : offer_fault w (versions_in key rows) ≡ None = (λ i. offer_fault (copy i) (here i)) ∙ fits in
     elim h [
-      | inl m ↦ inl (ap (λ t. first_fault t (full_fault s)) (sym same ∙ m.0) ∙ room, m.1)
-      | inr f ↦ inr (ap (λ t. first_fault t (full_fault s)) (sym same ∙ f))
+      | inl m ↦ inl (room, m.1)
+      | inr f ↦ absurd (let no : Some e ≡ None = sym f ∙ same in cc)
     ]
 
 -- some version that is held has seen the clock
@@ -212,8 +217,8 @@ in_vain s leaves leaf entries rows new ok are was same es =
 
 -- ---- what is known
 
-pub knows-held : (s : State) (key : List ℕ) (v : Version) → covered v (held s.entries key) ≡ knows s key v
-knows-held s key v = covered-maximal v (accepted s.entries key)
+pub knows_held : (s : State) (key : List ℕ) (v : Version) → covered v (held s.entries key) ≡ knows s key v
+knows_held s key v = covered-maximal v (accepted s.entries key)
 
 -- a clock that no version has seen is of no covered version
 unseen : (v : Version) (S : List Version) → Rises 0 v.clock → list_any (λ w. at_most v.clock w.clock) S ≡ false → covered v S ≡ false
@@ -233,4 +238,12 @@ fresh false e h = refl
 
 -- a version whose clock is not stale is news
 pub news : (s : State) (key : List ℕ) (v : Version) → Rises 0 v.clock → stale_fault (held s.entries key) v.clock ≡ None → knows s key v ≡ false
-news s key v r h = sym (knows-held s key v) ∙ unseen v (held s.entries key) r (fresh _ (StaleContext _) h)
+news s key v r h = sym (knows_held s key v) ∙ unseen v (held s.entries key) r (fresh _ (StaleContext _) h)
+
+-- ---- why a version that is not known is refused
+
+pub accept_crowded : (s : State) (key : List ℕ) (v : Version) → place_fault s.config key v.kind v.value ≡ None → knows s key v ≡ false → offer_fault v (held s.entries key) ≡ Some Crowded → accept_fault s key v ≡ Some Crowded
+accept_crowded s key v here news full = rw (here, news, full) refl
+
+pub accept_late : (s : State) (key : List ℕ) (v : Version) → place_fault s.config key v.kind v.value ≡ None → knows s key v ≡ false → offer_fault v (held s.entries key) ≡ None → accept_fault s key v ≡ full_fault s
+accept_late s key v here news fits = rw (here, news, fits) refl

@@ -1,19 +1,20 @@
 //! The state of a range.
-ghost use Rattle.std.specs.Prelude.{◌≡◌, ◌<◌, ◌≤◌, ⊤, [], false, if◌then◌else◌, None, Some, replicate, IsTrue, IfOk, IfErr, IfSome, IfNone, OnOk, OnErr};
+ghost use Rattle.std.specs.Prelude.{◌≡◌, ◌<◌, ◌≤◌, ⊤, [], false, if◌then◌else◌, None, Some, unwrap_or, option_map, replicate, IsTrue, IfOk, IfErr, OnOk, OnErr};
 ghost use Rattle.std.specs.List.{list_any, AllByRecursion};
 ghost use Rattle.vclock.specs.Answer.{Answers, AnswersAtOnce, AnswersOrNoMemory};
 ghost use Rattle.vclock.specs.Clock.{at_most};
 ghost use Rattle.version_set.specs.Kind.{value_fault};
-ghost use Rattle.version_set.specs.Version.{offer_fault};
+ghost use Rattle.version_set.specs.Version.{covered, offer_fault};
 ghost use Rattle.range_journal.specs.Journal.{held};
 ghost use Rattle.range_journal.specs.declared.journal.Source.{Source};
-ghost use Rattle.hash_tree.specs.Leaves.{rows_at};
+ghost use Rattle.hash_tree.specs.Leaves.{IsPlace, rows_at};
 ghost use Rattle.range_state.specs.Sent.{is_sent};
 ghost use Rattle.range_state.specs.Rows.{rows_of};
-ghost use Rattle.range_state.specs.State.{IsRight, leaf_in, leaf_count, place_fault, ask_fault, stale_fault, admit_fault, accept_fault, put_fault, entry_of, put_entry, put_version, journaled, knows, accept_step, accept_reply};
+ghost use Rattle.range_state.specs.State.{IsRight, leaf_in, leaf_count, place_fault, ask_fault, stale_fault, full_fault, accept_fault, put_fault, entry_of, put_entry, put_version, journaled, knows, accept_step, accept_reply};
 
 use crate::config::RangeConfig;
 use crate::event::{Accepted, Receipt};
+use hash_tree::leaf::FoundRow;
 use hash_tree::shared::SharedLeaf;
 use key_ring::places::place;
 use range_journal::journal::{Journal, Source};
@@ -97,7 +98,7 @@ impl RangeState {
         ensures held { result.now ≡ held self.now.entries key.now }
         ensures fit { AllByRecursion (λ v. value_fault self.now.config.format v.kind v.value ≡ None) result.now }
     {
-        match self.set_of(self.leaf_of(key), key) {
+        match self.find(self.leaf_of(key), key).set {
             Some(set) => set.as_slice(),
             None => &[],
         }
@@ -108,7 +109,7 @@ impl RangeState {
         ensures held { Answers result None (λ set. set ≡ held self.now.entries key.now) }
         ensures fit { IfOk result (AllByRecursion (λ v. value_fault self.now.config.format v.kind v.value ≡ None)) }
     {
-        match self.set_of(self.leaf_of(key), key) {
+        match self.find(self.leaf_of(key), key).set {
             Some(set) => set.try_clone(alloc),
             None => Ok(VersionSet::empty(alloc)),
         }
@@ -120,6 +121,7 @@ impl RangeState {
     /// Refused, in order: BadKey, BadValue (of the range's format), OtherRange (the key is of another range); then, where
     /// the version is not known, Crowded (the key would hold over 64 versions), JournalFull, NoMemory. The state is then
     /// as it was.
+    #[tactic(auto, using(crate::proofs::StateLaws::knows_held))]
     pub fn accept(
         &mut self,
         alloc: Global,
@@ -135,10 +137,14 @@ impl RangeState {
         ensures err { OnErr result (self.new ≡ self.old) }
     {
         let leaf = self.home(key, version.kind, version.value.as_slice())?;
-        if self.covers(leaf, key, &version) {
+        let FoundRow { set, place } = self.find(leaf, key);
+        if covers(set, &version) {
             return Ok(Accepted::Known);
         }
-        let receipt = self.admit(alloc, leaf, seat, source, key, version)?;
+        if crowds(set, &version) {
+            return Err(Refusal::Crowded);
+        }
+        let receipt = self.admit(alloc, leaf, place, seat, source, key, version)?;
         Ok(Accepted::Taken(receipt))
     }
 
@@ -171,9 +177,13 @@ impl RangeState {
     {
         let leaf = self.home(key, kind, value.as_slice())?;
         let clock = context.raise(alloc, at)?;
-        self.check_context(alloc, leaf, key, &clock)?;
+        let FoundRow { set, place } = self.find(leaf, key);
+        check_context(alloc, set, &clock)?;
         let version = Version { clock, kind, value };
-        self.admit(alloc, leaf, seat, Source::Client, key, version)
+        if crowds(set, &version) {
+            return Err(Refusal::Crowded);
+        }
+        self.admit(alloc, leaf, place, seat, Source::Client, key, version)
     }
 
     /// The leaf of a key.
@@ -197,79 +207,40 @@ impl RangeState {
         Ok(at.leaf)
     }
 
-    /// The set of a key, which is of that leaf.
-    fn set_of(&self, leaf: u16, key: &[u8]) -> Option<&VersionSet>
+    /// What is held for a key, which is of that leaf, and the place of its row.
+    fn find(&self, leaf: u16, key: &[u8]) -> FoundRow<'_>
         requires { leaf ≡ leaf_in self.now.config key.now }
-        ensures some { IfSome result (λ set. set.now ≡ held self.now.entries key.now) }
-        ensures none { IfNone result (held self.now.entries key.now ≡ []) }
-        ensures fit { IfSome result (λ set. AllByRecursion
-            (λ v. value_fault self.now.config.format v.kind v.value ≡ None) set.now) }
+        ensures set { unwrap_or (option_map (λ s. s.now) result.set) [] ≡ held self.now.entries key.now }
+        ensures fit { AllByRecursion (λ v. value_fault self.now.config.format v.kind v.value ≡ None)
+            (held self.now.entries key.now) }
+        ensures place { IsPlace key.now (rows_at (leaf_in self.now.config) leaf (rows_of self.now.entries)) result.place }
     {
         self.leaves[usize::from(leaf)].find(key)
     }
 
-    /// Whether a version is known: the same as one that was accepted, or below one.
-    fn covers(&self, leaf: u16, key: &[u8], version: &Version) -> bool
-        requires { leaf ≡ leaf_in self.now.config key.now }
-        ensures { result ≡ knows self.now key.now version.now }
-    {
-        match self.set_of(leaf, key) {
-            Some(set) => set.covers(version),
-            None => false,
-        }
-    }
-
-    /// Whether no version that is held has seen all that the clock has.
-    fn check_context(
-        &self,
-        alloc: Global,
-        leaf: u16,
-        key: &[u8],
-        clock: &Clock,
-    ) -> Result<(), Refusal>
-        requires { leaf ≡ leaf_in self.now.config key.now }
-        ensures { AnswersOrNoMemory result (stale_fault (held self.now.entries key.now) clock.now) (λ _. ⊤) }
-    {
-        if let Some(set) = self.set_of(leaf, key)
-            && any_has_seen(set.as_slice(), clock)
-        {
-            return Err(Refusal::StaleContext(set.clocks(alloc)?));
-        }
-        Ok(())
-    }
-
-    /// Whether the set of a key would have too many members with the version.
-    fn crowds(&self, leaf: u16, key: &[u8], version: &Version) -> bool
-        requires { leaf ≡ leaf_in self.now.config key.now }
-        ensures { offer_fault version.now (held self.now.entries key.now)
-            ≡ (if result then Some Refusal.Crowded else None) }
-    {
-        self.leaves[usize::from(leaf)].crowds(key, version)
-    }
-
-    /// Journals a version that is not known. Every cause is tested before any growth, and every growth is made before
-    /// anything changes.
+    /// Journals a version that is not known, where the row of its key is of that leaf and has that place. Every cause is
+    /// tested before any growth, and every growth is made before anything changes.
     fn admit(
         &mut self,
         alloc: Global,
         leaf: u16,
+        place: Result<usize, usize>,
         seat: u16,
         source: Source,
         key: &[u8],
         version: Version,
     ) -> Result<Receipt, Refusal>
         requires leaf { leaf ≡ leaf_in self.old.config key.now }
+        requires place { IsPlace key.now (rows_at (leaf_in self.old.config) leaf (rows_of self.old.entries)) place }
         requires here { place_fault self.old.config key.now version.kind version.value ≡ None }
         requires news { knows self.old key.now version ≡ false }
-        ensures answers { Answers result (admit_fault self.old key.now version)
+        requires fits { offer_fault version (held self.old.entries key.now) ≡ None }
+        ensures answers { Answers result (full_fault self.old)
             (λ receipt. receipt ≡ entry_of self.old seat source key.now version) }
         ensures step { OnOk result (self.new
             ≡ journaled self.old (entry_of self.old seat source key.now version)) }
         ensures err { OnErr result (self.new ≡ self.old) }
     {
-        if self.crowds(leaf, key, &version) {
-            return Err(Refusal::Crowded);
-        }
         self.journal.reserve(1)?;
         let receipt = Receipt {
             number: self.journal.len(),
@@ -280,7 +251,7 @@ impl RangeState {
         };
         let entry_key = Bytes::copy_of(alloc, key)?;
         let row_version = version.try_clone()?;
-        self.leaves[usize::from(leaf)].offer(alloc, key, row_version)?;
+        self.leaves[usize::from(leaf)].offer(alloc, key, place, row_version)?;
         self.journal
             .append_reserved(seat, source, entry_key, version);
         Ok(receipt)
@@ -296,6 +267,40 @@ fn empty_leaves(alloc: Global, count: usize) -> Result<Vec<SharedLeaf>, Refusal>
         leaves.push(SharedLeaf::empty())?;
     }
     Ok(leaves)
+}
+
+/// Whether a set, if there is one, covers the version: it is a member or below one.
+fn covers(found: Option<&VersionSet>, version: &Version) -> bool
+    ensures { result ≡ covered version.now (unwrap_or (option_map (λ s. s.now) found.entry) []) }
+{
+    match found {
+        Some(set) => set.covers(version),
+        None => false,
+    }
+}
+
+/// Whether a set, which may have no member yet, would have too many with the version.
+fn crowds(found: Option<&VersionSet>, version: &Version) -> bool
+    ensures { offer_fault version.now (unwrap_or (option_map (λ s. s.now) found.entry) [])
+        ≡ (if result then Some Refusal.Crowded else None) }
+{
+    match found {
+        Some(set) => set.crowds(version),
+        None => false,
+    }
+}
+
+/// Whether no version of a set, if there is one, has seen all that the clock has.
+fn check_context(alloc: Global, found: Option<&VersionSet>, clock: &Clock) -> Result<(), Refusal>
+    ensures { AnswersOrNoMemory result
+        (stale_fault (unwrap_or (option_map (λ s. s.now) found.entry) []) clock.now) (λ _. ⊤) }
+{
+    if let Some(set) = found
+        && any_has_seen(set.as_slice(), clock)
+    {
+        return Err(Refusal::StaleContext(set.clocks(alloc)?));
+    }
+    Ok(())
 }
 
 /// Whether some version has seen all that the clock has.

@@ -7,7 +7,7 @@ use Rattle.hash_tree.proofs.leaf.Leaf.offer.Goals as goal
 pub invariant_of-self : goal.invariant_of-self
 invariant_of-self c =
     let row : Row = record { key = c.index_mut.result.now.key; versions = c.offer.new.self } in
-    let now : set c.self.inside.rows.items c.in-Ok.place row ≡ with_offer c.args.key.now c.args.version c.self.inside.rows.items = search rules in
+    let now : set c.self.inside.rows.items c.in-Ok.at row ≡ with_offer c.args.key.now c.args.version c.self.inside.rows.items = search rules in
     subst AscendByKey (sym now) (AscendByKey-with_offer c.args.key.now c.args.version c.self.inside.rows.items c.self.invariant)
 
 pub invariant_of-self-in-Continue-branch-3 : goal.invariant_of-self-in-Continue-branch-3

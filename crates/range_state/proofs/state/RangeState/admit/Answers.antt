@@ -1,10 +1,13 @@
-use Rattle.std.proofs.Common.{◌≡◌, None, [], ◌∷◌, ◌++◌, false, sym, subst, ap, ◌∙◌, length, arith}
+use Rattle.std.proofs.Common.{◌≡◌, List, None, [], ◌∷◌, ◌++◌, false, sym, subst, ap, ◌∙◌, length, arith}
 use Rattle.std.proofs.lemmas.List.{get_or_read}
 use Rattle.std.proofs.lemmas.Result.{err_from_is_err_and}
 use Rattle.range_journal.specs.declared.journal.Entry.{Entry}
 use Rattle.range_journal.specs.Log.{Log}
 use Rattle.range_state.specs.State.{State, AreLeaves, leaf_in, place_fault, full_fault, knows}
-use Rattle.range_state.proofs.StateLaws.{leaf_within, in_vain, admitted, admit_err, room_left}
+use Rattle.row_bytes.specs.declared.row.Row.{Row}
+use Rattle.hash_tree.specs.Leaves.{IsPlace, rows_at}
+use Rattle.range_state.specs.Rows.{rows_of}
+use Rattle.range_state.proofs.StateLaws.{leaf_within, rows_here, in_vain, admitted, admit_err, room_left}
 use Rattle.range_state.proofs.state.RangeState.admit.Goals as goal
 
 pub index_mut-requires : goal.index_mut-requires
@@ -12,6 +15,15 @@ index_mut-requires c =
     let ok = subst (λ (s : State). AreLeaves s c.self.inside.leaves.items) c.self.view_is c.self.invariant.1 in
     let within = leaf_within c.args.self.now c.self.inside.leaves.items c.args.leaf c.args.key.now ok c.requires.leaf in
     omega (arith, within, c.from.ensures, c.self.inside.leaves.ok)
+
+pub offer-requires : goal.offer-requires
+offer-requires c =
+    let ok = subst (λ (s : State). AreLeaves s c.self.inside.leaves.items) c.self.view_is c.self.invariant.1 in
+    let at = c.from.ensures ∙ c.requires.leaf in
+    let within = leaf_within c.args.self.now c.self.inside.leaves.items c.from.result c.args.key.now ok at in
+    let read = get_or_read c.self.inside.leaves.items _ _ within c.index_mut.ensures.value [] in
+    let rows = rows_here c.args.self.now c.self.inside.leaves.items c.from.result c.args.key.now c.index_mut.result.now ok at read in
+    subst (λ (t : List Row). IsPlace c.args.key.now t c.args.place) (sym (rows ∙ ap (λ n. rows_at (leaf_in c.args.self.now.config) n (rows_of c.args.self.now.entries)) c.from.ensures)) c.requires.place
 
 pub invariant_of-self-in_err-offer : goal.invariant_of-self-in_err-offer
 invariant_of-self-in_err-offer c =
@@ -31,7 +43,7 @@ returns-in_err-offer-clause-answers c =
     let read = get_or_read c.self.inside.leaves.items _ _ within c.index_mut.ensures.value [] in
     let room = subst (λ (s : State). full_fault s ≡ None) c.self.view_is (room_left s c.self.inside.journal (λ i. s.entries) c.self.invariant.2 c.in_ok-reserve.ensures.answers.0) in
     let p = err_from_is_err_and c.from_residual-in_err-offer.result c.from_residual-in_err-offer.ensures.1 in
-    rw (p.1, p.2) (admit_err c.args.self.now c.self.inside.leaves.items c.from.result c.args.key.now c.args.version c.in_ok-row_version.row_version c.index_mut.result.now c.in_err-offer.field-0.0 ok at read c.in_ok-row_version.ensures.1 room c.in_err-offer.ensures.answers)
+    rw (p.1, p.2) (admit_err c.args.self.now c.self.inside.leaves.items c.from.result c.args.key.now c.args.version c.in_ok-row_version.row_version c.index_mut.result.now c.in_err-offer.field-0.0 ok at read c.in_ok-row_version.ensures.1 room c.requires.fits c.in_err-offer.ensures.answers)
 
 pub invariant_of-self-2 : goal.invariant_of-self-2
 invariant_of-self-2 c =
