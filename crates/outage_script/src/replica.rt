@@ -105,8 +105,11 @@ impl Replica {
         ensures answers { AnswersOrNoMemory result
             (put_fault self.old.range self.old.node key.now context.now kind value)
             (λ receipt. receipt ≡ put_entry self.old.range 0 self.old.node key.now context.now kind value) }
-        ensures ok { OnOk result (self.new ≡ record { node = self.old.node; range = journaled self.old.range
-            (put_entry self.old.range 0 self.old.node key.now context.now kind value) }) }
+        ensures ok { OnOk result (self.new ≡ record {
+          node = self.old.node;
+          range = journaled self.old.range
+              (put_entry self.old.range 0 self.old.node key.now context.now kind value);
+        }) }
         ensures err { OnErr result (self.new ≡ self.old) }
     {
         if let Some(state) = &mut self.state {
@@ -140,15 +143,12 @@ impl Replica {
     }
 
     /// Takes in a copy of a version, unless it is known.
-    fn accept(
-        &mut self,
-        alloc: Global,
-        key: &[u8],
-        version: &Version,
-    ) -> Result<(), Refusal>
+    fn accept(&mut self, alloc: Global, key: &[u8], version: &Version) -> Result<(), Refusal>
         ensures answers { AnswersOrNoMemory result (accept_fault self.old.range key.now version.now) (λ _. ⊤) }
-        ensures ok { OnOk result (self.new ≡ record { node = self.old.node;
-            range = accept_step self.old.range 0 Source.Copy key.now version.now }) }
+        ensures ok { OnOk result (self.new ≡ record {
+          node = self.old.node;
+          range = accept_step self.old.range 0 Source.Copy key.now version.now;
+        }) }
         ensures err { OnErr result (self.new ≡ self.old) }
     {
         let version = version.try_clone()?;

@@ -44,7 +44,11 @@ pub(crate) struct Sent {
 
 impl Replicas {
     /// The replicas of a range that have accepted nothing: the first nodes of its preference list.
-    pub(crate) fn new(alloc: Global, ring: &Ring, config: RangeConfig) -> Result<Replicas, AllocError>
+    pub(crate) fn new(
+        alloc: Global,
+        ring: &Ring,
+        config: RangeConfig,
+    ) -> Result<Replicas, AllocError>
         requires { config.range < 2 ^ ring.now.bits }
         ensures { IfOk result (λ replicas. replicas ≡ replicas_made ring.now config config.range) }
     {
@@ -71,7 +75,7 @@ impl Replicas {
         requires { context.now ≡ clock_of put.context.items }
         ensures answers { AnswersOrNoMemory result (home_fault (put_fault_at (put_ask put)) (home put.node self.old))
             (λ done. IfSome (home put.node self.old) (λ h. (done.receipt ≡ put_entry_at (put_ask put) h)
-                × (done.copied ≡ copied (put_ask put) h self.old))) }
+            × (done.copied ≡ copied (put_ask put) h self.old))) }
         ensures ok { OnOk result (IfSome (home put.node self.old) (λ h. self.new ≡ sent (put_ask put) h self.old)) }
         ensures err { IfErr result (λ e. e ≢ Refusal.NoMemory → self.new ≡ self.old) }
     {

@@ -146,7 +146,13 @@ impl World {
         let range = usize::from(self.ring.range_of(put.key.as_slice()));
         let sent = self.ranges[range].put(alloc, &context, put)?;
         let receipt = sent.receipt;
-        let answer = put_answer(alloc, &receipt.version.clock, sent.copied, 0, receipt.number)?;
+        let answer = put_answer(
+            alloc,
+            &receipt.version.clock,
+            sent.copied,
+            0,
+            receipt.number,
+        )?;
         Ok(answer)
     }
 
