@@ -1,11 +1,11 @@
 // Range states.
+ghost use Rattle.std.specs.Prelude.{◌<◌};
+
 use crate::sets::version;
 use range_journal::journal::Source;
 use range_state::config::RangeConfig;
 use range_state::event::{AcceptEvent, Accepted, Event, PutEvent, Reply};
 use range_state::state::RangeState;
-use row_bytes::row::Row;
-use row_bytes::writing::write_row;
 use std::alloc::Global;
 use std::test::Fail;
 use vclock::bytes::Bytes;
@@ -59,16 +59,12 @@ fn versions_with_equal_clocks_are_both_kept(rt: HostRuntime) -> Result<(), Fail>
     let known = state.accept(alloc, 0, Source::Copy, b"a", copy)?;
     assert!(rt; matches!(&known, Accepted::Known));
     assert_eq!(rt; state.journal().len(), 2);
-    let row = Row {
-        key: Bytes::copy_of(alloc, b"a")?,
-        versions: state.get(alloc, b"a")?,
-    };
-    let text =
-        b"\x00\x01a\x00\x02\x01\x00\x02\0\0\0\0\0\0\0\x01\0\0\0\x01p\x01\x00\x02\0\0\0\0\0\0\0\x01\0\0\0\x01q";
-    assert_eq!(rt;
-        write_row(alloc, Format::One, &row)?.as_slice(),
-        text.as_slice()
-    );
+    let held = state.versions(b"a");
+    assert_eq!(rt; held.len(), 2);
+    for (version, value) in held.iter().zip([b"p", b"q"]) {
+        assert_eq!(rt; version.clock.pairs(), [(2, 1)].as_slice());
+        assert_eq!(rt; version.value.as_slice(), value.as_slice());
+    }
     Ok(())
 }
 
@@ -100,6 +96,16 @@ fn events_are_answered_in_order(rt: HostRuntime) -> Result<(), Fail> {
     Ok(())
 }
 
+/// How many rows a leaf has: each format has 256 leaves at least.
+fn rows_in(state: &RangeState, leaf: u16) -> usize
+    requires { leaf < 256 }
+{
+    match state.config().format() {
+        Format::One => state.rows(leaf).len(),
+        Format::Two => state.rows(leaf).len(),
+    }
+}
+
 #[test]
 fn rows_lie_in_the_leaf_of_their_key(rt: HostRuntime) -> Result<(), Fail> {
     let alloc = rt.alloc();
@@ -107,8 +113,9 @@ fn rows_lie_in_the_leaf_of_their_key(rt: HostRuntime) -> Result<(), Fail> {
         let mut state = range(alloc, format, 1)?;
         let copy = version(alloc, (1, 1), Kind::Live, b"x")?;
         state.accept(alloc, 3, Source::Copy, b"a", copy)?;
-        assert_eq!(rt; state.rows(leaf).len(), 1);
-        assert_eq!(rt; state.rows(0).len(), 0);
+        assert!(rt; leaf < 256);
+        assert_eq!(rt; rows_in(&state, leaf), 1);
+        assert_eq!(rt; rows_in(&state, 0), 0);
         assert_eq!(rt; state.versions(b"a").len(), 1);
         assert_eq!(rt; state.versions(b"b").len(), 0);
         let entry = state.journal().get(0).ok_or("no entry 0")?;
