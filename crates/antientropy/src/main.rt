@@ -13,6 +13,7 @@ use std::env::Env;
 use std::io;
 use std::io::BufWriter;
 use std::process::ExitCode;
+use std::thread::Threads;
 use words::{Task, task_in, words_of};
 
 fn main(rt: HostRuntime) -> ExitCode {
@@ -26,7 +27,9 @@ fn main(rt: HostRuntime) -> ExitCode {
 }
 
 /// Does what the words of the command line ask for.
-fn obey<R: Env + Input + Print + Eprint + AllocGlobal>(rt: &R) -> Result<ExitCode, Fault> {
+fn obey<R: Env + Input + Print + Eprint + AllocGlobal + Threads + Sync>(
+    rt: &R,
+) -> Result<ExitCode, Fault> {
     let Some(words) = words_of(rt)? else {
         let _ = eprintln!(rt; "antientropy: the words are no text");
         return Ok(usage_code());
@@ -38,11 +41,11 @@ fn obey<R: Env + Input + Print + Eprint + AllocGlobal>(rt: &R) -> Result<ExitCod
 }
 
 /// Runs the script of standard input.
-fn run<R: Input + Print + AllocGlobal>(rt: &R) -> Result<ExitCode, Fault> {
+fn run<R: Input + Print + AllocGlobal + Threads + Sync>(rt: &R) -> Result<ExitCode, Fault> {
     let alloc = rt.alloc();
     let mut reader = rt.reader();
     let mut writer = BufWriter::new(alloc, io::writer(rt)).map_err(|_| Fault::NoMemory)?;
-    code_of(run_script(alloc, &mut reader, &mut writer))
+    code_of(run_script(rt, alloc, &mut reader, &mut writer))
 }
 
 /// Shows the help or the version, or what is wrong with the words.

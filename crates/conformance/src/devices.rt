@@ -4,6 +4,7 @@ use std::io;
 use std::io::{Read, Write};
 use std::process::Abort;
 use std::test::Fail;
+use std::thread::Threads;
 
 /// Which call of a device fails.
 #[derive(Clone, Copy, Debug, PartialEq, Eq)]
@@ -106,7 +107,7 @@ fn calls_before(before: u64, kind: Fault, fault: Fault) -> Calls {
 /// Runs the script with a fault after more and more calls of its kind, up to the run that meets no fault: that one is
 /// right. The others end as a device's, and what they write begins the output. Gives how many there are of those.
 fn count_faults(
-    rt: &(impl AllocGlobal + Abort),
+    rt: &(impl AllocGlobal + Abort + Threads + Sync),
     (input, output, end): (&str, &str, ScriptEnd),
     fault: Fault,
 ) -> u64 {
@@ -121,7 +122,7 @@ fn count_faults(
             nothings: calls_before(before, Fault::Nothing, fault),
             flushes: calls_before(before, Fault::Flush, fault),
         };
-        let ended = run_script(rt.alloc(), &mut reader, &mut writer);
+        let ended = run_script(rt, rt.alloc(), &mut reader, &mut writer);
         if !(reader.reads.failed && writer.has_failed()) {
             assert_eq!(rt; ended, end);
             assert!(rt; writer.bytes.as_slice() == output.as_bytes());

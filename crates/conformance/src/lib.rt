@@ -19,3 +19,5 @@ mod rows;
 mod scripts;
 #[cfg(test)]
 mod sets;
+#[cfg(test)]
+mod trees;

@@ -5,6 +5,7 @@ use std::fmt::Write;
 use std::process::Abort;
 use std::str;
 use std::test::Fail;
+use std::thread::Threads;
 
 /// A put of `x` under `a`.
 const PUT: &str = r#"{"put":{"node":1,"key":"61","context":[],"value":"78"}}"#;
@@ -20,12 +21,12 @@ const BAD_FIRST: &str = "{\"cause\":\"BadLine\",\"line\":1,\"refused\":29}\n";
 
 /// Runs a script, which is to write the output and to end so.
 pub(crate) fn expect(
-    rt: &(impl AllocGlobal + Abort),
+    rt: &(impl AllocGlobal + Abort + Threads + Sync),
     input: &[u8],
     output: &str,
     end: ScriptEnd,
 ) -> Result<(), Fail> {
-    let (ended, written) = run_bytes(rt.alloc(), input);
+    let (ended, written) = run_bytes(rt, rt.alloc(), input);
     assert_eq!(rt; str::from_utf8(&written)?, output);
     assert_eq!(rt; ended, end, "after {output}");
     Ok(())
@@ -33,7 +34,7 @@ pub(crate) fn expect(
 
 /// Runs the script of these lines, which is to write these answers.
 pub(crate) fn expect_answers(
-    rt: &(impl AllocGlobal + Abort),
+    rt: &(impl AllocGlobal + Abort + Threads + Sync),
     lines: &[(&str, &str)],
 ) -> Result<(), Fail> {
     let mut input = String::new(rt.alloc());

@@ -4,6 +4,8 @@ use crate::{show, unchanged};
 use hash_tree::shared::SharedLeaf;
 use std::alloc::Global;
 use std::io;
+use vclock::format::Format;
+use vclock::key::check_key;
 use vclock::refusal::Refusal;
 
 /// Shows the calls on shared leaves.
@@ -16,6 +18,10 @@ pub(crate) fn show_all<R: Print + AllocGlobal>(rt: &R) -> io::Result<()> {
 /// Offers a version to the set of a key.
 fn offer_to(alloc: Global, leaf: &mut SharedLeaf, key: &[u8]) -> Result<(), Refusal> {
     let version = version(alloc, 2)?;
+    check_key(key)?;
+    version
+        .kind
+        .check_value(leaf.format(), version.value.as_slice())?;
     let place = leaf.find(key).place;
     leaf.offer(alloc, key, place, version)
 }
@@ -32,12 +38,12 @@ fn grow(alloc: Global, leaf: &mut SharedLeaf) -> Result<u64, Refusal> {
 }
 
 fn offer(alloc: Global) -> Result<u64, Refusal> {
-    grow(alloc, &mut SharedLeaf::empty())
+    grow(alloc, &mut SharedLeaf::empty(Format::One))
 }
 
 /// The other owner's leaf stays as it was.
 fn offer_to_a_copy(alloc: Global) -> Result<u64, Refusal> {
-    let mut leaf = SharedLeaf::empty();
+    let mut leaf = SharedLeaf::empty(Format::One);
     offer_to(alloc, &mut leaf, b"a")?;
     let other = leaf.share()?;
     match grow(alloc, &mut leaf) {

@@ -7,6 +7,7 @@ mod leaves;
 mod ranges;
 mod rings;
 mod rows;
+mod trees;
 mod versions;
 mod words;
 
@@ -20,7 +21,8 @@ fn main(rt: HostRuntime) -> io::Result<()> {
     rows::show_all(&rt)?;
     rings::show_all(&rt)?;
     leaves::show_all(&rt)?;
-    ranges::show_all(&rt)
+    ranges::show_all(&rt)?;
+    trees::show_all(&rt)
 }
 
 /// Prints what a call answered: a number that tells its result, or the name of its refusal.

@@ -1,3 +1,9 @@
 pub mod KeyOrder
 pub mod SearchLaws
 pub mod LeafLaws
+pub mod RowLengths
+pub mod PlaceLaws
+pub mod PathLaws
+pub mod TextLaws
+pub mod TreeLaws
+pub mod ReadyLaws

@@ -7,7 +7,9 @@ use Rattle.std.specs.Ordering.{nat_cmp}
 use Rattle.std.specs.Cmp.Lexicographic.{slice_cmp}
 use Rattle.version_set.specs.declared.version.Version.{Version}
 use Rattle.version_set.specs.Version.{place_by, offered}
+use Rattle.vclock.specs.declared.format.Format.{Format}
 use Rattle.row_bytes.specs.declared.row.Row.{Row}
+use Rattle.row_bytes.specs.Rows.{row_text, FitsText}
 
 -- keys are ordered byte by byte
 abbrev pub key_cmp : List ℕ → List ℕ → Ordering
@@ -17,6 +19,20 @@ key_cmp = slice_cmp nat_cmp
 abbrev pub AscendByKey : List Row → Type 0
 AscendByKey [] = Unit {0}
 AscendByKey (r ∷ rows) = AllByRecursion (λ (x : Row). key_cmp r.key x.key ≡ Less) rows × AscendByKey rows
+
+-- the rows of a leaf, and the format that they are of
+pub record Bucket : Type 0 where
+  pub format : Format
+  pub rows : List Row
+
+-- rows in ascending order of key, each within the limits of the format
+pub record IsBucket (b : Bucket) : Type 0 where
+  pub ascending : AscendByKey b.rows
+  pub each : AllByRecursion (FitsText b.format) b.rows
+
+-- no longer than the text of a row can be: 2 bytes, a key of 255, 2 more, and 64 versions of 65,862 bytes each
+abbrev pub IsShort : Format → Row → Type 0
+IsShort format r = length (row_text format r) ≤ 4215427
 
 -- the rows of leaf i, where leaf says in which leaf a key is
 abbrev pub rows_at : (List ℕ → ℕ) → ℕ → List Row → List Row

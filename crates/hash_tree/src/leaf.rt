@@ -1,13 +1,19 @@
 //! The rows of one leaf.
-ghost use Rattle.std.specs.Prelude.{◌≡◌, [], ⊤, None, unwrap_or, option_map, OnOk, OnErr};
+ghost use Rattle.std.specs.Prelude.{◌≡◌, ◌≤◌, [], ⊤, None, length, unwrap_or, option_map, IfOk, OnOk, OnErr};
 ghost use Rattle.vclock.specs.Answer.{Answers};
+ghost use Rattle.vclock.specs.Keys.{key_fault};
+ghost use Rattle.version_set.specs.Kind.{value_fault};
 ghost use Rattle.version_set.specs.Version.{offer_fault, offered};
-ghost use Rattle.hash_tree.specs.Leaves.{AscendByKey, IsPlace, versions_in, with_offer};
+ghost use Rattle.row_bytes.specs.Rows.{row_text, FitsText};
+ghost use Rattle.hash_tree.specs.Leaves.{AscendByKey, IsBucket, IsPlace, versions_in, with_offer};
+ghost use Rattle.hash_tree.specs.Texts.{leaf_text};
 
+use row_bytes::lengths::row_len;
 use row_bytes::row::Row;
 use std::alloc::Global;
 use std::marker::Model;
 use vclock::bytes::Bytes;
+use vclock::format::Format;
 use vclock::refusal::Refusal;
 use version_set::set::VersionSet;
 use version_set::version::Version;
@@ -24,35 +30,56 @@ pub struct FoundRow<'a> {
 /// Rows in ascending order of key, each key once.
 #[derive(Debug, Drop)]
 pub struct Leaf {
+    format: Format,
     rows: Vec<Row>,
+    text_len: u128,
 }
 
 impl Model for Leaf {
-    ghost use Rattle.std.specs.Prelude.{List};
-    ghost use Rattle.row_bytes.specs.declared.row.Row.{Row};
-    ghost use Rattle.hash_tree.specs.Leaves.{AscendByKey};
+    ghost use Rattle.std.specs.Prelude.{◌≡◌, length};
+    ghost use Rattle.std.specs.List.{AllByRecursion};
+    ghost use Rattle.hash_tree.specs.Leaves.{Bucket, IsBucket, IsShort};
+    ghost use Rattle.hash_tree.specs.Texts.{leaf_text};
 
-    ghost Value = { List Row };
+    ghost Value = { Bucket };
 
-    ghost view = { λ l. l.rows.items };
+    ghost view = { λ l. record { format = l.format; rows = l.rows.items } };
 
-    ghost invariant = { λ l. AscendByKey l.rows.items };
+    ghost invariant = { λ l. IsBucket (record { format = l.format; rows = l.rows.items })
+        × (l.text_len ≡ length (leaf_text l.format l.rows.items))
+        × AllByRecursion (IsShort l.format) l.rows.items };
 }
 
 impl Leaf {
     /// A leaf without rows. It takes no memory.
-    pub fn empty(alloc: Global) -> Leaf
-        ensures { result ≡ [] }
+    pub fn empty(alloc: Global, format: Format) -> Leaf
+        ensures { result ≡ record { format = format; rows = [] } }
     {
         Leaf {
+            format,
             rows: Vec::new(alloc),
+            text_len: 1,
         }
+    }
+
+    /// The format of the rows.
+    pub fn format(&self) -> Format
+        ensures { result ≡ self.now.format }
+    {
+        self.format
+    }
+
+    /// How many bytes the text of the leaf has. It takes no time: the length is kept.
+    pub fn text_len(&self) -> u128
+        ensures { result ≡ length (leaf_text self.now.format self.now.rows) }
+    {
+        self.text_len
     }
 
     /// The rows, in ascending order of key.
     pub fn rows(&self) -> &[Row]
-        ensures all { result.now ≡ self.now }
-        ensures valid { AscendByKey self.now }
+        ensures all { result.now ≡ self.now.rows }
+        ensures valid { IsBucket self.now }
     {
         self.rows.as_slice()
     }
@@ -68,14 +95,18 @@ impl Leaf {
                 versions: row.versions.try_clone(alloc)?,
             })?;
         }
-        Ok(Leaf { rows })
+        Ok(Leaf {
+            format: self.format,
+            rows,
+            text_len: self.text_len,
+        })
     }
 
     /// What is held for a key, and the place of its row, for an offer that comes next. It takes no memory, and time in
     /// proportion to the logarithm of the rows.
     pub fn find(&self, key: &[u8]) -> FoundRow<'_>
-        ensures set { unwrap_or (option_map (λ s. s.now) result.set) [] ≡ versions_in key.now self.now }
-        ensures place { IsPlace key.now self.now result.place }
+        ensures set { unwrap_or (option_map (λ s. s.now) result.set) [] ≡ versions_in key.now self.now.rows }
+        ensures place { IsPlace key.now self.now.rows result.place }
     {
         match find_place(&self.rows, key) {
             Ok(at) => FoundRow {
@@ -99,22 +130,43 @@ impl Leaf {
         place: Result<usize, usize>,
         version: Version,
     ) -> Result<(), Refusal>
-        requires { IsPlace key.now self.old place }
-        ensures answers { Answers result (offer_fault version (versions_in key.now self.old)) (λ _. ⊤) }
-        ensures ok { OnOk result (self.new ≡ with_offer key.now version self.old) }
+        requires place { IsPlace key.now self.old.rows place }
+        requires key { key_fault key.now ≡ None }
+        requires value { value_fault self.old.format version.kind version.value ≡ None }
+        ensures answers { Answers result (offer_fault version (versions_in key.now self.old.rows)) (λ _. ⊤) }
+        ensures ok { OnOk result (self.new ≡ record self.old { rows = with_offer key.now version self.old.rows }) }
         ensures err { OnErr result (self.new ≡ self.old) }
     {
         match place {
             Ok(at) => {
-                self.rows[at].versions.offer(version)?;
+                let (before, after) = offer_to_row(self.format, &mut self.rows[at], version)?;
+                self.text_len = self.text_len - before as u128 + after as u128;
             }
             Err(at) => {
                 let row = first_row(alloc, key, version)?;
+                let len = row_len(self.format, &row);
                 self.rows.insert(at, row)?;
+                self.text_len += len as u128;
             }
         }
         Ok(())
     }
+}
+
+/// Offers a version to the set of a row, and answers how many bytes the row's text had before, and has now.
+fn offer_to_row(format: Format, row: &mut Row, version: Version) -> Result<(u64, u64), Refusal>
+    requires fits { FitsText format row.old }
+    requires value { value_fault format version.kind version.value ≡ None }
+    ensures answers { Answers result (offer_fault version row.old.versions) (λ _. ⊤) }
+    ensures ok { OnOk result (row.new ≡ record { key = row.old.key; versions = offered version row.old.versions }) }
+    ensures before { IfOk result (λ lens. lens.0 ≡ length (row_text format row.old)) }
+    ensures after { IfOk result (λ lens. lens.1 ≡ length (row_text format row.new)) }
+    ensures short { IfOk result (λ lens. lens.1 ≤ 4215427) }
+    ensures err { OnErr result (row.new ≡ row.old) }
+{
+    let before = row_len(format, row);
+    row.versions.offer(version)?;
+    Ok((before, row_len(format, row)))
 }
 
 /// The row of a key that has no other version.

@@ -1,8 +1,19 @@
-//! The leaves of a range's tree (the paper of 2007, section 4.7).
+//! The tree of a range (the paper of 2007, section 4.7): its rows in leaves, and a digest for each node.
 //!
 //! - [`leaf`]: the rows of one leaf, in order of key.
 //! - [`shared`]: a leaf that a range shares with whoever looked at it.
+//! - [`node`]: nodes by depth and index.
+//! - [`hashed`]: texts with their digests.
+//! - [`texts`], [`comparing`]: the texts of nodes, written, and compared in place.
+//! - [`marks`]: which nodes are clean, and their digests.
+//! - [`laws`]: what the definitions say.
 #![tactic(auto)]
 
+pub mod comparing;
+pub mod hashed;
+pub mod laws;
 pub mod leaf;
+pub mod marks;
+pub mod node;
 pub mod shared;
+pub mod texts;

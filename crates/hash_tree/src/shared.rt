@@ -1,40 +1,65 @@
-//! Leaves that have several owners: a range, and the snapshots and jobs that look at it.
-ghost use Rattle.std.specs.Prelude.{◌≡◌, [], ⊤, None, unwrap_or, option_map, OnOk, OnErr};
+//! Leaves that have several owners: a range, and the jobs that look at it.
+ghost use Rattle.std.specs.Prelude.{◌≡◌, [], ⊤, None, length, unwrap_or, option_map, OnOk, OnErr};
 ghost use Rattle.std.specs.Arc.{arc_value};
 ghost use Rattle.vclock.specs.Answer.{Answers};
+ghost use Rattle.vclock.specs.Keys.{key_fault};
+ghost use Rattle.version_set.specs.Kind.{value_fault};
 ghost use Rattle.version_set.specs.Version.{offer_fault};
-ghost use Rattle.hash_tree.specs.Leaves.{AscendByKey, IsPlace, versions_in, with_offer};
+ghost use Rattle.hash_tree.specs.Leaves.{IsBucket, IsPlace, versions_in, with_offer};
+ghost use Rattle.hash_tree.specs.Texts.{leaf_text};
 
 use crate::leaf::{FoundRow, Leaf};
 use row_bytes::row::Row;
 use std::alloc::Global;
 use std::marker::Model;
 use std::sync::Arc;
+use vclock::format::Format;
 use vclock::refusal::Refusal;
 use version_set::version::Version;
 
 /// A leaf that has any number of owners. A leaf without rows takes no memory.
-#[derive(Drop)]
+#[derive(Debug, Drop)]
 pub struct SharedLeaf {
+    format: Format,
     leaf: Option<Arc<Leaf, Global>>,
 }
 
 impl Model for SharedLeaf {
-    ghost use Rattle.std.specs.Prelude.{List, [], unwrap_or, option_map};
+    ghost use Rattle.std.specs.Prelude.{◌≡◌, [], unwrap_or, option_map};
     ghost use Rattle.std.specs.Arc.{arc_value};
-    ghost use Rattle.row_bytes.specs.declared.row.Row.{Row};
+    ghost use Rattle.hash_tree.specs.Leaves.{Bucket};
 
-    ghost Value = { List Row };
+    ghost Value = { Bucket };
 
-    ghost view = { λ s. unwrap_or (option_map arc_value s.leaf) [] };
+    ghost view = { λ s. unwrap_or (option_map arc_value s.leaf) (record { format = s.format; rows = [] }) };
+
+    ghost invariant = { λ s. (unwrap_or (option_map arc_value s.leaf) (record { format = s.format; rows = [] })).format ≡ s.format };
 }
 
 impl SharedLeaf {
     /// A leaf without rows. It takes no memory.
-    pub fn empty() -> SharedLeaf
-        ensures { result ≡ [] }
+    pub fn empty(format: Format) -> SharedLeaf
+        ensures { result ≡ record { format = format; rows = [] } }
     {
-        SharedLeaf { leaf: None }
+        SharedLeaf { format, leaf: None }
+    }
+
+    /// The format of the rows.
+    pub fn format(&self) -> Format
+        ensures { result ≡ self.now.format }
+    {
+        self.format
+    }
+
+    /// How many bytes the text of the leaf has. It takes no time: the length is kept.
+    #[tactic(auto, unfolding(crate::specs::Texts::leaf_text))]
+    pub fn text_len(&self) -> u128
+        ensures { result ≡ length (leaf_text self.now.format self.now.rows) }
+    {
+        match &self.leaf {
+            Some(leaf) => leaf.text_len(),
+            None => 1,
+        }
     }
 
     /// One more owner of the leaf. Refused: NoMemory. No row is copied.
@@ -45,13 +70,16 @@ impl SharedLeaf {
             Some(leaf) => Some(Arc::try_clone(leaf)?),
             None => None,
         };
-        Ok(SharedLeaf { leaf })
+        Ok(SharedLeaf {
+            format: self.format,
+            leaf,
+        })
     }
 
     /// The rows, in ascending order of key.
     pub fn rows(&self) -> &[Row]
-        ensures all { result.now ≡ self.now }
-        ensures valid { AscendByKey self.now }
+        ensures all { result.now ≡ self.now.rows }
+        ensures valid { IsBucket self.now }
     {
         match &self.leaf {
             Some(leaf) => leaf.rows(),
@@ -62,8 +90,8 @@ impl SharedLeaf {
     /// What is held for a key, and the place of its row, for an offer that comes next. It takes no memory, and time in
     /// proportion to the logarithm of the rows.
     pub fn find(&self, key: &[u8]) -> FoundRow<'_>
-        ensures set { unwrap_or (option_map (λ s. s.now) result.set) [] ≡ versions_in key.now self.now }
-        ensures place { IsPlace key.now self.now result.place }
+        ensures set { unwrap_or (option_map (λ s. s.now) result.set) [] ≡ versions_in key.now self.now.rows }
+        ensures place { IsPlace key.now self.now.rows result.place }
     {
         match &self.leaf {
             Some(leaf) => leaf.find(key),
@@ -84,15 +112,17 @@ impl SharedLeaf {
         place: Result<usize, usize>,
         version: Version,
     ) -> Result<(), Refusal>
-        requires { IsPlace key.now self.old place }
-        ensures answers { Answers result (offer_fault version (versions_in key.now self.old)) (λ _. ⊤) }
-        ensures ok { OnOk result (self.new ≡ with_offer key.now version self.old) }
+        requires place { IsPlace key.now self.old.rows place }
+        requires key { key_fault key.now ≡ None }
+        requires value { value_fault self.old.format version.kind version.value ≡ None }
+        ensures answers { Answers result (offer_fault version (versions_in key.now self.old.rows)) (λ _. ⊤) }
+        ensures ok { OnOk result (self.new ≡ record self.old { rows = with_offer key.now version self.old.rows }) }
         ensures err { OnErr result (self.new ≡ self.old) }
     {
         match &mut self.leaf {
             Some(leaf) => offer_to(alloc, leaf, key, place, version),
             None => {
-                let mut leaf = Leaf::empty(alloc);
+                let mut leaf = Leaf::empty(alloc, self.format);
                 leaf.offer(alloc, key, place, version)?;
                 self.leaf = Some(Arc::new(alloc, leaf)?);
                 Ok(())
@@ -109,9 +139,12 @@ fn offer_to(
     place: Result<usize, usize>,
     version: Version,
 ) -> Result<(), Refusal>
-    requires { IsPlace key.now (arc_value shared.old) place }
-    ensures answers { Answers result (offer_fault version (versions_in key.now (arc_value shared.old))) (λ _. ⊤) }
-    ensures ok { OnOk result (arc_value shared.new ≡ with_offer key.now version (arc_value shared.old)) }
+    requires place { IsPlace key.now (arc_value shared.old).rows place }
+    requires key { key_fault key.now ≡ None }
+    requires value { value_fault (arc_value shared.old).format version.kind version.value ≡ None }
+    ensures answers { Answers result (offer_fault version (versions_in key.now (arc_value shared.old).rows)) (λ _. ⊤) }
+    ensures ok { OnOk result (arc_value shared.new ≡ record (arc_value shared.old)
+        { rows = with_offer key.now version (arc_value shared.old).rows }) }
     ensures err { OnErr result (arc_value shared.new ≡ arc_value shared.old) }
 {
     if let Some(leaf) = Arc::get_mut(shared) {

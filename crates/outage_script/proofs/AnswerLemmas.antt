@@ -2,21 +2,21 @@
 use Rattle.std.proofs.Common.{Option, Some, None, ◌≡◌, ℕ, suc, ◌+◌, ◌^◌, ◌<◌, ◌≤◌, length, List, [], ◌∷◌, ◌++◌, drop, refl, sym, ap, get_or, false, add-one, drop-cons}
 use Rattle.std.proofs.lemmas.List.{drop_all}
 use Rattle.serde_json.specs.Written.{has_float, items_have_float}
-use Rattle.serde_json.specs.Data.{Data, Items, no_items, item}
+use Rattle.serde_json.specs.Data.{Data, Items, no_items, item, null}
 use Rattle.serde_json.specs.View.{view, items_view}
 use Rattle.serde_json.specs.declared.value.Value.{Value}
 use Rattle.vclock.specs.Clock.{Pairs}
 use Rattle.vclock.specs.declared.refusal.Refusal.{Refusal}
 use Rattle.vclock.specs.declared.refusal.Refusal.TheVariants.{StaleContext}
-use Rattle.outage_script.specs.Answers.{items_of, pair_data, clock_data, put_members, put_answer, cause_members, held_members, line_members, bad_line_answer, refusal_answer, value_data, version_members, version_data, versions_members, versions_answer, row_members, row_answer, ring_answer}
+use Rattle.outage_script.specs.Answers.{items_of, pair_data, clock_data, put_members, put_answer, cause_members, held_members, line_members, bad_line_answer, refusal_answer, value_data, version_members, version_data, versions_members, versions_answer, row_members, row_answer, ring_answer, rehash_answer, node_answer, digest_members, digest_data, bytes_data}
 use Rattle.version_set.specs.declared.kind.Kind.{Kind}
 use Rattle.version_set.specs.declared.kind.Kind.TheVariants.{Live, Tombstone}
 use Rattle.version_set.specs.declared.version.Version.{Version}
 use Rattle.vclock.specs.declared.format.Format.{Format}
 use Rattle.range_state.specs.State as range
-use Rattle.outage_script.specs.Asks.{Ask, ring, put, get, row}
+use Rattle.outage_script.specs.Asks.{Ask, ring, put, get, row, rehash, show_node}
 use Rattle.outage_script.specs.State.{State, home, replicas_of}
-use Rattle.outage_script.specs.Acts.{act, settled, done_at, new_ring_fault, ring_config, remade, put_fault, put_done, get_fault, get_done, row_done}
+use Rattle.outage_script.specs.Acts.{act, settled, done_at, new_ring_fault, ring_config, remade, put_fault, put_done, get_fault, get_done, row_done, kept_at, range_fault, rehash_done, node_done}
 
 -- some items and then more
 abbrev pub joined : Items → Items → Items
@@ -104,9 +104,24 @@ done_plain : (done : range.State → Data × State) (o : Option range.State) (s 
 done_plain done None s plain = refl
 done_plain done (Some h) s plain = plain h
 
+rehash_answer_plain : (hashed : ℕ) → has_float (rehash_answer hashed) ≡ false
+unfolding rehash_answer
+rehash_answer_plain hashed = refl
+
+members_plain : (d : Data) → has_float d ≡ false → has_float (digest_members d) ≡ false
+unfolding digest_members
+members_plain d h = rw h refl
+
+node_answer_plain : (digest : Option (List ℕ)) → has_float (node_answer digest) ≡ false
+unfolding node_answer
+node_answer_plain None = members_plain null refl
+node_answer_plain (Some digest) = members_plain (bytes_data digest) refl
+
 pub reply_plain : (ask : Ask) (s : State) → has_float (act ask s).0 ≡ false
 unfolding act
 reply_plain (ring r) s = settled_plain (new_ring_fault r) (ring_answer (length r.nodes) (2 ^ r.bits), remade r (ring_config r) s) s (ring_answer_plain (length r.nodes) (2 ^ r.bits))
 reply_plain (put p) s = settled_plain (put_fault p s) _ s (done_plain (put_done p s) (home p.node (replicas_of s p.key)) s (λ h. put_answer_plain _ _ _ _))
 reply_plain (get g) s = settled_plain (get_fault g s) _ s (done_plain (λ h. (get_done g h, s)) (home g.node (replicas_of s g.key)) s (λ h. versions_answer_plain _))
 reply_plain (row g) s = settled_plain (get_fault g s) _ s (done_plain (λ h. (row_done g h, s)) (home g.node (replicas_of s g.key)) s (λ h. row_answer_plain _ _ _))
+reply_plain (rehash q) s = settled_plain (range_fault s q.node q.range) _ s (done_plain (rehash_done q s) (kept_at s q.node q.range) s (λ h. rehash_answer_plain _))
+reply_plain (show_node q) s = settled_plain (range_fault s q.node q.range) _ s (done_plain (λ h. (node_done q h, s)) (kept_at s q.node q.range) s (λ h. node_answer_plain _))

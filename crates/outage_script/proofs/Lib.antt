@@ -5,3 +5,4 @@ pub mod ReplicaLaws
 pub mod LineLemmas
 pub mod FeedLemmas
 pub mod RunLemmas
+pub mod NodeLaws

@@ -1,5 +1,5 @@
 -- What the commands do to the state, and what they answer.
-use Rattle.std.specs.Prelude.{ℕ, ◌^◌, Bool, true, false, not, ◌==◌, ◌&&◌, ◌||◌, List, [], length, map, filter, if◌then◌else◌, Option, Some, None, is_none, is_some}
+use Rattle.std.specs.Prelude.{ℕ, ◌^◌, Bool, true, false, not, ◌==◌, ◌&&◌, ◌||◌, ◌-◌, nat_le, nat_lt, slice_index_or, List, [], length, map, filter, if◌then◌else◌, Option, Some, None, is_none, is_some}
 use Rattle.std.specs.List.{list_any, list_all}
 use Rattle.serde_json.specs.Data.{Data, null}
 use Rattle.vclock.specs.Answer.{first_fault}
@@ -18,10 +18,14 @@ use Rattle.range_journal.specs.Journal.{held}
 use Rattle.range_journal.specs.declared.journal.Entry.{Entry}
 use Rattle.range_journal.specs.declared.journal.Source.TheVariants.{Copy}
 use Rattle.range_state.specs.Config.{Config, config_of}
+use Rattle.range_state.specs.Rows.{rows_of}
 use Rattle.range_state.specs.State as range
-use Rattle.outage_script.specs.Asks.{RingAsk, PutAsk, GetAsk, Ask, ring, put, get, row}
-use Rattle.outage_script.specs.Answers.{ring_answer, put_answer, versions_answer, row_answer, refusal_answer}
-use Rattle.outage_script.specs.State.{State, Replica, made, replicas_of, with_replicas, home, with_home}
+use Rattle.range_state.specs.Trees.{rehashed}
+use Rattle.hash_tree.specs.Nodes.{tree_depth, place_at, digest_at, dirty_count}
+use Rattle.hash_tree.specs.Texts.{node_digest}
+use Rattle.outage_script.specs.Asks.{RingAsk, PutAsk, GetAsk, RehashAsk, NodeAsk, Ask, ring, put, get, row, rehash, show_node}
+use Rattle.outage_script.specs.Answers.{ring_answer, put_answer, versions_answer, row_answer, rehash_answer, node_answer, refusal_answer}
+use Rattle.outage_script.specs.State.{State, Replica, made, replicas_of, with_range, with_replicas, home, with_home}
 
 -- ---- a ring
 
@@ -127,14 +131,38 @@ get_done g h = versions_answer (held h.entries g.key)
 abbrev pub row_done : GetAsk → range.State → Data
 row_done g h = row_answer h.config.format g.key (held h.entries g.key)
 
+-- what a node keeps of the range of that number: nothing too where the ring has no such range
+abbrev pub kept_at : State → ℕ → ℕ → Option range.State
+kept_at s node r = home node (slice_index_or s.replicas r [])
+
+-- why a command on a range at a node is refused
+abbrev pub range_fault : State → ℕ → ℕ → Option Refusal
+range_fault s node r = first_fault (nodes_fault s node []) (home_fault (λ _. None) (kept_at s node r))
+
+abbrev pub rehash_done : RehashAsk → State → range.State → Data × State
+rehash_done q s h = (rehash_answer (dirty_count h.marks), with_range s q.range (with_home q.node (rehashed h) (slice_index_or s.replicas q.range [])))
+
+-- the digest of a node, shown where it is clean: that of the node's text for the rows now
+abbrev pub shown_digest : ℕ → ℕ → range.State → Option (List ℕ)
+shown_digest depth index h = if is_some (digest_at h.marks (place_at depth index)) then Some (node_digest h.config.format (range.leaf_in h.config) (rows_of h.entries) (tree_depth h.config.format - depth) index) else None
+
+abbrev pub node_done : NodeAsk → range.State → Data
+node_done q h = node_answer (shown_digest q.depth q.index h)
+
 -- a command's answer, and the state after it
 unfoldable pub act : Ask → State → Data × State
 act (ring r) s = settled (new_ring_fault r) (ring_answer (length r.nodes) (2 ^ r.bits), remade r (ring_config r) s) s
 act (put p) s = settled (put_fault p s) (done_at (put_done p s) (home p.node (replicas_of s p.key)) s) s
 act (get g) s = settled (get_fault g s) (done_at (λ h. (get_done g h, s)) (home g.node (replicas_of s g.key)) s) s
 act (row g) s = settled (get_fault g s) (done_at (λ h. (row_done g h, s)) (home g.node (replicas_of s g.key)) s) s
+act (rehash q) s = settled (range_fault s q.node q.range) (done_at (rehash_done q s) (kept_at s q.node q.range) s) s
+act (show_node q) s = settled (range_fault s q.node q.range) (done_at (λ h. (node_done q h, s)) (kept_at s q.node q.range) s) s
 
--- whether the ring in force has such a command: in format 1 no value is null
+-- whether the tree of a range in a format has a node
+abbrev pub is_tree_node : Format → ℕ → ℕ → Bool
+is_tree_node format depth index = nat_le depth (tree_depth format) && nat_lt index (16 ^ depth)
+
+-- whether the ring in force has such a command: in format 1 no value is null, and the tree has the node
 abbrev pub has_value : Format → Option (List ℕ) → Bool
 has_value One value = is_some value
 has_value Two value = true
@@ -144,3 +172,5 @@ suits s (ring r) = true
 suits s (put p) = has_value s.format p.value
 suits s (get g) = true
 suits s (row g) = true
+suits s (rehash q) = true
+suits s (show_node q) = is_tree_node s.format q.depth q.index

@@ -1,5 +1,5 @@
 -- What the commands answer.
-use Rattle.std.specs.Prelude.{ℕ, List, [], ◌∷◌, ◌++◌, codes}
+use Rattle.std.specs.Prelude.{ℕ, List, [], ◌∷◌, ◌++◌, codes, Option, Some, None}
 use Rattle.serde_json.specs.Data.{Data, Items, no_items, item, no_members, member, null, number, unsigned, string, array, object}
 use Rattle.serde_json.specs.Written.{compact_text}
 use Rattle.hex.specs.Hex.{encode_lower}
@@ -105,3 +105,19 @@ row_answer format key versions = row_members (bytes_data (text_of format key ver
 -- a new ring: how many nodes and ranges it has
 unfoldable pub ring_answer : ℕ → ℕ → Data
 ring_answer nodes ranges = object (member (codes "nodes") (number_data nodes) (member (codes "ranges") (number_data ranges) no_members))
+
+-- a rehash: how many nodes were dirty
+unfoldable pub rehash_answer : ℕ → Data
+rehash_answer hashed = object (member (codes "hashed") (number_data hashed) no_members)
+
+-- a digest, or null for a dirty node
+abbrev pub digest_data : Option (List ℕ) → Data
+digest_data (Some digest) = bytes_data digest
+digest_data None = null
+
+unfoldable pub digest_members : Data → Data
+digest_members digest = object (member (codes "digest") digest no_members)
+
+-- a node of a tree: its digest
+unfoldable pub node_answer : Option (List ℕ) → Data
+node_answer digest = digest_members (digest_data digest)

@@ -23,9 +23,23 @@ pub record GetAsk : Type 0 where
   pub node : ℕ
   pub key : List ℕ
 
--- a new ring, a put, the versions that are held, or the text of their row
+-- a range at a node, whose tree is to be made clean
+pub record RehashAsk : Type 0 where
+  pub node : ℕ
+  pub range : ℕ
+
+-- a node of the tree of a range at a node of the ring
+pub record NodeAsk : Type 0 where
+  pub node : ℕ
+  pub range : ℕ
+  pub depth : ℕ
+  pub index : ℕ
+
+-- a new ring, a put, the versions that are held, the text of their row, a rehash, or the digest of a node
 pub data Ask : Type 0 where
   ring : RingAsk → Ask
   put : PutAsk → Ask
   get : GetAsk → Ask
   row : GetAsk → Ask
+  rehash : RehashAsk → Ask
+  show_node : NodeAsk → Ask

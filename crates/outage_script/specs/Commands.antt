@@ -3,7 +3,7 @@ use Rattle.std.specs.Prelude.{ℕ, ◌+◌, List, [], codes, if◌then◌else◌
 use Rattle.std.specs.Str.{bytes_eq}
 use Rattle.serde_json.specs.Data.{Data}
 use Rattle.serde_json.specs.Find.{as_object}
-use Rattle.outage_script.specs.Asks.{RingAsk, PutAsk, GetAsk, Ask, ring, put, get, row}
+use Rattle.outage_script.specs.Asks.{RingAsk, PutAsk, GetAsk, RehashAsk, NodeAsk, Ask, ring, put, get, row, rehash, show_node}
 use Rattle.outage_script.specs.Reading.{◌>>=◌, has_members, number_of, bytes_of, numbers_of, pairs_of, nullable, member_of, optional_of, count_of, default_of, sole_member}
 
 -- what the members of a ring say
@@ -45,9 +45,33 @@ get_parts d = do
 unfoldable pub get_of : Data → Option GetAsk
 get_of d = if has_members 2 (as_object d) then get_parts d else None
 
+-- what the two members of a rehash say
+abbrev pub rehash_parts : Data → Option RehashAsk
+rehash_parts d = do
+  node ← member_of number_of (codes "node") d
+  range ← member_of number_of (codes "range") d
+  Some (record { node = node; range = range })
+
+-- what the members of a rehash say, if it has no others
+unfoldable pub rehash_of : Data → Option RehashAsk
+rehash_of d = if has_members 2 (as_object d) then rehash_parts d else None
+
+-- what the four members of a node say
+abbrev pub node_parts : Data → Option NodeAsk
+node_parts d = do
+  node ← member_of number_of (codes "node") d
+  range ← member_of number_of (codes "range") d
+  depth ← member_of number_of (codes "depth") d
+  index ← member_of number_of (codes "index") d
+  Some (record { node = node; range = range; depth = depth; index = index })
+
+-- what the members of a node say, if it has no others
+unfoldable pub node_of : Data → Option NodeAsk
+node_of d = if has_members 4 (as_object d) then node_parts d else None
+
 -- the command of a name, with its members
 abbrev pub named : List ℕ × Data → Option Ask
-named m = if bytes_eq m.0 (codes "ring") then option_map ring (ring_of m.1) else if bytes_eq m.0 (codes "put") then option_map put (put_of m.1) else if bytes_eq m.0 (codes "get") then option_map get (get_of m.1) else if bytes_eq m.0 (codes "row") then option_map row (get_of m.1) else None
+named m = if bytes_eq m.0 (codes "ring") then option_map ring (ring_of m.1) else if bytes_eq m.0 (codes "put") then option_map put (put_of m.1) else if bytes_eq m.0 (codes "get") then option_map get (get_of m.1) else if bytes_eq m.0 (codes "row") then option_map row (get_of m.1) else if bytes_eq m.0 (codes "rehash") then option_map rehash (rehash_of m.1) else if bytes_eq m.0 (codes "node") then option_map show_node (node_of m.1) else None
 
 -- an object of one member, which is named as a command
 unfoldable pub command_of : Data → Option Ask

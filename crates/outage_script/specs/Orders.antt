@@ -1,10 +1,12 @@
 -- What a command that was read asks for.
-use Rattle.outage_script.specs.Asks.{RingAsk, PutAsk, GetAsk, Ask, ring, put, get, row}
+use Rattle.outage_script.specs.Asks.{RingAsk, PutAsk, GetAsk, RehashAsk, NodeAsk, Ask, ring, put, get, row, rehash, show_node}
 use Rattle.outage_script.specs.declared.command.Command.{Command}
 use Rattle.outage_script.specs.declared.command.Command.TheVariants as Variants
 use Rattle.outage_script.specs.declared.command.NewRing.{NewRing}
 use Rattle.outage_script.specs.declared.command.Put.{Put}
 use Rattle.outage_script.specs.declared.command.Get.{Get}
+use Rattle.outage_script.specs.declared.command.Rehash.{Rehash}
+use Rattle.outage_script.specs.declared.command.ShowNode.{ShowNode}
 
 abbrev pub ring_ask : NewRing → RingAsk
 ring_ask r = record { bits = r.bits; copies = r.copies; nodes = r.nodes.items; limit = r.limit; format = r.format }
@@ -15,8 +17,16 @@ put_ask p = record { node = p.node; key = p.key; context = p.context.items; valu
 abbrev pub get_ask : Get → GetAsk
 get_ask g = record { node = g.node; key = g.key }
 
+abbrev pub rehash_ask : Rehash → RehashAsk
+rehash_ask r = record { node = r.node; range = r.range }
+
+abbrev pub node_ask : ShowNode → NodeAsk
+node_ask n = record { node = n.node; range = n.range; depth = n.depth; index = n.index }
+
 abbrev pub ask_of : Command → Ask
 ask_of (Variants.Ring r) = ring (ring_ask r)
 ask_of (Variants.Put p) = put (put_ask p)
 ask_of (Variants.Get g) = get (get_ask g)
 ask_of (Variants.Row g) = row (get_ask g)
+ask_of (Variants.Rehash r) = rehash (rehash_ask r)
+ask_of (Variants.Node n) = show_node (node_ask n)

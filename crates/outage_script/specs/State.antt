@@ -1,4 +1,4 @@
--- The state of a script: the ring, and each replica's journal.
+-- The state of a script: the ring, and each replica's journal and clean nodes.
 use Rattle.std.specs.Prelude.{◌≡◌, ℕ, ◌<◌, length, ◌^◌, ◌==◌, List, [], ◌∷◌, map, take, slice_index_or, slice_set, Option, Some, None, if◌then◌else◌}
 use Rattle.std.specs.List.{range_with_len}
 use Rattle.vclock.specs.declared.format.Format.{Format}
@@ -8,7 +8,7 @@ use Rattle.key_ring.specs.Ring.{Places, preference_list}
 use Rattle.range_state.specs.Config.{Config}
 use Rattle.range_state.specs.State as range
 
--- a node that keeps a range: which range, and the entries of the node's journal of it
+-- a node that keeps a range: which range, the entries of the node's journal of it, and which nodes of its tree are clean
 pub record Replica : Type 0 where
   pub node : ℕ
   pub range : range.State
@@ -19,21 +19,21 @@ pub record State : Type 0 where
   pub format : Format
   pub replicas : List (List Replica)
 
--- the range of that number, with an empty journal
+-- the range of that number, with an empty journal and a tree whose nodes are all dirty
 abbrev pub empty_range : Config → ℕ → range.State
-empty_range c r = record { config = record { format = c.format; bits = c.bits; range = r; limit = c.limit }; entries = [] }
+empty_range c r = range.fresh (record { format = c.format; bits = c.bits; range = r; limit = c.limit })
 
 -- the replicas of range r: the first nodes of its preference list
 abbrev pub replicas_made : Places → Config → ℕ → List Replica
 replicas_made ring c r = map (λ n. record { node = n; range = empty_range c r }) (take ring.copies (preference_list ring.nodes r))
 
--- everything anew: each replica of each range has an empty journal
+-- everything anew: each replica of each range has an empty journal, and no node of its tree is clean
 unfoldable pub made : Places → Config → State
 made ring c = record { ring = ring; format = c.format; replicas = map (replicas_made ring c) (range_with_len 0 (2 ^ ring.bits)) }
 
--- a range that may not have come about yet: then its journal is empty
+-- a range that may not have come about yet: then it has accepted nothing
 abbrev pub range_in : Config → Option range.State → range.State
-range_in c None = record { config = c; entries = [] }
+range_in c None = range.fresh c
 range_in c (Some s) = s
 
 -- a script begins with a ring of one node, number 1, with one range
@@ -50,9 +50,13 @@ start = made first_ring first_config
 abbrev pub replicas_of : State → List ℕ → List Replica
 replicas_of s key = slice_index_or s.replicas (range_at s.ring.bits key) []
 
+-- the same state with other replicas of a range
+abbrev pub with_range : State → ℕ → List Replica → State
+with_range s r reps = record { ring = s.ring; format = s.format; replicas = slice_set s.replicas r reps }
+
 -- the same state with other replicas of a key's range
 abbrev pub with_replicas : State → List ℕ → List Replica → State
-with_replicas s key reps = record { ring = s.ring; format = s.format; replicas = slice_set s.replicas (range_at s.ring.bits key) reps }
+with_replicas s key reps = with_range s (range_at s.ring.bits key) reps
 
 -- what a node keeps, if it is one of the replicas
 abbrev pub home : ℕ → List Replica → Option range.State

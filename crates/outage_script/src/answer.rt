@@ -1,10 +1,11 @@
 //! The answers of the commands, as JSON.
 ghost use Rattle.std.specs.Prelude.{◌≡◌, false, IfOk, string_bytes};
-ghost use Rattle.outage_script.specs.Answers.{pair_data, clock_data, put_answer, put_members, refusal_answer, cause_members, held_members, line_members, bad_line_answer, answer_line, version_data, version_members, versions_members, versions_answer, row_members, bytes_data, ring_answer};
+ghost use Rattle.outage_script.specs.Answers.{pair_data, clock_data, put_answer, put_members, refusal_answer, cause_members, held_members, line_members, bad_line_answer, answer_line, version_data, version_members, versions_members, versions_answer, row_members, bytes_data, ring_answer, rehash_answer, digest_data, digest_members, node_answer};
 ghost use Rattle.serde_json.specs.Written.{has_float};
 ghost use Rattle.serde_json.specs.View.{view};
 
 use crate::json::{ToValue, list_value};
+use hash_tree::hashed::Digest;
 use serde_json::{Value, json};
 use std::alloc::{AllocError, Global};
 use vclock::bytes::Bytes;
@@ -176,4 +177,32 @@ pub(crate) fn ring_answer(alloc: Global, nodes: u64, ranges: u64) -> Result<Valu
     ensures { IfOk result (λ v. view v ≡ ring_answer nodes ranges) }
 {
     json!(in alloc; {"nodes": nodes, "ranges": ranges})
+}
+
+/// The answer of a rehash.
+#[tactic(auto, unfolding(crate::specs::Answers::rehash_answer))]
+pub(crate) fn rehash_answer(alloc: Global, hashed: u64) -> Result<Value, AllocError>
+    ensures { IfOk result (λ v. view v ≡ rehash_answer hashed) }
+{
+    json!(in alloc; {"hashed": hashed})
+}
+
+/// The answer of a node: its digest, or null where it is dirty.
+#[tactic(auto, unfolding(crate::specs::Answers::node_answer))]
+pub(crate) fn node_answer(alloc: Global, digest: Option<Digest>) -> Result<Value, AllocError>
+    ensures { IfOk result (λ v. view v ≡ node_answer digest) }
+{
+    let digest = match digest {
+        Some(digest) => Value::String(hex::encode(alloc, digest.as_slice())?),
+        None => Value::Null,
+    };
+    digest_members(alloc, digest)
+}
+
+/// The member of a node's answer.
+#[tactic(auto, unfolding(crate::specs::Answers::digest_members))]
+fn digest_members(alloc: Global, digest: Value) -> Result<Value, AllocError>
+    ensures { IfOk result (λ v. view v ≡ digest_members (view digest)) }
+{
+    json!(in alloc; {"digest": digest})
 }

@@ -1,8 +1,8 @@
 //! From a line to the command that it is.
 ghost use Rattle.std.specs.Prelude.{◌≡◌, IfOk, option_map, option_and_then};
-ghost use Rattle.outage_script.specs.Commands.{ring_of, put_of, get_of, command_of};
+ghost use Rattle.outage_script.specs.Commands.{ring_of, put_of, get_of, rehash_of, node_of, command_of};
 ghost use Rattle.outage_script.specs.Reading.{value_of};
-ghost use Rattle.outage_script.specs.Orders.{ask_of, ring_ask, put_ask, get_ask};
+ghost use Rattle.outage_script.specs.Orders.{ask_of, ring_ask, put_ask, get_ask, rehash_ask, node_ask};
 ghost use Rattle.serde_json.specs.View.{view};
 
 use crate::json::{
@@ -57,6 +57,28 @@ pub(crate) struct Get {
     pub(crate) key: Bytes,
 }
 
+/// A rehash of a range.
+#[derive(Drop)]
+pub(crate) struct Rehash {
+    /// The node that keeps the range.
+    pub(crate) node: u64,
+    /// The number of the range.
+    pub(crate) range: u64,
+}
+
+/// The digest of a node of a range's tree.
+#[derive(Drop)]
+pub(crate) struct ShowNode {
+    /// The node that keeps the range.
+    pub(crate) node: u64,
+    /// The number of the range.
+    pub(crate) range: u64,
+    /// The depth of the tree's node.
+    pub(crate) depth: u64,
+    /// Its index there.
+    pub(crate) index: u64,
+}
+
 /// A command of a script.
 #[derive(Drop)]
 pub(crate) enum Command {
@@ -68,6 +90,10 @@ pub(crate) enum Command {
     Get(Get),
     /// `row`: a get of the row's text.
     Row(Get),
+    /// `rehash`.
+    Rehash(Rehash),
+    /// `node`.
+    Node(ShowNode),
 }
 
 /// The command that a line is, if it is one.
@@ -99,6 +125,10 @@ fn named_in(alloc: Global, value: &Value) -> Result<Option<Command>, AllocError>
         Ok(get_in(alloc, inner)?.map(Command::Get))
     } else if name == "row" {
         Ok(get_in(alloc, inner)?.map(Command::Row))
+    } else if name == "rehash" {
+        Ok(rehash_in(inner).map(Command::Rehash))
+    } else if name == "node" {
+        Ok(node_in(inner).map(Command::Node))
     } else {
         Ok(None)
     }
@@ -177,4 +207,34 @@ fn get_in(alloc: Global, members: &Value) -> Result<Option<Get>, AllocError>
     };
     let key = member_at(alloc, members, "key")?;
     Ok(key.map(|key| Get { node, key }))
+}
+
+/// The rehash of these members.
+#[tactic(auto, unfolding(crate::specs::Commands::rehash_of))]
+fn rehash_in(members: &Value) -> Option<Rehash>
+    ensures { option_map rehash_ask result ≡ rehash_of (view members.now) }
+{
+    if !has_members(members, 2) {
+        return None;
+    }
+    Some(Rehash {
+        node: number_at(members, "node")?,
+        range: number_at(members, "range")?,
+    })
+}
+
+/// The node of these members.
+#[tactic(auto, unfolding(crate::specs::Commands::node_of))]
+fn node_in(members: &Value) -> Option<ShowNode>
+    ensures { option_map node_ask result ≡ node_of (view members.now) }
+{
+    if !has_members(members, 4) {
+        return None;
+    }
+    Some(ShowNode {
+        node: number_at(members, "node")?,
+        range: number_at(members, "range")?,
+        depth: number_at(members, "depth")?,
+        index: number_at(members, "index")?,
+    })
 }

@@ -6,15 +6,16 @@ ghost use Rattle.outage_script.specs.Lines.{lines_of, is_inside};
 
 use crate::{ScriptEnd, run_script};
 use std::alloc::Global;
+use std::thread::Threads;
 
 /// Runs the script of these bytes, and answers how it ended and what it wrote.
 #[tactic(auto, using(crate::proofs::RunLemmas::runs_memory))]
-pub fn run_bytes(alloc: Global, input: &[u8]) -> (ScriptEnd, Vec<u8>)
+pub fn run_bytes(rt: &(impl Threads + Sync), alloc: Global, input: &[u8]) -> (ScriptEnd, Vec<u8>)
     ensures { IsAnswer result.0 input.now result.1.items }
 {
     let mut reader = input;
     let mut out = Vec::new(alloc);
-    let end = run_script(alloc, &mut reader, &mut out);
+    let end = run_script(rt, alloc, &mut reader, &mut out);
     (end, out)
 }
 

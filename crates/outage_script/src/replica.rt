@@ -5,15 +5,20 @@ ghost use Rattle.vclock.specs.Answer.{Answers, AnswersOrNoMemory};
 ghost use Rattle.version_set.specs.Kind.{value_fault};
 ghost use Rattle.range_journal.specs.Journal.{held};
 ghost use Rattle.range_journal.specs.declared.journal.Source.{Source};
-ghost use Rattle.range_state.specs.State.{accept_fault, accept_step, put_entry, put_fault, journaled};
-ghost use Rattle.outage_script.specs.Acts.{takes, after_copy, is_sent_to};
+ghost use Rattle.hash_tree.specs.Nodes.{dirty_count};
+ghost use Rattle.range_state.specs.Trees.{rehashed};
+ghost use Rattle.range_state.specs.State.{fresh, accept_fault, accept_step, put_entry, put_fault, journaled};
+ghost use Rattle.outage_script.specs.Acts.{takes, after_copy, is_sent_to, shown_digest};
 
+use hash_tree::hashed::Digest;
+use hash_tree::node::NodeAt;
 use range_journal::journal::Source;
 use range_state::config::RangeConfig;
 use range_state::event::Receipt;
 use range_state::state::RangeState;
 use std::alloc::{AllocError, Global};
 use std::marker::Model;
+use std::thread::Threads;
 use vclock::bytes::Bytes;
 use vclock::clock::Clock;
 use vclock::format::Format;
@@ -48,7 +53,7 @@ impl Replica {
     /// A replica that has accepted nothing.
     pub(crate) fn new(node: u16, config: RangeConfig) -> Replica
         requires { 1 ≤ node }
-        ensures { result ≡ record { node = node; range = record { config = config; entries = [] } } }
+        ensures { result ≡ record { node = node; range = fresh config } }
     {
         Replica {
             node,
@@ -119,6 +124,36 @@ impl Replica {
         let receipt = state.put(alloc, SEAT, self.node, key, context, kind, value)?;
         self.state = Some(state);
         Ok(receipt)
+    }
+
+    /// Makes every node of the range's tree clean, and answers how many were dirty. Where memory runs out, some of them may
+    /// be clean.
+    pub(crate) fn rehash(
+        &mut self,
+        rt: &(impl Threads + Sync),
+        alloc: Global,
+    ) -> Result<u64, Refusal>
+        ensures answers { Answers result None (λ hashed. hashed ≡ dirty_count self.old.range.marks) }
+        ensures ok { OnOk result (self.new
+            ≡ record { node = self.old.node; range = rehashed self.old.range }) }
+    {
+        if let Some(state) = &mut self.state {
+            return state.rehash(rt, alloc);
+        }
+        let mut state = RangeState::new(alloc, self.config)?;
+        let hashed = state.rehash(rt, alloc)?;
+        self.state = Some(state);
+        Ok(hashed)
+    }
+
+    /// The digest of a node of the range's tree, if the node is clean: that of its text for the rows now.
+    pub(crate) fn digest_at(&self, node: NodeAt) -> Option<Digest>
+        ensures { result ≡ shown_digest node.depth node.index self.now.range }
+    {
+        match &self.state {
+            Some(state) => state.digest_at(node),
+            None => None,
+        }
     }
 
     /// Sends the replica a copy of an entry, where it is to get one, and answers whether it took it or knew it.

@@ -4,7 +4,9 @@ ghost use Rattle.vclock.specs.Answer.{Answers, AnswersOrNoMemory};
 ghost use Rattle.vclock.specs.Clock.{clock_of};
 ghost use Rattle.outage_script.specs.Acts.{takes, after_copy, copied, sent, home_fault, put_fault_at, put_entry_at, kind_of, value_of};
 ghost use Rattle.outage_script.specs.Orders.{put_ask};
-ghost use Rattle.outage_script.specs.State.{home, IsHome, replicas_made};
+ghost use Rattle.outage_script.specs.State.{home, with_home, IsHome, replicas_made};
+ghost use Rattle.hash_tree.specs.Nodes.{dirty_count};
+ghost use Rattle.range_state.specs.Trees.{rehashed};
 
 use crate::command::Put;
 use crate::replica::Replica;
@@ -13,6 +15,7 @@ use range_state::config::RangeConfig;
 use range_state::event::Receipt;
 use std::alloc::{AllocError, Global};
 use std::marker::Model;
+use std::thread::Threads;
 use vclock::bytes::Bytes;
 use vclock::clock::Clock;
 use vclock::refusal::Refusal;
@@ -67,6 +70,24 @@ impl Replicas {
     {
         let place = place_of(&self.replicas, node)?;
         Some(&self.replicas[place])
+    }
+
+    /// Makes every node of the tree clean that a node keeps, and answers how many were dirty.
+    pub(crate) fn rehash(
+        &mut self,
+        rt: &(impl Threads + Sync),
+        alloc: Global,
+        node: u64,
+    ) -> Result<u64, Refusal>
+        ensures answers { Answers result (home_fault (λ _. None) (home node self.old))
+            (λ hashed. IfSome (home node self.old) (λ h. hashed ≡ dirty_count h.marks)) }
+        ensures ok { OnOk result (IfSome (home node self.old) (λ h. self.new ≡ with_home node (rehashed h) self.old)) }
+        ensures err { IfErr result (λ e. e ≢ Refusal.NoMemory → self.new ≡ self.old) }
+    {
+        let Some(place) = place_of(&self.replicas, node) else {
+            return Err(Refusal::OtherRange);
+        };
+        self.replicas[place].rehash(rt, alloc)
     }
 
     /// Puts a value at a node, and sends a copy to each other replica that is to get one. A replica that refuses its

@@ -7,6 +7,7 @@ use crate::ScriptEnd;
 use crate::session::Session;
 use std::alloc::{AllocError, Global};
 use std::io::{Read, Write};
+use std::thread::Threads;
 
 /// How often the reader is called at the most.
 const READ_CALLS: u64 = 4_000_000_000;
@@ -15,7 +16,12 @@ const READ_CALLS: u64 = 4_000_000_000;
 const READ_SIZE: usize = 65_536;
 
 /// Runs the script that the reader gives.
-pub fn run_script<R: Read, W: Write>(alloc: Global, reader: &mut R, writer: &mut W) -> ScriptEnd
+pub fn run_script<T: Threads + Sync, R: Read, W: Write>(
+    rt: &T,
+    alloc: Global,
+    reader: &mut R,
+    writer: &mut W,
+) -> ScriptEnd
     ensures { Runs result (R.remaining reader.old) (R.remaining reader.new)
         (W.contents writer.old) (W.contents writer.new) }
 {
@@ -28,7 +34,7 @@ pub fn run_script<R: Read, W: Write>(alloc: Global, reader: &mut R, writer: &mut
     for calls in 0..READ_CALLS {
         let count = match reader.read(buffer.as_mut_slice()) {
             Ok(0) => {
-                return match session.finish(alloc, writer) {
+                return match session.finish(rt, alloc, writer) {
                     Some(end) => flushed(writer, end),
                     None => flushed(writer, ScriptEnd::Done),
                 };
@@ -36,7 +42,7 @@ pub fn run_script<R: Read, W: Write>(alloc: Global, reader: &mut R, writer: &mut
             Ok(count) => count,
             Err(_) => return ScriptEnd::Device,
         };
-        if let Some(end) = session.feed(alloc, &buffer[..count], writer) {
+        if let Some(end) = session.feed(rt, alloc, &buffer[..count], writer) {
             return flushed(writer, end);
         }
     }

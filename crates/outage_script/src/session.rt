@@ -16,6 +16,7 @@ use crate::write::write_whole;
 use memchr::memchr;
 use std::alloc::{AllocError, Global};
 use std::io::Write;
+use std::thread::Threads;
 
 /// How many bytes a line has at the most.
 const LINE_LIMIT: usize = 1_048_576;
@@ -44,8 +45,9 @@ impl Session {
     }
 
     /// Takes the next bytes, up to the end of the run.
-    pub(crate) fn feed<W: Write>(
+    pub(crate) fn feed<T: Threads + Sync, W: Write>(
         &mut self,
+        rt: &T,
         alloc: Global,
         piece: &[u8],
         writer: &mut W,
@@ -58,7 +60,7 @@ impl Session {
     {
         let mut rest = piece;
         while let Some(at) = memchr(b'\n', rest) {
-            if let Some(end) = self.take_line(alloc, &rest[..at], writer) {
+            if let Some(end) = self.take_line(rt, alloc, &rest[..at], writer) {
                 return Some(end);
             }
             rest = &rest[at + 1..];
@@ -67,7 +69,12 @@ impl Session {
     }
 
     /// Answers the last line, which lacks its line feed, if there is one.
-    pub(crate) fn finish<W: Write>(&mut self, alloc: Global, writer: &mut W) -> Option<ScriptEnd>
+    pub(crate) fn finish<T: Threads + Sync, W: Write>(
+        &mut self,
+        rt: &T,
+        alloc: Global,
+        writer: &mut W,
+    ) -> Option<ScriptEnd>
         requires { self.old.number + 1 < 2 ^ 64 }
         ensures { (some : List ℕ) × Appends (W.contents writer.old) (W.contents writer.new) some
             × Finishes result (to_come (place_of self.old.number self.old.world self.old.line.items) []) some }
@@ -75,12 +82,13 @@ impl Session {
         if self.line.is_empty() {
             return None;
         }
-        self.end_line(alloc, writer)
+        self.end_line(rt, alloc, writer)
     }
 
     /// Takes the bytes that a line ends with, and its line feed.
-    fn take_line<W: Write>(
+    fn take_line<T: Threads + Sync, W: Write>(
         &mut self,
+        rt: &T,
         alloc: Global,
         bytes: &[u8],
         writer: &mut W,
@@ -95,7 +103,7 @@ impl Session {
         if let Some(end) = self.take_part(alloc, bytes, writer) {
             return Some(end);
         }
-        self.end_line(alloc, writer)
+        self.end_line(rt, alloc, writer)
     }
 
     /// Takes the next bytes of a line, which have no line feed.
@@ -121,7 +129,12 @@ impl Session {
     }
 
     /// Takes the end of the line.
-    fn end_line<W: Write>(&mut self, alloc: Global, writer: &mut W) -> Option<ScriptEnd>
+    fn end_line<T: Threads + Sync, W: Write>(
+        &mut self,
+        rt: &T,
+        alloc: Global,
+        writer: &mut W,
+    ) -> Option<ScriptEnd>
         requires { self.old.number + 1 < 2 ^ 64 }
         ensures number { self.new.number ≤ self.old.number + 1 }
         ensures feeds { Feeds (place_of self.old.number self.old.world self.old.line.items)
@@ -129,7 +142,7 @@ impl Session {
             (W.contents writer.old) (W.contents writer.new) }
         ensures cleared { IfNone result (self.new.line.items ≡ []) }
     {
-        let text = match turn(alloc, &mut self.world, self.line.as_slice()) {
+        let text = match turn(rt, alloc, &mut self.world, self.line.as_slice()) {
             Ok(Some(text)) => text,
             Ok(None) => return Some(refuse(alloc, self.number, writer)),
             Err(_) => return Some(ScriptEnd::NoMemory),
@@ -169,7 +182,12 @@ fn bad_line(alloc: Global, number: u64) -> Result<String, AllocError>
 
 /// What is written for a line, or none if it is bad, and the world after it.
 #[tactic(auto, unfolding(crate::specs::Script::step), using(crate::proofs::AnswerLemmas::reply_plain))]
-fn turn(alloc: Global, world: &mut World, line: &[u8]) -> Result<Option<String>, AllocError>
+fn turn(
+    rt: &(impl Threads + Sync),
+    alloc: Global,
+    world: &mut World,
+    line: &[u8],
+) -> Result<Option<String>, AllocError>
     ensures { IfOk result (λ o. IsTurn (option_map string_bytes o) world.new
         (step world.old line.now)) }
 {
@@ -185,7 +203,7 @@ fn turn(alloc: Global, world: &mut World, line: &[u8]) -> Result<Option<String>,
     if !world.suits(&command) {
         return Ok(None);
     }
-    let answer = world.act(alloc, command)?;
+    let answer = world.act(rt, alloc, command)?;
     Ok(Some(answer_line(alloc, &answer)?))
 }
 

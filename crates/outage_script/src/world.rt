@@ -1,20 +1,24 @@
 // The world that a script changes: a ring, and the replicas of its ranges.
-ghost use Rattle.std.specs.Prelude.{◌≡◌, ◌≢◌, ◌<◌, ◌≤◌, ◌^◌, ◌==◌, ⊤, [], length, None, option_map, IfOk, IfErr, OnOk};
+ghost use Rattle.std.specs.Prelude.{◌≡◌, ◌≢◌, ◌<◌, ◌≤◌, ◌^◌, ◌==◌, ⊤, [], length, None, is_some, option_map, IsTrue, IfOk, IfErr, IfSome, OnOk};
 ghost use Rattle.std.specs.List.{list_any, list_all, AllByRecursion};
 ghost use Rattle.serde_json.specs.View.{view};
 ghost use Rattle.vclock.specs.Answer.{Answers, AnswersAtOnce, AnswersOrNoMemory};
 ghost use Rattle.vclock.specs.Clock.{clock_of};
 ghost use Rattle.vclock.specs.Keys.{key_fault};
 ghost use Rattle.version_set.specs.Kind.{value_fault};
-ghost use Rattle.outage_script.specs.Acts.{act, ask_fault, done_at, get_done, get_fault, home_fault, is_member, kind_of, new_ring_fault, nodes_fault, put_done, put_fault, remade, ring_config, row_done, suits, value_of};
+ghost use Rattle.outage_script.specs.Acts.{act, ask_fault, done_at, get_done, get_fault, home_fault, is_member, is_tree_node, kept_at, kind_of, new_ring_fault, node_done, nodes_fault, put_done, put_fault, range_fault, rehash_done, remade, ring_config, row_done, suits, value_of};
 ghost use Rattle.outage_script.specs.Answers.{refusal_answer, ring_answer, text_of};
-ghost use Rattle.outage_script.specs.Orders.{ask_of, get_ask, put_ask, ring_ask};
+ghost use Rattle.outage_script.specs.Orders.{ask_of, get_ask, node_ask, put_ask, rehash_ask, ring_ask};
 ghost use Rattle.outage_script.specs.State.{home, made, replicas_of, start};
 
-use crate::answer::{put_answer, refusal_answer, ring_answer, row_answer, versions_answer};
-use crate::command::{Command, Get, NewRing, Put};
+use crate::answer::{
+    node_answer, put_answer, refusal_answer, rehash_answer, ring_answer, row_answer,
+    versions_answer,
+};
+use crate::command::{Command, Get, NewRing, Put, Rehash, ShowNode};
 use crate::replica::Replica;
 use crate::replicas::Replicas;
+use hash_tree::node::{NodeAt, tree_depth};
 use key_ring::ring::Ring;
 use range_state::config::RangeConfig;
 use row_bytes::row::Row;
@@ -22,6 +26,7 @@ use row_bytes::writing::write_row;
 use serde_json::Value;
 use std::alloc::{AllocError, Global};
 use std::marker::Model;
+use std::thread::Threads;
 use vclock::bytes::Bytes;
 use vclock::clock::Clock;
 use vclock::format::Format;
@@ -81,12 +86,13 @@ impl World {
         })
     }
 
-    /// Whether the ring in force has such a command: in format 1 no value is null.
+    /// Whether the ring in force has such a command: in format 1 no value is null, and the tree has the node.
     pub(crate) fn suits(&self, command: &Command) -> bool
         ensures { result ≡ suits self.now (ask_of command.now) }
     {
         match command {
             Command::Put(put) => self.format == Format::Two || put.value.is_some(),
+            Command::Node(ask) => tree_node(self.format, ask.depth, ask.index).is_some(),
             _ => true,
         }
     }
@@ -94,7 +100,13 @@ impl World {
     /// What a command answers, and the world after it. Where memory runs out the script ends, and what a part of the
     /// command did is of no account.
     #[tactic(auto, unfolding(crate::specs::Acts::act))]
-    pub(crate) fn act(&mut self, alloc: Global, command: Command) -> Result<Value, AllocError>
+    pub(crate) fn act(
+        &mut self,
+        rt: &(impl Threads + Sync),
+        alloc: Global,
+        command: Command,
+    ) -> Result<Value, AllocError>
+        requires { IsTrue (suits self.old (ask_of command)) }
         ensures reply { IfOk result (λ v. view v ≡ (act (ask_of command) self.old).0) }
         ensures after { OnOk result (self.new ≡ (act (ask_of command) self.old).1) }
     {
@@ -113,6 +125,14 @@ impl World {
             }
             Command::Row(get) => {
                 let answer = self.row(alloc, get);
+                answered(alloc, answer)
+            }
+            Command::Rehash(ask) => {
+                let answer = self.rehash(rt, alloc, &ask);
+                answered(alloc, answer)
+            }
+            Command::Node(ask) => {
+                let answer = self.node(alloc, &ask);
                 answered(alloc, answer)
             }
         }
@@ -185,6 +205,53 @@ impl World {
         Ok(row_answer(alloc, &text)?)
     }
 
+    /// Makes every node of the tree of a range at a node clean, and answers with how many were dirty.
+    fn rehash(
+        &mut self,
+        rt: &(impl Threads + Sync),
+        alloc: Global,
+        ask: &Rehash,
+    ) -> Result<Value, Refusal>
+        ensures answers { AnswersOrNoMemory result (range_fault self.old ask.now.node ask.now.range) (λ v. view v
+            ≡ (done_at (rehash_done (rehash_ask ask.now) self.old) (kept_at self.old ask.now.node ask.now.range) self.old).0) }
+        ensures ok { OnOk result (self.new
+            ≡ (done_at (rehash_done (rehash_ask ask.now) self.old) (kept_at self.old ask.now.node ask.now.range) self.old).1) }
+        ensures err { IfErr result (λ e. e ≢ Refusal.NoMemory → self.new ≡ self.old) }
+    {
+        self.check_nodes(ask.node, &[])?;
+        if ask.range >= self.ranges.len() as u64 {
+            return Err(Refusal::OtherRange);
+        }
+        let hashed = self.ranges[ask.range as usize].rehash(rt, alloc, ask.node)?;
+        Ok(rehash_answer(alloc, hashed)?)
+    }
+
+    /// Answers with the digest of a node of the tree of a range.
+    fn node(&self, alloc: Global, ask: &ShowNode) -> Result<Value, Refusal>
+        requires { IsTrue (is_tree_node self.now.format ask.now.depth ask.now.index) }
+        ensures { AnswersOrNoMemory result (range_fault self.now ask.now.node ask.now.range) (λ v. view v
+            ≡ (done_at (λ h. (node_done (node_ask ask.now) h, self.now)) (kept_at self.now ask.now.node ask.now.range) self.now).0) }
+    {
+        self.check_nodes(ask.node, &[])?;
+        let Some(replica) = self.replica_at(ask.node, ask.range) else {
+            return Err(Refusal::OtherRange);
+        };
+        let Some(node) = tree_node(self.format, ask.depth, ask.index) else {
+            unreachable!()
+        };
+        Ok(node_answer(alloc, replica.digest_at(node))?)
+    }
+
+    /// The replica at a node of the range of that number, if the ring has such a range.
+    fn replica_at(&self, node: u64, range: u64) -> Option<&Replica>
+        ensures { option_map (λ r. r.now.range) result ≡ kept_at self.now node range }
+    {
+        if range >= self.ranges.len() as u64 {
+            return None;
+        }
+        self.ranges[range as usize].find(node)
+    }
+
     /// The replica of a key's range at a node.
     fn replica_of(&self, node: u64, key: &[u8]) -> Option<&Replica>
         ensures { option_map (λ r. r.now.range) result ≡ home node (replicas_of self.now key.now) }
@@ -222,6 +289,18 @@ impl World {
     {
         nodes.iter().all(|node| self.ring.contains(*node))
     }
+}
+
+/// The node of the tree of a format, if it has one of that depth and index.
+fn tree_node(format: Format, depth: u64, index: u64) -> Option<NodeAt>
+    ensures some { is_some result ≡ is_tree_node format depth index }
+    ensures depth { IfSome result (λ n. n.depth ≡ depth) }
+    ensures index { IfSome result (λ n. n.index ≡ index) }
+{
+    if depth > u64::from(tree_depth(format)) || index > u64::from(u16::MAX) {
+        return None;
+    }
+    NodeAt::new(depth as u8, index as u16)
 }
 
 /// The answer of a command, or that of its refusal. Want of memory has no answer.

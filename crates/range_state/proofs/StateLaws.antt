@@ -15,6 +15,7 @@ use Rattle.vclock.specs.declared.format.Format.TheVariants.{One, Two}
 use Rattle.vclock.specs.declared.refusal.Refusal.{Refusal}
 use Rattle.vclock.specs.declared.refusal.Refusal.TheVariants.{NoMemory, Crowded, JournalFull, OtherRange, StaleContext}
 use Rattle.version_set.specs.Kind.{value_fault}
+use Rattle.version_set.specs.declared.kind.Kind.{Kind}
 use Rattle.version_set.specs.declared.version.Version.{Version}
 use Rattle.version_set.specs.Version.{covered, offer_fault, is_below, is_same, with_version, set_from}
 use Rattle.version_set.proofs.SetLaws.{covered-maximal, is_same-exact, all-with_version, all-filter}
@@ -24,11 +25,14 @@ use Rattle.range_journal.specs.Journal.{accepted, held, versions_of, reserve_fau
 use Rattle.range_journal.proofs.JournalLaws.{AreNews-push, covered-held}
 use Rattle.row_bytes.specs.declared.row.Row.{Row}
 use Rattle.key_ring.specs.Places.{leaf_at, leaf_bits, range_at}
-use Rattle.hash_tree.specs.Leaves.{rows_at, with_offer, versions_in}
+use Rattle.hash_tree.specs.Leaves.{Bucket, rows_at, with_offer, versions_in}
+use Rattle.hash_tree.specs.Nodes.{Tree, tree_depth, node_count, dirtied, IsTree}
+use Rattle.hash_tree.specs.Texts.{AreTrue}
+use Rattle.hash_tree.proofs.TreeLaws.{true_kept, true_fresh, tree_fresh}
 use Rattle.range_state.specs.Config.{Config, is_config}
 use Rattle.range_state.specs.Rows.{rows_of}
-use Rattle.range_state.specs.State.{State, leaf_in, leaf_count, place_fault, journaled, full_fault, knows, accept_fault, stale_fault, IsOwn, IsRight, AreLeaves}
-use Rattle.range_state.proofs.RowLaws.{leaf_holds, leaf-push}
+use Rattle.range_state.specs.State.{State, all_dirty, fresh, tree_of, bucket_of, leaf_in, leaf_count, place_fault, journaled, full_fault, knows, accept_fault, stale_fault, IsOwn, IsRight, AreLeaves}
+use Rattle.range_state.proofs.RowLaws.{leaf_holds, leaf-push, rows_of-push, rows_of-ascend}
 
 -- ---- leaves
 
@@ -42,17 +46,19 @@ leaf_below c key = below c.format _
     below Two n = omega arith
 
 -- the leaf of a key is one of the leaves
-pub leaf_within : (s : State) (leaves : List (List Row)) (leaf : ℕ) (key : List ℕ) → AreLeaves s leaves → leaf ≡ leaf_in s.config key → leaf < length leaves
+pub leaf_within : (s : State) (leaves : List Bucket) (leaf : ℕ) (key : List ℕ) → AreLeaves s.config s.entries leaves → leaf ≡ leaf_in s.config key → leaf < length leaves
 leaf_within s leaves leaf key ok at = omega (arith, ok.all, at, leaf_below s.config key)
 
 -- the rows of the leaf of a key
-pub rows_here : (s : State) (leaves : List (List Row)) (leaf : ℕ) (key : List ℕ) (rows : List Row) → AreLeaves s leaves → leaf ≡ leaf_in s.config key → rows ≡ get_or leaves leaf [] → rows ≡ rows_at (leaf_in s.config) leaf (rows_of s.entries)
-rows_here s leaves leaf key rows ok at is = is ∙ ok.each leaf (omega (arith, at, leaf_below s.config key))
+pub rows_here : (s : State) (leaves : List Bucket) (leaf : ℕ) (key : List ℕ) (b : Bucket) → AreLeaves s.config s.entries leaves → leaf ≡ leaf_in s.config key → b ≡ get_or leaves leaf b → b ≡ bucket_of s.config s.entries leaf
+rows_here s leaves leaf key b ok at is = is ∙ ok.each leaf b (omega (arith, at, leaf_below s.config key))
 
 -- what the leaf of a key has for it is what is held for it
-pub set_here : (s : State) (leaves : List (List Row)) (leaf : ℕ) (key : List ℕ) (rows : List Row) → AreLeaves s leaves → leaf ≡ leaf_in s.config key → rows ≡ get_or leaves leaf [] → versions_in key rows ≡ held s.entries key
-set_here s leaves leaf key rows ok at is =
-    ap (versions_in key) (is ∙ ap (λ (n : ℕ). get_or leaves n []) at ∙ ok.each (leaf_in s.config key) (leaf_below s.config key)) ∙ leaf_holds (leaf_in s.config) s.entries key
+pub set_here : (s : State) (leaves : List Bucket) (leaf : ℕ) (key : List ℕ) (b : Bucket) → AreLeaves s.config s.entries leaves → leaf ≡ leaf_in s.config key → b ≡ get_or leaves leaf b → versions_in key b.rows ≡ held s.entries key
+set_here s leaves leaf key b ok at is =
+    ap (λ (x : Bucket). versions_in key x.rows) (rows_here s leaves leaf key b ok at is)
+    ∙ ap (λ (n : ℕ). versions_in key (rows_at (leaf_in s.config) n (rows_of s.entries))) at
+    ∙ leaf_holds (leaf_in s.config) s.entries key
 
 -- ---- what holds of the entries
 
@@ -92,14 +98,40 @@ leaf_of_none : (leaf : List ℕ → ℕ) (i : ℕ) → no_rows ≡ rows_at leaf 
 unfolding rows_of
 leaf_of_none leaf i = refl
 
-pub fresh_right : (c : Config) → IsTrue (is_config c) → IsRight (record { config = c; entries = [] })
-fresh_right c h = record { config = h; own = tt; news = tt }
-
-pub fresh_leaves : (c : Config) (n : ℕ) (leaves : List (List Row)) → n ≡ leaf_count c → leaves ≡ replicate n no_rows → AreLeaves (record { config = c; entries = [] }) leaves
-fresh_leaves c n leaves count is = record {
-  all = ap length is ∙ length-replicate n no_rows ∙ count;
-  each = λ i lt. ap (λ (t : List (List Row)). get_or t i no_rows) is ∙ get_or-replicate n i no_rows no_rows (omega (arith, lt, count)) ∙ leaf_of_none (leaf_in c) i;
+fresh_right : (c : Config) → IsTrue (is_config c) → IsRight (fresh c)
+unfolding all_dirty
+fresh_right c h = record {
+  config = h;
+  own = tt;
+  news = tt;
+  marks = record { tree = tree_fresh c.format; digests = true_fresh c.format (leaf_in c) (rows_of []) (node_count c.format) };
 }
+
+abbrev no_bucket : Config → Bucket
+no_bucket c = record { format = c.format; rows = [] }
+
+fresh_leaves : (c : Config) (leaves : List Bucket) → leaves ≡ replicate (leaf_count c) (no_bucket c) → AreLeaves c [] leaves
+fresh_leaves c leaves is = record {
+  all = ap length is ∙ length-replicate (leaf_count c) (no_bucket c);
+  each = λ i d lt.
+      ap (λ (t : List Bucket). get_or t i d) is
+      ∙ get_or-replicate (leaf_count c) i (no_bucket c) d lt
+      ∙ ap (λ (rows : List Row). record { format = c.format; rows = rows }) (leaf_of_none (leaf_in c) i);
+}
+
+abbrev pub Marks : Type 0
+Marks = List (Option (List ℕ))
+
+abbrev dirty_tree : Format → Tree
+dirty_tree format = record { format = format; digests = replicate (node_count format) None }
+
+-- what a new range has
+pub new_range : (c : Config) (entries : List Entry) (leaves : List Bucket) (marks : Tree) → IsTrue (is_config c) → entries ≡ [] → leaves ≡ replicate (leaf_count c) (no_bucket c) → marks ≡ dirty_tree c.format
+    → IsRight (record { config = c; entries = entries; marks = marks.digests }) × AreLeaves c entries leaves × (record { config = c; entries = entries; marks = marks.digests } ≡ fresh c)
+unfolding all_dirty
+new_range c entries leaves marks h none rows dirty =
+    let back : record { config = c; entries = entries; marks = marks.digests } ≡ fresh c = λ i. record { config = c; entries = none i; marks = (dirty i).digests } in
+    (subst IsRight (sym back) (fresh_right c h), subst (λ (t : List Entry). AreLeaves c t leaves) (sym none) (fresh_leaves c leaves rows), back)
 
 -- ---- causes
 
@@ -115,6 +147,10 @@ first_none (Some x) b e = absurd (let no : Some x ≡ None = e in cc)
 no_fault : (b : Bool) (e : Refusal) → cond b None (Some e) ≡ None → b ≡ true
 no_fault true e h = refl
 no_fault false e h = absurd (let no : Some e ≡ None = h in cc)
+
+-- a key and a value that have their place here are within the limits
+pub in_limits : (c : Config) (key : List ℕ) (kind : Kind) (value : List ℕ) → place_fault c key kind value ≡ None → (key_fault key ≡ None) × (value_fault c.format kind value ≡ None)
+in_limits c key kind value h = (first_none (key_fault key) _ h, first_none (value_fault c.format kind value) _ (later_none (key_fault key) _ h))
 
 -- a key and a value that have their place here
 own : (c : Config) (e : Entry) → place_fault c e.key e.version.kind e.version.value ≡ None → IsOwn c e
@@ -141,12 +177,12 @@ room_left s log entries limit h =
     ]
 
 -- an offer that fits is refused for want of memory alone
-pub admit_err : (s : State) (leaves : List (List Row)) (leaf : ℕ) (key : List ℕ) (v w : Version) (rows : List Row) (e : Refusal) → AreLeaves s leaves → leaf ≡ leaf_in s.config key → rows ≡ get_or leaves leaf [] → w ≡ v
+pub admit_err : (s : State) (leaves : List Bucket) (leaf : ℕ) (key : List ℕ) (v w : Version) (b : Bucket) (e : Refusal) → AreLeaves s.config s.entries leaves → leaf ≡ leaf_in s.config key → b ≡ get_or leaves leaf b → w ≡ v
     → full_fault s ≡ None → offer_fault v (held s.entries key) ≡ None
-    → ((offer_fault w (versions_in key rows) ≡ None) × (e ≡ NoMemory)) ⊎ (offer_fault w (versions_in key rows) ≡ Some e) → ((full_fault s ≡ None) × (e ≡ NoMemory)) ⊎ (full_fault s ≡ Some e)
-admit_err s leaves leaf key v w rows e ok at is copy room fits h =
-    let here = set_here s leaves leaf key rows ok at is in
-    let same : offer_fault w (versions_in key rows) ≡ None = (λ i. offer_fault (copy i) (here i)) ∙ fits in
+    → ((offer_fault w (versions_in key b.rows) ≡ None) × (e ≡ NoMemory)) ⊎ (offer_fault w (versions_in key b.rows) ≡ Some e) → ((full_fault s ≡ None) × (e ≡ NoMemory)) ⊎ (full_fault s ≡ Some e)
+admit_err s leaves leaf key v w b e ok at is copy room fits h =
+    let here = set_here s leaves leaf key b ok at is in
+    let same : offer_fault w (versions_in key b.rows) ≡ None = (λ i. offer_fault (copy i) (here i)) ∙ fits in
     elim h [
       | inl m ↦ inl (room, m.1)
       | inr f ↦ absurd (let no : Some e ≡ None = sym f ∙ same in cc)
@@ -158,17 +194,32 @@ stale versions set clock clocks is seen are = subst (λ (t : List Version). stal
 
 -- ---- after an entry
 
-grown-right : (s : State) (e : Entry) → IsRight s → place_fault s.config e.key e.version.kind e.version.value ≡ None → covered e.version (held s.entries e.key) ≡ false → IsRight (journaled s e)
-grown-right s e ok here unknown = record {
+-- a leaf's number is that of a leaf of the tree
+pub leaf_in_tree : (c : Config) (key : List ℕ) → leaf_in c key < 16 ^ tree_depth c.format
+leaf_in_tree c key = within c.format (leaf_in c key) (leaf_below c key)
+  where
+    within : (f : Format) (n : ℕ) → n < 2 ^ leaf_bits f → n < 16 ^ tree_depth f
+    within One n h = h
+    within Two n h = h
+
+grown-right : (s : State) (e : Entry) → IsRight s → place_fault s.config e.key e.version.kind e.version.value ≡ None → covered e.version (held s.entries e.key) ≡ false → IsTree (tree_of (journaled s e)) → IsRight (journaled s e)
+grown-right s e ok here unknown tree = record {
   config = ok.config;
   own = all-push (IsOwn s.config) s.entries e ok.own (own s.config e here);
   news = AreNews-push s.entries e ok.news (sym (covered-held e.version s.entries e.key) ∙ unknown);
+  marks = record {
+    tree = tree;
+    digests = subst (λ (rows : List Row). AreTrue s.config.format (leaf_in s.config) rows (dirtied s.config.format (leaf_in s.config e.key) s.marks)) (sym (rows_of-push s.entries e))
+        (true_kept s.config.format (leaf_in s.config) (rows_of s.entries) e.key e.version s.marks (rows_of-ascend s.entries) ok.marks.digests (leaf_in_tree s.config e.key));
+  };
 }
 
-grown-leaves : (s : State) (leaves : List (List Row)) (e : Entry) (new : List Row) → AreLeaves s leaves → new ≡ with_offer e.key e.version (get_or leaves (leaf_in s.config e.key) []) → AreLeaves (journaled s e) (set leaves (leaf_in s.config e.key) new)
+grown-leaves : (s : State) (leaves : List Bucket) (e : Entry) (new : Bucket) → AreLeaves s.config s.entries leaves
+    → new ≡ record { format = s.config.format; rows = with_offer e.key e.version (rows_at (leaf_in s.config) (leaf_in s.config e.key) (rows_of s.entries)) }
+    → AreLeaves s.config (s.entries ++ e ∷ []) (set leaves (leaf_in s.config e.key) new)
 grown-leaves s leaves e new ok is = record {
   all = simp length-set ok.all;
-  each = λ i lt. each_leaf i lt;
+  each = λ i d lt. each_leaf i d lt;
 }
   where
     eq_itself : (n : ℕ) → nat_eq n n ≡ true
@@ -177,42 +228,52 @@ grown-leaves s leaves e new ok is = record {
     apart : (a b : ℕ) → a ≢ b → nat_eq a b ≡ false
     apart a b h = grind (arith, nat_tests)
 
-    each_leaf : (i : ℕ) → i < leaf_count s.config → get_or (set leaves (leaf_in s.config e.key) new) i [] ≡ rows_at (leaf_in s.config) i (rows_of (s.entries ++ e ∷ []))
-    each_leaf i lt =
+    of_rows : List Row → Bucket
+    of_rows rows = record { format = s.config.format; rows = rows }
+
+    -- the rows of a leaf after the entry
+    grown : (i : ℕ) (b : Bool) → nat_eq (leaf_in s.config e.key) i ≡ b → bucket_of s.config (s.entries ++ e ∷ []) i ≡ of_rows (cond b (with_offer e.key e.version (rows_at (leaf_in s.config) i (rows_of s.entries))) (rows_at (leaf_in s.config) i (rows_of s.entries)))
+    grown i b h = ap of_rows (leaf-push (leaf_in s.config) s.entries e i ∙ ap (λ t. cond t (with_offer e.key e.version (rows_at (leaf_in s.config) i (rows_of s.entries))) (rows_at (leaf_in s.config) i (rows_of s.entries))) h)
+
+    each_leaf : (i : ℕ) (d : Bucket) → i < leaf_count s.config → get_or (set leaves (leaf_in s.config e.key) new) i d ≡ bucket_of s.config (s.entries ++ e ∷ []) i
+    each_leaf i d lt =
         let l = leaf_in s.config e.key in
         let below = leaf_below s.config e.key in
         elim (cases_eq i l) [
           | inl same ↦
-              let got : get_or (set leaves l new) l [] ≡ new = get_or-set_same leaves l new [] (omega (arith, ok.all, below)) in
-              let rows : get_or leaves l [] ≡ rows_at (leaf_in s.config) l (rows_of s.entries) = ok.each l below in
-              subst (λ (j : ℕ). get_or (set leaves l new) j [] ≡ rows_at (leaf_in s.config) j (rows_of (s.entries ++ e ∷ []))) (sym same)
-              (got ∙ is ∙ ap (with_offer e.key e.version) rows ∙ sym (leaf-push (leaf_in s.config) s.entries e l ∙ ap (λ b. cond b (with_offer e.key e.version (rows_at (leaf_in s.config) l (rows_of s.entries))) (rows_at (leaf_in s.config) l (rows_of s.entries))) (eq_itself l)))
+              let got : get_or (set leaves l new) l d ≡ new = get_or-set_same leaves l new d (omega (arith, ok.all, below)) in
+              subst (λ (j : ℕ). get_or (set leaves l new) j d ≡ bucket_of s.config (s.entries ++ e ∷ []) j) (sym same)
+              (got ∙ is ∙ sym (grown l true (eq_itself l)))
           | inr other ↦
               let off : nat_eq l i ≡ false = apart l i (λ h. other (sym h)) in
-              get_or-set_other leaves l i new [] other ∙ ok.each i lt ∙ sym (leaf-push (leaf_in s.config) s.entries e i ∙ ap (λ b. cond b (with_offer e.key e.version (rows_at (leaf_in s.config) i (rows_of s.entries))) (rows_at (leaf_in s.config) i (rows_of s.entries))) off)
+              get_or-set_other leaves l i new d other ∙ ok.each i d lt ∙ sym (grown i false off)
         ]
 
 -- a range after an entry that is news
-pub admitted : (s : State) (leaves : List (List Row)) (leaf : ℕ) (e : Entry) (entries : List Entry) (rows new : List Row) (key : List ℕ) (w : Version) → IsRight s → AreLeaves s leaves
+pub admitted : (s : State) (leaves : List Bucket) (leaf : ℕ) (e : Entry) (entries : List Entry) (marks : Marks) (b new : Bucket) (key : List ℕ) (w : Version) → IsRight s → AreLeaves s.config s.entries leaves
     → leaf ≡ leaf_in s.config e.key → place_fault s.config e.key e.version.kind e.version.value ≡ None → knows s e.key e.version ≡ false
-    → rows ≡ get_or leaves leaf [] → key ≡ e.key → w ≡ e.version → new ≡ with_offer key w rows → entries ≡ s.entries ++ e ∷ []
-    → IsRight (record { config = s.config; entries = entries }) × AreLeaves (record { config = s.config; entries = entries }) (set leaves leaf new)
-admitted s leaves leaf e entries rows new key w ok are at here news was k copy now es =
-    let made : new ≡ with_offer e.key e.version (get_or leaves (leaf_in s.config e.key) []) = now ∙ (λ i. with_offer (k i) (copy i) (was i)) ∙ ap (λ (n : ℕ). with_offer e.key e.version (get_or leaves n [])) at in
-    let done = grown-leaves s leaves e new are made in
-    let back : s.entries ++ e ∷ [] ≡ entries = sym es in (
-      subst (λ (t : List Entry). IsRight (record { config = s.config; entries = t })) back (grown-right s e ok here (covered-maximal e.version (accepted s.entries e.key) ∙ news)),
-      subst (λ (n : ℕ). AreLeaves (record { config = s.config; entries = entries }) (set leaves n new)) (sym at)
-          (subst (λ (t : List Entry). AreLeaves (record { config = s.config; entries = t }) (set leaves (leaf_in s.config e.key) new)) back done),
+    → b ≡ get_or leaves leaf b → key ≡ e.key → w ≡ e.version → new ≡ record { format = b.format; rows = with_offer key w b.rows } → entries ≡ s.entries ++ e ∷ []
+    → marks ≡ dirtied s.config.format leaf s.marks → IsTree (record { format = s.config.format; digests = marks })
+    → IsRight (record { config = s.config; entries = entries; marks = marks }) × AreLeaves s.config entries (set leaves leaf new)
+admitted s leaves leaf e entries marks b new key w ok are at here news was k copy now es path tree =
+    let rows = rows_here s leaves leaf e.key b are at was in
+    let made : new ≡ record { format = s.config.format; rows = with_offer e.key e.version (rows_at (leaf_in s.config) (leaf_in s.config e.key) (rows_of s.entries)) } =
+    now ∙ (λ i. record { format = (rows i).format; rows = with_offer (k i) (copy i) (rows i).rows }) ∙ ap (λ (n : ℕ). record { format = s.config.format; rows = with_offer e.key e.version (rows_at (leaf_in s.config) n (rows_of s.entries)) }) at in
+    let dirty : marks ≡ dirtied s.config.format (leaf_in s.config e.key) s.marks = path ∙ ap (λ (n : ℕ). dirtied s.config.format n s.marks) at in
+    let right = grown-right s e ok here (covered-maximal e.version (accepted s.entries e.key) ∙ news) (subst (λ (m : Marks). IsTree (record { format = s.config.format; digests = m })) dirty tree) in (
+      subst (λ (m : Marks). IsRight (record { config = s.config; entries = entries; marks = m })) (sym dirty)
+          (subst (λ (t : List Entry). IsRight (record { config = s.config; entries = t; marks = dirtied s.config.format (leaf_in s.config e.key) s.marks })) (sym es) right),
+      subst (λ (n : ℕ). AreLeaves s.config entries (set leaves n new)) (sym at)
+          (subst (λ (t : List Entry). AreLeaves s.config t (set leaves (leaf_in s.config e.key) new)) (sym es) (grown-leaves s leaves e new are made)),
     )
 
 -- a range where a leaf was offered a version in vain
-pub in_vain : (s : State) (leaves : List (List Row)) (leaf : ℕ) (entries : List Entry) (rows new : List Row) → IsRight s → AreLeaves s leaves → rows ≡ get_or leaves leaf [] → new ≡ rows → entries ≡ s.entries
-    → IsRight (record { config = s.config; entries = entries }) × AreLeaves (record { config = s.config; entries = entries }) (set leaves leaf new)
-in_vain s leaves leaf entries rows new ok are was same es =
-    let back : set leaves leaf new ≡ leaves = ap (set leaves leaf) (same ∙ was) ∙ set-get_or leaves leaf [] in (
-      subst (λ (t : List Entry). IsRight (record { config = s.config; entries = t })) (sym es) ok,
-      subst (AreLeaves (record { config = s.config; entries = entries })) (sym back) (subst (λ (t : List Entry). AreLeaves (record { config = s.config; entries = t }) leaves) (sym es) are),
+pub in_vain : (s : State) (leaves : List Bucket) (leaf : ℕ) (entries : List Entry) (b new : Bucket) → IsRight s → AreLeaves s.config s.entries leaves → b ≡ get_or leaves leaf b → new ≡ b → entries ≡ s.entries
+    → IsRight (record { config = s.config; entries = entries; marks = s.marks }) × AreLeaves s.config entries (set leaves leaf new)
+in_vain s leaves leaf entries b new ok are was same es =
+    let back : set leaves leaf new ≡ leaves = ap (set leaves leaf) (same ∙ was) ∙ set-get_or leaves leaf b in (
+      subst (λ (t : List Entry). IsRight (record { config = s.config; entries = t; marks = s.marks })) (sym es) ok,
+      subst (AreLeaves s.config entries) (sym back) (subst (λ (t : List Entry). AreLeaves s.config t leaves) (sym es) are),
     )
 
 -- ---- what is known
@@ -232,13 +293,13 @@ unseen v (w ∷ S) r h =
     ] in
     rw (same, below) (unseen v S r parts.1)
 
-fresh : (b : Bool) (e : Refusal) → cond b (Some e) None ≡ None → b ≡ false
-fresh true e h = absurd (let no : Some e ≡ None = h in cc)
-fresh false e h = refl
+passed : (b : Bool) (e : Refusal) → cond b (Some e) None ≡ None → b ≡ false
+passed true e h = absurd (let no : Some e ≡ None = h in cc)
+passed false e h = refl
 
 -- a version whose clock is not stale is news
 pub news : (s : State) (key : List ℕ) (v : Version) → Rises 0 v.clock → stale_fault (held s.entries key) v.clock ≡ None → knows s key v ≡ false
-news s key v r h = sym (knows_held s key v) ∙ unseen v (held s.entries key) r (fresh _ (StaleContext _) h)
+news s key v r h = sym (knows_held s key v) ∙ unseen v (held s.entries key) r (passed _ (StaleContext _) h)
 
 -- ---- why a version that is not known is refused
 

@@ -1,6 +1,6 @@
 -- Runs of the range machine: what each event may answer and leave.
-use Rattle.std.specs.Prelude.{◌≡◌, Result, List, [], ◌∷◌, ℕ}
-use Rattle.vclock.specs.Answer.{Answers, AnswersOrNoMemory}
+use Rattle.std.specs.Prelude.{◌≡◌, ⊤, Result, Option, List, [], ◌∷◌, ℕ}
+use Rattle.vclock.specs.Answer.{Answers, AnswersAtOnce, AnswersOrNoMemory}
 use Rattle.vclock.specs.declared.refusal.Refusal.{Refusal}
 use Rattle.std.specs.Prelude.{None, OnOk, OnErr}
 use Rattle.version_set.specs.declared.version.Version.{Version}
@@ -11,9 +11,11 @@ use Rattle.range_state.specs.declared.event.Event.{Event}
 use Rattle.range_state.specs.declared.event.Event.TheVariants as events
 use Rattle.range_state.specs.declared.event.PutEvent.{PutEvent}
 use Rattle.range_state.specs.declared.event.AcceptEvent.{AcceptEvent}
+use Rattle.range_state.specs.declared.event.InstallEvent.{InstallEvent}
 use Rattle.range_state.specs.declared.event.Reply.{Reply}
 use Rattle.range_state.specs.declared.event.Reply.TheVariants as replies
-use Rattle.range_state.specs.State.{State, IsRight, journaled, put_fault, put_entry, accept_fault, accept_step, accept_reply}
+use Rattle.range_state.specs.State.{State, IsRight, GivesJob, journaled, put_fault, put_entry, accept_fault, accept_step, accept_reply, install_fault, installed}
+use Rattle.rehash.specs.Jobs.{NodeText}
 
 -- a put answered its entry, which the journal has from then on; or it was refused, and nothing changed
 abbrev pub PutStep : State → PutEvent → Result Entry Refusal → State → Type 0
@@ -27,11 +29,21 @@ AcceptStep s a r t = Answers r (accept_fault s a.key a.version) (λ x. x ≡ acc
 abbrev pub GetStep : State → List ℕ → Result (List Version) Refusal → State → Type 0
 GetStep s key r t = Answers r None (λ set. set ≡ held s.entries key) × (t ≡ s)
 
+-- a job was answered, or none, and nothing changed
+abbrev pub TakeJobStep : State → Result (Option NodeText) Refusal → State → Type 0
+TakeJobStep s r t = Answers r None (GivesJob s) × (t ≡ s)
+
+-- a node got the digest of its text; or it was refused, and nothing changed
+abbrev pub InstallStep : State → InstallEvent → Result ⊤ Refusal → State → Type 0
+InstallStep s i r t = AnswersAtOnce r (install_fault s i.node i.hashed) (λ _. ⊤) × OnOk r (t ≡ installed s i.node i.hashed) × OnErr r (t ≡ s)
+
 -- from s, the event is answered by the reply, and leaves t
 unfoldable pub IsStep : State → Event → Reply → State → Type 0
 IsStep s (events.Put p) reply t = (r : Result Entry Refusal) × (reply ≡ replies.Put r) × PutStep s p r t
 IsStep s (events.Accept a) reply t = (r : Result Accepted Refusal) × (reply ≡ replies.Accept r) × AcceptStep s a r t
 IsStep s (events.Get key) reply t = (r : Result (List Version) Refusal) × (reply ≡ replies.Get r) × GetStep s key r t
+IsStep s (events.TakeJob skip) reply t = (r : Result (Option NodeText) Refusal) × (reply ≡ replies.TakeJob r) × TakeJobStep s r t
+IsStep s (events.Install i) reply t = (r : Result ⊤ Refusal) × (reply ≡ replies.Install r) × InstallStep s i r t
 
 -- from s, the events are answered by the replies, one by one, over states that are all right, and leave t
 unfoldable pub Run : State → List Event → List Reply → State → Type 0

@@ -1,11 +1,15 @@
--- The range machine: its state, which has no rows, and what its calls answer and change.
-use Rattle.std.specs.Prelude.{◌≡◌, ℕ, ◌<◌, ◌^◌, Bool, ◌==◌, nat_lt, ◌++◌, List, [], ◌∷◌, length, map, slice_index_or, IsTrue, Option, Some, None, if◌then◌else◌}
+-- The range machine: its state, which has no rows, and what its calls answer and change. Trees are those of the paper of 2007,
+-- section 4.7.
+use Rattle.std.specs.Prelude.{◌≡◌, ℕ, ◌<◌, ◌-◌, ◌^◌, Bool, ◌==◌, ◌&&◌, nat_eq, nat_le, nat_lt, ◌++◌, List, [], ◌∷◌, length, map, take, replicate, slice_index_or, slice_set, IsTrue, Option, Some, None, if◌then◌else◌}
 use Rattle.std.specs.List.{list_any, AllByRecursion}
+use Rattle.std.specs.Cmp.Lexicographic.{pointwise}
+use Rattle.sha2.specs.Sha256.{sha256}
 use Rattle.vclock.specs.Answer.{first_fault}
 use Rattle.vclock.specs.Clock.{at_most, raised, raise_fault, Pairs}
 use Rattle.vclock.specs.Keys.{key_fault}
+use Rattle.vclock.specs.declared.format.Format.{Format}
 use Rattle.vclock.specs.declared.refusal.Refusal.{Refusal}
-use Rattle.vclock.specs.declared.refusal.Refusal.TheVariants.{OtherRange, JournalFull, StaleContext}
+use Rattle.vclock.specs.declared.refusal.Refusal.TheVariants.{OtherRange, JournalFull, Stale, StaleContext}
 use Rattle.version_set.specs.Kind.{value_fault}
 use Rattle.version_set.specs.Version.{covered, offer_fault}
 use Rattle.version_set.specs.declared.kind.Kind.{Kind}
@@ -16,16 +20,29 @@ use Rattle.range_journal.specs.declared.journal.Source.TheVariants.{Client}
 use Rattle.range_journal.specs.Journal.{accepted, held, AreNews}
 use Rattle.row_bytes.specs.declared.row.Row.{Row}
 use Rattle.key_ring.specs.Places.{range_at, leaf_at, leaf_bits}
-use Rattle.hash_tree.specs.Leaves.{rows_at}
+use Rattle.hash_tree.specs.Leaves.{Bucket, rows_at}
+use Rattle.hash_tree.specs.Nodes.{Tree, tree_depth, node_count, place_at, children_of, are_clean, is_ready, ready_from, dirtied}
+use Rattle.hash_tree.specs.Texts.{node_text, IsTreeFor}
+use Rattle.hash_tree.specs.declared.node.NodeAt.{NodeAt}
+use Rattle.rehash.specs.Jobs.{NodeText}
 use Rattle.range_state.specs.declared.event.Accepted.{Accepted}
 use Rattle.range_state.specs.declared.event.Accepted.TheVariants.{Taken, Known}
 use Rattle.range_state.specs.Config.{Config, is_config}
 use Rattle.range_state.specs.Rows.{rows_of}
 
--- which range it is, and the entries of its journal
+-- which range it is, the entries of its journal, and by place the digests of the clean nodes of its tree
 pub record State : Type 0 where
   pub config : Config
   pub entries : List Entry
+  pub marks : List (Option (List ℕ))
+
+-- no node is clean
+unfoldable pub all_dirty : Format → List (Option (List ℕ))
+all_dirty format = replicate (node_count format) None
+
+-- a range that has accepted nothing
+abbrev pub fresh : Config → State
+fresh c = record { config = c; entries = []; marks = all_dirty c.format }
 
 -- the leaf of a key
 abbrev pub leaf_in : Config → List ℕ → ℕ
@@ -43,9 +60,9 @@ place_fault c key kind value = first_fault (key_fault key) (first_fault (value_f
 abbrev pub entry_of : State → ℕ → Source → List ℕ → Version → Entry
 entry_of s seat source key v = record { number = length s.entries; seat = seat; source = source; key = key; version = v }
 
--- the state with an entry at the end
+-- the state with an entry at the end: the leaf of its key is dirty, and so is each node above
 abbrev pub journaled : State → Entry → State
-journaled s e = record { config = s.config; entries = s.entries ++ e ∷ [] }
+journaled s e = record { config = s.config; entries = s.entries ++ e ∷ []; marks = dirtied s.config.format (leaf_in s.config e.key) s.marks }
 
 -- why no entry can come
 abbrev pub full_fault : State → Option Refusal
@@ -90,19 +107,69 @@ put_fault s at key context kind value = first_fault (ask_fault s.config at key c
 abbrev pub put_entry : State → ℕ → ℕ → List ℕ → Pairs → Kind → List ℕ → Entry
 put_entry s seat at key context kind value = entry_of s seat Client key (put_version at context kind value)
 
+-- whether the range's tree has a node
+abbrev pub has_node : Config → NodeAt → Bool
+has_node c node = nat_le node.depth (tree_depth c.format)
+
+-- the place of a node
+abbrev pub place_of : NodeAt → ℕ
+place_of node = place_at node.depth node.index
+
+-- the text of a node for the rows now
+abbrev pub text_in : State → NodeAt → List ℕ
+text_in s node = node_text s.config.format (leaf_in s.config) (rows_of s.entries) (tree_depth s.config.format - node.depth) node.index
+
+-- a job: a dirty node with clean children, and its text
+pub record IsJob (s : State) (job : NodeText) : Type 0 where
+  pub has : IsTrue (has_node s.config job.node)
+  pub ready : IsTrue (is_ready s.marks (place_of job.node))
+  pub text : job.text ≡ text_in s job.node
+
+-- a job, or none where no node is dirty
+abbrev pub GivesJob : State → Option NodeText → Type 0
+GivesJob s (Some job) = IsJob s job
+GivesJob s None = IsTrue (are_clean s.marks)
+
+-- jobs of different nodes: of all dirty nodes with clean children, or of that many where there are more
+pub record AreJobs (s : State) (most : ℕ) (jobs : List NodeText) : Type 0 where
+  pub nodes : map (λ (job : NodeText). place_of job.node) jobs ≡ take most (ready_from s.marks 0)
+  pub each : AllByRecursion (IsJob s) jobs
+
+-- whether a node's digest can be that of a text: the tree has the node, its children are clean, and it has that text now
+abbrev pub is_current : State → NodeAt → List ℕ → Bool
+is_current s node text = has_node s.config node && are_clean (children_of s.marks (place_of node)) && pointwise nat_eq text (text_in s node)
+
+-- why a digest is not installed
+abbrev pub install_fault : State → NodeAt → List ℕ → Option Refusal
+install_fault s node text = if is_current s node text then None else Some Stale
+
+-- the state with the digest of a text
+abbrev pub installed : State → NodeAt → List ℕ → State
+installed s node text = record { config = s.config; entries = s.entries; marks = slice_set s.marks (place_of node) (Some (sha256 text)) }
+
 -- an entry within the limits, of this range
 pub record IsOwn (c : Config) (e : Entry) : Type 0 where
   pub key : key_fault e.key ≡ None
   pub value : value_fault c.format e.version.kind e.version.value ≡ None
   pub here : range_at c.bits e.key ≡ c.range
 
--- what holds of each state: the entries are of the range, and each was news
+-- the tree that the marks are of
+abbrev pub tree_of : State → Tree
+tree_of s = record { format = s.config.format; digests = s.marks }
+
+-- what holds of each state: the entries are of the range, each was news, the children of a clean node are clean, and each clean
+-- node has the digest of its text for the rows now
 pub record IsRight (s : State) : Type 0 where
   pub config : IsTrue (is_config s.config)
   pub own : AllByRecursion (IsOwn s.config) s.entries
   pub news : AreNews s.entries
+  pub marks : IsTreeFor (leaf_in s.config) (rows_of s.entries) (tree_of s)
+
+-- the rows of a leaf
+abbrev pub bucket_of : Config → List Entry → ℕ → Bucket
+bucket_of c entries leaf = record { format = c.format; rows = rows_at (leaf_in c) leaf (rows_of entries) }
 
 -- the leaves have the journal's rows, each leaf its own
-pub record AreLeaves (s : State) (leaves : List (List Row)) : Type 0 where
-  pub all : length leaves ≡ leaf_count s.config
-  pub each : (i : ℕ) → i < leaf_count s.config → slice_index_or leaves i [] ≡ rows_at (leaf_in s.config) i (rows_of s.entries)
+pub record AreLeaves (c : Config) (entries : List Entry) (leaves : List Bucket) : Type 0 where
+  pub all : length leaves ≡ leaf_count c
+  pub each : (i : ℕ) (d : Bucket) → i < leaf_count c → slice_index_or leaves i d ≡ bucket_of c entries i

@@ -2,7 +2,10 @@
 ghost use Rattle.std.specs.Prelude.{◌≤◌, IsTrue};
 ghost use Rattle.range_state.specs.Sent.{is_sent};
 
+use hash_tree::hashed::Hashed;
+use hash_tree::node::NodeAt;
 use range_journal::journal::{Entry, Source};
+use rehash::job::Job;
 use vclock::bytes::Bytes;
 use vclock::clock::Clock;
 use vclock::refusal::Refusal;
@@ -54,6 +57,15 @@ pub struct AcceptEvent {
     pub ghost sent: { IsTrue (is_sent source) },
 }
 
+/// A node's text with its digest.
+#[derive(Debug, Drop)]
+pub struct InstallEvent {
+    /// The node.
+    pub node: NodeAt,
+    /// A text with its digest: that of the node, if it is to be installed.
+    pub hashed: Hashed,
+}
+
 /// A call of a range.
 #[derive(Debug, Drop)]
 pub enum Event {
@@ -63,6 +75,10 @@ pub enum Event {
     Accept(AcceptEvent),
     /// `get` of a key.
     Get(Bytes),
+    /// `take_job` with a number that tells workers apart.
+    TakeJob(u64),
+    /// `install`.
+    Install(InstallEvent),
 }
 
 /// What a call answered.
@@ -74,4 +90,8 @@ pub enum Reply {
     Accept(Result<Accepted, Refusal>),
     /// The versions that are held for a key.
     Get(Result<VersionSet, Refusal>),
+    /// A job, or none where every node is clean.
+    TakeJob(Result<Option<Job>, Refusal>),
+    /// Whether a node got its digest.
+    Install(Result<(), Refusal>),
 }

@@ -1,7 +1,8 @@
-//! The state of a range: the journal of what it accepted, and the rows that the journal makes.
+//! The state of a range: the journal of what it accepted, the rows that the journal makes, and the digests of their tree.
 //!
 //! - [`config`]: which range a state is of, and its limits.
-//! - [`state`]: the state and its calls: `put`, `accept`, `get`.
+//! - [`state`]: the state and its calls: `put`, `accept`, `get`, and for the tree `take_job`, `take_jobs`,
+//!   `install`, `digest_at` and `rehash`.
 //! - [`event`], [`run`]: the same calls as events, and lists of them.
 //! - [`laws`]: what the definitions of rows say.
 #![tactic(auto)]

@@ -63,6 +63,15 @@ impl RangeState {
                 let _right = self.journal();
                 Reply::Get(self.get(alloc, key.as_slice()))
             }
+            Event::TakeJob(skip) => {
+                let _right = self.journal();
+                Reply::TakeJob(self.take_job(alloc, skip))
+            }
+            Event::Install(install) => {
+                let installed = self.install(install.node, &install.hashed);
+                let _right = self.journal();
+                Reply::Install(installed)
+            }
         }
     }
 }

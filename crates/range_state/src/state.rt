@@ -1,5 +1,5 @@
 //! The state of a range.
-ghost use Rattle.std.specs.Prelude.{◌≡◌, ◌<◌, ◌≤◌, ⊤, [], false, if◌then◌else◌, None, Some, unwrap_or, option_map, replicate, IsTrue, IfOk, IfErr, OnOk, OnErr};
+ghost use Rattle.std.specs.Prelude.{◌≡◌, ◌<◌, ◌≤◌, ◌^◌, ⊤, [], false, if◌then◌else◌, None, Some, unwrap_or, option_map, replicate, IsTrue, IfOk, IfErr, OnOk, OnErr};
 ghost use Rattle.std.specs.List.{list_any, AllByRecursion};
 ghost use Rattle.vclock.specs.Answer.{Answers, AnswersAtOnce, AnswersOrNoMemory};
 ghost use Rattle.vclock.specs.Clock.{at_most};
@@ -7,14 +7,16 @@ ghost use Rattle.version_set.specs.Kind.{value_fault};
 ghost use Rattle.version_set.specs.Version.{covered, offer_fault};
 ghost use Rattle.range_journal.specs.Journal.{held};
 ghost use Rattle.range_journal.specs.declared.journal.Source.{Source};
+ghost use Rattle.key_ring.specs.Places.{leaf_bits};
 ghost use Rattle.hash_tree.specs.Leaves.{IsPlace, rows_at};
 ghost use Rattle.range_state.specs.Sent.{is_sent};
 ghost use Rattle.range_state.specs.Rows.{rows_of};
-ghost use Rattle.range_state.specs.State.{IsRight, leaf_in, leaf_count, place_fault, ask_fault, stale_fault, full_fault, accept_fault, put_fault, entry_of, put_entry, put_version, journaled, knows, accept_step, accept_reply};
+ghost use Rattle.range_state.specs.State.{IsRight, fresh, leaf_in, leaf_count, place_fault, ask_fault, stale_fault, full_fault, accept_fault, put_fault, entry_of, put_entry, put_version, journaled, knows, accept_step, accept_reply};
 
 use crate::config::RangeConfig;
 use crate::event::{Accepted, Receipt};
 use hash_tree::leaf::FoundRow;
+use hash_tree::marks::Marks;
 use hash_tree::shared::SharedLeaf;
 use key_ring::places::place;
 use range_journal::journal::{Journal, Source};
@@ -30,13 +32,18 @@ use version_set::kind::Kind;
 use version_set::set::VersionSet;
 use version_set::version::Version;
 
-/// One replica of a range: the journal of the versions that it accepted, and its rows, which are exactly the maximal
-/// versions of the journal, key by key, in the leaves of the range's tree.
+mod bulk;
+mod tree;
+
+/// One replica of a range: the journal of the versions that it accepted; its rows, which are exactly the maximal versions
+/// of the journal, key by key, in the leaves of the range's tree; and the digests of the tree's clean nodes, each of
+/// which is that of the node's text for the rows now.
 #[derive(Drop)]
 pub struct RangeState {
     config: RangeConfig,
     journal: Journal,
     leaves: Vec<SharedLeaf>,
+    marks: Marks,
 }
 
 impl Model for RangeState {
@@ -45,26 +52,25 @@ impl Model for RangeState {
 
     ghost Value = { State };
 
-    ghost view = { λ r. record { config = r.config; entries = r.journal.entries } };
+    ghost view = { λ r. record { config = r.config; entries = r.journal.entries; marks = r.marks.digests } };
 
-    ghost invariant = { λ r. IsRight (record { config = r.config; entries = r.journal.entries })
-        × AreLeaves (record { config = r.config; entries = r.journal.entries }) r.leaves.items
-        × (r.journal.limit ≡ r.config.limit) };
+    ghost invariant = { λ r. IsRight (record { config = r.config; entries = r.journal.entries; marks = r.marks.digests })
+        × AreLeaves r.config r.journal.entries r.leaves.items
+        × (r.journal.limit ≡ r.config.limit)
+        × (r.marks.format ≡ r.config.format) };
 }
 
 impl RangeState {
     /// A range that has accepted nothing. Refused: NoMemory.
     pub fn new(alloc: Global, config: RangeConfig) -> Result<RangeState, Refusal>
-        ensures { Answers result None (λ state. state ≡ record { config = config; entries = [] }) }
+        ensures { Answers result None (λ state. state ≡ fresh config) }
     {
-        let leaf_count = match config.format() {
-            Format::One => 256,
-            Format::Two => 4_096,
-        };
+        let format = config.format();
         Ok(RangeState {
             config,
             journal: Journal::new(alloc, config.limit()),
-            leaves: empty_leaves(alloc, leaf_count)?,
+            leaves: empty_leaves(alloc, format)?,
+            marks: Marks::new(alloc, format)?,
         })
     }
 
@@ -75,7 +81,8 @@ impl RangeState {
         self.config
     }
 
-    /// The journal. Its entries are of this range, and each was news when it came. It takes no memory.
+    /// The journal. Its entries are of this range, and each was news when it came; and the marks of the tree are right for
+    /// the rows that the journal makes. It takes no memory.
     pub fn journal(&self) -> &Journal
         ensures entries { result.now.entries ≡ self.now.entries }
         ensures limit { result.now.limit ≡ self.now.config.limit }
@@ -254,17 +261,23 @@ impl RangeState {
         self.leaves[usize::from(leaf)].offer(alloc, key, place, row_version)?;
         self.journal
             .append_reserved(seat, source, entry_key, version);
+        self.marks.dirty(leaf);
         Ok(receipt)
     }
 }
 
-/// So many leaves without rows.
-fn empty_leaves(alloc: Global, count: usize) -> Result<Vec<SharedLeaf>, Refusal>
-    ensures { Answers result None (λ leaves. leaves.items ≡ replicate count []) }
+/// The leaves of a range without rows.
+fn empty_leaves(alloc: Global, format: Format) -> Result<Vec<SharedLeaf>, Refusal>
+    ensures { Answers result None (λ leaves. leaves.items
+        ≡ replicate (2 ^ leaf_bits format) (record { format = format; rows = [] })) }
 {
+    let count = match format {
+        Format::One => 256,
+        Format::Two => 4_096,
+    };
     let mut leaves = Vec::with_capacity(alloc, count)?;
     for _ in 0..count {
-        leaves.push(SharedLeaf::empty())?;
+        leaves.push(SharedLeaf::empty(format))?;
     }
     Ok(leaves)
 }

@@ -1,4 +1,5 @@
 pub mod Limits
+pub mod TextLengths
 pub mod Loops
 pub mod FieldLaws
 pub mod Laws

@@ -3,6 +3,7 @@
 
 mod fault;
 mod fields;
+pub mod lengths;
 pub mod reading;
 pub mod row;
 pub mod stripping;

@@ -1,7 +1,8 @@
 //! Writing rows. What a row's text is, this project's profile says.
-ghost use Rattle.std.specs.Prelude.{◌≡◌, ◌++◌, ◌≤◌, length, None, OnOk};
+ghost use Rattle.std.specs.Prelude.{◌≡◌, ◌++◌, ◌+◌, ◌<◌, ◌≤◌, length, None, OnOk, OnErr};
 ghost use Rattle.std.specs.List.{flat_map, AllByRecursion};
 ghost use Rattle.std.specs.Int.{w16, to_be_bytes};
+ghost use Rattle.std.specs.Vec.{vec_capacity};
 ghost use Rattle.vclock.specs.Answer.{Answers};
 ghost use Rattle.version_set.specs.Kind.{value_fault};
 ghost use Rattle.version_set.specs.Version.{pair_text, plain_text, version_text};
@@ -13,13 +14,26 @@ use vclock::format::Format;
 use vclock::refusal::Refusal;
 use version_set::version::Version;
 
-/// Appends the pairs of a clock: a node in two bytes, then its counter in eight.
+/// Appends a pair of a clock: a node in two bytes, then its counter in eight. Like each of these calls, it fails only
+/// where memory is needed beyond the room of `out`.
+fn put_pair(out: &mut Vec<u8>, pair: (u16, u64)) -> Result<(), AllocError>
+    ensures ok { OnOk result (out.new.items ≡ out.old.items ++ pair_text pair) }
+    ensures room { OnErr result (vec_capacity out.old < length out.old.items + length (pair_text pair)) }
+    ensures grows { vec_capacity out.old ≤ vec_capacity out.new }
+{
+    out.extend_from_slice(&pair.0.to_be_bytes())?;
+    out.extend_from_slice(&pair.1.to_be_bytes())?;
+    Ok(())
+}
+
+/// Appends the pairs of a clock.
 fn put_pairs(out: &mut Vec<u8>, pairs: &[(u16, u64)]) -> Result<(), AllocError>
-    ensures { OnOk result (out.new.items ≡ out.old.items ++ flat_map pair_text pairs.now) }
+    ensures ok { OnOk result (out.new.items ≡ out.old.items ++ flat_map pair_text pairs.now) }
+    ensures room { OnErr result (vec_capacity out.old < length out.old.items + length (flat_map pair_text pairs.now)) }
+    ensures grows { vec_capacity out.old ≤ vec_capacity out.new }
 {
     for pair in pairs {
-        out.extend_from_slice(&pair.0.to_be_bytes())?;
-        out.extend_from_slice(&pair.1.to_be_bytes())?;
+        put_pair(out, *pair)?;
     }
     Ok(())
 }
@@ -27,7 +41,9 @@ fn put_pairs(out: &mut Vec<u8>, pairs: &[(u16, u64)]) -> Result<(), AllocError>
 /// Appends what stands for a version in both formats: all but its kind.
 fn put_plain(out: &mut Vec<u8>, version: &Version) -> Result<(), AllocError>
     requires { length version.now.value ≤ 65536 }
-    ensures { OnOk result (out.new.items ≡ out.old.items ++ plain_text version.now) }
+    ensures ok { OnOk result (out.new.items ≡ out.old.items ++ plain_text version.now) }
+    ensures room { OnErr result (vec_capacity out.old < length out.old.items + length (plain_text version.now)) }
+    ensures grows { vec_capacity out.old ≤ vec_capacity out.new }
 {
     let pairs = version.clock.pairs();
     out.push(pairs.len() as u8)?;
@@ -42,7 +58,9 @@ fn put_plain(out: &mut Vec<u8>, version: &Version) -> Result<(), AllocError>
 #[tactic(auto, using(crate::proofs::Limits::value_short))]
 fn put_version(out: &mut Vec<u8>, format: Format, version: &Version) -> Result<(), AllocError>
     requires { value_fault format version.now.kind version.now.value ≡ None }
-    ensures { OnOk result (out.new.items ≡ out.old.items ++ version_text format version.now) }
+    ensures ok { OnOk result (out.new.items ≡ out.old.items ++ version_text format version.now) }
+    ensures room { OnErr result (vec_capacity out.old < length out.old.items + length (version_text format version.now)) }
+    ensures grows { vec_capacity out.old ≤ vec_capacity out.new }
 {
     match format {
         Format::One => put_plain(out, version),
@@ -57,7 +75,9 @@ fn put_version(out: &mut Vec<u8>, format: Format, version: &Version) -> Result<(
 fn put_versions(out: &mut Vec<u8>, format: Format, versions: &[Version]) -> Result<(), AllocError>
     requires few { length versions.now ≤ 64 }
     requires each { AllByRecursion (λ v. value_fault format v.kind v.value ≡ None) versions.now }
-    ensures { OnOk result (out.new.items ≡ out.old.items ++ to_be_bytes w16 (length versions.now) ++ flat_map (version_text format) versions.now) }
+    ensures ok { OnOk result (out.new.items ≡ out.old.items ++ to_be_bytes w16 (length versions.now) ++ flat_map (version_text format) versions.now) }
+    ensures room { OnErr result (vec_capacity out.old < length out.old.items + length (to_be_bytes w16 (length versions.now) ++ flat_map (version_text format) versions.now)) }
+    ensures grows { vec_capacity out.old ≤ vec_capacity out.new }
 {
     out.extend_from_slice(&(versions.len() as u16).to_be_bytes())?;
     for version in versions {
@@ -66,12 +86,14 @@ fn put_versions(out: &mut Vec<u8>, format: Format, versions: &[Version]) -> Resu
     Ok(())
 }
 
-/// Appends the text of a row (this project's profile). Where memory runs out, some of the text stands at the end of
-/// `out`.
+/// Appends the text of a row (this project's profile). It fails only where memory is needed beyond the room of `out`, and
+/// then some of the text stands at the end.
 #[tactic(auto, unfolding(crate::specs::Rows::row_text), using(crate::proofs::Limits::key_short))]
 pub fn put_row(out: &mut Vec<u8>, format: Format, row: &Row) -> Result<(), AllocError>
     requires { FitsText format row.now }
     ensures ok { OnOk result (out.new.items ≡ out.old.items ++ row_text format row.now) }
+    ensures room { OnErr result (vec_capacity out.old < length out.old.items + length (row_text format row.now)) }
+    ensures grows { vec_capacity out.old ≤ vec_capacity out.new }
 {
     let key = row.key.as_slice();
     out.extend_from_slice(&(key.len() as u16).to_be_bytes())?;

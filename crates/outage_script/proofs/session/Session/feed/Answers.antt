@@ -4,7 +4,7 @@ use Rattle.outage_script.proofs.FeedLemmas.{none_found, one_found, rest_after, f
 use Rattle.outage_script.proofs.session.Session.feed.Goals as goal
 
 pub take_line-requires-clause-inside : goal.take_line-requires-clause-inside
-take_line-requires-clause-inside g c = (one_found c.loop-at.rest.now c.in-Some.at c.in-Some.ensures.0 c.in-Some.ensures.1).inside
+take_line-requires-clause-inside g c κs lives = (one_found c.loop-at.rest.now c.in-Some.at c.in-Some.ensures.0 c.in-Some.ensures.1).inside
 
 pub returns-in-Some-take_line-clause-feeds : goal.returns-in-Some-take_line-clause-feeds
 returns-in-Some-take_line-clause-feeds g c =

@@ -1,63 +1,80 @@
-use Rattle.std.proofs.Common.{◌≡◌, List, None, [], ◌∷◌, ◌++◌, false, sym, subst, ap, ◌∙◌, length, arith}
-use Rattle.std.proofs.lemmas.List.{get_or_read}
+use Rattle.std.proofs.Common.{◌≡◌, List, Option, ℕ, None, [], ◌∷◌, ◌++◌, false, sym, subst, ap, ◌∙◌, length, arith}
 use Rattle.std.proofs.lemmas.Result.{err_from_is_err_and}
 use Rattle.range_journal.specs.declared.journal.Entry.{Entry}
 use Rattle.range_journal.specs.Log.{Log}
-use Rattle.range_state.specs.State.{State, AreLeaves, leaf_in, place_fault, full_fault, knows}
-use Rattle.row_bytes.specs.declared.row.Row.{Row}
-use Rattle.hash_tree.specs.Leaves.{IsPlace, rows_at}
-use Rattle.range_state.specs.Rows.{rows_of}
-use Rattle.range_state.proofs.StateLaws.{leaf_within, rows_here, in_vain, admitted, admit_err, room_left}
+use Rattle.vclock.specs.Keys.{key_fault}
+use Rattle.vclock.specs.declared.format.Format.{Format}
+use Rattle.version_set.specs.Kind.{value_fault}
+use Rattle.hash_tree.specs.Leaves.{Bucket, IsPlace}
+use Rattle.hash_tree.specs.Nodes.{Tree, IsTree, dirtied, tree_depth}
+use Rattle.range_state.specs.State.{State, AreLeaves, bucket_of, leaf_in, place_fault, full_fault, knows}
+use Rattle.range_state.proofs.StateLaws.{leaf_within, leaf_in_tree, rows_here, in_limits, in_vain, admitted, admit_err, room_left}
 use Rattle.range_state.proofs.state.RangeState.admit.Goals as goal
 
 pub index_mut-requires : goal.index_mut-requires
 index_mut-requires c =
-    let ok = subst (λ (s : State). AreLeaves s c.self.inside.leaves.items) c.self.view_is c.self.invariant.1 in
+    let ok = subst (λ (s : State). AreLeaves s.config s.entries c.self.inside.leaves.items) c.self.view_is c.self.invariant.1 in
     let within = leaf_within c.args.self.now c.self.inside.leaves.items c.args.leaf c.args.key.now ok c.requires.leaf in
     omega (arith, within, c.from.ensures, c.self.inside.leaves.ok)
 
-pub offer-requires : goal.offer-requires
-offer-requires c =
-    let ok = subst (λ (s : State). AreLeaves s c.self.inside.leaves.items) c.self.view_is c.self.invariant.1 in
+pub offer-requires-clause-place : goal.offer-requires-clause-place
+offer-requires-clause-place c =
+    let s = c.args.self.now in
+    let ok = subst (λ (s : State). AreLeaves s.config s.entries c.self.inside.leaves.items) c.self.view_is c.self.invariant.1 in
     let at = c.from.ensures ∙ c.requires.leaf in
-    let within = leaf_within c.args.self.now c.self.inside.leaves.items c.from.result c.args.key.now ok at in
-    let read = get_or_read c.self.inside.leaves.items _ _ within c.index_mut.ensures.value [] in
-    let rows = rows_here c.args.self.now c.self.inside.leaves.items c.from.result c.args.key.now c.index_mut.result.now ok at read in
-    subst (λ (t : List Row). IsPlace c.args.key.now t c.args.place) (sym (rows ∙ ap (λ n. rows_at (leaf_in c.args.self.now.config) n (rows_of c.args.self.now.entries)) c.from.ensures)) c.requires.place
+    let rows = rows_here s c.self.inside.leaves.items c.from.result c.args.key.now c.index_mut.result.now ok at c.index_mut.ensures.value in
+    subst (λ (b : Bucket). IsPlace c.args.key.now b.rows c.args.place) (sym (rows ∙ ap (bucket_of s.config s.entries) c.from.ensures)) c.requires.place
+
+pub offer-requires-clause-key : goal.offer-requires-clause-key
+offer-requires-clause-key c = (in_limits c.args.self.now.config c.args.key.now c.args.version.kind c.args.version.value c.requires.here).0
+
+pub offer-requires-clause-value : goal.offer-requires-clause-value
+offer-requires-clause-value c =
+    let s = c.args.self.now in
+    let ok = subst (λ (s : State). AreLeaves s.config s.entries c.self.inside.leaves.items) c.self.view_is c.self.invariant.1 in
+    let at = c.from.ensures ∙ c.requires.leaf in
+    let rows = rows_here s c.self.inside.leaves.items c.from.result c.args.key.now c.index_mut.result.now ok at c.index_mut.ensures.value in
+    let copy = c.in_ok-row_version.ensures.1 in
+    (λ i. value_fault (rows i).format (copy i).kind (copy i).value) ∙ (in_limits s.config c.args.key.now c.args.version.kind c.args.version.value c.requires.here).1
 
 pub invariant_of-self-in_err-offer : goal.invariant_of-self-in_err-offer
 invariant_of-self-in_err-offer c =
-    let s : State = record { config = c.self.inside.config; entries = c.self.inside.journal.entries } in
-    let ok = subst (λ (s : State). AreLeaves s c.self.inside.leaves.items) c.self.view_is c.self.invariant.1 in
-    let within = leaf_within c.args.self.now c.self.inside.leaves.items c.args.leaf c.args.key.now ok c.requires.leaf in
-    let read = get_or_read c.self.inside.leaves.items _ _ (omega (arith, within, c.from.ensures)) c.index_mut.ensures.value [] in
-    let both = in_vain s c.self.inside.leaves.items c.from.result c.reserve.new.self.entries c.index_mut.result.now c.offer.new.self c.self.invariant.0 c.self.invariant.1 read c.in_err-offer.ensures.err (ap (λ (t : Log). t.entries) c.in_ok-reserve.ensures.ok) in
-    (both.0, both.1, ap (λ (t : Log). t.limit) c.in_ok-reserve.ensures.ok ∙ c.self.invariant.2)
+    let s : State = record { config = c.self.inside.config; entries = c.self.inside.journal.entries; marks = c.self.inside.marks.digests } in
+    let both = in_vain s c.self.inside.leaves.items c.from.result c.reserve.new.self.entries c.index_mut.result.now c.offer.new.self c.self.invariant.0 c.self.invariant.1 c.index_mut.ensures.value c.in_err-offer.ensures.err (ap (λ (t : Log). t.entries) c.in_ok-reserve.ensures.ok) in
+    (both.0, both.1, ap (λ (t : Log). t.limit) c.in_ok-reserve.ensures.ok ∙ c.self.invariant.2, c.self.invariant.3)
 
 pub returns-in_err-offer-clause-answers : goal.returns-in_err-offer-clause-answers
 returns-in_err-offer-clause-answers c =
-    let s : State = record { config = c.self.inside.config; entries = c.self.inside.journal.entries } in
-    let ok = subst (λ (s : State). AreLeaves s c.self.inside.leaves.items) c.self.view_is c.self.invariant.1 in
+    let s : State = record { config = c.self.inside.config; entries = c.self.inside.journal.entries; marks = c.self.inside.marks.digests } in
+    let ok = subst (λ (s : State). AreLeaves s.config s.entries c.self.inside.leaves.items) c.self.view_is c.self.invariant.1 in
     let at = c.from.ensures ∙ c.requires.leaf in
-    let within = leaf_within c.args.self.now c.self.inside.leaves.items c.from.result c.args.key.now ok at in
-    let read = get_or_read c.self.inside.leaves.items _ _ within c.index_mut.ensures.value [] in
     let room = subst (λ (s : State). full_fault s ≡ None) c.self.view_is (room_left s c.self.inside.journal (λ i. s.entries) c.self.invariant.2 c.in_ok-reserve.ensures.answers.0) in
     let p = err_from_is_err_and c.from_residual-in_err-offer.result c.from_residual-in_err-offer.ensures.1 in
-    rw (p.1, p.2) (admit_err c.args.self.now c.self.inside.leaves.items c.from.result c.args.key.now c.args.version c.in_ok-row_version.row_version c.index_mut.result.now c.in_err-offer.field-0.0 ok at read c.in_ok-row_version.ensures.1 room c.requires.fits c.in_err-offer.ensures.answers)
+    rw (p.1, p.2) (admit_err c.args.self.now c.self.inside.leaves.items c.from.result c.args.key.now c.args.version c.in_ok-row_version.row_version c.index_mut.result.now c.in_err-offer.field-0.0 ok at c.index_mut.ensures.value c.in_ok-row_version.ensures.1 room c.requires.fits c.in_err-offer.ensures.answers)
+
+pub dirty-requires : goal.dirty-requires
+dirty-requires c =
+    let format = c.self.invariant.3 in
+    let leaf = c.requires.leaf in
+    let within = leaf_in_tree c.args.self.now.config c.args.key.now in
+    let same = ap (λ (s : State). tree_depth s.config.format) c.self.view_is in
+    let depth = ap (λ (f : Format). tree_depth f) format in
+    rw (depth, same, leaf) within
 
 pub invariant_of-self-2 : goal.invariant_of-self-2
 invariant_of-self-2 c =
-    let s : State = record { config = c.self.inside.config; entries = c.self.inside.journal.entries } in
+    let s : State = record { config = c.self.inside.config; entries = c.self.inside.journal.entries; marks = c.self.inside.marks.digests } in
     let e : Entry = record { number = length c.reserve.new.self.entries; seat = c.args.seat; source = c.args.source; key = c.in_ok-entry_key.entry_key; version = c.args.version } in
     let key : c.args.key.now ≡ c.in_ok-entry_key.entry_key = sym c.in_ok-entry_key.ensures.1 in
     let back : c.args.self.now ≡ s = sym c.self.view_is in
     let leaf : c.from.result ≡ leaf_in s.config e.key = c.from.ensures ∙ c.requires.leaf ∙ (λ i. leaf_in (back i).config (key i)) in
     let here : place_fault s.config e.key e.version.kind e.version.value ≡ None = sym (λ i. place_fault (back i).config (key i) c.args.version.kind c.args.version.value) ∙ c.requires.here in
     let news : knows s e.key e.version ≡ false = sym (λ i. knows (back i) (key i) c.args.version) ∙ c.requires.news in
-    let within = leaf_within s c.self.inside.leaves.items c.from.result e.key c.self.invariant.1 leaf in
-    let read = get_or_read c.self.inside.leaves.items _ _ within c.index_mut.ensures.value [] in
     let log = c.append_reserved.ensures.added in
     let entries = ap (λ (t : Log). t.entries) log ∙ ap (λ (t : Log). t.entries ++ e ∷ []) c.in_ok-reserve.ensures.ok in
-    let both = admitted s c.self.inside.leaves.items c.from.result e c.append_reserved.new.self.entries c.index_mut.result.now c.offer.new.self c.args.key.now c.in_ok-row_version.row_version c.self.invariant.0 c.self.invariant.1 leaf here news
-    read key c.in_ok-row_version.ensures.1 c.in_ok-offer.ensures.ok entries in
-    (both.0, both.1, ap (λ (t : Log). t.limit) log ∙ ap (λ (t : Log). t.limit) c.in_ok-reserve.ensures.ok ∙ c.self.invariant.2)
+    let format : c.dirty.new.self.format ≡ s.config.format = ap (λ (t : Tree). t.format) c.dirty.ensures.path ∙ c.self.invariant.3 in
+    let path : c.dirty.new.self.digests ≡ dirtied s.config.format c.from.result s.marks = ap (λ (t : Tree). t.digests) c.dirty.ensures.path ∙ ap (λ (f : Format). dirtied f c.args.leaf s.marks) c.self.invariant.3 ∙ ap (λ (n : ℕ). dirtied s.config.format n s.marks) (sym c.from.ensures) in
+    let tree : IsTree (record { format = s.config.format; digests = c.dirty.new.self.digests }) = subst (λ (f : Format). IsTree (record { format = f; digests = c.dirty.new.self.digests })) format c.dirty.ensures.valid in
+    let both = admitted s c.self.inside.leaves.items c.from.result e c.append_reserved.new.self.entries c.dirty.new.self.digests c.index_mut.result.now c.offer.new.self c.args.key.now c.in_ok-row_version.row_version c.self.invariant.0 c.self.invariant.1 leaf here news
+    c.index_mut.ensures.value key c.in_ok-row_version.ensures.1 c.in_ok-offer.ensures.ok entries path tree in
+    (both.0, both.1, ap (λ (t : Log). t.limit) log ∙ ap (λ (t : Log). t.limit) c.in_ok-reserve.ensures.ok ∙ c.self.invariant.2, format)

@@ -1,0 +1,69 @@
+#!/usr/bin/env python3
+"""Writes two scripts that differ in their rehash lines alone. usage: rehash_scripts.py KIND N WITHOUT WITH
+
+Both put N new keys at node 1. `full`: then ten rounds, each a put of a further key for each of the 256 leaves; WITH has
+a rehash before the first round and after each. `one`: then a rehash, and 2000 puts of further keys; WITH has a rehash
+after each of these. N is made smaller where a journal, of 1000000 entries, would not take all that.
+
+Prints N, how many rehashes WITHOUT lacks, how many nodes each of them hashes, and the bytes of their texts in all.
+"""
+import hashlib, itertools, random, sys
+
+LEAVES, ROUNDS, SINGLE_PUTS, JOURNAL = 256, 10, 2000, 1_000_000
+kind, wanted, without, with_them = sys.argv[1], int(sys.argv[2]), open(sys.argv[3], "w"), open(sys.argv[4], "w")
+rnd = random.Random(1)
+row_bytes, dirty = [0] * LEAVES, set(range(LEAVES))
+rehashes = nodes = hashed = 0
+stock = [[] for _ in range(LEAVES)]
+
+
+def key(i):
+    return b"key-%d" % i
+
+
+def leaf_of(i):
+    return hashlib.md5(key(i)).digest()[0]
+
+
+def put(i):
+    line = '{"put":{"node":1,"key":"%s","context":[],"value":"%s"}}\n' % (key(i).hex(), rnd.randbytes(32).hex())
+    without.write(line)
+    with_them.write(line)
+    leaf = leaf_of(i)
+    dirty.add(leaf)
+    row_bytes[leaf] += 2 + len(key(i)) + 2 + 1 + 10 + 4 + 32
+
+
+def rehash(*scripts):
+    global rehashes, nodes, hashed
+    for script in scripts:
+        script.write('{"rehash":{"node":1,"range":0}}\n')
+    if without not in scripts:
+        inner = 1 + len({leaf // 16 for leaf in dirty})
+        rehashes += 1
+        nodes = len(dirty) + inner
+        hashed += sum(1 + row_bytes[leaf] for leaf in dirty) + 513 * inner
+    dirty.clear()
+
+
+n = min(wanted, JOURNAL - {"full": ROUNDS * LEAVES, "one": SINGLE_PUTS}[kind])
+further = itertools.count(n)
+for i in range(n):
+    put(i)
+if kind == "full":
+    rehash(with_them)
+    for _ in range(ROUNDS):
+        for leaf in range(LEAVES):
+            while not stock[leaf]:
+                i = next(further)
+                stock[leaf_of(i)].append(i)
+            put(stock[leaf].pop(0))
+        rehash(with_them)
+else:
+    rehash(without, with_them)
+    for _ in range(SINGLE_PUTS):
+        put(next(further))
+        rehash(with_them)
+without.close()
+with_them.close()
+print(n, rehashes, nodes, hashed)

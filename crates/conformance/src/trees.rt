@@ -1,0 +1,285 @@
+// Trees: node texts, marks, jobs and rehashes. The digests were made by another program from the definition.
+use crate::scripts::{expect, expect_answers};
+use crate::sets::version;
+use hash_tree::comparing::{is_inner_text, is_leaf_text};
+use hash_tree::hashed::{Digest, hash};
+use hash_tree::marks::Marks;
+use hash_tree::node::NodeAt;
+use hash_tree::texts::{inner_text, leaf_text};
+use outage_script::ScriptEnd;
+use range_journal::journal::Source;
+use range_state::config::RangeConfig;
+use range_state::event::{Event, InstallEvent, Reply};
+use range_state::state::RangeState;
+use rehash::bulk::hash_all;
+use rehash::job::run_job;
+use std::alloc::Global;
+use std::test::Fail;
+use vclock::bytes::Bytes;
+use vclock::clock::Clock;
+use vclock::format::Format;
+use vclock::refusal::Refusal;
+use version_set::kind::Kind;
+
+/// The digest of the empty leaf in format 1: the SHA-256 of the byte 0.
+const EMPTY_LEAF: &str = "6e340b9cffb37a989ca544e6bb780a2c78901d3fb33738768511a30617afa01d";
+
+/// The SHA-256 of the text `abc`, of FIPS 180-4's examples.
+const ABC: &str = "ba7816bf8f01cfea414140de5dae2223b00361a396177a9cb410ff61f20015ad";
+
+/// Whether a digest is spelled so.
+fn is_spelled(alloc: Global, digest: Digest, digits: &str) -> Result<bool, Fail> {
+    let spelled = hex::encode(alloc, digest.as_slice())?;
+    Ok(spelled.as_str() == digits)
+}
+
+/// A range of a ring with one range.
+fn range(alloc: Global, format: u64) -> Result<RangeState, Fail> {
+    let config = RangeConfig::new(format, 0, 0, 1_000).ok_or("no such range")?;
+    Ok(RangeState::new(alloc, config)?)
+}
+
+/// Puts a value under `a` at node 1.
+fn put(alloc: Global, state: &mut RangeState, context: &[(u64, u64)]) -> Result<(), Fail> {
+    let context = Clock::from_pairs(alloc, context)?;
+    let value = Bytes::copy_of(alloc, b"x")?;
+    state.put(alloc, 0, 1, b"a", &context, Kind::Live, value)?;
+    Ok(())
+}
+
+#[test]
+fn a_text_has_its_digest(rt: HostRuntime) -> Result<(), Fail> {
+    let alloc = rt.alloc();
+    let hashed = hash(Bytes::copy_of(alloc, b"abc")?);
+    assert_eq!(rt; hashed.text(), b"abc".as_slice());
+    assert!(rt; is_spelled(alloc, hashed.digest(), ABC)?);
+    Ok(())
+}
+
+#[test]
+fn nodes_have_texts(rt: HostRuntime) -> Result<(), Fail> {
+    let alloc = rt.alloc();
+    let leaf = leaf_text(alloc, Format::One, &[])?;
+    assert_eq!(rt; leaf.as_slice(), [0].as_slice());
+    assert!(rt; is_leaf_text(Format::One, leaf.as_slice(), &[]));
+    let digest = hash(Bytes::from(leaf)).digest();
+    assert!(rt; is_spelled(alloc, digest, EMPTY_LEAF)?);
+    let inner = inner_text(alloc, Format::One, &[digest; 16])?;
+    assert_eq!(rt; inner.len(), 513);
+    assert_eq!(rt; &inner[..3], [1, 0x6e, 0x34].as_slice());
+    assert!(rt; is_inner_text(Format::One, inner.as_slice(), &[digest; 16]));
+    assert!(rt; !is_inner_text(Format::Two, inner.as_slice(), &[digest; 16]));
+    Ok(())
+}
+
+#[test]
+fn a_new_tree_is_dirty(rt: HostRuntime) -> Result<(), Fail> {
+    let alloc = rt.alloc();
+    for (format, nodes) in [(Format::One, 273), (Format::Two, 4_369)] {
+        let marks = Marks::new(alloc, format)?;
+        assert_eq!(rt; marks.dirty_count(), nodes);
+        let root = NodeAt::new(0, 0).ok_or("no root")?;
+        assert!(rt; marks.get(root).is_none());
+    }
+    for (depth, index) in [(0, 1), (1, 16), (2, 256), (3, 4_096), (4, 0)] {
+        assert!(rt; NodeAt::new(depth, index).is_none());
+    }
+    Ok(())
+}
+
+#[test]
+fn a_late_digest_is_not_installed(rt: HostRuntime) -> Result<(), Fail> {
+    let alloc = rt.alloc();
+    let mut state = range(alloc, 1)?;
+    assert_eq!(rt; state.rehash(&rt, alloc)?, 273);
+    put(alloc, &mut state, &[])?;
+    let job = state.take_job(alloc, 0)?.ok_or("no job")?;
+    let node = job.node();
+    assert_eq!(rt; (node.depth, node.index), (2, 12));
+    put(alloc, &mut state, &[(1, 1)])?;
+    let late = state.install(node, &run_job(job));
+    assert!(rt; matches!(&late, Err(Refusal::Stale)));
+    for (depth, index) in [(2, 12), (1, 0), (0, 0)] {
+        let job = state.take_job(alloc, 7)?.ok_or("no job")?;
+        let node = job.node();
+        assert_eq!(rt; (node.depth, node.index), (depth, index));
+        state.install(node, &run_job(job))?;
+    }
+    assert!(rt; state.take_job(alloc, 0)?.is_none());
+    Ok(())
+}
+
+#[test]
+fn workers_take_different_jobs(rt: HostRuntime) -> Result<(), Fail> {
+    let alloc = rt.alloc();
+    let state = range(alloc, 2)?;
+    let first = state.take_job(alloc, 0)?.ok_or("no job")?;
+    let second = state.take_job(alloc, 1)?.ok_or("no job")?;
+    assert!(rt; first.node() != second.node());
+    for (most, taken) in [(0, 0), (5, 5), (5_000, 4_096)] {
+        assert_eq!(rt; state.take_jobs(alloc, most)?.len(), taken);
+    }
+    let state = range(alloc, 1)?;
+    assert_eq!(rt; state.take_jobs(alloc, 300)?.len(), 256);
+    Ok(())
+}
+
+#[test]
+fn many_jobs_are_hashed_in_order(rt: HostRuntime) -> Result<(), Fail> {
+    let alloc = rt.alloc();
+    let mut state = range(alloc, 2)?;
+    for (node, key) in [(1, b"a"), (2, b"b"), (3, b"c")] {
+        let copy = version(alloc, (node, 1), Kind::Live, b"x")?;
+        state.accept(alloc, 0, Source::Copy, key, copy)?;
+    }
+    for count in [0, 1, 3, 4_000] {
+        let hashed = hash_all(&rt, alloc, state.take_jobs(alloc, count)?)?;
+        assert_eq!(rt; hashed.len(), count);
+        for (one, job) in hashed.iter().zip(state.take_jobs(alloc, count)?) {
+            let other = run_job(job);
+            assert_eq!(rt; one.text(), other.text());
+            assert_eq!(rt; one.digest(), other.digest());
+        }
+    }
+    Ok(())
+}
+
+#[test]
+fn jobs_and_installs_are_events(rt: HostRuntime) -> Result<(), Fail> {
+    let alloc = rt.alloc();
+    let mut state = range(alloc, 1)?;
+    put(alloc, &mut state, &[])?;
+    let root = NodeAt::new(0, 0).ok_or("no root")?;
+    let mut events = Vec::new(alloc);
+    events.push(Event::TakeJob(0))?;
+    events.push(Event::Install(InstallEvent {
+        node: root,
+        hashed: hash(Bytes::copy_of(alloc, b"abc")?),
+    }))?;
+    let replies = state.run_events(alloc, events)?;
+    assert_eq!(rt; replies.len(), 2);
+    assert!(rt; matches!(&replies[0], Reply::TakeJob(Ok(Some(job))) if job.node().depth == 2));
+    assert!(rt; matches!(&replies[1], Reply::Install(Err(Refusal::Stale))));
+    Ok(())
+}
+
+#[test]
+fn a_rehash_makes_a_tree_clean(rt: HostRuntime) -> Result<(), Fail> {
+    expect_answers(
+        &rt,
+        &[
+            (
+                r#"{"node":{"depth":2,"index":0,"node":1,"range":0}}"#,
+                r#"{"digest":null}"#,
+            ),
+            (r#"{"rehash":{"node":1,"range":0}}"#, r#"{"hashed":273}"#),
+            (
+                r#"{"node":{"depth":2,"index":0,"node":1,"range":0}}"#,
+                r#"{"digest":"6e340b9cffb37a989ca544e6bb780a2c78901d3fb33738768511a30617afa01d"}"#,
+            ),
+            (
+                r#"{"node":{"depth":0,"index":0,"node":1,"range":0}}"#,
+                r#"{"digest":"97b7e0a5911011956948c52a1c968e92ac99e4952415416f805e65e1a3eb53f5"}"#,
+            ),
+            (
+                r#"{"put":{"context":[],"key":"61","node":1,"value":"78"}}"#,
+                r#"{"clock":[[1,1]],"copied":0,"hinted":0,"number":0}"#,
+            ),
+            (
+                r#"{"node":{"depth":1,"index":0,"node":1,"range":0}}"#,
+                r#"{"digest":null}"#,
+            ),
+            (r#"{"rehash":{"node":1,"range":0}}"#, r#"{"hashed":3}"#),
+            (
+                r#"{"node":{"depth":2,"index":12,"node":1,"range":0}}"#,
+                r#"{"digest":"3f1cc9cd42c8cc228478628249e7dc739f00a092019a08ba8400ae06acf4c22e"}"#,
+            ),
+            (
+                r#"{"node":{"depth":0,"index":0,"node":1,"range":0}}"#,
+                r#"{"digest":"bcf422e0df449d89564e74e43e2f066e3f948254e49cd9f115f866907188dc49"}"#,
+            ),
+            (r#"{"rehash":{"node":1,"range":0}}"#, r#"{"hashed":0}"#),
+        ],
+    )
+}
+
+#[test]
+fn the_tree_of_format_2_is_deeper(rt: HostRuntime) -> Result<(), Fail> {
+    expect_answers(
+        &rt,
+        &[
+            (
+                r#"{"ring":{"bits":0,"copies":1,"format":2,"nodes":[1]}}"#,
+                r#"{"nodes":1,"ranges":1}"#,
+            ),
+            (r#"{"rehash":{"node":1,"range":0}}"#, r#"{"hashed":4369}"#),
+            (
+                r#"{"node":{"depth":3,"index":4095,"node":1,"range":0}}"#,
+                r#"{"digest":"dbc1b4c900ffe48d575b5da5c638040125f65db0fe3e24494b76ea986457d986"}"#,
+            ),
+            (
+                r#"{"put":{"context":[],"key":"61","node":1,"value":"78"}}"#,
+                r#"{"clock":[[1,1]],"copied":0,"hinted":0,"number":0}"#,
+            ),
+            (r#"{"rehash":{"node":1,"range":0}}"#, r#"{"hashed":4}"#),
+            (
+                r#"{"node":{"depth":3,"index":204,"node":1,"range":0}}"#,
+                r#"{"digest":"2c7b1b5a08452210d1cf73afadb850f9da7474028231830989e183fbbdaabca5"}"#,
+            ),
+            (
+                r#"{"node":{"depth":0,"index":0,"node":1,"range":0}}"#,
+                r#"{"digest":"22ba8eeef269b029a09b716e51945064905ddbdc1ea6e34d306f844a62bba70e"}"#,
+            ),
+        ],
+    )
+}
+
+#[test]
+fn commands_on_trees_are_refused(rt: HostRuntime) -> Result<(), Fail> {
+    expect_answers(
+        &rt,
+        &[
+            (
+                r#"{"ring":{"bits":1,"copies":1,"nodes":[1,2]}}"#,
+                r#"{"nodes":2,"ranges":2}"#,
+            ),
+            (
+                r#"{"rehash":{"node":3,"range":9}}"#,
+                r#"{"cause":"BadRing","refused":27}"#,
+            ),
+            (
+                r#"{"rehash":{"node":1,"range":2}}"#,
+                r#"{"cause":"OtherRange","refused":9}"#,
+            ),
+            (
+                r#"{"rehash":{"node":1,"range":1}}"#,
+                r#"{"cause":"OtherRange","refused":9}"#,
+            ),
+            (
+                r#"{"node":{"depth":2,"index":255,"node":3,"range":9}}"#,
+                r#"{"cause":"BadRing","refused":27}"#,
+            ),
+            (
+                r#"{"node":{"depth":2,"index":255,"node":1,"range":1}}"#,
+                r#"{"cause":"OtherRange","refused":9}"#,
+            ),
+            (r#"{"rehash":{"node":2,"range":1}}"#, r#"{"hashed":273}"#),
+        ],
+    )?;
+    for line in [
+        r#"{"node":{"depth":3,"index":0,"node":9,"range":0}}"#,
+        r#"{"node":{"depth":2,"index":256,"node":1,"range":0}}"#,
+        r#"{"node":{"depth":1,"index":16,"node":1,"range":0}}"#,
+        r#"{"node":{"depth":0,"index":1,"node":1,"range":0}}"#,
+        r#"{"node":{"depth":256,"index":0,"node":1,"range":0}}"#,
+        r#"{"node":{"depth":0,"index":65536,"node":1,"range":0}}"#,
+        r#"{"node":{"depth":0,"node":1,"range":0}}"#,
+        r#"{"rehash":{"node":1}}"#,
+        r#"{"rehash":{"node":1,"range":0,"slot":1}}"#,
+        r#"{"rehash":{"node":1,"range":"0"}}"#,
+    ] {
+        let bad = "{\"cause\":\"BadLine\",\"line\":1,\"refused\":29}\n";
+        expect(&rt, line.as_bytes(), bad, ScriptEnd::BadLine(1))?;
+    }
+    Ok(())
+}

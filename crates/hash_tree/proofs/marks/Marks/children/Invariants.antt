@@ -1,0 +1,8 @@
+use Rattle.std.proofs.Common.{◌≡◌, map, take, Some, length}
+use Rattle.hash_tree.proofs.marks.Marks.children.Given as goal
+
+abbrev pub invariant-loop-j : goal.invariant-loop-j
+invariant-loop-j l = record {
+  long : length l.digests ≡ 16;
+  so_far : take l.j l.children ≡ map Some (take l.j l.digests);
+}

@@ -1,0 +1,81 @@
+-- The nodes of a range's tree: the paper of 2007, section 4.7. The fan is 16, and the place of a node counts the nodes
+-- before it, depth by depth: the root is at 0, and child j of the node at p is at 16 p + 1 + j.
+use Rattle.std.specs.Prelude.{◌≡◌, ℕ, zero, suc, ◌+◌, ◌*◌, ◌/◌, ◌-◌, ◌<◌, Bool, ◌&&◌, is_some, is_none, Option, None, List, [], ◌∷◌, length, map, filter, take, drop, slice_index_or, nat_eq, if◌then◌else◌}
+use Rattle.std.specs.List.{list_any, list_all, range_with_len}
+use Rattle.vclock.specs.declared.format.Format.{Format}
+use Rattle.vclock.specs.declared.format.Format.TheVariants.{One, Two}
+
+-- how deep the leaves lie
+abbrev pub tree_depth : Format → ℕ
+tree_depth One = 2
+tree_depth Two = 3
+
+-- how many nodes lie above a depth
+abbrev pub nodes_above : ℕ → ℕ
+nodes_above zero = 0
+nodes_above (suc depth) = 16 * nodes_above depth + 1
+
+-- how many nodes a tree has: 273, or 4,369 in format 2
+abbrev pub node_count : Format → ℕ
+node_count One = nodes_above 3
+node_count Two = nodes_above 4
+
+-- the place of a node
+abbrev pub place_at : ℕ → ℕ → ℕ
+place_at depth index = nodes_above depth + index
+
+-- a tree: its format, and by place the digest of each node that has one
+pub record Tree : Type 0 where
+  pub format : Format
+  pub digests : List (Option (List ℕ))
+
+-- the digest of the node at a place: a node that has one is clean, any other is dirty
+abbrev pub digest_at : List (Option (List ℕ)) → ℕ → Option (List ℕ)
+digest_at digests place = slice_index_or digests place None
+
+-- the digests of a node's children: none where it is a leaf
+abbrev pub children_of : List (Option (List ℕ)) → ℕ → List (Option (List ℕ))
+children_of digests place = take 16 (drop (16 * place + 1) digests)
+
+-- whether all these nodes are clean
+abbrev pub are_clean : List (Option (List ℕ)) → Bool
+are_clean digests = list_all is_some digests
+
+-- the children of a clean node are clean
+unfoldable pub AreCleanBelow : List (Option (List ℕ)) → Type 0
+AreCleanBelow digests = (place j : ℕ) → j < 16 → 16 * place + 1 + j < length digests → digest_at digests (16 * place + 1 + j) ≡ None → digest_at digests place ≡ None
+
+-- each node has its place, and the children of a clean node are clean
+pub record IsTree (t : Tree) : Type 0 where
+  pub all : length t.digests ≡ node_count t.format
+  pub below : AreCleanBelow t.digests
+
+-- how many nodes are dirty
+abbrev pub dirty_count : List (Option (List ℕ)) → ℕ
+dirty_count digests = length (filter is_none digests)
+
+-- whether a node can be hashed: it is dirty, and its children are clean
+abbrev pub is_ready : List (Option (List ℕ)) → ℕ → Bool
+is_ready digests place = is_none (digest_at digests place) && are_clean (children_of digests place)
+
+-- the places of the nodes that can be hashed, from a place on
+abbrev pub ready_from : List (Option (List ℕ)) → ℕ → List ℕ
+ready_from digests from = filter (is_ready digests) (range_with_len from (length digests - from))
+
+-- the places of a node and of those above it
+abbrev pub path_of : ℕ → ℕ → List ℕ
+path_of zero index = 0 ∷ []
+path_of (suc depth) index = place_at (suc depth) index ∷ path_of depth (index / 16)
+
+-- the index of the node of a height that is a leaf or lies above it
+abbrev pub ancestor_of : ℕ → ℕ → ℕ
+ancestor_of zero leaf = leaf
+ancestor_of (suc height) leaf = ancestor_of height leaf / 16
+
+-- whether a place is a leaf's or lies above it
+abbrev pub is_on_path : Format → ℕ → ℕ → Bool
+is_on_path format leaf place = list_any (nat_eq place) (path_of (tree_depth format) leaf)
+
+-- the digests with a leaf and those above it dirty, and every other node as it was
+unfoldable pub dirtied : Format → ℕ → List (Option (List ℕ)) → List (Option (List ℕ))
+dirtied format leaf digests = map (λ place. if is_on_path format leaf place then None else digest_at digests place) (range_with_len 0 (length digests))

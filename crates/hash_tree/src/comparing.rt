@@ -1,0 +1,61 @@
+//! Comparing a text with that of a node in place, with no memory taken.
+ghost use Rattle.std.specs.Prelude.{◌≡◌, ◌↔◌, IsTrue};
+ghost use Rattle.std.specs.List.{AllByRecursion, flat_map};
+ghost use Rattle.row_bytes.specs.Rows.{FitsText};
+ghost use Rattle.row_bytes.specs.Strip.{Strips};
+ghost use Rattle.hash_tree.specs.Texts.{leaf_text, inner_text};
+
+use crate::hashed::Digest;
+use crate::texts::{inner_byte, leaf_byte};
+use row_bytes::row::Row;
+use row_bytes::stripping::{strip, strip_rows};
+use vclock::format::Format;
+
+/// Whether a text is that of a leaf with these rows.
+pub fn is_leaf_text(format: Format, text: &[u8], rows: &[Row]) -> bool
+    requires { AllByRecursion (FitsText format) rows.now }
+    ensures { IsTrue result ↔ (text.now ≡ leaf_text format rows.now) }
+{
+    match strip_leaf(format, text, rows) {
+        Some(rest) => rest.is_empty(),
+        None => false,
+    }
+}
+
+/// Whether a text is that of a node whose children have these digests, in order.
+pub fn is_inner_text(format: Format, text: &[u8], digests: &[Digest; 16]) -> bool
+    ensures { IsTrue result ↔ (text.now ≡ inner_text format digests.now) }
+{
+    match strip_inner(format, text, digests) {
+        Some(rest) => rest.is_empty(),
+        None => false,
+    }
+}
+
+/// What follows the text of a leaf with these rows.
+fn strip_leaf<'a>(format: Format, text: &'a [u8], rows: &[Row]) -> Option<&'a [u8]>
+    requires { AllByRecursion (FitsText format) rows.now }
+    ensures { Strips (λ x. x.now) (leaf_text format rows.now) text.now result }
+{
+    let rest = strip(text, &[leaf_byte(format)])?;
+    strip_rows(format, rest, rows)
+}
+
+/// What follows the text of a node whose children have these digests.
+fn strip_inner<'a>(format: Format, text: &'a [u8], digests: &[Digest; 16]) -> Option<&'a [u8]>
+    ensures { Strips (λ x. x.now) (inner_text format digests.now) text.now result }
+{
+    let rest = strip(text, &[inner_byte(format)])?;
+    strip_all(rest, digests)
+}
+
+/// What follows these digests, one after another.
+fn strip_all<'a>(text: &'a [u8], digests: &[Digest]) -> Option<&'a [u8]>
+    ensures { Strips (λ x. x.now) (flat_map (λ d. d) digests.now) text.now result }
+{
+    let mut rest = text;
+    for digest in digests {
+        rest = strip(rest, digest)?;
+    }
+    Some(rest)
+}

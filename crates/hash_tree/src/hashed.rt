@@ -1,0 +1,49 @@
+//! Texts with their digests (FIPS 180-4).
+ghost use Rattle.std.specs.Prelude.{◌≡◌, ℕ, List};
+ghost use Rattle.sha2.specs.Sha256.{sha256};
+
+use sha2::{Digest as _, Sha256};
+use std::marker::Model;
+use vclock::bytes::Bytes;
+
+/// A SHA-256 digest.
+pub type Digest = [u8; 32];
+
+/// A text with its own SHA-256 digest.
+#[derive(Debug, Drop)]
+pub struct Hashed {
+    text: Bytes,
+    digest: Digest,
+}
+
+impl Model for Hashed {
+    ghost Value = { List ℕ };
+
+    ghost view = { λ h. h.text };
+
+    ghost invariant = { λ h. h.digest ≡ sha256 h.text };
+}
+
+impl Hashed {
+    /// The text.
+    pub fn text(&self) -> &[u8]
+        ensures { result.now ≡ self.now }
+    {
+        self.text.as_slice()
+    }
+
+    /// The digest of the text.
+    pub fn digest(&self) -> Digest
+        ensures { result ≡ sha256 self.now }
+    {
+        self.digest
+    }
+}
+
+/// A text with its digest. It takes no memory.
+pub fn hash(text: Bytes) -> Hashed
+    ensures { result ≡ text }
+{
+    let digest = Sha256::digest(text.as_slice());
+    Hashed { text, digest }
+}

@@ -1,0 +1,63 @@
+//! The nodes of a range's tree (the paper of 2007, section 4.7), by depth and index.
+ghost use Rattle.std.specs.Prelude.{◌≡◌, ◌+◌, ◌<◌, ◌≤◌, ◌^◌, ◌↔◌, IsSome, IfSome};
+ghost use Rattle.hash_tree.specs.Nodes.{nodes_above, place_at, tree_depth};
+
+use vclock::format::Format;
+
+/// A node of a tree. Its children are the nodes of the next depth with the indices 16 times its own, and the 15 after.
+#[derive(Clone, Copy, Debug, PartialEq, Eq)]
+pub struct NodeAt {
+    /// How many nodes lie above it: 0 for the root, at most 3.
+    pub depth: u8,
+    /// Its number among the nodes of that depth, from 0: below 16^depth.
+    pub index: u16,
+    pub ghost shallow: { depth ≤ 3 },
+    pub ghost within: { index < 16 ^ depth },
+}
+
+/// How deep the leaves of a tree lie: at 2, or 3 in format 2.
+pub fn tree_depth(format: Format) -> u8
+    ensures { result ≡ tree_depth format }
+{
+    match format {
+        Format::One => 2,
+        Format::Two => 3,
+    }
+}
+
+impl NodeAt {
+    /// The node of a depth and an index: none where the depth is over 3 or has no such index.
+    pub fn new(depth: u8, index: u16) -> Option<NodeAt>
+        ensures node { IsSome result ↔ ((depth ≤ 3) × (index < 16 ^ depth)) }
+        ensures depth { IfSome result (λ n. n.depth ≡ depth) }
+        ensures index { IfSome result (λ n. n.index ≡ index) }
+    {
+        let width = match depth {
+            0 => 1,
+            1 => 16,
+            2 => 256,
+            3 => 4_096,
+            _ => return None,
+        };
+        if index < width {
+            Some(NodeAt { depth, index })
+        } else {
+            None
+        }
+    }
+
+    /// How many nodes a tree has before this one, depth by depth.
+    pub fn place(self) -> usize
+        ensures place { result ≡ place_at self.depth self.index }
+        ensures before { result < nodes_above (self.depth + 1) }
+        ensures below { result < nodes_above 4 }
+    {
+        let index = self.index as usize;
+        match self.depth {
+            0 => index,
+            1 => 1 + index,
+            2 => 17 + index,
+            _ => 273 + index,
+        }
+    }
+}

@@ -1,0 +1,100 @@
+//! The texts of nodes. What stands in them, this project's profile says.
+ghost use Rattle.std.specs.Prelude.{◌≡◌, ◌++◌, ◌+◌, ◌<◌, ◌≤◌, length, None, OnOk, OnErr};
+ghost use Rattle.std.specs.List.{AllByRecursion};
+ghost use Rattle.std.specs.Vec.{vec_capacity};
+ghost use Rattle.vclock.specs.Answer.{Answers};
+ghost use Rattle.row_bytes.specs.Rows.{FitsText};
+ghost use Rattle.hash_tree.specs.Texts.{leaf_byte, inner_byte, leaf_text, inner_text};
+
+use crate::hashed::Digest;
+use row_bytes::row::Row;
+use row_bytes::writing::put_row;
+use std::alloc::{AllocError, Global};
+use vclock::format::Format;
+use vclock::refusal::Refusal;
+
+/// How many bytes the text of a node that is no leaf has: one, and the digests of its 16 children.
+pub const INNER_LEN: usize = 513;
+
+/// The first byte of a leaf's text.
+pub(crate) fn leaf_byte(format: Format) -> u8
+    ensures { result ≡ leaf_byte format }
+{
+    match format {
+        Format::One => 0,
+        Format::Two => 2,
+    }
+}
+
+/// The first byte of the text of any other node.
+pub(crate) fn inner_byte(format: Format) -> u8
+    ensures { result ≡ inner_byte format }
+{
+    match format {
+        Format::One => 1,
+        Format::Two => 3,
+    }
+}
+
+/// Appends the text of a leaf with these rows. It fails only where memory is needed beyond the room of `out`, and then
+/// some of the text stands at the end.
+#[tactic(auto, unfolding(crate::specs::Texts::leaf_text))]
+pub fn put_leaf_text(out: &mut Vec<u8>, format: Format, rows: &[Row]) -> Result<(), AllocError>
+    requires { AllByRecursion (FitsText format) rows.now }
+    ensures ok { OnOk result (out.new.items ≡ out.old.items ++ leaf_text format rows.now) }
+    ensures room { OnErr result (vec_capacity out.old < length out.old.items + length (leaf_text format rows.now)) }
+{
+    out.push(leaf_byte(format))?;
+    for row in rows {
+        put_row(out, format, row)?;
+    }
+    Ok(())
+}
+
+/// Appends the text of a node whose children have these digests. It fails only where memory is needed beyond the room
+/// of `out`, and then some of the text stands at the end.
+#[tactic(auto, unfolding(crate::specs::Texts::inner_text))]
+pub fn put_inner_text(
+    out: &mut Vec<u8>,
+    format: Format,
+    digests: &[Digest; 16],
+) -> Result<(), AllocError>
+    ensures ok { OnOk result (out.new.items ≡ out.old.items ++ inner_text format digests.now) }
+    ensures room { OnErr result (vec_capacity out.old < length out.old.items + 513) }
+{
+    out.push(inner_byte(format))?;
+    for digest in digests {
+        put_digest(out, digest)?;
+    }
+    Ok(())
+}
+
+/// Appends a digest.
+fn put_digest(out: &mut Vec<u8>, digest: &Digest) -> Result<(), AllocError>
+    ensures ok { OnOk result (out.new.items ≡ out.old.items ++ digest.now) }
+    ensures more { OnOk result (length out.new.items ≡ length out.old.items + 32) }
+    ensures room { OnErr result (vec_capacity out.old < length out.old.items + 32) }
+    ensures grows { vec_capacity out.old ≤ vec_capacity out.new }
+{
+    out.extend_from_slice(digest)?;
+    Ok(())
+}
+
+/// The text of a leaf with these rows. Refused: NoMemory.
+pub fn leaf_text(alloc: Global, format: Format, rows: &[Row]) -> Result<Vec<u8>, Refusal>
+    requires { AllByRecursion (FitsText format) rows.now }
+    ensures { Answers result None (λ text. text.items ≡ leaf_text format rows.now) }
+{
+    let mut text = Vec::new(alloc);
+    put_leaf_text(&mut text, format, rows)?;
+    Ok(text)
+}
+
+/// The text of a node whose children have these digests, in order. Refused: NoMemory.
+pub fn inner_text(alloc: Global, format: Format, digests: &[Digest; 16]) -> Result<Vec<u8>, Refusal>
+    ensures { Answers result None (λ text. text.items ≡ inner_text format digests.now) }
+{
+    let mut text = Vec::with_capacity(alloc, INNER_LEN)?;
+    put_inner_text(&mut text, format, digests)?;
+    Ok(text)
+}

@@ -1,0 +1,188 @@
+-- Making nodes clean, one after another, until all are.
+use Rattle.std.proofs.Common.{◌≡◌, ℕ, zero, suc, ◌+◌, ◌*◌, ◌-◌, ◌^◌, ◌<◌, ◌≤◌, Bool, true, false, cond, is_some, is_none, ◌&&◌, Option, Some, None, List, [], ◌∷◌, ◌++◌, length, take, drop, map, set, get_or, refl, sym, ap, subst, ◌∙◌, arith, inl, inr}
+use Rattle.std.specs.Prelude.{nat_eq, IsTrue}
+use Rattle.std.specs.List.{All, range_with_len}
+use Rattle.std.specs.Cmp.Lexicographic.{pointwise}
+use Rattle.std.proofs.lemmas.Bool.{cases_eq}
+use Rattle.std.proofs.lemmas.Cmp.{nat_list_eq_equiv}
+use Rattle.std.proofs.lemmas.List.{get_or-set_same, get_or-set_other, get_or_default, get_or-take, get_or-drop, get_or-map, length-set, length-take, length-drop, length-map, take-append-drop, drop-drop}
+use Rattle.std.proofs.lemmas.List.Elements.{All-take, All-filter, All-get_or, All-from_get_or}
+use Rattle.std.proofs.lemmas.List.FromFn.{fill_by_all, length-range_with_len, get_or-range_with_len}
+use Rattle.std.proofs.lemmas.List.Sums.{list_all-from_AllPass, length-filter, sum_by-set}
+use Rattle.sha2.specs.Sha256.{sha256}
+use Rattle.hash_tree.specs.declared.node.NodeAt.{NodeAt}
+use Rattle.hash_tree.specs.Nodes.{tree_depth, nodes_above, node_count, place_at, digest_at, children_of, are_clean, dirty_count, is_ready, ready_from}
+use Rattle.hash_tree.specs.Texts.{node_digest}
+use Rattle.hash_tree.proofs.KeyOrder.{all_get}
+use Rattle.hash_tree.proofs.PlaceLaws.{above_more, above_below, node_count_is}
+use Rattle.hash_tree.proofs.TreeLaws.{child_at, clean_child}
+use Rattle.hash_tree.proofs.ReadyLaws.{ready_parts, none_ready, clean_all}
+use Rattle.rehash.specs.Jobs.{NodeText}
+use Rattle.range_state.specs.Rows.{rows_of}
+use Rattle.range_state.specs.State.{State, IsRight, IsJob, AreJobs, has_node, place_of, text_in, leaf_in, is_current, installed}
+use Rattle.range_state.specs.Trees.{level_digests, digests_below, rehashed, IsSameRange}
+
+abbrev Marks : Type 0
+Marks = List (Option (List ℕ))
+
+abbrev no_digest : Option (List ℕ)
+no_digest = None
+
+-- ---- one more clean node
+
+-- how many nodes are dirty after a digest was set
+dirty-set : (marks : Marks) (place : ℕ) (d : List ℕ) → place < length marks → dirty_count (set marks place (Some d)) + cond (is_none (digest_at marks place)) 1 0 ≡ dirty_count marks
+dirty-set marks place d within =
+    let old = length-filter is_none marks in
+    let new = length-filter is_none (set marks place (Some d)) in
+    let one = sum_by-set (λ (o : Option (List ℕ)). cond (is_none o) 1 0) marks place (Some d) None within in
+    omega (arith, old, new, one)
+
+dirty_no_more : (marks : Marks) (place : ℕ) (d : List ℕ) → place < length marks → dirty_count (set marks place (Some d)) ≤ dirty_count marks
+dirty_no_more marks place d within = omega (arith, dirty-set marks place d within)
+
+dirty_fewer : (marks : Marks) (place : ℕ) (d : List ℕ) → place < length marks → digest_at marks place ≡ None → dirty_count (set marks place (Some d)) < dirty_count marks
+dirty_fewer marks place d within dirty =
+    let one : ◌≡◌ {A = ℕ} (cond (is_none (digest_at marks place)) 1 0) 1 = ap (λ (o : Option (List ℕ)). cond (is_none o) 1 0) dirty in
+    omega (arith, one, dirty-set marks place d within)
+
+-- clean children stay clean
+children-set : (marks : Marks) (place other : ℕ) (d : List ℕ) → are_clean (children_of marks other) ≡ true → are_clean (children_of (set marks place (Some d)) other) ≡ true
+children-set marks place other d clean =
+    let new = set marks place (Some d) in
+    list_all-from_AllPass is_some (children_of new other) (λ j e less.
+    let sixteen : j < 16 = omega (arith, length-take 16 (drop (16 * other + 1) new)) in
+    let inside : 16 * other + 1 + j < length marks = omega (arith, length-take 16 (drop (16 * other + 1) new), length-drop (16 * other + 1) new, length-set marks place (Some d)) in
+    subst (λ (o : Option (List ℕ)). is_some o ≡ true) (sym (child_at new other j sixteen) ∙ get_or_default (children_of new other) j None e less) (at (16 * other + 1 + j) inside (clean_child marks other j clean sixteen inside)))
+  where
+    at : (child : ℕ) → child < length marks → is_some (digest_at marks child) ≡ true → is_some (digest_at (set marks place (Some d)) child) ≡ true
+    at child inside was = elim (cases_eq child place) [
+      | inl here ↦ ap (λ (o : Option (List ℕ)). is_some o) (ap (λ (p : ℕ). digest_at (set marks place (Some d)) p) here ∙ get_or-set_same marks place (Some d) None (omega (arith, here)))
+      | inr elsewhere ↦ ap (λ (o : Option (List ℕ)). is_some o) (get_or-set_other marks place child (Some d) None elsewhere) ∙ was
+    ]
+
+middle : (a b c d : Bool) → (b ≡ true → d ≡ true) → (a && b && c) ≡ true → (a && d && c) ≡ true
+middle true true true d f h = rw (f refl) refl
+middle true true false d f h = absurd (let no : false ≡ true = h in cc)
+middle true false c d f h = absurd (let no : false ≡ true = h in cc)
+middle false b c d f h = absurd (let no : false ≡ true = h in cc)
+
+-- What was a node's text still is, once some node is clean.
+pub still_current : (s : State) (node other : NodeAt) (text digested : List ℕ) → is_current s node text ≡ true → is_current (installed s other digested) node text ≡ true
+still_current s node other text digested current =
+    let new = set s.marks (place_of other) (Some (sha256 digested)) in
+    middle (has_node s.config node) (are_clean (children_of s.marks (place_of node))) (pointwise nat_eq text (text_in s node)) (are_clean (children_of new (place_of node)))
+    (children-set s.marks (place_of other) (place_of node) (sha256 digested)) current
+
+-- ---- making nodes clean, one after another
+
+-- the state after that many of the nodes
+pub record IsCleaning (start : State) (nodes : List NodeAt) (texts : List (List ℕ)) (done : ℕ) (s : State) : Type 0 where
+  pub same : IsSameRange start s
+  pub long : length s.marks ≡ length start.marks
+  pub current : (i : ℕ) (node : NodeAt) (text : List ℕ) → i < length nodes → IsTrue (is_current s (get_or nodes i node) (get_or texts i text))
+  pub none : done ≡ 0 → s ≡ start
+  pub fewer : 0 < done → dirty_count s.marks < dirty_count start.marks
+
+pub cleaning_next : (start : State) (nodes : List NodeAt) (texts : List (List ℕ)) (done : ℕ) (s t : State) (node : NodeAt) (text : List ℕ) → IsCleaning start nodes texts done s
+    → place_of node < length start.marks → digest_at start.marks (place_of node) ≡ None → t ≡ installed s node text → IsCleaning start nodes texts (done + 1) t
+cleaning_next start nodes texts done s t node text was within dirty is =
+    subst (λ (u : State). IsCleaning start nodes texts (done + 1) u) (sym is) (record {
+      same = record { config = was.same.config; entries = was.same.entries };
+      long = length-set s.marks (place_of node) (Some (sha256 text)) ∙ was.long;
+      current = λ i n u less. still_current s (get_or nodes i n) node (get_or texts i u) text (was.current i n u less);
+      none = λ e. absurd (omega arith);
+      fewer = λ less. elim (cases_eq done 0) [
+        | inl first ↦ subst (λ (m : Marks). dirty_count (set m (place_of node) (Some (sha256 text))) < dirty_count start.marks) (sym (ap (λ (u : State). u.marks) (was.none first))) (dirty_fewer start.marks (place_of node) (sha256 text) within dirty)
+        | inr later ↦
+            let fewer : dirty_count s.marks < dirty_count start.marks = was.fewer (omega arith) in
+            omega (arith, fewer, dirty_no_more s.marks (place_of node) (sha256 text) (omega (arith, was.long)))
+      ];
+    })
+
+-- ---- jobs
+
+-- A job's text is current.
+job_current : (s : State) (job : NodeText) → IsJob s job → is_current s job.node job.text ≡ true
+job_current s job is =
+    let children = (ready_parts s.marks (place_of job.node) is.ready).1 in
+    let same : pointwise nat_eq job.text (text_in s job.node) ≡ true = subst (λ (t : List ℕ). pointwise nat_eq job.text t ≡ true) is.text (nat_list_eq_equiv.refl job.text) in
+    rw (is.has, children, same) refl
+
+-- The jobs' texts are current.
+pub jobs_current : (s : State) (most : ℕ) (jobs : List NodeText) (nodes : List NodeAt) (texts : List (List ℕ)) → AreJobs s most jobs → nodes ≡ map (λ (job : NodeText). job.node) jobs → texts ≡ map (λ (job : NodeText). job.text) jobs
+    → (i : ℕ) (node : NodeAt) (text : List ℕ) → i < length nodes → is_current s (get_or nodes i node) (get_or texts i text) ≡ true
+jobs_current s most jobs nodes texts are ns ts i node text less =
+    let job : NodeText = record { node = node; text = text } in
+    let within : i < length jobs = omega (arith, ap (λ (xs : List NodeAt). length xs) ns, length-map jobs (λ (j : NodeText). j.node)) in
+    let n : get_or nodes i node ≡ (get_or jobs i job).node = ap (λ (xs : List NodeAt). get_or xs i node) ns ∙ get_or-map (λ (j : NodeText). j.node) jobs i job node within in
+    let t : get_or texts i text ≡ (get_or jobs i job).text = ap (λ (xs : List (List ℕ)). get_or xs i text) ts ∙ get_or-map (λ (j : NodeText). j.text) jobs i job text within in
+    (λ k. is_current s (n k) (t k)) ∙ job_current s (get_or jobs i job) (all_get (IsJob s) jobs i job are.each within)
+
+ready_within : (marks : Marks) (most : ℕ) → All (λ (place : ℕ). place < length marks) (take most (ready_from marks 0))
+ready_within marks most =
+    let P = λ (place : ℕ). place < length marks in
+    let places = range_with_len 0 (length marks - 0) in
+    All-take P most (ready_from marks 0) (All-filter (is_ready marks) P places (All-from_get_or P places 0 (λ i less.
+    let short : i < length marks - 0 = omega (arith, length-range_with_len 0 (length marks - 0)) in
+    omega (arith, get_or-range_with_len 0 (length marks - 0) i 0 short))))
+
+-- The jobs' nodes are dirty nodes of the tree.
+pub jobs_dirty : (s : State) (most : ℕ) (jobs : List NodeText) (nodes : List NodeAt) → AreJobs s most jobs → nodes ≡ map (λ (job : NodeText). job.node) jobs
+    → (i : ℕ) (node : NodeAt) → i < length nodes → (place_of (get_or nodes i node) < length s.marks) × (digest_at s.marks (place_of (get_or nodes i node)) ≡ None)
+jobs_dirty s most jobs nodes are ns i node less =
+    let job : NodeText = record { node = node; text = [] } in
+    let places = take most (ready_from s.marks 0) in
+    let within : i < length jobs = omega (arith, ap (λ (xs : List NodeAt). length xs) ns, length-map jobs (λ (j : NodeText). j.node)) in
+    let n : get_or nodes i node ≡ (get_or jobs i job).node = ap (λ (xs : List NodeAt). get_or xs i node) ns ∙ get_or-map (λ (j : NodeText). j.node) jobs i job node within in
+    let short : i < length places = omega (arith, ap (λ (xs : List ℕ). length xs) are.nodes, length-map jobs (λ (j : NodeText). place_of j.node)) in
+    let place : place_of (get_or nodes i node) ≡ get_or places i 0 = ap place_of n ∙ sym (get_or-map (λ (j : NodeText). place_of j.node) jobs i job 0 within) ∙ ap (λ (xs : List ℕ). get_or xs i 0) are.nodes in
+    let here : get_or places i 0 < length s.marks = All-get_or (λ (p : ℕ). p < length s.marks) places i 0 short (ready_within s.marks most) in
+    (omega (arith, place, here), ap (λ (x : NodeAt). digest_at s.marks (place_of x)) n ∙ (ready_parts s.marks (place_of (get_or jobs i job).node) (all_get (IsJob s) jobs i job are.each within).ready).0)
+
+-- Where there is no job, all nodes are clean.
+pub no_jobs : (s : State) (most : ℕ) (jobs : List NodeText) → AreJobs s most jobs → 0 < most → length jobs ≡ 0 → are_clean s.marks ≡ true
+no_jobs s most jobs are some none =
+    let short : length (take most (ready_from s.marks 0)) ≡ 0 = ap (λ (xs : List ℕ). length xs) (sym are.nodes) ∙ length-map jobs (λ (j : NodeText). place_of j.node) ∙ none in
+    none_ready s.marks (nil (ready_from s.marks 0) (omega (arith, short, length-take most (ready_from s.marks 0))))
+  where
+    nil : (xs : List ℕ) → length xs ≡ 0 → xs ≡ []
+    nil [] e = refl
+    nil (x ∷ xs) e = absurd (omega arith)
+
+-- ---- all nodes clean
+
+-- from a depth down, the digests are those of the nodes' texts
+levels : (s : State) (marks : Marks) → length marks ≡ node_count s.config.format
+    → ((depth height index : ℕ) → depth + height ≡ tree_depth s.config.format → index < 16 ^ depth → digest_at marks (place_at depth index) ≡ Some (node_digest s.config.format (leaf_in s.config) (rows_of s.entries) height index))
+    → (height depth : ℕ) → depth + height ≡ tree_depth s.config.format → drop (nodes_above depth) marks ≡ digests_below s depth height
+unfolding digests_below
+levels s marks all are zero depth sum =
+    let rest = drop (nodes_above depth) marks in
+    let last : nodes_above (suc (tree_depth s.config.format)) ≡ nodes_above (suc depth) = ap (λ (d : ℕ). nodes_above (suc d)) (omega arith) in
+    fill_by_all (λ (index : ℕ). Some (node_digest s.config.format (leaf_in s.config) (rows_of s.entries) zero index)) rest (16 ^ depth) None
+    (omega (arith, length-drop (nodes_above depth) marks, node_count_is s.config.format, last, above_more depth))
+    (λ k less. get_or-drop (nodes_above depth) marks k None ∙ are depth zero k sum less)
+levels s marks all are (suc height) depth sum =
+    let rest = drop (nodes_above depth) marks in
+    let level = take (16 ^ depth) rest in
+    let below : nodes_above depth + 16 ^ depth ≤ node_count s.config.format = omega (arith, node_count_is s.config.format, above_below depth (suc (tree_depth s.config.format)) (omega arith)) in
+    let here : level ≡ level_digests s depth (suc height) =
+    fill_by_all (λ (index : ℕ). Some (node_digest s.config.format (leaf_in s.config) (rows_of s.entries) (suc height) index)) level (16 ^ depth) None
+    (omega (arith, length-take (16 ^ depth) rest, length-drop (nodes_above depth) marks, below, all))
+    (λ k less. get_or-take (16 ^ depth) rest k None less ∙ get_or-drop (nodes_above depth) marks k None ∙ are depth (suc height) k sum less) in
+    let next : drop (16 ^ depth) rest ≡ digests_below s (suc depth) height =
+    drop-drop (16 ^ depth) (nodes_above depth) marks ∙ ap (λ (n : ℕ). drop n marks) (sym (above_more depth)) ∙ levels s marks all are height (suc depth) (omega arith) in
+    sym (take-append-drop (16 ^ depth) rest) ∙ (λ i. here i ++ next i)
+
+-- A range whose nodes are all clean is as if rehashed.
+pub all_rehashed : (s t : State) → IsSameRange s t → IsRight t → are_clean t.marks ≡ true → t ≡ rehashed s
+all_rehashed s t same right clean =
+    let moved : t ≡ record { config = s.config; entries = s.entries; marks = t.marks } = λ i. record { config = same.config i; entries = same.entries i; marks = t.marks } in
+    let here = (subst IsRight moved right).marks in
+    let marks : t.marks ≡ digests_below s 0 (tree_depth s.config.format) =
+    levels s t.marks here.tree.all (clean_all s.config.format (leaf_in s.config) (rows_of s.entries) t.marks here.digests here.tree.all clean) (tree_depth s.config.format) 0 (omega arith) in
+    moved ∙ ap (λ (m : Marks). record { config = s.config; entries = s.entries; marks = m }) marks
+
+pub same_trans : (s t u : State) → IsSameRange s t → IsSameRange t u → IsSameRange s u
+same_trans s t u a b = record { config = b.config ∙ a.config; entries = b.entries ∙ a.entries }

@@ -1,0 +1,175 @@
+-- What the calls on a tree answer and keep.
+use Rattle.std.proofs.Common.{◌≡◌, ℕ, zero, suc, ◌+◌, ◌-◌, ◌*◌, ◌<◌, ◌≤◌, ◌^◌, Bool, true, false, cond, List, [], ◌∷◌, ◌++◌, map, set, take, length, replicate, get_or, Option, Some, None, refl, ap, sym, subst, ◌∙◌, ◌↔◌, arith, inl, inr, take_all, append-nil, ◌&&◌}
+use Rattle.std.specs.Prelude.{nat_eq, nat_le, IsTrue, IfSome, MatchOption}
+use Rattle.std.specs.List.{AllByRecursion, list_all}
+use Rattle.std.specs.Cmp.Lexicographic.{pointwise, bytes_decides}
+use Rattle.std.proofs.lemmas.Bool.{cases_Bool, cases_lt, and_parts, leb-true, le-leb, both_ways}
+use Rattle.std.proofs.lemmas.List.{take_at, length-map, append_assoc, get_or_past, get_or-replicate, length-replicate}
+use Rattle.sha2.specs.Sha256.{sha256}
+use Rattle.vclock.specs.declared.format.Format.{Format}
+use Rattle.vclock.specs.declared.format.Format.TheVariants.{One, Two}
+use Rattle.hash_tree.specs.Leaves.{Bucket}
+use Rattle.hash_tree.specs.Nodes.{Tree, IsTree, tree_depth, nodes_above, node_count, place_at, digest_at, children_of, are_clean, is_ready, ready_from}
+use Rattle.hash_tree.specs.Texts.{leaf_text, inner_text, node_text, AreTrue, IsTreeFor}
+use Rattle.hash_tree.specs.declared.node.NodeAt.{NodeAt}
+use Rattle.hash_tree.proofs.PlaceLaws.{depth_within}
+use Rattle.hash_tree.proofs.TextLaws.{leaf_node}
+use Rattle.hash_tree.proofs.TreeLaws.{true_set, children_text, leaf_children}
+use Rattle.hash_tree.proofs.ReadyLaws.{ready_is, ready_parts, none_ready}
+use Rattle.rehash.specs.Jobs.{NodeText}
+use Rattle.key_ring.specs.Places.{leaf_bits}
+use Rattle.range_state.specs.Rows.{rows_of}
+use Rattle.range_state.specs.State.{State, IsRight, AreLeaves, IsJob, AreJobs, all_dirty, bucket_of, leaf_in, leaf_count, has_node, place_of, text_in, tree_of, is_current}
+
+-- ---- nodes that are for a job
+
+-- the first node that is ready is the tree's, and is ready
+pub found_ready : (s : State) (node : NodeAt) (from : ℕ) (rest : List ℕ) → IsRight s → ready_from s.marks from ≡ place_of node ∷ rest → IsTrue (has_node s.config node) × IsTrue (is_ready s.marks (place_of node))
+found_ready s node from rest ok e =
+    let found = ready_is s.marks from (place_of node) rest e in
+    (le-leb node.depth (tree_depth s.config.format) (depth_within s.config.format node.depth node.index (omega (arith, found.2, ok.marks.tree.all))), found.0)
+
+-- what was found, if anything
+abbrev pub Found : State → ℕ → Option NodeAt → Type 0
+Found s from o = MatchOption o (ready_from s.marks from ≡ []) (λ (node : NodeAt). ready_from s.marks from ≡ place_of node ∷ ready_from s.marks (place_of node + 1))
+
+pub found_has : (s : State) (from : ℕ) (o : Option NodeAt) → IsRight s → Found s from o → IfSome o (λ (node : NodeAt). IsTrue (has_node s.config node))
+found_has s from None ok h = tt
+found_has s from (Some node) ok h = (found_ready s node from (ready_from s.marks (place_of node + 1)) ok h).0
+
+pub found_is_ready : (s : State) (from : ℕ) (o : Option NodeAt) → IsRight s → Found s from o → IfSome o (λ (node : NodeAt). IsTrue (is_ready s.marks (place_of node)))
+found_is_ready s from None ok h = tt
+found_is_ready s from (Some node) ok h = (found_ready s node from (ready_from s.marks (place_of node + 1)) ok h).1
+
+-- ---- texts
+
+-- the text of a leaf, written from its rows
+pub leaf_text_here : (s : State) (leaves : List Bucket) (node : NodeAt) (leaf : Bucket) → AreLeaves s.config s.entries leaves → node.depth ≡ tree_depth s.config.format → leaf ≡ get_or leaves node.index leaf → (leaf.format ≡ s.config.format) × (leaf_text leaf.format leaf.rows ≡ text_in s node)
+leaf_text_here s leaves node leaf ok deep is =
+    let within : node.index < 16 ^ tree_depth s.config.format = subst (λ (d : ℕ). node.index < 16 ^ d) deep node.within in
+    let here : leaf ≡ bucket_of s.config s.entries node.index = is ∙ ok.each node.index leaf (counted s.config.format node.index within) in
+    let none : tree_depth s.config.format - node.depth ≡ 0 = omega (arith, deep) in
+    (ap (λ (b : Bucket). b.format) here, (λ i. leaf_text (here i).format (here i).rows) ∙ sym (leaf_node s.config.format (leaf_in s.config) (rows_of s.entries) node.index) ∙ sym (ap (λ (h : ℕ). node_text s.config.format (leaf_in s.config) (rows_of s.entries) h node.index) none))
+  where
+    counted : (f : Format) (n : ℕ) → n < 16 ^ tree_depth f → n < 2 ^ leaf_bits f
+    counted One n h = h
+    counted Two n h = h
+
+-- the text of another node, written from its children's digests
+pub inner_text_here : (s : State) (node : NodeAt) (ds : List (List ℕ)) → IsRight s → node.depth < tree_depth s.config.format → children_of s.marks (place_of node) ≡ map Some ds → inner_text s.config.format ds ≡ text_in s node
+inner_text_here s node ds ok above clean =
+    let height = tree_depth s.config.format - suc node.depth in
+    let sum : node.depth + suc height ≡ tree_depth s.config.format = omega (arith, above) in
+    let high : tree_depth s.config.format - node.depth ≡ suc height = omega (arith, above) in
+    children_text s.config.format (leaf_in s.config) (rows_of s.entries) s.marks node.depth height node.index ds ok.marks.digests ok.marks.tree.all sum node.within clean
+    ∙ sym (ap (λ (h : ℕ). node_text s.config.format (leaf_in s.config) (rows_of s.entries) h node.index) high)
+
+-- ---- whether a text is a node's now
+
+decided : (b : Bool) (x y : List ℕ) → (IsTrue b ↔ (x ≡ y)) → b ≡ pointwise nat_eq x y
+decided b x y h = elim (cases_Bool b) [
+  | inl t ↦ t ∙ sym ((bytes_decides x y).1 (h.0 t))
+  | inr f ↦ elim (cases_Bool (pointwise nat_eq x y)) [
+    | inl p ↦ absurd (both_ways b f (h.1 ((bytes_decides x y).0 p)))
+    | inr q ↦ f ∙ sym q
+  ]
+]
+
+clean_some : (ds : List (List ℕ)) → are_clean (map Some ds) ≡ true
+clean_some [] = refl
+clean_some (d ∷ ds) = clean_some ds
+
+pub leaf_current : (s : State) (leaves : List Bucket) (node : NodeAt) (text : List ℕ) (leaf : Bucket) (b : Bool) → IsRight s → AreLeaves s.config s.entries leaves → node.depth ≡ tree_depth s.config.format → leaf ≡ get_or leaves node.index leaf
+    → (IsTrue b ↔ (text ≡ leaf_text s.config.format leaf.rows)) → b ≡ is_current s node text
+leaf_current s leaves node text leaf b ok are deep is h =
+    let here = leaf_text_here s leaves node leaf are deep is in
+    let now : leaf_text s.config.format leaf.rows ≡ text_in s node = ap (λ (f : Format). leaf_text f leaf.rows) (sym here.0) ∙ here.1 in
+    let has : has_node s.config node ≡ true = le-leb node.depth (tree_depth s.config.format) (omega (arith, deep)) in
+    let clean : are_clean (children_of s.marks (place_of node)) ≡ true = ap are_clean (leaf_children s.config.format s.marks node.depth node.index deep ok.marks.tree.all) in
+    rw (has, clean) (decided b text (text_in s node) (subst (λ (t : List ℕ). IsTrue b ↔ (text ≡ t)) now h))
+
+pub inner_current : (s : State) (node : NodeAt) (text : List ℕ) (ds : List (List ℕ)) (b : Bool) → IsRight s → node.depth < tree_depth s.config.format → children_of s.marks (place_of node) ≡ map Some ds
+    → (IsTrue b ↔ (text ≡ inner_text s.config.format ds)) → b ≡ is_current s node text
+inner_current s node text ds b ok above children h =
+    let has : has_node s.config node ≡ true = le-leb node.depth (tree_depth s.config.format) (omega (arith, above)) in
+    let clean : are_clean (children_of s.marks (place_of node)) ≡ true = ap are_clean children ∙ clean_some ds in
+    rw (has, clean) (decided b text (text_in s node) (subst (λ (t : List ℕ). IsTrue b ↔ (text ≡ t)) (inner_text_here s node ds ok above children) h))
+
+-- ---- after a digest was set
+
+-- what a current text means
+pub current_parts : (s : State) (node : NodeAt) (text : List ℕ) → IsTrue (is_current s node text) → IsTrue (has_node s.config node) × IsTrue (are_clean (children_of s.marks (place_of node))) × (text ≡ text_in s node)
+current_parts s node text h =
+    let first = and_parts (has_node s.config node && are_clean (children_of s.marks (place_of node))) (pointwise nat_eq text (text_in s node)) h in
+    let two = and_parts (has_node s.config node) (are_clean (children_of s.marks (place_of node))) first.0 in
+    (two.0, two.1, (bytes_decides text (text_in s node)).0 first.1)
+
+pub cleaned_right : (s : State) (node : NodeAt) (text : List ℕ) (tree : Tree) → IsRight s → IsTrue (is_current s node text) → tree ≡ record { format = s.config.format; digests = set s.marks (place_of node) (Some (sha256 text)) } → IsTree tree
+    → IsRight (record { config = s.config; entries = s.entries; marks = tree.digests })
+cleaned_right s node text tree ok current is valid =
+    let parts = current_parts s node text current in
+    let low = leb-true node.depth (tree_depth s.config.format) parts.0 in
+    let right = true_set s.config.format (leaf_in s.config) (rows_of s.entries) s.marks node.depth (tree_depth s.config.format - node.depth) node.index text ok.marks.digests (omega (arith, low)) node.within parts.2 in
+    let made : IsRight (record { config = s.config; entries = s.entries; marks = set s.marks (place_of node) (Some (sha256 text)) }) = record {
+      config = ok.config;
+      own = ok.own;
+      news = ok.news;
+      marks = record { tree = subst IsTree is valid; digests = right };
+    } in
+    subst (λ (t : Tree). IsRight (record { config = s.config; entries = s.entries; marks = t.digests })) (sym is) made
+
+-- ---- digests that are shown
+
+-- a node that has a digest has that of its text
+pub digest_is : (s : State) (node : NodeAt) (o : Option (List ℕ)) → IsRight s → o ≡ digest_at s.marks (place_of node) → IfSome o (λ (d : List ℕ). d ≡ sha256 (text_in s node))
+unfolding AreTrue
+digest_is s node None ok e = tt
+digest_is s node (Some d) ok e = elim (cases_lt (place_of node) (length s.marks)) [
+  | inl within ↦
+      let low = depth_within s.config.format node.depth node.index (omega (arith, within, ok.marks.tree.all)) in
+      ok.marks.digests node.depth (tree_depth s.config.format - node.depth) node.index d (omega (arith, low)) node.within (sym e)
+  | inr past ↦ absurd (let no : Some d ≡ None = e ∙ get_or_past s.marks (place_of node) None (omega (arith, past)) in cc)
+]
+
+-- no node of a new range has one
+pub all_dirty-at : (format : Format) (place : ℕ) → digest_at (all_dirty format) place ≡ None
+unfolding all_dirty
+all_dirty-at format place = elim (cases_lt place (node_count format)) [
+  | inl within ↦ get_or-replicate (node_count format) place None None within
+  | inr past ↦ get_or_past (replicate (node_count format) None) place None (omega (arith, past, length-replicate (node_count format) none))
+]
+  where
+    none : Option (List ℕ)
+    none = None
+
+-- ---- many jobs
+
+abbrev job_place : NodeText → ℕ
+job_place job = place_of job.node
+
+-- one more job
+pub jobs_more : (s : State) (jobs : List NodeText) (job : NodeText) (from : ℕ) → map (λ (j : NodeText). place_of j.node) jobs ++ ready_from s.marks from ≡ ready_from s.marks 0 → ready_from s.marks from ≡ place_of job.node ∷ ready_from s.marks (place_of job.node + 1)
+    → map (λ (j : NodeText). place_of j.node) (jobs ++ job ∷ []) ++ ready_from s.marks (place_of job.node + 1) ≡ ready_from s.marks 0
+jobs_more s jobs job from before next =
+    ap (λ (t : List ℕ). t ++ ready_from s.marks (place_of job.node + 1)) (map-push jobs) ∙ append_assoc (map job_place jobs) (place_of job.node ∷ []) (ready_from s.marks (place_of job.node + 1))
+    ∙ ap (λ (t : List ℕ). map job_place jobs ++ t) (sym next) ∙ before
+  where
+    map-push : (js : List NodeText) → map job_place (js ++ job ∷ []) ≡ map job_place js ++ place_of job.node ∷ []
+    map-push [] = refl
+    map-push (j ∷ js) = ap (λ (t : List ℕ). place_of j.node ∷ t) (map-push js)
+
+-- no node is left for a job
+pub jobs_all : (s : State) (jobs : List NodeText) (from most : ℕ) → map (λ (j : NodeText). place_of j.node) jobs ++ ready_from s.marks from ≡ ready_from s.marks 0 → length jobs ≤ most → AllByRecursion (IsJob s) jobs → ready_from s.marks from ≡ [] → AreJobs s most jobs
+jobs_all s jobs from most all few each none =
+    let whole : map job_place jobs ≡ ready_from s.marks 0 = sym (append-nil (map job_place jobs)) ∙ ap (λ (t : List ℕ). map job_place jobs ++ t) (sym none) ∙ all in
+    record {
+      nodes = whole ∙ sym (take_all most (ready_from s.marks 0) (omega (arith, few, ap length whole, length-map jobs job_place)));
+      each = each;
+    }
+
+-- there are as many jobs as were asked for
+pub jobs_enough : (s : State) (jobs : List NodeText) (from most : ℕ) → map (λ (j : NodeText). place_of j.node) jobs ++ ready_from s.marks from ≡ ready_from s.marks 0 → length jobs ≡ most → AllByRecursion (IsJob s) jobs → AreJobs s most jobs
+jobs_enough s jobs from most all count each = record {
+  nodes = sym (ap (take most) (sym all) ∙ take_at (map job_place jobs) (ready_from s.marks from) most (length-map jobs job_place ∙ count));
+  each = each;
+}

@@ -1,0 +1,13 @@
+use Rattle.std.proofs.Common.{◌≡◌}
+use Rattle.hash_tree.specs.Nodes.{dirty_count}
+use Rattle.range_state.specs.Trees.{IsSameRange}
+use Rattle.range_state.proofs.state.RangeState.rehash.Given as goal
+
+abbrev pub invariant-loop : goal.invariant-loop
+invariant-loop g l = record {
+  same : IsSameRange l.fn.self l.self;
+  dirty : l.dirty ≡ dirty_count l.fn.self.marks;
+}
+
+abbrev pub decreases-loop : goal.decreases-loop
+decreases-loop g l = dirty_count l.self.marks

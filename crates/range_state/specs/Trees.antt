@@ -1,0 +1,25 @@
+-- A range whose tree was rehashed: the paper of 2007, section 4.7.
+use Rattle.std.specs.Prelude.{◌≡◌, ℕ, zero, suc, ◌^◌, ◌++◌, Option, Some, List, map}
+use Rattle.std.specs.List.{range_with_len}
+use Rattle.hash_tree.specs.Nodes.{tree_depth}
+use Rattle.hash_tree.specs.Texts.{node_digest}
+use Rattle.range_state.specs.Rows.{rows_of}
+use Rattle.range_state.specs.State.{State, leaf_in}
+
+-- the digests of the nodes of a depth, which are of that height above the leaves
+abbrev pub level_digests : State → ℕ → ℕ → List (Option (List ℕ))
+level_digests s depth height = map (λ index. Some (node_digest s.config.format (leaf_in s.config) (rows_of s.entries) height index)) (range_with_len 0 (16 ^ depth))
+
+-- the digests of the nodes of that depth and of those below
+unfoldable pub digests_below : State → ℕ → ℕ → List (Option (List ℕ))
+digests_below s depth zero = level_digests s depth zero
+digests_below s depth (suc height) = level_digests s depth (suc height) ++ digests_below s (suc depth) height
+
+-- the state with every node clean
+abbrev pub rehashed : State → State
+rehashed s = record { config = s.config; entries = s.entries; marks = digests_below s 0 (tree_depth s.config.format) }
+
+-- only the digests of nodes differ
+pub record IsSameRange (s t : State) : Type 0 where
+  pub config : t.config ≡ s.config
+  pub entries : t.entries ≡ s.entries

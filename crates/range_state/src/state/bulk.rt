@@ -1,0 +1,76 @@
+//! Rehashing a whole tree.
+ghost use Rattle.std.specs.Prelude.{◌≡◌, ◌<◌, ⊤, ℕ, List, length, map, slice_index_or, false, IsTrue, IfOk, OnOk, OnErr, None};
+ghost use Rattle.vclock.specs.Answer.{Answers};
+ghost use Rattle.hash_tree.specs.Nodes.{are_clean, dirty_count, digest_at};
+ghost use Rattle.hash_tree.specs.declared.node.NodeAt.{NodeAt};
+ghost use Rattle.range_state.specs.State.{is_current, place_of};
+ghost use Rattle.range_state.specs.Trees.{rehashed, IsSameRange};
+
+use crate::state::RangeState;
+use hash_tree::hashed::Hashed;
+use hash_tree::node::NodeAt;
+use rehash::bulk::hash_all;
+use rehash::job::Job;
+use std::alloc::{AllocError, Global};
+use std::thread::Threads;
+use vclock::refusal::Refusal;
+
+impl RangeState {
+    /// Hashes every dirty node and installs the digests, until no node is dirty, and answers how many were. In each turn
+    /// the nodes whose children are clean are hashed, in several threads where there is enough to hash.
+    ///
+    /// Refused: NoMemory. Then some of the nodes may be clean; the journal and the rows are as they were.
+    pub fn rehash(&mut self, rt: &(impl Threads + Sync), alloc: Global) -> Result<u64, Refusal>
+        ensures count { Answers result None (λ hashed. hashed ≡ dirty_count self.old.marks) }
+        ensures ok { OnOk result (self.new ≡ rehashed self.old) }
+        ensures err { OnErr result (IsSameRange self.old self.new) }
+    {
+        let dirty = self.marks.dirty_count() as u64;
+        while self.rehash_ready(rt, alloc)? {}
+        let _right = self.journal();
+        Ok(dirty)
+    }
+
+    /// Hashes each dirty node whose children are clean, and makes it clean. Answers whether there was any.
+    fn rehash_ready(&mut self, rt: &(impl Threads + Sync), alloc: Global) -> Result<bool, Refusal>
+        ensures memory { Answers result None (λ _. ⊤) }
+        ensures more { IfOk result (λ any. IsTrue any → dirty_count self.new.marks < dirty_count self.old.marks) }
+        ensures none { IfOk result (λ any. any ≡ false → IsTrue (are_clean self.new.marks)) }
+        ensures same { IsSameRange self.old self.new }
+    {
+        let jobs = self.take_jobs(alloc, usize::MAX)?;
+        let nodes = nodes_of(alloc, &jobs)?;
+        let hashed = hash_all(rt, alloc, jobs)?;
+        self.make_all_clean(&nodes, &hashed);
+        Ok(!nodes.is_empty())
+    }
+
+    /// Makes nodes clean whose texts are the ones that were hashed.
+    fn make_all_clean(&mut self, nodes: &[NodeAt], hashed: &[Hashed])
+        requires all { length hashed.now ≡ length nodes.now }
+        requires current { (i : ℕ) (node : NodeAt) (text : List ℕ) → i < length nodes.now
+            → IsTrue (is_current self.old (slice_index_or nodes.now i node) (slice_index_or hashed.now i text)) }
+        requires has { (i : ℕ) (node : NodeAt) → i < length nodes.now
+            → place_of (slice_index_or nodes.now i node) < length self.old.marks }
+        requires dirty { (i : ℕ) (node : NodeAt) → i < length nodes.now
+            → digest_at self.old.marks (place_of (slice_index_or nodes.now i node)) ≡ None }
+        ensures same { IsSameRange self.old self.new }
+        ensures none { length nodes.now ≡ 0 → self.new ≡ self.old }
+        ensures fewer { 0 < length nodes.now → dirty_count self.new.marks < dirty_count self.old.marks }
+    {
+        for i in 0..nodes.len() {
+            self.make_clean(nodes[i], &hashed[i]);
+        }
+    }
+}
+
+/// The node of each job.
+fn nodes_of(alloc: Global, jobs: &[Job]) -> Result<Vec<NodeAt>, AllocError>
+    ensures { IfOk result (λ nodes. nodes.items ≡ map (λ j. j.node) jobs.now) }
+{
+    let mut nodes = Vec::with_capacity(alloc, jobs.len())?;
+    for job in jobs {
+        nodes.push(job.node())?;
+    }
+    Ok(nodes)
+}

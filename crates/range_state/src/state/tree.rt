@@ -1,0 +1,138 @@
+//! The tree of a range: jobs of hashing, and their digests.
+ghost use Rattle.std.specs.Prelude.{◌≡◌, ◌+◌, ◌∷◌, ⊤, [], None, IsTrue, IfSome, MatchOption, OnOk, OnErr};
+ghost use Rattle.sha2.specs.Sha256.{sha256};
+ghost use Rattle.vclock.specs.Answer.{Answers, AnswersAtOnce};
+ghost use Rattle.hash_tree.specs.Nodes.{digest_at, is_ready, ready_from};
+ghost use Rattle.range_state.specs.State.{has_node, place_of, text_in, IsJob, GivesJob, AreJobs, is_current, install_fault, installed};
+
+use crate::state::RangeState;
+use hash_tree::comparing::{is_inner_text, is_leaf_text};
+use hash_tree::hashed::{Digest, Hashed};
+use hash_tree::node::{NodeAt, tree_depth};
+use rehash::job::Job;
+use std::alloc::Global;
+use vclock::refusal::Refusal;
+
+impl RangeState {
+    /// The digest of a node, if it is clean: that of its text for the rows now. None too where the range's tree has no such
+    /// node. It takes no memory.
+    pub fn digest_at(&self, node: NodeAt) -> Option<Digest>
+        ensures digest { result ≡ digest_at self.now.marks (place_of node) }
+        ensures right { IfSome result (λ digest. digest ≡ sha256 (text_in self.now node)) }
+    {
+        self.marks.get(node)
+    }
+
+    /// A job: a dirty node whose children are clean, and its text now. None where no node is dirty. Of several nodes it is
+    /// the one that `skip` counts to, round and round, so workers that are numbered from 0 get different jobs as long as
+    /// there are as many. Refused: NoMemory.
+    pub fn take_job(&self, alloc: Global, skip: u64) -> Result<Option<Job>, Refusal>
+        ensures { Answers result None (GivesJob self.now) }
+    {
+        match self.choose(skip) {
+            Some(node) => Ok(Some(self.job_of(alloc, node)?)),
+            None => Ok(None),
+        }
+    }
+
+    /// Jobs of different nodes: of all dirty nodes whose children are clean, or of `most` of them where there are more.
+    /// Refused: NoMemory.
+    pub fn take_jobs(&self, alloc: Global, most: usize) -> Result<Vec<Job>, Refusal>
+        ensures { Answers result None (λ jobs. AreJobs self.now most jobs.items) }
+    {
+        let mut jobs = Vec::new(alloc);
+        let mut from = 0;
+        while jobs.len() < most {
+            let Some(node) = self.next_ready(from) else {
+                return Ok(jobs);
+            };
+            jobs.push(self.job_of(alloc, node)?)?;
+            from = node.place() + 1;
+        }
+        Ok(jobs)
+    }
+
+    /// Gives a node the digest of a text.
+    ///
+    /// Refused: Stale (the range's tree has no such node, one of its children is dirty, or its text is another one now). The
+    /// state is then as it was. It takes no memory: the text is compared with the rows in place.
+    pub fn install(&mut self, node: NodeAt, hashed: &Hashed) -> Result<(), Refusal>
+        ensures answers { AnswersAtOnce result (install_fault self.old node hashed.now) (λ _. ⊤) }
+        ensures step { OnOk result (self.new ≡ installed self.old node hashed.now) }
+        ensures err { OnErr result (self.new ≡ self.old) }
+    {
+        if !self.is_current(node, hashed.text()) {
+            return Err(Refusal::Stale);
+        }
+        self.make_clean(node, hashed);
+        Ok(())
+    }
+
+    /// Gives a node the digest of its text.
+    pub(super) fn make_clean(&mut self, node: NodeAt, hashed: &Hashed)
+        requires { IsTrue (is_current self.old node hashed.now) }
+        ensures { self.new ≡ installed self.old node hashed.now }
+    {
+        self.marks.set(node, hashed.digest());
+    }
+
+    /// Whether the range's tree has the node, its children are clean, and that is its text now.
+    fn is_current(&self, node: NodeAt, text: &[u8]) -> bool
+        ensures { result ≡ is_current self.now node text.now }
+    {
+        let format = self.config.format();
+        if node.depth == tree_depth(format) {
+            let leaf = &self.leaves[usize::from(node.index)];
+            return is_leaf_text(format, text, leaf.rows());
+        }
+        node.depth < tree_depth(format)
+            && match self.marks.children(node) {
+                Some(digests) => is_inner_text(format, text, &digests),
+                None => false,
+            }
+    }
+
+    /// A node for a job, if there is one: of several, the one that `skip` counts to, round and round.
+    fn choose(&self, skip: u64) -> Option<NodeAt>
+        ensures { MatchOption result (ready_from self.now.marks 0 ≡ [])
+            (λ node. IsTrue (has_node self.now.config node) × IsTrue (is_ready self.now.marks (place_of node))) }
+    {
+        let mut chosen = self.next_ready(0)?;
+        let round = self.marks.ready_count() as u64;
+        for _ in 0..skip % round {
+            match self.next_ready(chosen.place() + 1) {
+                Some(next) => chosen = next,
+                None => return Some(chosen),
+            }
+        }
+        Some(chosen)
+    }
+
+    /// The first node from a place on that is for a job.
+    fn next_ready(&self, from: usize) -> Option<NodeAt>
+        ensures order { MatchOption result (ready_from self.now.marks from ≡ [])
+            (λ node. ready_from self.now.marks from
+            ≡ place_of node ∷ ready_from self.now.marks (place_of node + 1)) }
+        ensures has { IfSome result (λ node. IsTrue (has_node self.now.config node)) }
+        ensures ready { IfSome result (λ node. IsTrue (is_ready self.now.marks (place_of node))) }
+    {
+        self.marks.next_ready(from)
+    }
+
+    /// The job of a node whose children are clean.
+    fn job_of(&self, alloc: Global, node: NodeAt) -> Result<Job, Refusal>
+        requires has { IsTrue (has_node self.now.config node) }
+        requires ready { IsTrue (is_ready self.now.marks (place_of node)) }
+        ensures { Answers result None (λ job. job ≡ record { node = node; text = text_in self.now node }) }
+    {
+        let format = self.config.format();
+        if node.depth == tree_depth(format) {
+            let leaf = self.leaves[usize::from(node.index)].share()?;
+            return Job::of_leaf(alloc, node, leaf);
+        }
+        let Some(digests) = self.marks.children(node) else {
+            unreachable!()
+        };
+        Job::of_children(alloc, format, node, digests)
+    }
+}

@@ -1,0 +1,22 @@
+-- Jobs: nodes whose texts are to be hashed.
+use Rattle.std.specs.Prelude.{ℕ, List, length}
+use Rattle.hash_tree.specs.Leaves.{Bucket}
+use Rattle.hash_tree.specs.Texts.{leaf_text, inner_text}
+use Rattle.hash_tree.specs.declared.node.NodeAt.{NodeAt}
+use Rattle.rehash.specs.declared.source.Source.{Source}
+use Rattle.rehash.specs.declared.source.Source.TheVariants.{Leaf, Children}
+
+-- a node and its text
+pub record NodeText : Type 0 where
+  pub node : NodeAt
+  pub text : List ℕ
+
+-- the text that is written from a leaf, or from the digests of the children
+abbrev pub source_text : Source → List ℕ
+source_text (Leaf bucket) = leaf_text bucket.format bucket.rows
+source_text (Children format digests) = inner_text format digests
+
+-- how many bytes it has: that of a node with children has one, and a digest of 32 for each of the 16
+abbrev pub source_len : Source → ℕ
+source_len (Leaf bucket) = length (leaf_text bucket.format bucket.rows)
+source_len (Children format digests) = 513

@@ -1,0 +1,96 @@
+//! Jobs: nodes whose texts are to be hashed.
+ghost use Rattle.std.specs.Prelude.{◌≡◌, None};
+ghost use Rattle.vclock.specs.Answer.{Answers};
+ghost use Rattle.hash_tree.specs.Texts.{leaf_text, inner_text};
+
+use crate::source::Source;
+use hash_tree::hashed::{Digest, Hashed, hash};
+use hash_tree::node::NodeAt;
+use hash_tree::shared::SharedLeaf;
+use hash_tree::texts::{INNER_LEN, put_inner_text, put_leaf_text};
+use std::alloc::Global;
+use std::marker::Model;
+use vclock::bytes::Bytes;
+use vclock::format::Format;
+use vclock::refusal::Refusal;
+
+/// A node whose text is to be hashed. It carries what the text is written from, and the room for it, so a range makes
+/// jobs under its lock in little time, and their texts are written and hashed without it.
+#[derive(Debug, Drop)]
+pub struct Job {
+    node: NodeAt,
+    source: Source,
+    room: Vec<u8>,
+}
+
+impl Model for Job {
+    ghost use Rattle.std.specs.Prelude.{◌≡◌, ◌≤◌, []};
+    ghost use Rattle.std.specs.Vec.{vec_capacity};
+    ghost use Rattle.rehash.specs.Jobs.{NodeText, source_text, source_len};
+
+    ghost Value = { NodeText };
+
+    ghost view = { λ j. record { node = j.node; text = source_text j.source } };
+
+    ghost invariant = { λ j. (j.room.items ≡ []) × (source_len j.source ≤ vec_capacity j.room) };
+}
+
+impl Job {
+    /// The job of a leaf. Refused: NoMemory.
+    pub fn of_leaf(alloc: Global, node: NodeAt, leaf: SharedLeaf) -> Result<Job, Refusal>
+        ensures { Answers result None (λ job. job ≡ record { node = node; text = leaf_text leaf.format leaf.rows }) }
+    {
+        let Ok(len) = usize::try_from(leaf.text_len()) else {
+            return Err(Refusal::NoMemory);
+        };
+        Ok(Job {
+            node,
+            source: Source::Leaf(leaf),
+            room: Vec::with_capacity(alloc, len)?,
+        })
+    }
+
+    /// The job of a node whose children have these digests, in order. Refused: NoMemory.
+    pub fn of_children(
+        alloc: Global,
+        format: Format,
+        node: NodeAt,
+        digests: [Digest; 16],
+    ) -> Result<Job, Refusal>
+        ensures { Answers result None (λ job. job ≡ record { node = node; text = inner_text format digests }) }
+    {
+        Ok(Job {
+            node,
+            source: Source::Children(format, digests),
+            room: Vec::with_capacity(alloc, INNER_LEN)?,
+        })
+    }
+
+    /// The node.
+    pub fn node(&self) -> NodeAt
+        ensures { result ≡ self.now.node }
+    {
+        self.node
+    }
+
+    /// Writes the text into its room. It takes no memory.
+    pub(crate) fn into_text(self) -> Vec<u8>
+        ensures { result.items ≡ self.text }
+    {
+        let mut text = self.room;
+        match &self.source {
+            Source::Leaf(leaf) => put_leaf_text(&mut text, leaf.format(), leaf.rows()).unwrap(),
+            Source::Children(format, digests) => {
+                put_inner_text(&mut text, *format, digests).unwrap()
+            }
+        }
+        text
+    }
+}
+
+/// Writes the text of a job, and hashes it. It takes no memory.
+pub fn run_job(job: Job) -> Hashed
+    ensures { result ≡ job.text }
+{
+    hash(Bytes::from(job.into_text()))
+}

@@ -1,0 +1,13 @@
+//! What the text of a node is written from.
+use hash_tree::hashed::Digest;
+use hash_tree::shared::SharedLeaf;
+use vclock::format::Format;
+
+/// What the text of a node is written from.
+#[derive(Debug, Drop)]
+pub(crate) enum Source {
+    /// A leaf, as it was when the job was taken.
+    Leaf(SharedLeaf),
+    /// The digests of the node's children.
+    Children(Format, [Digest; 16]),
+}

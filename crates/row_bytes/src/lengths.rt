@@ -1,0 +1,48 @@
+//! How long texts are.
+ghost use Rattle.std.specs.Prelude.{◌≡◌, ◌≤◌, length, None};
+ghost use Rattle.version_set.specs.Kind.{value_fault};
+ghost use Rattle.version_set.specs.Version.{plain_text, version_text};
+ghost use Rattle.row_bytes.specs.Rows.{row_text, FitsText};
+
+use crate::row::Row;
+use vclock::format::Format;
+use version_set::version::Version;
+
+/// How many bytes stand for a version in both formats, without its kind: at most 65,861.
+#[tactic(auto, using(crate::proofs::TextLengths::text_lengths))]
+fn plain_len(version: &Version) -> u64
+    requires { length version.now.value ≤ 65536 }
+    ensures exact { result ≡ length (plain_text version.now) }
+    ensures short { result ≤ 65861 }
+{
+    let pairs_len = 10 * version.clock.pairs().len() as u64;
+    1 + pairs_len + 4 + version.value.as_slice().len() as u64
+}
+
+/// How many bytes the text of a version has: at most 65,862.
+#[tactic(auto, using(crate::proofs::Limits::value_short))]
+fn version_len(format: Format, version: &Version) -> u64
+    requires { value_fault format version.now.kind version.now.value ≡ None }
+    ensures exact { result ≡ length (version_text format version.now) }
+    ensures short { result ≤ 65862 }
+{
+    match format {
+        Format::One => plain_len(version),
+        Format::Two => 1 + plain_len(version),
+    }
+}
+
+/// How many bytes the text of a row has: at most 4,215,427. It takes time in proportion to the versions of the row, and
+/// no memory.
+#[tactic(auto, using(crate::proofs::Limits::key_short))]
+pub fn row_len(format: Format, row: &Row) -> u64
+    requires { FitsText format row.now }
+    ensures exact { result ≡ length (row_text format row.now) }
+    ensures short { result ≤ 4215427 }
+{
+    let mut len = 2 + row.key.as_slice().len() as u64 + 2;
+    for version in row.versions.as_slice() {
+        len += version_len(format, version);
+    }
+    len
+}
