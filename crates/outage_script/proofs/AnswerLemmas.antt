@@ -8,7 +8,7 @@ use Rattle.serde_json.specs.declared.value.Value.{Value}
 use Rattle.vclock.specs.Clock.{Pairs}
 use Rattle.vclock.specs.declared.refusal.Refusal.{Refusal}
 use Rattle.vclock.specs.declared.refusal.Refusal.TheVariants.{StaleContext}
-use Rattle.outage_script.specs.Answers.{items_of, pair_data, clock_data, put_members, put_answer, cause_members, held_members, line_members, bad_line_answer, refusal_answer, value_data, version_members, version_data, versions_members, versions_answer, row_members, row_answer, ring_answer, rehash_answer, node_answer, digest_members, digest_data, bytes_data}
+use Rattle.outage_script.specs.Answers.{items_of, pair_data, clock_data, put_members, put_answer, cause_members, held_members, line_members, bad_line_answer, refusal_answer, value_data, version_members, version_data, versions_members, versions_answer, row_members, row_answer, ring_answer, rehash_answer, node_answer, digest_members, bytes_data}
 use Rattle.version_set.specs.declared.kind.Kind.{Kind}
 use Rattle.version_set.specs.declared.kind.Kind.TheVariants.{Live, Tombstone}
 use Rattle.version_set.specs.declared.version.Version.{Version}

@@ -1,10 +1,10 @@
 -- Nodes of trees: which there are, and what is shown of them.
-use Rattle.std.proofs.Common.{◌≡◌, ℕ, zero, suc, ◌<◌, ◌≤◌, ◌^◌, Option, Some, None, true, false, arith, refl, sym, ap, ◌∙◌, List}
-use Rattle.std.specs.Prelude.{nat_le, nat_lt, is_some}
+use Rattle.std.proofs.Common.{◌≡◌, ℕ, zero, suc, ◌<◌, ◌≤◌, ◌^◌, None, false, arith, refl, ap, ◌∙◌}
+use Rattle.std.specs.Prelude.{nat_le, nat_lt}
 use Rattle.std.proofs.lemmas.Bool.{and_left, and_right, lt-leb, le-ltb}
 use Rattle.vclock.specs.declared.format.Format.{Format}
 use Rattle.vclock.specs.declared.format.Format.TheVariants.{One, Two}
-use Rattle.hash_tree.specs.Nodes.{tree_depth, place_at, digest_at}
+use Rattle.hash_tree.specs.Nodes.{tree_depth, place_at}
 use Rattle.range_state.specs.Config.{Config}
 use Rattle.range_state.specs.State as range
 use Rattle.range_state.proofs.TreeSteps.{all_dirty-at}

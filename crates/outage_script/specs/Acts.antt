@@ -1,9 +1,9 @@
 -- What the commands do to the state, and what they answer.
-use Rattle.std.specs.Prelude.{ℕ, ◌^◌, Bool, true, false, not, ◌==◌, ◌&&◌, ◌||◌, ◌-◌, nat_le, nat_lt, slice_index_or, List, [], length, map, filter, if◌then◌else◌, Option, Some, None, is_none, is_some}
+use Rattle.std.specs.Prelude.{ℕ, ◌^◌, Bool, true, not, ◌==◌, ◌&&◌, ◌-◌, nat_le, nat_lt, slice_index_or, List, [], length, map, filter, if◌then◌else◌, Option, Some, None, is_none, is_some}
 use Rattle.std.specs.List.{list_any, list_all}
 use Rattle.serde_json.specs.Data.{Data, null}
 use Rattle.vclock.specs.Answer.{first_fault}
-use Rattle.vclock.specs.Clock.{Pairs, clock_of, pairs_fault}
+use Rattle.vclock.specs.Clock.{clock_of, pairs_fault}
 use Rattle.vclock.specs.Keys.{key_fault}
 use Rattle.vclock.specs.declared.format.Format.{Format}
 use Rattle.vclock.specs.declared.format.Format.TheVariants.{One, Two}
@@ -12,7 +12,6 @@ use Rattle.vclock.specs.declared.refusal.Refusal.TheVariants.{BadRing, OtherRang
 use Rattle.version_set.specs.Kind.{value_fault}
 use Rattle.version_set.specs.declared.kind.Kind.{Kind}
 use Rattle.version_set.specs.declared.kind.Kind.TheVariants.{Live, Tombstone}
-use Rattle.version_set.specs.declared.version.Version.{Version}
 use Rattle.key_ring.specs.Ring.{Places, ring_fault}
 use Rattle.range_journal.specs.Journal.{held}
 use Rattle.range_journal.specs.declared.journal.Entry.{Entry}

@@ -1,7 +1,7 @@
 -- What the calls on a tree answer and keep.
-use Rattle.std.proofs.Common.{◌≡◌, ℕ, zero, suc, ◌+◌, ◌-◌, ◌*◌, ◌<◌, ◌≤◌, ◌^◌, Bool, true, false, cond, List, [], ◌∷◌, ◌++◌, map, set, take, length, replicate, get_or, Option, Some, None, refl, ap, sym, subst, ◌∙◌, ◌↔◌, arith, inl, inr, take_all, append-nil, ◌&&◌}
-use Rattle.std.specs.Prelude.{nat_eq, nat_le, IsTrue, IfSome, MatchOption}
-use Rattle.std.specs.List.{AllByRecursion, list_all}
+use Rattle.std.proofs.Common.{◌≡◌, ℕ, suc, ◌+◌, ◌-◌, ◌<◌, ◌≤◌, ◌^◌, Bool, true, List, [], ◌∷◌, ◌++◌, map, set, take, length, replicate, get_or, Option, Some, None, refl, ap, sym, subst, ◌∙◌, ◌↔◌, arith, inl, inr, take_all, append-nil, ◌&&◌}
+use Rattle.std.specs.Prelude.{nat_eq, IsTrue, IfSome, MatchOption}
+use Rattle.std.specs.List.{AllByRecursion}
 use Rattle.std.specs.Cmp.Lexicographic.{pointwise, bytes_decides}
 use Rattle.std.proofs.lemmas.Bool.{cases_Bool, cases_lt, and_parts, leb-true, le-leb, both_ways}
 use Rattle.std.proofs.lemmas.List.{take_at, length-map, append_assoc, get_or_past, get_or-replicate, length-replicate}
@@ -9,17 +9,17 @@ use Rattle.sha2.specs.Sha256.{sha256}
 use Rattle.vclock.specs.declared.format.Format.{Format}
 use Rattle.vclock.specs.declared.format.Format.TheVariants.{One, Two}
 use Rattle.hash_tree.specs.Leaves.{Bucket}
-use Rattle.hash_tree.specs.Nodes.{Tree, IsTree, tree_depth, nodes_above, node_count, place_at, digest_at, children_of, are_clean, is_ready, ready_from}
-use Rattle.hash_tree.specs.Texts.{leaf_text, inner_text, node_text, AreTrue, IsTreeFor}
+use Rattle.hash_tree.specs.Nodes.{Tree, IsTree, tree_depth, node_count, digest_at, children_of, are_clean, is_ready, ready_from}
+use Rattle.hash_tree.specs.Texts.{leaf_text, inner_text, node_text, AreTrue}
 use Rattle.hash_tree.specs.declared.node.NodeAt.{NodeAt}
 use Rattle.hash_tree.proofs.PlaceLaws.{depth_within}
 use Rattle.hash_tree.proofs.TextLaws.{leaf_node}
 use Rattle.hash_tree.proofs.TreeLaws.{true_set, children_text, leaf_children}
-use Rattle.hash_tree.proofs.ReadyLaws.{ready_is, ready_parts, none_ready}
+use Rattle.hash_tree.proofs.ReadyLaws.{ready_is}
 use Rattle.rehash.specs.Jobs.{NodeText}
 use Rattle.key_ring.specs.Places.{leaf_bits}
 use Rattle.range_state.specs.Rows.{rows_of}
-use Rattle.range_state.specs.State.{State, IsRight, AreLeaves, IsJob, AreJobs, all_dirty, bucket_of, leaf_in, leaf_count, has_node, place_of, text_in, tree_of, is_current}
+use Rattle.range_state.specs.State.{State, IsRight, AreLeaves, IsJob, AreJobs, all_dirty, bucket_of, leaf_in, has_node, place_of, text_in, is_current}
 
 -- ---- nodes that are for a job
 

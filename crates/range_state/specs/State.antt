@@ -18,7 +18,6 @@ use Rattle.range_journal.specs.declared.journal.Entry.{Entry}
 use Rattle.range_journal.specs.declared.journal.Source.{Source}
 use Rattle.range_journal.specs.declared.journal.Source.TheVariants.{Client}
 use Rattle.range_journal.specs.Journal.{accepted, held, AreNews}
-use Rattle.row_bytes.specs.declared.row.Row.{Row}
 use Rattle.key_ring.specs.Places.{range_at, leaf_at, leaf_bits}
 use Rattle.hash_tree.specs.Leaves.{Bucket, rows_at}
 use Rattle.hash_tree.specs.Nodes.{Tree, tree_depth, node_count, place_at, children_of, are_clean, is_ready, ready_from, dirtied}

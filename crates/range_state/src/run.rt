@@ -32,10 +32,10 @@ impl RangeState {
         ensures step { IsStep self.old event result self.new }
         ensures right { IsRight self.new }
     {
-        match event {
+        let reply = match event {
             Event::Put(put) => {
                 let (key, context) = (put.key, put.context);
-                let put = self.put(
+                Reply::Put(self.put(
                     alloc,
                     put.seat,
                     put.at,
@@ -43,35 +43,25 @@ impl RangeState {
                     &context,
                     put.kind,
                     put.value,
-                );
-                let _right = self.journal();
-                Reply::Put(put)
+                ))
             }
             Event::Accept(accept) => {
-                let key = accept.key;
-                let accepted = self.accept(
+                let (key, version) = (accept.key, accept.version);
+                Reply::Accept(self.accept(
                     alloc,
                     accept.seat,
                     accept.source,
                     key.as_slice(),
-                    accept.version,
-                );
-                let _right = self.journal();
-                Reply::Accept(accepted)
+                    version,
+                ))
             }
-            Event::Get(key) => {
-                let _right = self.journal();
-                Reply::Get(self.get(alloc, key.as_slice()))
-            }
-            Event::TakeJob(skip) => {
-                let _right = self.journal();
-                Reply::TakeJob(self.take_job(alloc, skip))
-            }
+            Event::Get(key) => Reply::Get(self.get(alloc, key.as_slice())),
+            Event::TakeJob(skip) => Reply::TakeJob(self.take_job(alloc, skip)),
             Event::Install(install) => {
-                let installed = self.install(install.node, &install.hashed);
-                let _right = self.journal();
-                Reply::Install(installed)
+                Reply::Install(self.install(install.node, &install.hashed))
             }
-        }
+        };
+        let _right = self.journal();
+        reply
     }
 }

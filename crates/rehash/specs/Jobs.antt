@@ -1,6 +1,5 @@
 -- Jobs: nodes whose texts are to be hashed.
 use Rattle.std.specs.Prelude.{ℕ, List, length}
-use Rattle.hash_tree.specs.Leaves.{Bucket}
 use Rattle.hash_tree.specs.Texts.{leaf_text, inner_text}
 use Rattle.hash_tree.specs.declared.node.NodeAt.{NodeAt}
 use Rattle.rehash.specs.declared.source.Source.{Source}

@@ -1,4 +1,3 @@
-use Rattle.std.specs.Prelude.{OnErr}
 use Rattle.row_bytes.proofs.TextLengths.{on_err}
 use Rattle.std.specs.Vec.{vec_capacity}
 use Rattle.hash_tree.proofs.TextLaws.{no_room}

@@ -1,4 +1,4 @@
-use Rattle.std.proofs.Common.{◌≡◌, sym, ◌∙◌, arith}
+use Rattle.std.proofs.Common.{◌≡◌, arith}
 use Rattle.outage_script.proofs.ReplicaLaws.{found_here}
 use Rattle.outage_script.proofs.replicas.place_of.Goals as goal
 

@@ -1,8 +1,7 @@
 use mir.Val.{bool_byte}
-use Rattle.std.proofs.Common.{◌≡◌, ◌<◌, ◌+◌, rules, length, cond, set, sym, ◌∙◌, ap, arith, get_or, refl}
+use Rattle.std.proofs.Common.{◌≡◌, ◌<◌, ◌+◌, length, cond, set, sym, ◌∙◌, ap, arith, get_or}
 use Rattle.outage_script.specs.Acts.{takes, after_copy}
-use Rattle.outage_script.specs.State.{Replica}
-use Rattle.outage_script.proofs.ReplicaLaws.{changed, changed_get, changed_next, changed_length, counted_more, byte_is, byte-le}
+use Rattle.outage_script.proofs.ReplicaLaws.{changed_get, changed_next, changed_length, counted_more, byte_is, byte-le}
 use Rattle.outage_script.proofs.replicas.send_to.Goals as goal
 
 pub loop-i-preserved : goal.loop-i-preserved

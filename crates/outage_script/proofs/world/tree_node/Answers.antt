@@ -1,4 +1,4 @@
-use Rattle.std.proofs.Common.{◌≡◌, ℕ, ◌<◌, ◌≤◌, arith, sym}
+use Rattle.std.proofs.Common.{◌<◌, ◌≤◌, arith, sym}
 use Rattle.hash_tree.specs.Nodes.{tree_depth}
 use Rattle.outage_script.proofs.NodeLaws.{too_deep, too_wide}
 use Rattle.outage_script.proofs.world.tree_node.Goals as goal

@@ -1,4 +1,4 @@
-use Rattle.std.proofs.Common.{◌≡◌, List, ℕ, map, ap, ◌∙◌, Vec, Global}
+use Rattle.std.proofs.Common.{ℕ, map, ap, ◌∙◌, Vec, Global}
 use Rattle.std.proofs.lemmas.Slice.Zip.{AllZip-map}
 use Rattle.rayon.specs.Lists.{vec_items}
 use Rattle.rayon.proofs.ListFacts.{IfOk-then}

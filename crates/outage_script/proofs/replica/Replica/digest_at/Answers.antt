@@ -1,4 +1,4 @@
-use Rattle.std.proofs.Common.{◌≡◌, Option, ap, sym, ◌∙◌}
+use Rattle.std.proofs.Common.{Option, ap, sym, ◌∙◌}
 use Rattle.range_state.specs.State as range
 use Rattle.outage_script.specs.State.{Replica, range_in}
 use Rattle.outage_script.proofs.NodeLaws.{shows_none}

@@ -1,4 +1,4 @@
-use Rattle.std.proofs.Common.{rules, ◌≡◌, ℕ, sym, ◌∙◌, ap}
+use Rattle.std.proofs.Common.{ℕ}
 use Rattle.key_ring.specs.Ring.{preference_list}
 use Rattle.outage_script.specs.State.{Replica, empty_range}
 use Rattle.outage_script.proofs.ReplicaLaws.{node_some, mapped_next}

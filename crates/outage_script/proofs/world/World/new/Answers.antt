@@ -1,5 +1,4 @@
-use Rattle.std.proofs.Common.{◌≡◌, ℕ, length, ap, sym, ◌∙◌, arith, ◌^◌}
-use Rattle.key_ring.specs.Ring.{Places}
+use Rattle.std.proofs.Common.{◌≡◌, length, ap, ◌∙◌, arith}
 use Rattle.range_state.specs.Config.{Config}
 use Rattle.outage_script.specs.State.{replicas_made}
 use Rattle.outage_script.proofs.ReplicaLaws.{made_length, made_next}

@@ -1,5 +1,4 @@
-use Rattle.std.proofs.Common.{◌≡◌, List, ℕ, Some, set, subst, sym, ap, ◌∙◌, IsTrue}
-use Rattle.vclock.specs.declared.format.Format.{Format}
+use Rattle.std.proofs.Common.{Some, set, subst, sym, ap, ◌∙◌, IsTrue}
 use Rattle.hash_tree.specs.Nodes.{Tree}
 use Rattle.range_state.specs.State.{State, is_current, place_of}
 use Rattle.range_state.proofs.TreeSteps.{cleaned_right}

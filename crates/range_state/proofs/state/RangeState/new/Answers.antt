@@ -1,9 +1,7 @@
-use Rattle.std.proofs.Common.{◌≡◌, ◌^◌, List, None, [], replicate, refl, ap, ◌∙◌}
+use Rattle.std.proofs.Common.{◌^◌, None, [], replicate, refl, ap, ◌∙◌}
 use Rattle.key_ring.specs.Places.{leaf_bits}
 use Rattle.vclock.specs.declared.format.Format.{Format}
-use Rattle.range_journal.specs.declared.journal.Entry.{Entry}
 use Rattle.range_journal.specs.Log.{Log}
-use Rattle.hash_tree.specs.Leaves.{Bucket}
 use Rattle.hash_tree.specs.Nodes.{Tree, node_count}
 use Rattle.range_state.proofs.StateLaws.{new_range}
 use Rattle.range_state.proofs.state.RangeState.new.Goals as goal

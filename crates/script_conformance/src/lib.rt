@@ -1,0 +1,11 @@
+//! Tests of scripts: worked examples, and devices that fail.
+#![tactic(auto)]
+
+#[cfg(test)]
+mod devices;
+#[cfg(test)]
+mod outages;
+#[cfg(test)]
+mod scripts;
+#[cfg(test)]
+mod trees;
