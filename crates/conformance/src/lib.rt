@@ -4,6 +4,8 @@
 #[cfg(test)]
 mod clocks;
 #[cfg(test)]
+mod hints;
+#[cfg(test)]
 mod journals;
 #[cfg(test)]
 mod places;
@@ -13,5 +15,7 @@ mod ranges;
 mod rows;
 #[cfg(test)]
 mod sets;
+#[cfg(test)]
+mod slots;
 #[cfg(test)]
 mod trees;

@@ -2,11 +2,13 @@
 //! turn: each call then answers NoMemory, with what it was to change as it was, or what it answers with ample memory.
 #![tactic(auto)]
 
+mod hints;
 mod histories;
 mod leaves;
 mod ranges;
 mod rings;
 mod rows;
+mod slots;
 mod trees;
 mod versions;
 mod words;
@@ -22,7 +24,9 @@ fn main(rt: HostRuntime) -> io::Result<()> {
     rings::show_all(&rt)?;
     leaves::show_all(&rt)?;
     ranges::show_all(&rt)?;
-    trees::show_all(&rt)
+    trees::show_all(&rt)?;
+    hints::show_all(&rt)?;
+    slots::show_all(&rt)
 }
 
 /// Prints what a call answered: a number that tells its result, or the name of its refusal.

@@ -1,0 +1,91 @@
+-- Background work admitted by the latency of the foreground: the paper of 2007, section 6.5.
+use Rattle.std.specs.Prelude.{ℕ, ◌+◌, ◌-◌, ◌*◌, ◌/◌, ◌≤◌, List, [], ◌∷◌, ◌++◌, length, map, filter, count_by, max, min, nat_le, nat_lt, Contains, Option, Some, None, if◌then◌else◌}
+use Rattle.circular_buffer.specs.Buffer.{keep_last}
+use Rattle.vclock.specs.declared.refusal.Refusal.{Refusal}
+use Rattle.vclock.specs.declared.refusal.Refusal.TheVariants.{NoSlot, ClockBack}
+
+-- a controller
+pub record Admission : Type 0 where
+  -- the bounds of the target, and the latency in microseconds over which the target falls
+  pub floor : ℕ
+  pub ceiling : ℕ
+  pub threshold : ℕ
+  -- how many slots there may be
+  pub target : ℕ
+  -- how many slots there are: the number of the ledger whose shares they are
+  pub slots : ℕ
+  -- the last 1,024 samples, each a moment and a latency, the oldest first
+  pub samples : List (ℕ × ℕ)
+  -- the greatest moment accepted
+  pub latest : ℕ
+
+-- what holds of each controller
+pub record IsAdmission (a : Admission) : Type 0 where
+  pub floor : 1 ≤ a.floor
+  pub low : a.floor ≤ a.target
+  pub high : a.target ≤ a.ceiling
+  pub ceiling : a.ceiling ≤ 1024
+  pub slots : a.slots ≤ a.ceiling
+  pub samples : length a.samples ≤ 1024
+
+abbrev pub fresh : ℕ → ℕ → ℕ → Admission
+fresh floor ceiling threshold =
+    record { floor = floor; ceiling = ceiling; threshold = threshold; target = ceiling; slots = 0; samples = []; latest = 0 }
+
+-- how many slots could be lent
+abbrev pub free_of : Admission → ℕ
+free_of a = a.target - a.slots
+
+-- how many slots there are or could be
+abbrev pub allowance_of : Admission → ℕ
+allowance_of a = max a.target a.slots
+
+-- why no slot is lent
+abbrev pub lend_fault : Admission → Option Refusal
+lend_fault a = if nat_lt a.slots a.target then None else Some NoSlot
+
+-- why a moment is not accepted
+abbrev pub clock_fault : Admission → ℕ → Option Refusal
+clock_fault a moment = if nat_lt moment a.latest then Some ClockBack else None
+
+-- the controller after a sample
+abbrev pub sampled : Admission → ℕ → ℕ → Admission
+sampled a moment micros = record a { samples = keep_last 1024 (a.samples ++ (moment, micros) ∷ []); latest = moment }
+
+-- the latencies of the samples of the last 60,000 milliseconds
+abbrev pub window_of : ℕ → List (ℕ × ℕ) → List ℕ
+window_of now samples = map (λ s. s.1) (filter (λ s. nat_lt now (s.0 + 60000)) samples)
+
+-- how many are at most v
+abbrev pub at_most : ℕ → List ℕ → ℕ
+at_most v xs = count_by (λ x. nat_le x v) xs
+
+-- the lesser of a number and another, if there is another
+abbrev pub lesser : ℕ → Option ℕ → ℕ
+lesser x None = x
+lesser x (Some y) = min x y
+
+-- the least of some numbers
+unfoldable pub least : List ℕ → Option ℕ
+least [] = None
+least (x ∷ xs) = Some (lesser x (least xs))
+
+-- the 99th percentile: the smallest sample with at least 99 of 100 at most it
+unfoldable pub percentile : List ℕ → Option ℕ
+percentile xs = least (filter (λ v. nat_le (99 * length xs) (100 * at_most v xs)) xs)
+
+-- the same as a fact: it is a sample, at least 99 of 100 are at most it, and it is the smallest of those
+pub record IsPercentile (xs : List ℕ) (v : ℕ) : Type 0 where
+  pub there : Contains xs v
+  pub enough : 99 * length xs ≤ 100 * at_most v xs
+  pub least : (w : ℕ) → Contains xs w → 99 * length xs ≤ 100 * at_most w xs → v ≤ w
+
+-- the target after an adjustment
+abbrev pub target_after : Admission → Option ℕ → ℕ
+target_after a None = a.target
+target_after a (Some p) =
+    if nat_lt a.threshold p then max a.floor (a.target / 2) else if nat_le (2 * p) a.threshold then min a.ceiling (a.target + 1) else a.target
+
+-- the controller after an adjustment
+abbrev pub adjusted : Admission → ℕ → Admission
+adjusted a now = record a { target = target_after a (percentile (window_of now a.samples)); latest = now }

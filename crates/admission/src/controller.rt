@@ -1,0 +1,224 @@
+//! A controller of slots.
+ghost use Rattle.std.specs.Prelude.{◌≡◌, ◌+◌, ◌-◌, ◌≤◌, min, length, IfOk, OnOk, OnErr, [], None, Some, MatchOption, ⊤};
+ghost use Rattle.vclock.specs.Answer.{Answers, AnswersAtOnce};
+ghost use Rattle.admission.specs.Admission.{IsAdmission, fresh, free_of, allowance_of, lend_fault, clock_fault, sampled, window_of, percentile, IsPercentile, target_after, adjusted};
+
+use crate::latency::{MOST, Sample, percentile, window};
+use crate::slot::Slot;
+use circular_buffer::HeapCircularBuffer;
+use std::alloc::Global;
+use std::marker::Model;
+use std::sync::ledger::{Blank, Book, Ledger, Share};
+use vclock::refusal::Refusal;
+
+/// Lends slots, at most as many as its target, which follows the latency of the foreground: section 6.5 of the Dynamo
+/// paper of 2007.
+///
+/// Moments are milliseconds and latencies are microseconds. The slots are counted by the ledger that they are parts
+/// of. A slot can't be dropped, so that one who borrows it must give it back.
+#[derive(Drop)]
+pub struct Controller<L: Ledger> {
+    floor: u32,
+    ceiling: u32,
+    threshold: u32,
+    target: u32,
+    lent: u32,
+    latest: u64,
+    samples: HeapCircularBuffer<Sample>,
+    room: Vec<u32>,
+    book: Book<L>,
+    spare: Share<L>,
+}
+
+impl<L: Ledger> Model for Controller<L> {
+    ghost use Rattle.std.specs.Prelude.{◌≡◌, ◌+◌, ◌≤◌, length, vec_capacity};
+    ghost use Rattle.admission.specs.Admission.{Admission};
+    ghost use Rattle.admission.specs.Samples.{pairs};
+
+    ghost Value = { Admission };
+
+    ghost view = { λ c. record {
+      floor = c.floor;
+      ceiling = c.ceiling;
+      threshold = c.threshold;
+      target = c.target;
+      slots = c.book.total;
+      samples = pairs c.samples.items;
+      latest = c.latest;
+    } };
+
+    ghost invariant = { λ c. (1 ≤ c.floor) × (c.floor ≤ c.target) × (c.target ≤ c.ceiling) × (c.ceiling ≤ 1024)
+        × (c.lent ≤ c.ceiling)
+        × (c.lent ≡ c.book.total) × (c.spare.amount ≡ 0) × (c.spare.parts + c.lent ≡ 1024)
+        × (c.samples.capacity ≡ 1024) × (length c.samples.items ≤ 1024) × (1024 ≤ vec_capacity c.room) };
+}
+
+impl<L: Ledger> Controller<L> {
+    /// A controller whose target is the ceiling, with no slot lent and no sample, that accepts moments from 0 on.
+    ///
+    /// The target stays within the floor and the ceiling, 1 to 1,024 slots. It falls where the latency is over the
+    /// threshold, in microseconds.
+    ///
+    /// Refused: NoMemory. All the memory that a controller ever has is taken here.
+    pub fn new(
+        blank: Blank,
+        alloc: Global,
+        floor: u32,
+        ceiling: u32,
+        threshold: u32,
+    ) -> Result<Controller<L>, Refusal>
+        requires ledger { (blank.name ≡ L.name) × (blank.parts ≡ L.parts) × (blank.parts ≡ 1024) }
+        requires bounds { (1 ≤ floor) × (floor ≤ ceiling) × (ceiling ≤ 1024) }
+        ensures { Answers result None (λ c. c ≡ fresh floor ceiling threshold) }
+    {
+        let samples = HeapCircularBuffer::with_capacity(alloc, MOST)?;
+        let mut room = Vec::new(alloc);
+        room.reserve(MOST)?;
+        let (book, spare) = blank.open::<L>();
+        Ok(Controller {
+            floor,
+            ceiling,
+            threshold,
+            target: ceiling,
+            lent: 0,
+            latest: 0,
+            samples,
+            room,
+            book,
+            spare,
+        })
+    }
+
+    /// How many slots are lent, 0 to 1,024. It takes no memory.
+    pub fn lent(&self) -> u32
+        ensures counted { result ≡ self.now.slots }
+        ensures valid { IsAdmission self.now }
+    {
+        self.lent
+    }
+
+    /// How many slots could be lent now: those of the target that aren't. It takes no memory.
+    pub fn free(&self) -> u32
+        ensures { result ≡ free_of self.now }
+    {
+        self.target.saturating_sub(self.lent)
+    }
+
+    /// How many slots are lent or could be: the target, or what is lent where the target fell below that. It takes no
+    /// memory.
+    pub fn allowance(&self) -> u32
+        ensures value { result ≡ allowance_of self.now }
+        ensures sum { result ≡ self.now.slots + free_of self.now }
+    {
+        self.target.max(self.lent)
+    }
+
+    /// How many slots there may be, from the floor to the ceiling. It takes no memory.
+    pub fn target(&self) -> u32
+        ensures { result ≡ self.now.target }
+    {
+        self.target
+    }
+
+    /// Lends a slot. The one who borrows it must give it back, since it can't be dropped. It takes no memory.
+    ///
+    /// Refused: NoSlot (as many slots as the target, or more, are lent).
+    pub fn lend(&mut self) -> Result<Slot<L>, Refusal>
+        ensures answers { AnswersAtOnce result (lend_fault self.old) (λ _. ⊤) }
+        ensures ok { OnOk result (self.new ≡ record self.old { slots = self.old.slots + 1 }) }
+        ensures err { OnErr result (self.new ≡ self.old) }
+    {
+        if self.lent >= self.target {
+            return Err(Refusal::NoSlot);
+        }
+        let mut share = self.spare.split_off(1, 0);
+        self.book.add(&mut share, 1);
+        self.lent += 1;
+        Ok(Slot { share })
+    }
+
+    /// Takes a slot back. It takes no memory.
+    pub fn give_back(&mut self, slot: Slot<L>)
+        ensures there { 1 ≤ self.old.slots }
+        ensures back { self.new ≡ record self.old { slots = self.old.slots - 1 } }
+    {
+        let Slot { mut share } = slot;
+        self.book.audit(&mut share);
+        self.book.sub(&mut share, 1);
+        self.spare.merge(share);
+        self.lent -= 1;
+    }
+
+    /// Sets the target, from the floor to the ceiling. Slots that are lent stay so. It takes no memory.
+    pub fn set_target(&mut self, target: u32)
+        requires { (self.old.floor ≤ target) × (target ≤ self.old.ceiling) }
+        ensures { self.new ≡ record self.old { target = target } }
+    {
+        self.target = target;
+    }
+
+    /// Makes a controller of which no slot is lent what `new` made it. It takes no memory.
+    pub fn reset(&mut self)
+        requires { self.old.slots ≡ 0 }
+        ensures { self.new ≡ fresh self.old.floor self.old.ceiling self.old.threshold }
+    {
+        self.target = self.ceiling;
+        self.latest = 0;
+        self.samples.clear();
+    }
+
+    /// Keeps the latency of an answer of the foreground, in microseconds, with its moment in milliseconds. It answers
+    /// how many samples are kept: the last 1,024. It takes no memory.
+    ///
+    /// Refused: ClockBack (a later moment was accepted before). The controller is then as it was.
+    #[tactic(auto, using(crate::proofs::Ranks::pairs_keep))]
+    pub fn sample(&mut self, moment: u64, micros: u32) -> Result<u32, Refusal>
+        ensures answers { AnswersAtOnce result (clock_fault self.old moment) (λ kept. kept ≡ min 1024 (length self.old.samples + 1)) }
+        ensures ok { OnOk result (self.new ≡ sampled self.old moment micros) }
+        ensures err { OnErr result (self.new ≡ self.old) }
+    {
+        if moment < self.latest {
+            return Err(Refusal::ClockBack);
+        }
+        self.samples.push_back(Sample { moment, micros });
+        self.latest = moment;
+        Ok(self.samples.len() as u32)
+    }
+
+    /// Sets the target by the samples of the last 60,000 milliseconds, and answers their 99th percentile in
+    /// microseconds: the smallest that at least 99 of 100 are at most. None, and the target as it was, where there are
+    /// no such samples. It takes no memory.
+    ///
+    /// Over the threshold the target becomes half, rounded down, but not below the floor. At half of the threshold or
+    /// less it rises by one, but not above the ceiling.
+    ///
+    /// Refused: ClockBack (a later moment was accepted before). The controller is then as it was.
+    pub fn adjust(&mut self, now: u64) -> Result<Option<u32>, Refusal>
+        ensures answers { AnswersAtOnce result (clock_fault self.old now) (λ found. found ≡ percentile (window_of now self.old.samples)) }
+        ensures fact { IfOk result (λ found. MatchOption found (window_of now self.old.samples ≡ []) (IsPercentile (window_of now self.old.samples))) }
+        ensures ok { OnOk result (self.new ≡ adjusted self.old now) }
+        ensures err { OnErr result (self.new ≡ self.old) }
+    {
+        if now < self.latest {
+            return Err(Refusal::ClockBack);
+        }
+        self.latest = now;
+        window(&mut self.room, &self.samples, now);
+        let found = percentile(&mut self.room);
+        if let Some(p) = found {
+            self.follow(p);
+        }
+        Ok(found)
+    }
+
+    /// Sets the target by a percentile.
+    fn follow(&mut self, p: u32)
+        ensures { self.new ≡ record self.old { target = target_after self.old (Some p) } }
+    {
+        if p > self.threshold {
+            self.target = self.floor.max(self.target / 2);
+        } else if p as u64 * 2 <= self.threshold as u64 {
+            self.target = self.ceiling.min(self.target + 1);
+        }
+    }
+}

@@ -1,0 +1,80 @@
+//! Latencies, and their percentile.
+ghost use Rattle.std.specs.Prelude.{◌≡◌, ◌+◌, ◌*◌, ◌<◌, ◌≤◌, length, [], ◌∷◌, ◌++◌, MatchOption, vec_capacity, vec_len};
+ghost use Rattle.admission.specs.Admission.{window_of, IsPercentile, percentile};
+ghost use Rattle.admission.specs.Samples.{pairs};
+
+use circular_buffer::HeapCircularBuffer;
+
+/// How many samples are kept.
+pub(crate) const MOST: usize = 1024;
+
+/// For how many milliseconds a sample counts.
+const MINUTE: u64 = 60_000;
+
+/// A latency in microseconds, and the moment in milliseconds when it was measured.
+#[derive(Clone, Copy)]
+pub struct Sample {
+    pub moment: u64,
+    pub micros: u32,
+}
+
+/// Puts the latencies of the last 60,000 milliseconds in the room, oldest first. It takes no memory.
+#[tactic(auto, using(crate::proofs::Ranks::window_more))]
+pub(crate) fn window(room: &mut Vec<u32>, samples: &HeapCircularBuffer<Sample>, now: u64)
+    requires { (1024 ≤ vec_capacity room.old) × (samples.now.capacity ≡ 1024) }
+    ensures items { room.new.items ≡ window_of now (pairs samples.now.items) }
+    ensures short { vec_len room.new ≤ 1024 }
+    ensures capacity { vec_capacity room.new ≡ vec_capacity room.old }
+{
+    room.clear();
+    for i in 0..samples.len() {
+        let Some(sample) = samples.get(i) else {
+            unreachable!();
+        };
+        keep_new(room, sample, now);
+    }
+}
+
+/// Adds the latency of a sample of the last 60,000 milliseconds.
+fn keep_new(room: &mut Vec<u32>, sample: &Sample, now: u64)
+    requires { vec_len room.old < vec_capacity room.old }
+    ensures items { room.new.items ≡ room.old.items ++ window_of now (pairs (sample.now ∷ [])) }
+    ensures len { vec_len room.new ≤ vec_len room.old + 1 }
+    ensures capacity { vec_capacity room.new ≡ vec_capacity room.old }
+{
+    if now.saturating_sub(sample.moment) < MINUTE {
+        room.push_reserved(sample.micros);
+    }
+}
+
+/// The 99th percentile of the latencies in the room, which it sorts: None where there are none. It takes no memory.
+pub(crate) fn percentile(room: &mut Vec<u32>) -> Option<u32>
+    requires { vec_len room.old ≤ 1024 }
+    ensures value { result ≡ percentile room.old.items }
+    ensures fact { MatchOption result (room.old.items ≡ []) (IsPercentile room.old.items) }
+    ensures capacity { vec_capacity room.new ≡ vec_capacity room.old }
+{
+    if room.is_empty() {
+        return None;
+    }
+    Some(ranked(room.as_mut_slice()))
+}
+
+/// The 99th percentile of a slice that isn't empty, which it sorts.
+fn ranked(latencies: &mut [u32]) -> u32
+    requires { (0 < length latencies.old) × (length latencies.old ≤ 1024) }
+    ensures { IsPercentile latencies.old result }
+{
+    latencies.sort_unstable();
+    latencies[place(latencies.len())]
+}
+
+/// The first place of so many in order at which at least 99 of 100 stand no later.
+fn place(count: usize) -> usize
+    requires { (0 < count) × (count ≤ 1024) }
+    ensures within { result < count }
+    ensures enough { 99 * count ≤ 100 * (result + 1) }
+    ensures first { 100 * result < 99 * count }
+{
+    (99 * count + 99) / 100 - 1
+}

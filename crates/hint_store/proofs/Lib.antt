@@ -1,0 +1,2 @@
+pub mod HintLaws
+pub mod WaitLaws

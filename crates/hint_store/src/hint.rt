@@ -1,0 +1,68 @@
+//! Hints, and what became of them.
+ghost use Rattle.std.specs.Prelude.{◌≡◌, None};
+ghost use Rattle.vclock.specs.Answer.{Answers};
+
+use std::alloc::Global;
+use vclock::bytes::Bytes;
+use vclock::refusal::Refusal;
+use version_set::version::Version;
+
+/// A version that a carrier keeps for a replica that is down.
+#[derive(Debug, Drop)]
+pub struct Hint {
+    /// The number of the hint at its carrier, from 1.
+    pub id: u32,
+    /// The replica that is to have it.
+    pub owner: u16,
+    /// The key.
+    pub key: Bytes,
+    /// The version.
+    pub version: Version,
+}
+
+impl Hint {
+    /// An equal hint. Refused: NoMemory.
+    pub fn try_clone(&self, alloc: Global) -> Result<Hint, Refusal>
+        ensures { Answers result None (λ copy. copy ≡ self.now) }
+    {
+        Ok(Hint {
+            id: self.id,
+            owner: self.owner,
+            key: Bytes::copy_of(alloc, self.key.as_slice())?,
+            version: self.version.try_clone()?,
+        })
+    }
+}
+
+/// What an owner answered to a hint.
+#[derive(Debug, Drop)]
+pub struct Delivery {
+    /// The replica that answered.
+    pub owner: u16,
+    /// The key.
+    pub key: Bytes,
+    /// The version.
+    pub version: Version,
+    /// Whether the version was covered there already; else it was journaled.
+    pub known: bool,
+}
+
+/// What became of a hint.
+#[derive(Clone, Copy, Debug, PartialEq, Eq)]
+pub enum Fate {
+    /// Its owner has not answered.
+    Pending,
+    /// Its owner journaled the version.
+    Taken,
+    /// The version was covered at its owner.
+    Known,
+}
+
+/// A hint that was kept, and what became of it.
+#[derive(Debug, Drop)]
+pub struct Kept {
+    /// The hint.
+    pub hint: Hint,
+    /// What became of it.
+    pub fate: Fate,
+}

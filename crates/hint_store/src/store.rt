@@ -1,0 +1,295 @@
+//! The hints of a carrier.
+ghost use Rattle.std.specs.Prelude.{◌≡◌, ◌+◌, ◌≤◌, ◌↔◌, [], ◌∷◌, length, slice_get, None, Some, ⊤, true, false, Any, AllPairs, OnOk, OnErr, IsOk, if◌then◌else◌};
+ghost use Rattle.std.specs.Option.{option_copied, option_map, option_and_then};
+ghost use Rattle.std.specs.List.{list_any};
+ghost use Rattle.std.specs.List.Sorted.{IsPartitionPoint};
+ghost use Rattle.vclock.specs.Answer.{Answers, AnswersAtOnce};
+ghost use Rattle.hint_store.specs.Hints.{AreHints, pending_count, kept_at, keep_fault, with_hint, next_hint, is_open, is_of, is_answered, IsAnswered, confirm_fault, confirmed, fate_of, delivery_of};
+ghost use Rattle.hint_store.specs.Waits.{IsBefore, id_of, is_up_to, lesser};
+
+use crate::hint::{Delivery, Fate, Hint, Kept};
+use std::alloc::Global;
+use std::cmp::Ordering;
+use std::marker::Model;
+use vclock::bytes::Bytes;
+use vclock::refusal::Refusal;
+use version_set::version::Version;
+
+/// How many hints can be pending.
+const MOST_PENDING: u32 = 10_000;
+
+/// The last number of a hint.
+const LAST_ID: usize = 0xffff_ffff;
+
+/// A pending hint in the index.
+#[derive(Clone, Copy, Debug, PartialEq, Eq)]
+struct Waiting {
+    owner: u16,
+    id: u32,
+}
+
+/// The hints that a carrier keeps for replicas that are down, as in section 4.6 of the Dynamo paper of 2007: each with
+/// its owner, its key and a version, and what became of it.
+///
+/// Their ids count from 1 and go up to 2^32 - 1. At most 10,000 hints are pending. A hint that was delivered is kept for
+/// good, with its fate.
+#[derive(Debug, Drop)]
+pub struct HintStore {
+    hints: Vec<Kept>,
+    pending: Vec<Waiting>,
+}
+
+impl Model for HintStore {
+    ghost use Rattle.std.specs.Prelude.{List};
+    ghost use Rattle.hint_store.specs.declared.hint.Kept.{Kept};
+    ghost use Rattle.hint_store.specs.Hints.{AreHints};
+    ghost use Rattle.hint_store.specs.Waits.{AreWaiting};
+
+    ghost Value = { List Kept };
+
+    ghost view = { λ s. s.hints.items };
+
+    ghost invariant = { λ s. AreHints s.hints.items × AreWaiting s.hints.items s.pending.items };
+}
+
+impl HintStore {
+    /// A store of no hint. It takes no memory.
+    pub fn new(alloc: Global) -> HintStore
+        ensures { result ≡ [] }
+    {
+        HintStore {
+            hints: Vec::new(alloc),
+            pending: Vec::new(alloc),
+        }
+    }
+
+    /// How many hints are pending, at most 10,000.
+    pub fn pending(&self) -> u32
+        ensures count { result ≡ pending_count self.now }
+        ensures valid { AreHints self.now }
+    {
+        self.pending.len() as u32
+    }
+
+    /// How many hints were delivered.
+    #[tactic(auto, using(crate::proofs::WaitLaws::pending_count_le))]
+    pub fn delivered(&self) -> u32
+        ensures { result + pending_count self.now ≡ length self.now }
+    {
+        let pending = self.pending();
+        self.len() as u32 - pending
+    }
+
+    /// The hint of a number, pending or delivered. None for 0, and where no hint has the number yet.
+    pub fn get(&self, id: u32) -> Option<&Kept>
+        ensures { option_copied result ≡ kept_at self.now id }
+    {
+        if id == 0 {
+            return None;
+        }
+        self.hints.get(id as usize - 1)
+    }
+
+    /// Keeps a version for a replica that is down, and gives the hint's id, the one after the last: from 1 to 2^32 - 1.
+    /// A binary search, and a move of at most 10,000 small entries.
+    ///
+    /// Refused, in order: HintsFull (10,000 hints are pending, or the last id was used), NoMemory. The store is then as
+    /// it was.
+    pub fn keep(&mut self, owner: u16, key: Bytes, version: Version) -> Result<u32, Refusal>
+        ensures answers { Answers result (keep_fault self.old) (λ id. id ≡ length self.old + 1) }
+        ensures ok { OnOk result (self.new ≡ with_hint self.old owner key version) }
+        ensures err { OnErr result (self.new ≡ self.old) }
+    {
+        if self.is_full() {
+            return Err(Refusal::HintsFull);
+        }
+        self.hints.reserve(1)?;
+        self.pending.reserve(1)?;
+        let last = self.hints.len() as u32;
+        let id = last + 1;
+        let place = place_after(&self.pending, owner, last);
+        self.pending.insert(place, Waiting { owner, id }).unwrap();
+        let hint = Hint {
+            id,
+            owner,
+            key,
+            version,
+        };
+        let fate = Fate::Pending;
+        self.hints.push(Kept { hint, fate }).unwrap();
+        Ok(id)
+    }
+
+    /// A copy of the pending hint of an owner with the least id over `after`. A binary search over the pending hints,
+    /// and the copy.
+    ///
+    /// Refused: NoMemory.
+    pub fn next(&self, alloc: Global, owner: u16, after: u32) -> Result<Option<Hint>, Refusal>
+        ensures { Answers result None (λ found. found ≡ next_hint (owner ∷ []) after self.now) }
+    {
+        let _valid = self.pending();
+        self.copy_of(alloc, self.first_of(owner, after))
+    }
+
+    /// A copy of the pending hint with the least id over `after` whose owner is one of these. A binary search over the
+    /// pending hints for each owner, and the copy.
+    ///
+    /// Refused: NoMemory.
+    pub fn next_of(
+        &self,
+        alloc: Global,
+        owners: &[u16],
+        after: u32,
+    ) -> Result<Option<Hint>, Refusal>
+        ensures { Answers result None (λ found. found ≡ next_hint owners.now after self.now) }
+    {
+        let _valid = self.pending();
+        let mut least = None;
+        for owner in owners {
+            least = lesser(least, self.first_of(*owner, after));
+        }
+        self.copy_of(alloc, least)
+    }
+
+    /// Takes down that the owner of a hint answered: the hint is pending no more, and has its fate. The delivery's owner,
+    /// key and version must be the hint's. A binary search, and a move of at most 10,000 small entries. It takes no
+    /// memory.
+    ///
+    /// Refused: UnknownHint (no pending hint has this id with this owner, key and version). The store is then as it was.
+    pub fn confirm(&mut self, id: u32, delivery: Delivery) -> Result<(), Refusal>
+        ensures answers { AnswersAtOnce result (confirm_fault self.old id delivery) (λ _. ⊤) }
+        ensures ok { OnOk result (self.new ≡ confirmed self.old id delivery) }
+        ensures fact { IsOk result ↔ Any (IsAnswered id delivery) self.old }
+        ensures kept { OnOk result (option_and_then delivery_of (kept_at self.new id) ≡ Some delivery) }
+        ensures err { OnErr result (self.new ≡ self.old) }
+    {
+        if !self.awaits(id, &delivery) {
+            return Err(Refusal::UnknownHint);
+        }
+        let last = id - 1;
+        let place = place_after(&self.pending, delivery.owner, last);
+        self.pending.remove(place);
+        self.hints[last as usize].fate = fate_of(&delivery);
+        Ok(())
+    }
+
+    // How many hints there are.
+    fn len(&self) -> usize
+        ensures { result ≡ length self.now }
+    {
+        self.hints.len()
+    }
+
+    // Whether no hint can be kept: 10,000 are pending, or the last id was used.
+    #[tactic(auto, using(crate::proofs::HintLaws::full_of_pending, crate::proofs::HintLaws::full_of_ids))]
+    fn is_full(&self) -> bool
+        ensures { keep_fault self.now ≡ (if result then Some Refusal.HintsFull else None) }
+    {
+        self.pending() >= MOST_PENDING || self.len() >= LAST_ID
+    }
+
+    // Whether the delivery is of a pending hint of this id.
+    fn awaits(&self, id: u32, delivery: &Delivery) -> bool
+        ensures { result ≡ list_any (is_answered id delivery.now) self.now }
+    {
+        let _valid = self.pending();
+        match self.get(id) {
+            Some(kept) => is_open(kept.fate) && is_delivery_of(delivery, &kept.hint),
+            None => false,
+        }
+    }
+
+    // The least id over `after` of a pending hint of this owner.
+    fn first_of(&self, owner: u16, after: u32) -> Option<u32>
+        ensures { result ≡ option_map (λ h. h.id) (next_hint (owner ∷ []) after self.now) }
+    {
+        let place = place_after(&self.pending, owner, after);
+        id_at(&self.pending, place, owner)
+    }
+
+    // A copy of the hint of an id, if there is one.
+    fn copy_of(&self, alloc: Global, id: Option<u32>) -> Result<Option<Hint>, Refusal>
+        ensures { Answers result None (λ found. found ≡ option_map (λ k. k.hint) (option_and_then (kept_at self.now) id)) }
+    {
+        let Some(id) = id else {
+            return Ok(None);
+        };
+        match self.get(id) {
+            Some(kept) => Ok(Some(kept.hint.try_clone(alloc)?)),
+            None => Ok(None),
+        }
+    }
+}
+
+// The id of the entry at a place, where there is one and it is of this owner.
+fn id_at(pending: &[Waiting], place: usize, owner: u16) -> Option<u32>
+    ensures { result ≡ id_of owner (slice_get pending.now place) }
+{
+    match pending.get(place) {
+        Some(waiting) => {
+            if waiting.owner == owner {
+                Some(waiting.id)
+            } else {
+                None
+            }
+        }
+        None => None,
+    }
+}
+
+// How many entries are up to an owner and an id.
+fn place_after(pending: &[Waiting], owner: u16, id: u32) -> usize
+    requires { AllPairs IsBefore pending.now }
+    ensures bound { result ≤ length pending.now }
+    ensures place { IsPartitionPoint (λ w. is_up_to owner id w ≡ true) (λ w. is_up_to owner id w ≡ false) pending.now result }
+{
+    pending.partition_point(|waiting| is_at_most(waiting, owner, id))
+}
+
+// Whether an entry is the one of an owner and an id, or before it.
+fn is_at_most(waiting: &Waiting, owner: u16, id: u32) -> bool
+    ensures { result ≡ is_up_to owner id waiting.now }
+{
+    waiting.owner < owner || (waiting.owner == owner && waiting.id <= id)
+}
+
+// Whether a fate is that of a pending hint.
+fn is_open(fate: Fate) -> bool
+    ensures { result ≡ is_open fate }
+{
+    match fate {
+        Fate::Pending => true,
+        Fate::Taken | Fate::Known => false,
+    }
+}
+
+// What becomes of a hint by a delivery.
+fn fate_of(delivery: &Delivery) -> Fate
+    ensures { result ≡ fate_of delivery.now }
+{
+    if delivery.known {
+        Fate::Known
+    } else {
+        Fate::Taken
+    }
+}
+
+// Whether a delivery has the owner, the key and the version of a hint.
+fn is_delivery_of(delivery: &Delivery, hint: &Hint) -> bool
+    ensures { result ≡ is_of delivery.now hint.now }
+{
+    hint.owner == delivery.owner
+        && hint.key.as_slice() == delivery.key.as_slice()
+        && hint.version.text_order(&delivery.version) == Ordering::Equal
+}
+
+// The lesser of two ids, where there is one.
+fn lesser(one: Option<u32>, other: Option<u32>) -> Option<u32>
+    ensures { result ≡ lesser one other }
+{
+    match (one, other) {
+        (Some(a), Some(b)) => Some(a.min(b)),
+        (Some(a), None) => Some(a),
+        (None, b) => b,
+    }
+}
