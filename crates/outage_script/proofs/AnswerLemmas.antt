@@ -1,5 +1,5 @@
 -- Lists of answers, and answers without floats.
-use Rattle.std.proofs.Common.{Option, Some, None, ◌≡◌, ℕ, suc, ◌+◌, ◌^◌, ◌<◌, ◌≤◌, length, List, [], ◌∷◌, ◌++◌, drop, refl, sym, ap, get_or, false, add-one, drop-cons}
+use Rattle.std.proofs.Common.{Option, Some, None, Bool, ◌≡◌, ℕ, suc, ◌+◌, ◌^◌, ◌<◌, ◌≤◌, length, List, [], ◌∷◌, ◌++◌, drop, refl, sym, ap, get_or, true, false, add-one, drop-cons}
 use Rattle.std.proofs.lemmas.List.{drop_all}
 use Rattle.serde_json.specs.Written.{has_float, items_have_float}
 use Rattle.serde_json.specs.Data.{Data, Items, no_items, item, null}
@@ -8,15 +8,20 @@ use Rattle.serde_json.specs.declared.value.Value.{Value}
 use Rattle.vclock.specs.Clock.{Pairs}
 use Rattle.vclock.specs.declared.refusal.Refusal.{Refusal}
 use Rattle.vclock.specs.declared.refusal.Refusal.TheVariants.{StaleContext}
-use Rattle.outage_script.specs.Answers.{items_of, pair_data, clock_data, put_members, put_answer, cause_members, held_members, line_members, bad_line_answer, refusal_answer, value_data, version_members, version_data, versions_members, versions_answer, row_members, row_answer, ring_answer, rehash_answer, node_answer, digest_members, bytes_data}
+use Rattle.outage_script.specs.Answers.{items_of, pair_data, clock_data, put_members, put_answer, cause_members, held_members, line_members, bad_line_answer, refusal_answer, value_data, version_members, version_data, versions_members, versions_answer, row_members, row_answer, ring_answer, rehash_answer, node_answer, digest_members, bytes_data, up_answer, deliver_answer, slot_members, adjust_members, maybe_number, sample_answer, settled}
 use Rattle.version_set.specs.declared.kind.Kind.{Kind}
 use Rattle.version_set.specs.declared.kind.Kind.TheVariants.{Live, Tombstone}
 use Rattle.version_set.specs.declared.version.Version.{Version}
 use Rattle.vclock.specs.declared.format.Format.{Format}
 use Rattle.range_state.specs.State as range
-use Rattle.outage_script.specs.Asks.{Ask, ring, put, get, row, rehash, show_node}
-use Rattle.outage_script.specs.State.{State, home, replicas_of}
-use Rattle.outage_script.specs.Acts.{act, settled, done_at, new_ring_fault, ring_config, remade, put_fault, put_done, get_fault, get_done, row_done, kept_at, range_fault, rehash_done, node_done}
+use Rattle.outage_script.specs.Asks.{SlotAsk, lend_slot, give_slot_back, set_target, adjust_target, Ask, ring, put, get, row, take_down, bring_up, deliver, rehash, show_node, slot, sample}
+use Rattle.outage_script.specs.State.{Cluster, State, brought_up, home, hints_of, replicas_of, taken_down}
+use Rattle.hint_store.specs.declared.hint.Kept.{Kept}
+use Rattle.vclock.specs.Answer.{first_fault}
+use Rattle.admission.specs.Admission.{Admission, clock_fault, lend_fault}
+use Rattle.outage_script.specs.Slots.{lent, slot_done, sample_done, slot_fault}
+use Rattle.outage_script.specs.Handoff.{deliver_done}
+use Rattle.outage_script.specs.Acts.{act, done_at, new_ring_fault, ring_config, remade, put_fault, put_done, get_fault, get_done, row_done, kept_at, nodes_fault, range_fault, rehash_done, ring_nodes_fault, node_done}
 
 -- some items and then more
 abbrev pub joined : Items → Items → Items
@@ -96,13 +101,47 @@ unfolding ring_answer
 ring_answer_plain nodes ranges = refl
 
 -- no answer has a float
-settled_plain : (cause : Option Refusal) (done : Data × State) (s : State) → has_float done.0 ≡ false → has_float (settled cause done s).0 ≡ false
+settled_plain : {S : Type 0} (cause : Option Refusal) (done : Data × S) (s : S) → has_float done.0 ≡ false → has_float (settled cause done s).0 ≡ false
 settled_plain (Some refusal) done s plain = refusal_answer_plain refusal
 settled_plain None done s plain = plain
 
-done_plain : (done : range.State → Data × State) (o : Option range.State) (s : State) → ((h : range.State) → has_float (done h).0 ≡ false) → has_float (done_at done o s).0 ≡ false
+done_plain : {S : Type 0} (done : range.State → Data × S) (o : Option range.State) (s : S) → ((h : range.State) → has_float (done h).0 ≡ false) → has_float (done_at done o s).0 ≡ false
 done_plain done None s plain = refl
 done_plain done (Some h) s plain = plain h
+
+up_answer_plain : (node : ℕ) (up : Bool) → has_float (up_answer node up) ≡ false
+unfolding up_answer
+up_answer_plain node up = refl
+
+deliver_answer_plain : (taken known pending : ℕ) → has_float (deliver_answer taken known pending) ≡ false
+unfolding deliver_answer
+deliver_answer_plain taken known pending = refl
+
+deliver_plain : (s : Cluster) (n : ℕ) (hs : Option (List Kept)) → has_float (deliver_done s n hs).0 ≡ false
+deliver_plain s n None = refl
+deliver_plain s n (Some hs) = deliver_answer_plain _ _ _
+
+slot_members_plain : (allowance free lent target : ℕ) → has_float (slot_members allowance free lent target) ≡ false
+unfolding slot_members
+slot_members_plain allowance free lent target = refl
+
+adjust_members_plain : (allowance free lent : ℕ) (p : Data) (target : ℕ) → has_float p ≡ false → has_float (adjust_members allowance free lent p target) ≡ false
+unfolding adjust_members
+adjust_members_plain allowance free lent p target h = rw h refl
+
+maybe_plain : (p : Option ℕ) → has_float (maybe_number p) ≡ false
+maybe_plain None = refl
+maybe_plain (Some n) = refl
+
+sample_answer_plain : (kept : ℕ) → has_float (sample_answer kept) ≡ false
+unfolding sample_answer
+sample_answer_plain kept = refl
+
+slot_plain : (x : SlotAsk) (a : Admission) → has_float (slot_done x a).0 ≡ false
+slot_plain lend_slot a = slot_members_plain _ _ _ _
+slot_plain give_slot_back a = slot_members_plain _ _ _ _
+slot_plain (set_target n) a = slot_members_plain _ _ _ _
+slot_plain (adjust_target now) a = adjust_members_plain _ _ _ _ _ (maybe_plain _)
 
 rehash_answer_plain : (hashed : ℕ) → has_float (rehash_answer hashed) ≡ false
 unfolding rehash_answer
@@ -120,8 +159,13 @@ node_answer_plain (Some digest) = members_plain (bytes_data digest) refl
 pub reply_plain : (ask : Ask) (s : State) → has_float (act ask s).0 ≡ false
 unfolding act
 reply_plain (ring r) s = settled_plain (new_ring_fault r) (ring_answer (length r.nodes) (2 ^ r.bits), remade r (ring_config r) s) s (ring_answer_plain (length r.nodes) (2 ^ r.bits))
-reply_plain (put p) s = settled_plain (put_fault p s) _ s (done_plain (put_done p s) (home p.node (replicas_of s p.key)) s (λ h. put_answer_plain _ _ _ _))
-reply_plain (get g) s = settled_plain (get_fault g s) _ s (done_plain (λ h. (get_done g h, s)) (home g.node (replicas_of s g.key)) s (λ h. versions_answer_plain _))
-reply_plain (row g) s = settled_plain (get_fault g s) _ s (done_plain (λ h. (row_done g h, s)) (home g.node (replicas_of s g.key)) s (λ h. row_answer_plain _ _ _))
-reply_plain (rehash q) s = settled_plain (range_fault s q.node q.range) _ s (done_plain (rehash_done q s) (kept_at s q.node q.range) s (λ h. rehash_answer_plain _))
-reply_plain (show_node q) s = settled_plain (range_fault s q.node q.range) _ s (done_plain (λ h. (node_done q h, s)) (kept_at s q.node q.range) s (λ h. node_answer_plain _))
+reply_plain (put p) s = settled_plain (put_fault p s.cluster) _ s.cluster (done_plain (put_done p s.cluster) (home p.node (replicas_of s.cluster p.key)) s.cluster (λ h. put_answer_plain _ _ _ _))
+reply_plain (get g) s = settled_plain (get_fault g s.cluster) _ s.cluster (done_plain (λ h. (get_done g h, s.cluster)) (home g.node (replicas_of s.cluster g.key)) s.cluster (λ h. versions_answer_plain _))
+reply_plain (row g) s = settled_plain (get_fault g s.cluster) _ s.cluster (done_plain (λ h. (row_done g h, s.cluster)) (home g.node (replicas_of s.cluster g.key)) s.cluster (λ h. row_answer_plain _ _ _))
+reply_plain (take_down n) s = settled_plain (ring_nodes_fault s.cluster n []) (up_answer n false, taken_down s.cluster n) s.cluster (up_answer_plain n false)
+reply_plain (bring_up n) s = settled_plain (ring_nodes_fault s.cluster n []) (up_answer n true, brought_up s.cluster n) s.cluster (up_answer_plain n true)
+reply_plain (deliver n) s = settled_plain (first_fault (nodes_fault s.cluster n []) (lend_fault s.slots)) (deliver_done s.cluster n (hints_of s.cluster n)) s.cluster (deliver_plain s.cluster n (hints_of s.cluster n))
+reply_plain (rehash q) s = settled_plain (first_fault (range_fault s.cluster q.node q.range) (lend_fault s.slots)) (done_at (rehash_done q s.cluster) (kept_at s.cluster q.node q.range) s.cluster) s.cluster (done_plain (rehash_done q s.cluster) (kept_at s.cluster q.node q.range) s.cluster (λ h. rehash_answer_plain _))
+reply_plain (show_node q) s = settled_plain (range_fault s.cluster q.node q.range) (done_at (λ h. (node_done q h, s.cluster)) (kept_at s.cluster q.node q.range) s.cluster) s.cluster (done_plain (λ h. (node_done q h, s.cluster)) (kept_at s.cluster q.node q.range) s.cluster (λ h. node_answer_plain _))
+reply_plain (slot x) s = settled_plain (slot_fault x s.slots) (slot_done x s.slots) s.slots (slot_plain x s.slots)
+reply_plain (sample q) s = settled_plain (clock_fault s.slots q.moment) (sample_done q s.slots) s.slots (sample_answer_plain _)

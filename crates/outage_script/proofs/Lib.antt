@@ -6,3 +6,8 @@ pub mod LineLemmas
 pub mod FeedLemmas
 pub mod RunLemmas
 pub mod NodeLaws
+pub mod ListSteps
+pub mod AnswerSteps
+pub mod HandoffLaws
+pub mod OfferLaws
+pub mod DeliveryLaws

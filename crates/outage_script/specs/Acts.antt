@@ -1,5 +1,5 @@
 -- What the commands do to the state, and what they answer.
-use Rattle.std.specs.Prelude.{ℕ, ◌^◌, Bool, true, not, ◌==◌, ◌&&◌, ◌-◌, nat_le, nat_lt, slice_index_or, List, [], length, map, filter, if◌then◌else◌, Option, Some, None, is_none, is_some}
+use Rattle.std.specs.Prelude.{ℕ, ◌^◌, Bool, true, false, not, ◌==◌, ◌&&◌, ◌-◌, nat_le, nat_lt, slice_index_or, List, [], length, map, filter, if◌then◌else◌, Option, Some, None, is_none, is_some}
 use Rattle.std.specs.List.{list_any, list_all}
 use Rattle.serde_json.specs.Data.{Data, null}
 use Rattle.vclock.specs.Answer.{first_fault}
@@ -8,11 +8,13 @@ use Rattle.vclock.specs.Keys.{key_fault}
 use Rattle.vclock.specs.declared.format.Format.{Format}
 use Rattle.vclock.specs.declared.format.Format.TheVariants.{One, Two}
 use Rattle.vclock.specs.declared.refusal.Refusal.{Refusal}
-use Rattle.vclock.specs.declared.refusal.Refusal.TheVariants.{BadRing, OtherRange}
+use Rattle.vclock.specs.declared.refusal.Refusal.TheVariants.{BadRing, Down, OtherRange}
 use Rattle.version_set.specs.Kind.{value_fault}
 use Rattle.version_set.specs.declared.kind.Kind.{Kind}
 use Rattle.version_set.specs.declared.kind.Kind.TheVariants.{Live, Tombstone}
+use Rattle.key_ring.specs.Places.{range_at}
 use Rattle.key_ring.specs.Ring.{Places, ring_fault}
+use Rattle.admission.specs.Admission.{Admission, lend_fault, clock_fault}
 use Rattle.range_journal.specs.Journal.{held}
 use Rattle.range_journal.specs.declared.journal.Entry.{Entry}
 use Rattle.range_journal.specs.declared.journal.Source.TheVariants.{Copy}
@@ -22,9 +24,11 @@ use Rattle.range_state.specs.State as range
 use Rattle.range_state.specs.Trees.{rehashed}
 use Rattle.hash_tree.specs.Nodes.{tree_depth, place_at, digest_at, dirty_count}
 use Rattle.hash_tree.specs.Texts.{node_digest}
-use Rattle.outage_script.specs.Asks.{RingAsk, PutAsk, GetAsk, RehashAsk, NodeAsk, Ask, ring, put, get, row, rehash, show_node}
-use Rattle.outage_script.specs.Answers.{ring_answer, put_answer, versions_answer, row_answer, rehash_answer, node_answer, refusal_answer}
-use Rattle.outage_script.specs.State.{State, Replica, made, replicas_of, with_range, with_replicas, home, with_home}
+use Rattle.outage_script.specs.Asks.{RingAsk, PutAsk, GetAsk, RehashAsk, NodeAsk, Ask, ring, put, get, row, take_down, bring_up, deliver, rehash, show_node, slot, sample}
+use Rattle.outage_script.specs.Answers.{ring_answer, put_answer, versions_answer, row_answer, up_answer, rehash_answer, node_answer, settled}
+use Rattle.outage_script.specs.State.{Cluster, State, Replica, first_slots, made, replicas_of, with_range, with_replicas, home, with_home, is_member, is_down, taken_down, brought_up, hints_of}
+use Rattle.outage_script.specs.Handoff.{owners_of, carrier_of, hinted, deliver_done}
+use Rattle.outage_script.specs.Slots.{slot_fault, slot_done, sample_done, is_target}
 
 -- ---- a ring
 
@@ -39,18 +43,18 @@ abbrev pub new_ring_fault : RingAsk → Option Refusal
 new_ring_fault r = first_fault (if is_some (ring_config r) then None else Some BadRing) (ring_fault (places_of r))
 
 abbrev pub remade : RingAsk → Option Config → State → State
-remade r (Some c) s = made (places_of r) c
+remade r (Some c) s = record { cluster = made (places_of r) c; slots = first_slots }
 remade r None s = s
 
 -- ---- a put
 
--- whether a node is on the ring
-abbrev pub is_member : State → ℕ → Bool
-is_member s n = list_any (λ m. m == n) s.ring.nodes
-
 -- why the nodes that a command names are refused: one is not on the ring
-abbrev pub nodes_fault : State → ℕ → List ℕ → Option Refusal
-nodes_fault s node others = if is_member s node && list_all (is_member s) others then None else Some BadRing
+abbrev pub ring_nodes_fault : Cluster → ℕ → List ℕ → Option Refusal
+ring_nodes_fault s node others = if is_member s node && list_all (is_member s) others then None else Some BadRing
+
+-- or the first of them is down
+abbrev pub nodes_fault : Cluster → ℕ → List ℕ → Option Refusal
+nodes_fault s node others = first_fault (ring_nodes_fault s node others) (if is_down s node then Some Down else None)
 
 -- null is a tombstone, whose value is empty
 abbrev pub kind_of : Option (List ℕ) → Kind
@@ -62,7 +66,7 @@ value_of (Some value) = value
 value_of None = []
 
 -- why a put is refused before its range is looked for
-abbrev pub ask_fault : PutAsk → State → Option Refusal
+abbrev pub ask_fault : PutAsk → Cluster → Option Refusal
 ask_fault p s = first_fault (nodes_fault s p.node p.lose) (first_fault (pairs_fault p.context) (first_fault (key_fault p.key) (value_fault s.format (kind_of p.value) (value_of p.value))))
 
 -- a fault of what a node keeps, where it keeps the range
@@ -79,49 +83,55 @@ abbrev pub put_entry_at : PutAsk → range.State → Entry
 put_entry_at p h = range.put_entry h 0 p.node p.key (clock_of p.context) (kind_of p.value) (value_of p.value)
 
 -- why a put is refused, in the order in which the causes are tested
-abbrev pub put_fault : PutAsk → State → Option Refusal
+abbrev pub put_fault : PutAsk → Cluster → Option Refusal
 put_fault p s = first_fault (ask_fault p s) (home_fault (put_fault_at p) (home p.node (replicas_of s p.key)))
 
--- whether a replica is sent a copy of a put: it is another node, and not one that is to get none
+-- whether a replica is to have a put: it is another node, and not one that is to get nothing
 abbrev pub is_sent_to : ℕ → List ℕ → ℕ → Bool
 is_sent_to node lose n = not (n == node) && not (list_any (λ m. m == n) lose)
 
+-- whether a replica is sent a copy of a put: it is to have it, and is up
+abbrev pub gets_copy : List ℕ → ℕ → List ℕ → ℕ → Bool
+gets_copy down node lose n = is_sent_to node lose n && not (list_any (λ m. m == n) down)
+
+-- whether a replica is to have a hint of a put: it is to have the put, and is down
+abbrev pub gets_hint : List ℕ → ℕ → List ℕ → ℕ → Bool
+gets_hint down node lose n = is_sent_to node lose n && list_any (λ m. m == n) down
+
 -- whether a replica is sent a copy of an entry, and takes it or knows it
-abbrev pub takes : ℕ → List ℕ → Entry → Replica → Bool
-takes node lose e r = is_sent_to node lose r.node && is_none (range.accept_fault r.range e.key e.version)
+abbrev pub takes : List ℕ → ℕ → List ℕ → Entry → Replica → Bool
+takes down node lose e r = gets_copy down node lose r.node && is_none (range.accept_fault r.range e.key e.version)
 
 -- a replica after the copies were sent: one that refuses its copy is as it was
-abbrev pub after_copy : ℕ → List ℕ → Entry → Replica → Replica
-after_copy node lose e r = if takes node lose e r then record { node = r.node; range = range.accept_step r.range 0 Copy e.key e.version } else r
+abbrev pub after_copy : List ℕ → ℕ → List ℕ → Entry → Replica → Replica
+after_copy down node lose e r = if takes down node lose e r then record { node = r.node; range = range.accept_step r.range 0 Copy e.key e.version } else r
 
 -- the replicas of the key's range with the entry of a put, before the copies are sent
 abbrev pub entered : PutAsk → range.State → List Replica → List Replica
 entered p h reps = with_home p.node (range.journaled h (put_entry_at p h)) reps
 
 -- how many replicas take a copy or know it, and the replicas after it
-abbrev pub copied : PutAsk → range.State → List Replica → ℕ
-copied p h reps = length (filter (takes p.node p.lose (put_entry_at p h)) (entered p h reps))
+abbrev pub copied : List ℕ → PutAsk → range.State → List Replica → ℕ
+copied down p h reps = length (filter (takes down p.node p.lose (put_entry_at p h)) (entered p h reps))
 
-abbrev pub sent : PutAsk → range.State → List Replica → List Replica
-sent p h reps = map (after_copy p.node p.lose (put_entry_at p h)) (entered p h reps)
+abbrev pub sent : List ℕ → PutAsk → range.State → List Replica → List Replica
+sent down p h reps = map (after_copy down p.node p.lose (put_entry_at p h)) (entered p h reps)
 
 -- ---- the commands
 
--- a refused command changes nothing
-abbrev pub settled : Option Refusal → Data × State → State → Data × State
-settled (Some refusal) done s = (refusal_answer refusal, s)
-settled None done s = done
-
 -- what is done with what a node keeps; where it keeps nothing, the command is refused before
-abbrev pub done_at : (range.State → Data × State) → Option range.State → State → Data × State
+abbrev pub done_at : {S : Type 0} → (range.State → Data × S) → Option range.State → S → Data × S
 done_at done None s = (null, s)
 done_at done (Some h) s = done h
 
-abbrev pub put_done : PutAsk → State → range.State → Data × State
-put_done p s h = (put_answer (put_entry_at p h).version.clock (copied p h (replicas_of s p.key)) 0 (put_entry_at p h).number, with_replicas s p.key (sent p h (replicas_of s p.key)))
+abbrev pub put_answer_at : Entry → ℕ → ℕ × Cluster → Data × Cluster
+put_answer_at e copies d = (put_answer e.version.clock copies d.0 e.number, d.1)
+
+abbrev pub put_done : PutAsk → Cluster → range.State → Data × Cluster
+put_done p s h = put_answer_at (put_entry_at p h) (copied s.down p h (replicas_of s p.key)) (hinted (put_entry_at p h) (owners_of (gets_hint s.down p.node p.lose) (replicas_of s p.key)) (with_replicas s p.key (sent s.down p h (replicas_of s p.key))) (carrier_of s (range_at s.ring.bits p.key)))
 
 -- why a get or a row is refused
-abbrev pub get_fault : GetAsk → State → Option Refusal
+abbrev pub get_fault : GetAsk → Cluster → Option Refusal
 get_fault g s = first_fault (nodes_fault s g.node []) (first_fault (key_fault g.key) (home_fault (λ _. None) (home g.node (replicas_of s g.key))))
 
 abbrev pub get_done : GetAsk → range.State → Data
@@ -131,14 +141,14 @@ abbrev pub row_done : GetAsk → range.State → Data
 row_done g h = row_answer h.config.format g.key (held h.entries g.key)
 
 -- what a node keeps of the range of that number: nothing too where the ring has no such range
-abbrev pub kept_at : State → ℕ → ℕ → Option range.State
+abbrev pub kept_at : Cluster → ℕ → ℕ → Option range.State
 kept_at s node r = home node (slice_index_or s.replicas r [])
 
 -- why a command on a range at a node is refused
-abbrev pub range_fault : State → ℕ → ℕ → Option Refusal
+abbrev pub range_fault : Cluster → ℕ → ℕ → Option Refusal
 range_fault s node r = first_fault (nodes_fault s node []) (home_fault (λ _. None) (kept_at s node r))
 
-abbrev pub rehash_done : RehashAsk → State → range.State → Data × State
+abbrev pub rehash_done : RehashAsk → Cluster → range.State → Data × Cluster
 rehash_done q s h = (rehash_answer (dirty_count h.marks), with_range s q.range (with_home q.node (rehashed h) (slice_index_or s.replicas q.range [])))
 
 -- the digest of a node, shown where it is clean: that of the node's text for the rows now
@@ -148,14 +158,34 @@ shown_digest depth index h = if is_some (digest_at h.marks (place_at depth index
 abbrev pub node_done : NodeAsk → range.State → Data
 node_done q h = node_answer (shown_digest q.depth q.index h)
 
--- a command's answer, and the state after it
+-- what was done in the cluster, or with the slots, as a step of the state
+abbrev pub in_cluster : State → Data × Cluster → Data × State
+in_cluster s d = (d.0, record s { cluster = d.1 })
+
+abbrev pub in_slots : State → Data × Admission → Data × State
+in_slots s d = (d.0, record s { slots = d.1 })
+
+-- what a command does with the slots, and its answer
+abbrev pub slots_act : Option Refusal → (Admission → Data × Admission) → State → Data × State
+slots_act fault done s = in_slots s (settled fault (done s.slots) s.slots)
+
+-- what a command does in the cluster, and its answer
+abbrev pub cluster_act : Option Refusal → (Cluster → Data × Cluster) → State → Data × State
+cluster_act fault done s = in_cluster s (settled fault (done s.cluster) s.cluster)
+
+-- a command's answer, and the state after it; a rehash and a delivery borrow a slot
 unfoldable pub act : Ask → State → Data × State
 act (ring r) s = settled (new_ring_fault r) (ring_answer (length r.nodes) (2 ^ r.bits), remade r (ring_config r) s) s
-act (put p) s = settled (put_fault p s) (done_at (put_done p s) (home p.node (replicas_of s p.key)) s) s
-act (get g) s = settled (get_fault g s) (done_at (λ h. (get_done g h, s)) (home g.node (replicas_of s g.key)) s) s
-act (row g) s = settled (get_fault g s) (done_at (λ h. (row_done g h, s)) (home g.node (replicas_of s g.key)) s) s
-act (rehash q) s = settled (range_fault s q.node q.range) (done_at (rehash_done q s) (kept_at s q.node q.range) s) s
-act (show_node q) s = settled (range_fault s q.node q.range) (done_at (λ h. (node_done q h, s)) (kept_at s q.node q.range) s) s
+act (put p) s = cluster_act (put_fault p s.cluster) (λ c. done_at (put_done p c) (home p.node (replicas_of c p.key)) c) s
+act (get g) s = cluster_act (get_fault g s.cluster) (λ c. done_at (λ h. (get_done g h, c)) (home g.node (replicas_of c g.key)) c) s
+act (row g) s = cluster_act (get_fault g s.cluster) (λ c. done_at (λ h. (row_done g h, c)) (home g.node (replicas_of c g.key)) c) s
+act (take_down n) s = cluster_act (ring_nodes_fault s.cluster n []) (λ c. (up_answer n false, taken_down c n)) s
+act (bring_up n) s = cluster_act (ring_nodes_fault s.cluster n []) (λ c. (up_answer n true, brought_up c n)) s
+act (deliver n) s = cluster_act (first_fault (nodes_fault s.cluster n []) (lend_fault s.slots)) (λ c. deliver_done c n (hints_of c n)) s
+act (rehash q) s = cluster_act (first_fault (range_fault s.cluster q.node q.range) (lend_fault s.slots)) (λ c. done_at (rehash_done q c) (kept_at c q.node q.range) c) s
+act (show_node q) s = cluster_act (range_fault s.cluster q.node q.range) (λ c. done_at (λ h. (node_done q h, c)) (kept_at c q.node q.range) c) s
+act (slot x) s = slots_act (slot_fault x s.slots) (slot_done x) s
+act (sample q) s = slots_act (clock_fault s.slots q.moment) (sample_done q) s
 
 -- whether the tree of a range in a format has a node
 abbrev pub is_tree_node : Format → ℕ → ℕ → Bool
@@ -168,8 +198,13 @@ has_value Two value = true
 
 abbrev pub suits : State → Ask → Bool
 suits s (ring r) = true
-suits s (put p) = has_value s.format p.value
+suits s (put p) = has_value s.cluster.format p.value
 suits s (get g) = true
 suits s (row g) = true
+suits s (take_down n) = true
+suits s (bring_up n) = true
+suits s (deliver n) = true
 suits s (rehash q) = true
-suits s (show_node q) = is_tree_node s.format q.depth q.index
+suits s (show_node q) = is_tree_node s.cluster.format q.depth q.index
+suits s (slot x) = is_target s.slots x
+suits s (sample q) = true

@@ -1,7 +1,8 @@
 -- What the commands answer.
-use Rattle.std.specs.Prelude.{ℕ, List, [], ◌∷◌, ◌++◌, codes, Option, Some, None}
-use Rattle.serde_json.specs.Data.{Data, Items, no_items, item, no_members, member, null, number, unsigned, string, array, object}
+use Rattle.std.specs.Prelude.{ℕ, Bool, List, [], ◌∷◌, ◌++◌, codes, Option, Some, None}
+use Rattle.serde_json.specs.Data.{Data, Items, no_items, item, no_members, member, null, boolean, number, unsigned, string, array, object}
 use Rattle.serde_json.specs.Written.{compact_text}
+use Rattle.admission.specs.Admission.{Admission, allowance_of, free_of}
 use Rattle.hex.specs.Hex.{encode_lower}
 use Rattle.vclock.specs.Clock.{Pairs}
 use Rattle.vclock.specs.declared.format.Format.{Format}
@@ -121,3 +122,39 @@ digest_members digest = object (member (codes "digest") digest no_members)
 -- a node of a tree: its digest
 unfoldable pub node_answer : Option (List ℕ) → Data
 node_answer digest = digest_members (digest_data digest)
+
+-- a node that is taken down or up
+unfoldable pub up_answer : ℕ → Bool → Data
+up_answer node up = object (member (codes "node") (number_data node) (member (codes "up") (boolean up) no_members))
+
+-- a delivery: how many hints their owners took, how many they knew, and how many are pending after it
+unfoldable pub deliver_answer : ℕ → ℕ → ℕ → Data
+deliver_answer delivered known pending = object (member (codes "delivered") (number_data delivered) (member (codes "known") (number_data known) (member (codes "pending") (number_data pending) no_members)))
+
+-- the slots: how many there are or could be, how many could be lent, how many there are, and how many there may be
+unfoldable pub slot_members : ℕ → ℕ → ℕ → ℕ → Data
+slot_members allowance free lent target = object (member (codes "allowance") (number_data allowance) (member (codes "free") (number_data free) (member (codes "lent") (number_data lent) (member (codes "target") (number_data target) no_members))))
+
+abbrev pub slot_answer : Admission → Data
+slot_answer a = slot_members (allowance_of a) (free_of a) a.slots a.target
+
+-- a number, or null where there is none
+abbrev pub maybe_number : Option ℕ → Data
+maybe_number (Some n) = number_data n
+maybe_number None = null
+
+-- the same with the 99th percentile by which the target was adjusted
+unfoldable pub adjust_members : ℕ → ℕ → ℕ → Data → ℕ → Data
+adjust_members allowance free lent percentile target = object (member (codes "allowance") (number_data allowance) (member (codes "free") (number_data free) (member (codes "lent") (number_data lent) (member (codes "p99") percentile (member (codes "target") (number_data target) no_members)))))
+
+abbrev pub adjust_answer : Option ℕ → Admission → Data
+adjust_answer p a = adjust_members (allowance_of a) (free_of a) a.slots (maybe_number p) a.target
+
+-- a sample: how many are kept
+unfoldable pub sample_answer : ℕ → Data
+sample_answer kept = object (member (codes "samples") (number_data kept) no_members)
+
+-- the answer of a command and what it leaves: one that is refused changes nothing
+abbrev pub settled : {S : Type 0} → Option Refusal → Data × S → S → Data × S
+settled (Some refusal) done s = (refusal_answer refusal, s)
+settled None done s = done

@@ -35,11 +35,29 @@ pub record NodeAsk : Type 0 where
   pub depth : ℕ
   pub index : ℕ
 
--- a new ring, a put, the versions that are held, the text of their row, a rehash, or the digest of a node
+-- what is done with the slots: one lent, or the last one given back; a new target; an adjustment at a moment
+pub data SlotAsk : Type 0 where
+  lend_slot : SlotAsk
+  give_slot_back : SlotAsk
+  set_target : ℕ → SlotAsk
+  adjust_target : ℕ → SlotAsk
+
+-- a latency in microseconds, and the moment when it was measured
+pub record SampleAsk : Type 0 where
+  pub moment : ℕ
+  pub micros : ℕ
+
+-- a new ring, a put, the versions that are held, the text of their row, a node taken down or up, the delivery of a node's
+-- hints, a rehash, the digest of a node, something done with the slots, or a sample
 pub data Ask : Type 0 where
   ring : RingAsk → Ask
   put : PutAsk → Ask
   get : GetAsk → Ask
   row : GetAsk → Ask
+  take_down : ℕ → Ask
+  bring_up : ℕ → Ask
+  deliver : ℕ → Ask
   rehash : RehashAsk → Ask
   show_node : NodeAsk → Ask
+  slot : SlotAsk → Ask
+  sample : SampleAsk → Ask

@@ -5,6 +5,9 @@ pub mod Commands
 pub mod Orders
 pub mod Answers
 pub mod State
+pub mod Handoff
+pub mod Slots
+pub mod Offers
 pub mod Acts
 pub mod Script
 pub mod Ends

@@ -1,8 +1,10 @@
--- The state of a script: the ring, and each replica's journal and clean nodes.
-use Rattle.std.specs.Prelude.{◌≡◌, ℕ, ◌<◌, length, ◌^◌, ◌==◌, List, [], ◌∷◌, map, take, slice_index_or, slice_set, Option, Some, None, if◌then◌else◌}
-use Rattle.std.specs.List.{range_with_len}
+-- The state of a script: the ring, its nodes and their hints, each replica's journal and clean nodes, and the slots.
+use Rattle.std.specs.Prelude.{◌≡◌, ℕ, ◌<◌, length, ◌^◌, ◌==◌, Bool, not, List, [], ◌∷◌, ◌++◌, map, filter, take, replicate, position, slice_get, slice_index_or, slice_set, Option, Some, None, option_and_then, if◌then◌else◌}
+use Rattle.std.specs.List.{list_any, range_with_len}
 use Rattle.vclock.specs.declared.format.Format.{Format}
 use Rattle.vclock.specs.declared.format.Format.TheVariants.{One}
+use Rattle.admission.specs.Admission.{Admission, fresh}
+use Rattle.hint_store.specs.declared.hint.Kept.{Kept}
 use Rattle.key_ring.specs.Places.{range_at}
 use Rattle.key_ring.specs.Ring.{Places, preference_list}
 use Rattle.range_state.specs.Config.{Config}
@@ -13,11 +15,19 @@ pub record Replica : Type 0 where
   pub node : ℕ
   pub range : range.State
 
--- the ring, its format, and range by range the replicas, in the order of the range's preference list
-pub record State : Type 0 where
+-- the ring, its format, the nodes that are down, the hints of each node in the order of the ring, and range by range the
+-- replicas, in the order of the range's preference list
+pub record Cluster : Type 0 where
   pub ring : Places
   pub format : Format
+  pub down : List ℕ
+  pub hints : List (List Kept)
   pub replicas : List (List Replica)
+
+-- the cluster, and the slots for background work
+pub record State : Type 0 where
+  pub cluster : Cluster
+  pub slots : Admission
 
 -- the range of that number, with an empty journal and a tree whose nodes are all dirty
 abbrev pub empty_range : Config → ℕ → range.State
@@ -27,9 +37,10 @@ empty_range c r = range.fresh (record { format = c.format; bits = c.bits; range 
 abbrev pub replicas_made : Places → Config → ℕ → List Replica
 replicas_made ring c r = map (λ n. record { node = n; range = empty_range c r }) (take ring.copies (preference_list ring.nodes r))
 
--- everything anew: each replica of each range has an empty journal, and no node of its tree is clean
-unfoldable pub made : Places → Config → State
-made ring c = record { ring = ring; format = c.format; replicas = map (replicas_made ring c) (range_with_len 0 (2 ^ ring.bits)) }
+-- everything anew: each node is up and has no hints; each replica of each range has an empty journal, and no node of its
+-- tree is clean
+unfoldable pub made : Places → Config → Cluster
+made ring c = record { ring = ring; format = c.format; down = []; hints = replicate (length ring.nodes) []; replicas = map (replicas_made ring c) (range_with_len 0 (2 ^ ring.bits)) }
 
 -- a range that may not have come about yet: then it has accepted nothing
 abbrev pub range_in : Config → Option range.State → range.State
@@ -43,19 +54,23 @@ first_ring = record { bits = 0; nodes = 1 ∷ []; copies = 1 }
 abbrev pub first_config : Config
 first_config = record { format = One; bits = 0; range = 0; limit = 1000000 }
 
+-- up to 8 slots, and at least 1, by a latency of 50 milliseconds; none is lent
+abbrev pub first_slots : Admission
+first_slots = fresh 1 8 50000
+
 abbrev pub start : State
-start = made first_ring first_config
+start = record { cluster = made first_ring first_config; slots = first_slots }
 
 -- the replicas of a key's range
-abbrev pub replicas_of : State → List ℕ → List Replica
+abbrev pub replicas_of : Cluster → List ℕ → List Replica
 replicas_of s key = slice_index_or s.replicas (range_at s.ring.bits key) []
 
--- the same state with other replicas of a range
-abbrev pub with_range : State → ℕ → List Replica → State
-with_range s r reps = record { ring = s.ring; format = s.format; replicas = slice_set s.replicas r reps }
+-- the same cluster with other replicas of a range
+abbrev pub with_range : Cluster → ℕ → List Replica → Cluster
+with_range s r reps = record s { replicas = slice_set s.replicas r reps }
 
--- the same state with other replicas of a key's range
-abbrev pub with_replicas : State → List ℕ → List Replica → State
+-- the same cluster with other replicas of a key's range
+abbrev pub with_replicas : Cluster → List ℕ → List Replica → Cluster
 with_replicas s key reps = with_range s (range_at s.ring.bits key) reps
 
 -- what a node keeps, if it is one of the replicas
@@ -74,3 +89,31 @@ pub record IsHome (n : ℕ) (reps : List Replica) (i : ℕ) : Type 0 where
   pub node : (d : Replica) → (slice_index_or reps i d).node ≡ n
   pub holds : (d : Replica) → home n reps ≡ Some (slice_index_or reps i d).range
   pub keeps : (h : range.State) (d : Replica) → with_home n h reps ≡ slice_set reps i (record { node = (slice_index_or reps i d).node; range = h })
+
+-- whether a node is on the ring
+abbrev pub is_member : Cluster → ℕ → Bool
+is_member s n = list_any (λ m. m == n) s.ring.nodes
+
+-- whether a node is down
+abbrev pub is_down : Cluster → ℕ → Bool
+is_down s n = list_any (λ m. m == n) s.down
+
+-- the cluster after a node went down or came up
+abbrev pub taken_down : Cluster → ℕ → Cluster
+taken_down s n = record s { down = if is_down s n then s.down else s.down ++ n ∷ [] }
+
+abbrev pub brought_up : Cluster → ℕ → Cluster
+brought_up s n = record s { down = filter (λ m. not (m == n)) s.down }
+
+-- the hints that a node keeps, if it is on the ring
+abbrev pub hints_of : Cluster → ℕ → Option (List Kept)
+hints_of s n = option_and_then (slice_get s.hints) (position (λ m. m == n) s.ring.nodes)
+
+-- the list with another element at a place, if there is such a place
+abbrev pub set_at : {A : Type 0} → List A → Option ℕ → A → List A
+set_at xs None x = xs
+set_at xs (Some i) x = slice_set xs i x
+
+-- the cluster, in which the node keeps these hints now
+abbrev pub with_hints : Cluster → ℕ → List Kept → Cluster
+with_hints s n hs = record s { hints = set_at s.hints (position (λ m. m == n) s.ring.nodes) hs }

@@ -1,13 +1,15 @@
 //! The answers of the commands, as JSON.
 ghost use Rattle.std.specs.Prelude.{◌≡◌, false, IfOk, string_bytes};
-ghost use Rattle.outage_script.specs.Answers.{pair_data, clock_data, put_answer, put_members, refusal_answer, cause_members, held_members, line_members, bad_line_answer, answer_line, version_data, version_members, versions_members, versions_answer, row_members, bytes_data, ring_answer, rehash_answer, digest_data, digest_members, node_answer};
+ghost use Rattle.outage_script.specs.Answers.{pair_data, clock_data, put_answer, put_members, refusal_answer, cause_members, held_members, line_members, bad_line_answer, answer_line, version_data, version_members, versions_members, versions_answer, row_members, bytes_data, ring_answer, rehash_answer, digest_data, digest_members, node_answer, up_answer, deliver_answer, slot_answer, adjust_answer, sample_answer};
 ghost use Rattle.serde_json.specs.Written.{has_float};
 ghost use Rattle.serde_json.specs.View.{view};
 
 use crate::json::{ToValue, list_value};
+use admission::controller::Controller;
 use hash_tree::hashed::Digest;
 use serde_json::{Value, json};
 use std::alloc::{AllocError, Global};
+use std::sync::ledger::Ledger;
 use vclock::bytes::Bytes;
 use vclock::clock::Clock;
 use vclock::refusal::Refusal;
@@ -205,4 +207,64 @@ fn digest_members(alloc: Global, digest: Value) -> Result<Value, AllocError>
     ensures { IfOk result (λ v. view v ≡ digest_members (view digest)) }
 {
     json!(in alloc; {"digest": digest})
+}
+
+/// The answer of a node that is taken down or up.
+#[tactic(auto, unfolding(crate::specs::Answers::up_answer))]
+pub(crate) fn up_answer(alloc: Global, node: u64, up: bool) -> Result<Value, AllocError>
+    ensures { IfOk result (λ v. view v ≡ up_answer node up) }
+{
+    json!(in alloc; {"node": node, "up": up})
+}
+
+/// The answer of a delivery.
+#[tactic(auto, unfolding(crate::specs::Answers::deliver_answer))]
+pub(crate) fn deliver_answer(
+    alloc: Global,
+    delivered: u64,
+    known: u64,
+    pending: u32,
+) -> Result<Value, AllocError>
+    ensures { IfOk result (λ v. view v ≡ deliver_answer delivered known pending) }
+{
+    json!(in alloc; {"delivered": delivered, "known": known, "pending": pending})
+}
+
+/// The answer of what was done with the slots.
+#[tactic(auto, unfolding(crate::specs::Answers::slot_members))]
+pub(crate) fn slot_answer<L: Ledger>(
+    alloc: Global,
+    slots: &Controller<L>,
+) -> Result<Value, AllocError>
+    ensures { IfOk result (λ v. view v ≡ slot_answer slots.now) }
+{
+    let (allowance, free) = (slots.allowance(), slots.free());
+    let (lent, target) = (slots.lent(), slots.target());
+    json!(in alloc; {"allowance": allowance, "free": free, "lent": lent, "target": target})
+}
+
+/// The answer of an adjustment: the slots, and the percentile, or null where there was no sample.
+#[tactic(auto, unfolding(crate::specs::Answers::adjust_members))]
+pub(crate) fn adjust_answer<L: Ledger>(
+    alloc: Global,
+    percentile: Option<u32>,
+    slots: &Controller<L>,
+) -> Result<Value, AllocError>
+    ensures { IfOk result (λ v. view v ≡ adjust_answer percentile slots.now) }
+{
+    let percentile = match percentile {
+        Some(percentile) => Value::from(percentile),
+        None => Value::Null,
+    };
+    let (allowance, free) = (slots.allowance(), slots.free());
+    let (lent, target) = (slots.lent(), slots.target());
+    json!(in alloc; {"allowance": allowance, "free": free, "lent": lent, "p99": percentile, "target": target})
+}
+
+/// The answer of a sample.
+#[tactic(auto, unfolding(crate::specs::Answers::sample_answer))]
+pub(crate) fn sample_answer(alloc: Global, kept: u32) -> Result<Value, AllocError>
+    ensures { IfOk result (λ v. view v ≡ sample_answer kept) }
+{
+    json!(in alloc; {"samples": kept})
 }

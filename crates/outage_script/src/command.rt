@@ -1,12 +1,13 @@
 //! From a line to the command that it is.
 ghost use Rattle.std.specs.Prelude.{◌≡◌, IfOk, option_map, option_and_then};
-ghost use Rattle.outage_script.specs.Commands.{ring_of, put_of, get_of, rehash_of, node_of, command_of};
+ghost use Rattle.outage_script.specs.Commands.{ring_of, put_of, get_of, rehash_of, node_of, other_named, sole_node_of, slot_of, plain_slot, numbered_slot, sample_of, command_of};
 ghost use Rattle.outage_script.specs.Reading.{value_of};
-ghost use Rattle.outage_script.specs.Orders.{ask_of, ring_ask, put_ask, get_ask, rehash_ask, node_ask};
+ghost use Rattle.outage_script.specs.Orders.{ask_of, ring_ask, put_ask, get_ask, rehash_ask, node_ask, slot_ask, sample_ask};
 ghost use Rattle.serde_json.specs.View.{view};
 
 use crate::json::{
-    count_of, has_members, list_at, member_at, number_at, number_or, optional_list_at, sole_member,
+    count_of, has_members, list_at, member_at, number_at, number_or, optional_list_at,
+    short_number_at, sole_member, text_at,
 };
 use serde_json::Value;
 use std::alloc::{AllocError, Global};
@@ -79,6 +80,28 @@ pub(crate) struct ShowNode {
     pub(crate) index: u64,
 }
 
+/// What is done with the slots for background work.
+#[derive(Clone, Copy)]
+pub(crate) enum SlotCommand {
+    /// One is lent.
+    Lend,
+    /// The one that was lent last is given back.
+    Back,
+    /// The target is set.
+    Target(u64),
+    /// The target is adjusted at that moment, in milliseconds.
+    Adjust(u64),
+}
+
+/// A latency of the foreground.
+#[derive(Clone, Copy)]
+pub(crate) struct Sample {
+    /// When it was measured, in milliseconds.
+    pub(crate) moment: u64,
+    /// The latency in microseconds.
+    pub(crate) micros: u32,
+}
+
 /// A command of a script.
 #[derive(Drop)]
 pub(crate) enum Command {
@@ -90,10 +113,20 @@ pub(crate) enum Command {
     Get(Get),
     /// `row`: a get of the row's text.
     Row(Get),
+    /// `down`: the node is down from here on.
+    Down(u64),
+    /// `up`: the node is up again.
+    Up(u64),
+    /// `deliver`: the hints that the node keeps are offered to their owners.
+    Deliver(u64),
     /// `rehash`.
     Rehash(Rehash),
     /// `node`.
     Node(ShowNode),
+    /// `slot`.
+    Slot(SlotCommand),
+    /// `sample`.
+    Sample(Sample),
 }
 
 /// The command that a line is, if it is one.
@@ -125,12 +158,31 @@ fn named_in(alloc: Global, value: &Value) -> Result<Option<Command>, AllocError>
         Ok(get_in(alloc, inner)?.map(Command::Get))
     } else if name == "row" {
         Ok(get_in(alloc, inner)?.map(Command::Row))
-    } else if name == "rehash" {
-        Ok(rehash_in(inner).map(Command::Rehash))
-    } else if name == "node" {
-        Ok(node_in(inner).map(Command::Node))
     } else {
-        Ok(None)
+        Ok(other_in(name, inner))
+    }
+}
+
+/// The command of that name, of those that touch no key.
+fn other_in(name: &str, members: &Value) -> Option<Command>
+    ensures { option_map ask_of result ≡ other_named (name.now, view members.now) }
+{
+    if name == "down" {
+        sole_node_in(members).map(Command::Down)
+    } else if name == "up" {
+        sole_node_in(members).map(Command::Up)
+    } else if name == "deliver" {
+        sole_node_in(members).map(Command::Deliver)
+    } else if name == "rehash" {
+        rehash_in(members).map(Command::Rehash)
+    } else if name == "node" {
+        node_in(members).map(Command::Node)
+    } else if name == "slot" {
+        slot_in(members).map(Command::Slot)
+    } else if name == "sample" {
+        sample_in(members).map(Command::Sample)
+    } else {
+        None
     }
 }
 
@@ -236,5 +288,67 @@ fn node_in(members: &Value) -> Option<ShowNode>
         range: number_at(members, "range")?,
         depth: number_at(members, "depth")?,
         index: number_at(members, "index")?,
+    })
+}
+
+/// The node of a command that has no other member.
+#[tactic(auto, unfolding(crate::specs::Commands::sole_node_of))]
+fn sole_node_in(members: &Value) -> Option<u64>
+    ensures { result ≡ sole_node_of (view members.now) }
+{
+    if !has_members(members, 1) {
+        return None;
+    }
+    number_at(members, "node")
+}
+
+/// What these members do with the slots: there is a number with `target` and `adjust`, and none with the others.
+#[tactic(auto, unfolding(crate::specs::Commands::slot_of))]
+fn slot_in(members: &Value) -> Option<SlotCommand>
+    ensures { option_map slot_ask result ≡ slot_of (view members.now) }
+{
+    if has_members(members, 1) {
+        return plain_slot(text_at(members, "do")?);
+    }
+    if !has_members(members, 2) {
+        return None;
+    }
+    let n = number_at(members, "n")?;
+    numbered_slot(text_at(members, "do")?, n)
+}
+
+/// What is done with the slots by that word alone.
+fn plain_slot(word: &str) -> Option<SlotCommand>
+    ensures { option_map slot_ask result ≡ plain_slot word.now }
+{
+    match word {
+        "lend" => Some(SlotCommand::Lend),
+        "back" => Some(SlotCommand::Back),
+        _ => None,
+    }
+}
+
+/// What is done with the slots by that word and a number.
+fn numbered_slot(word: &str, n: u64) -> Option<SlotCommand>
+    ensures { option_map slot_ask result ≡ numbered_slot n word.now }
+{
+    match word {
+        "target" => Some(SlotCommand::Target(n)),
+        "adjust" => Some(SlotCommand::Adjust(n)),
+        _ => None,
+    }
+}
+
+/// The sample of these members.
+#[tactic(auto, unfolding(crate::specs::Commands::sample_of))]
+fn sample_in(members: &Value) -> Option<Sample>
+    ensures { option_map sample_ask result ≡ sample_of (view members.now) }
+{
+    if !has_members(members, 2) {
+        return None;
+    }
+    Some(Sample {
+        moment: number_at(members, "at")?,
+        micros: short_number_at(members, "micros")?,
     })
 }

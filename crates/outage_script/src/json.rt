@@ -1,8 +1,9 @@
 //! Reading JSON values and building them.
 ghost use Rattle.std.specs.Prelude.{◌≡◌, ◌<◌, ◌+◌, ◌^◌, [], IfOk, option_map, is_some};
+ghost use Rattle.outage_script.specs.Commands.{short_number_of};
 ghost use Rattle.outage_script.specs.Reading.{has_members, number_of, bytes_of, pair_of, list_of, nullable, member_of, optional_of, count_of, default_of, sole_member};
 ghost use Rattle.outage_script.specs.Answers.{bytes_data, list_data};
-ghost use Rattle.serde_json.specs.Find.{as_object};
+ghost use Rattle.serde_json.specs.Find.{as_object, as_str};
 ghost use Rattle.serde_json.specs.View.{view};
 
 use hex::FromHexError;
@@ -127,6 +128,20 @@ pub(crate) fn number_at(value: &Value, name: &str) -> Option<u64>
     ensures { result ≡ member_of number_of name.now (view value.now) }
 {
     value.get(name).and_then(Value::as_u64)
+}
+
+/// The whole number below 2^32 of that name.
+pub(crate) fn short_number_at(value: &Value, name: &str) -> Option<u32>
+    ensures { result ≡ member_of short_number_of name.now (view value.now) }
+{
+    u32::try_from(number_at(value, name)?).ok()
+}
+
+/// The text of that name.
+pub(crate) fn text_at<'a>(value: &'a Value, name: &str) -> Option<&'a str>
+    ensures { option_map (λ s. s.now) result ≡ member_of as_str name.now (view value.now) }
+{
+    value.get(name).and_then(Value::as_str)
 }
 
 /// How many members of that name there are, none or one.

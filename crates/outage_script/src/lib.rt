@@ -15,13 +15,16 @@ pub enum ScriptEnd {
 }
 
 mod answer;
+mod cluster;
 mod command;
+mod handoff;
 mod json;
 mod memory;
 mod replica;
 mod replicas;
 mod run;
 mod session;
+mod slots;
 mod world;
 mod write;
 

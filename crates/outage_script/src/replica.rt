@@ -1,20 +1,21 @@
 // A replica of a range.
-ghost use Rattle.std.specs.Prelude.{◌≡◌, ◌≤◌, ⊤, [], not, ◌&&◌, ◌==◌, IfOk, OnOk, OnErr, None};
+ghost use Rattle.std.specs.Prelude.{◌≡◌, ◌≤◌, IsTrue, ⊤, [], not, ◌&&◌, ◌==◌, IfOk, OnOk, OnErr, None};
 ghost use Rattle.std.specs.List.{list_any, AllByRecursion};
 ghost use Rattle.vclock.specs.Answer.{Answers, AnswersOrNoMemory};
 ghost use Rattle.version_set.specs.Kind.{value_fault};
 ghost use Rattle.range_journal.specs.Journal.{held};
 ghost use Rattle.range_journal.specs.declared.journal.Source.{Source};
 ghost use Rattle.hash_tree.specs.Nodes.{dirty_count};
+ghost use Rattle.range_state.specs.Sent.{is_sent};
 ghost use Rattle.range_state.specs.Trees.{rehashed};
-ghost use Rattle.range_state.specs.State.{fresh, accept_fault, accept_step, put_entry, put_fault, journaled};
-ghost use Rattle.outage_script.specs.Acts.{takes, after_copy, is_sent_to, shown_digest};
+ghost use Rattle.range_state.specs.State.{fresh, accept_fault, accept_reply, accept_step, put_entry, put_fault, journaled};
+ghost use Rattle.outage_script.specs.Acts.{takes, after_copy, gets_hint, is_sent_to, shown_digest};
 
 use hash_tree::hashed::Digest;
 use hash_tree::node::NodeAt;
 use range_journal::journal::Source;
 use range_state::config::RangeConfig;
-use range_state::event::Receipt;
+use range_state::event::{Accepted, Receipt};
 use range_state::state::RangeState;
 use std::alloc::{AllocError, Global};
 use std::marker::Model;
@@ -160,45 +161,73 @@ impl Replica {
     pub(crate) fn send(
         &mut self,
         alloc: Global,
+        down: &[u64],
         node: u64,
         lose: &[u64],
         entry: &Receipt,
     ) -> Result<bool, AllocError>
-        ensures taken { IfOk result (λ taken. taken ≡ takes node lose.now entry.now self.old) }
-        ensures after { OnOk result (self.new ≡ after_copy node lose.now entry.now self.old) }
+        ensures taken { IfOk result (λ taken. taken ≡ takes down.now node lose.now entry.now self.old) }
+        ensures after { OnOk result (self.new ≡ after_copy down.now node lose.now entry.now self.old) }
     {
-        if !is_sent_to(node, lose, self.node) {
+        if !is_sent_to(node, lose, self.node) || down.contains(&u64::from(self.node)) {
             return Ok(false);
         }
-        match self.accept(alloc, entry.key.as_slice(), &entry.version) {
-            Ok(()) => Ok(true),
+        match self.take_copy(alloc, entry) {
+            Ok(_) => Ok(true),
             Err(Refusal::NoMemory) => Err(AllocError),
             Err(_) => Ok(false),
         }
     }
 
-    /// Takes in a copy of a version, unless it is known.
-    fn accept(&mut self, alloc: Global, key: &[u8], version: &Version) -> Result<(), Refusal>
-        ensures answers { AnswersOrNoMemory result (accept_fault self.old.range key.now version.now) (λ _. ⊤) }
+    /// Takes in a copy of an entry's version, unless it is known.
+    fn take_copy(&mut self, alloc: Global, entry: &Receipt) -> Result<Accepted, Refusal>
+        ensures answers { AnswersOrNoMemory result (accept_fault self.old.range entry.now.key entry.now.version) (λ _. ⊤) }
         ensures ok { OnOk result (self.new ≡ record {
           node = self.old.node;
-          range = accept_step self.old.range 0 Source.Copy key.now version.now;
+          range = accept_step self.old.range 0 Source.Copy entry.now.key entry.now.version;
         }) }
         ensures err { OnErr result (self.new ≡ self.old) }
     {
-        let version = version.try_clone()?;
+        let version = entry.version.try_clone()?;
+        self.accept(alloc, Source::Copy, entry.key.as_slice(), version)
+    }
+
+    /// Takes in a version that was made elsewhere, unless it is known.
+    pub(crate) fn accept(
+        &mut self,
+        alloc: Global,
+        source: Source,
+        key: &[u8],
+        version: Version,
+    ) -> Result<Accepted, Refusal>
+        requires { IsTrue (is_sent source) }
+        ensures answers { AnswersOrNoMemory result (accept_fault self.old.range key.now version)
+            (λ reply. reply ≡ accept_reply self.old.range 0 source key.now version) }
+        ensures ok { OnOk result (self.new ≡ record {
+          node = self.old.node;
+          range = accept_step self.old.range 0 source key.now version;
+        }) }
+        ensures err { OnErr result (self.new ≡ self.old) }
+    {
         if let Some(state) = &mut self.state {
-            state.accept(alloc, SEAT, Source::Copy, key, version)?;
-            return Ok(());
+            return state.accept(alloc, SEAT, source, key, version);
         }
         let mut state = RangeState::new(alloc, self.config)?;
-        state.accept(alloc, SEAT, Source::Copy, key, version)?;
+        let accepted = state.accept(alloc, SEAT, source, key, version)?;
         self.state = Some(state);
-        Ok(())
+        Ok(accepted)
+    }
+
+    /// Whether the replica is another node than that of a put and not one that is to get nothing, and is down, so that
+    /// it is to have a hint.
+    pub(crate) fn gets_hint(&self, down: &[u64], node: u64, lose: &[u64]) -> bool
+        ensures { result ≡ gets_hint down.now node lose.now self.now.node }
+    {
+        is_sent_to(node, lose, self.node) && down.contains(&u64::from(self.node))
     }
 }
 
-/// Whether a replica is sent a copy of a put: it is another node, and not one that is to get none.
+/// Whether a replica is to have a put: it is another node, and not one that is to get nothing.
 fn is_sent_to(node: u64, lose: &[u64], other: u16) -> bool
     ensures { result ≡ is_sent_to node lose.now other }
 {

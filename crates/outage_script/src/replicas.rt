@@ -1,18 +1,22 @@
 // The replicas of a range, in the order of its preference list.
-ghost use Rattle.std.specs.Prelude.{◌≡◌, ◌≢◌, ◌≤◌, ◌<◌, ◌^◌, [], length, filter, map, option_map, IfOk, IfErr, IfSome, IfNone, OnOk, None};
+ghost use Rattle.std.specs.Prelude.{◌≡◌, ◌≢◌, ◌≤◌, ◌<◌, ◌^◌, ◌++◌, ◌∷◌, [], if◌then◌else◌, length, filter, map, option_map, IfOk, IfErr, IfSome, IfNone, OnOk, OnErr, None};
 ghost use Rattle.vclock.specs.Answer.{Answers, AnswersOrNoMemory};
 ghost use Rattle.vclock.specs.Clock.{clock_of};
-ghost use Rattle.outage_script.specs.Acts.{takes, after_copy, copied, sent, home_fault, put_fault_at, put_entry_at, kind_of, value_of};
+ghost use Rattle.outage_script.specs.Acts.{takes, after_copy, gets_hint, copied, sent, home_fault, put_fault_at, put_entry_at, kind_of, value_of};
 ghost use Rattle.outage_script.specs.Orders.{put_ask};
 ghost use Rattle.outage_script.specs.State.{home, with_home, IsHome, replicas_made};
 ghost use Rattle.hash_tree.specs.Nodes.{dirty_count};
+ghost use Rattle.outage_script.specs.Handoff.{owners_of};
+ghost use Rattle.range_journal.specs.declared.journal.Source.{Source};
+ghost use Rattle.range_state.specs.State.{accept_fault, accept_reply, accept_step};
 ghost use Rattle.range_state.specs.Trees.{rehashed};
 
 use crate::command::Put;
 use crate::replica::Replica;
 use key_ring::ring::Ring;
+use range_journal::journal::Source;
 use range_state::config::RangeConfig;
-use range_state::event::Receipt;
+use range_state::event::{Accepted, Receipt};
 use std::alloc::{AllocError, Global};
 use std::marker::Model;
 use std::thread::Threads;
@@ -20,6 +24,7 @@ use vclock::bytes::Bytes;
 use vclock::clock::Clock;
 use vclock::refusal::Refusal;
 use version_set::kind::Kind;
+use version_set::version::Version;
 
 /// The replicas of a range.
 #[derive(Drop)]
@@ -43,6 +48,8 @@ pub(crate) struct Sent {
     pub(crate) receipt: Receipt,
     /// How many replicas took a copy or knew it.
     pub(crate) copied: u64,
+    /// The nodes that are to have a hint of it.
+    pub(crate) owners: Vec<u16>,
 }
 
 impl Replicas {
@@ -90,40 +97,110 @@ impl Replicas {
         self.replicas[place].rehash(rt, alloc)
     }
 
-    /// Puts a value at a node, and sends a copy to each other replica that is to get one. A replica that refuses its
-    /// copy is passed over.
-    pub(crate) fn put(&mut self, alloc: Global, context: &Clock, put: Put) -> Result<Sent, Refusal>
+    /// The nodes that are to have a hint of a put, for they are down, in the order of the preference list.
+    #[tactic(auto, using(crate::proofs::ListSteps::mapped_at, crate::proofs::ListSteps::filtered_next, crate::proofs::ListSteps::filtered_all))]
+    fn owners(&self, alloc: Global, down: &[u64], put: &Put) -> Result<Vec<u16>, AllocError>
+        ensures { IfOk result (λ owners. owners.items ≡ owners_of (gets_hint down.now put.now.node put.now.lose.items) self.now) }
+    {
+        let mut owners = Vec::new(alloc);
+        for i in 0..self.replicas.len() {
+            let replica = &self.replicas[i];
+            let wanted = replica.gets_hint(down, put.node, &put.lose);
+            push_if(&mut owners, replica.node(), wanted)?;
+        }
+        Ok(owners)
+    }
+
+    /// Offers a node a version that another node kept for it as a hint.
+    pub(crate) fn offer(
+        &mut self,
+        alloc: Global,
+        node: u64,
+        key: &[u8],
+        version: Version,
+    ) -> Result<Accepted, Refusal>
+        ensures answers { AnswersOrNoMemory result
+            (home_fault (λ h. accept_fault h key.now version) (home node self.old))
+            (λ reply. IfSome (home node self.old) (λ h. reply ≡ accept_reply h 0 Source.Hint key.now version)) }
+        ensures ok { OnOk result (IfSome (home node self.old) (λ h. self.new
+            ≡ with_home node (accept_step h 0 Source.Hint key.now version) self.old)) }
+        ensures err { OnErr result (self.new ≡ self.old) }
+    {
+        let Some(place) = place_of(&self.replicas, node) else {
+            return Err(Refusal::OtherRange);
+        };
+        self.replicas[place].accept(alloc, Source::Hint, key, version)
+    }
+
+    /// Puts a value at a node, and sends a copy to each other replica that is up and is to get one. A replica that
+    /// refuses its copy is passed over.
+    pub(crate) fn put(
+        &mut self,
+        alloc: Global,
+        context: &Clock,
+        down: &[u64],
+        put: Put,
+    ) -> Result<Sent, Refusal>
         requires { context.now ≡ clock_of put.context.items }
         ensures answers { AnswersOrNoMemory result (home_fault (put_fault_at (put_ask put)) (home put.node self.old))
             (λ done. IfSome (home put.node self.old) (λ h. (done.receipt ≡ put_entry_at (put_ask put) h)
-            × (done.copied ≡ copied (put_ask put) h self.old))) }
-        ensures ok { OnOk result (IfSome (home put.node self.old) (λ h. self.new ≡ sent (put_ask put) h self.old)) }
+            × (done.copied ≡ copied down.now (put_ask put) h self.old))) }
+        ensures owners { IfOk result (λ done. done.owners.items
+            ≡ owners_of (gets_hint down.now put.node put.lose.items) self.old) }
+        ensures ok { OnOk result (IfSome (home put.node self.old) (λ h. self.new ≡ sent down.now (put_ask put) h self.old)) }
         ensures err { IfErr result (λ e. e ≢ Refusal.NoMemory → self.new ≡ self.old) }
     {
         let Some(place) = place_of(&self.replicas, put.node) else {
             return Err(Refusal::OtherRange);
         };
+        let owners = self.owners(alloc, down, &put)?;
         let (kind, value) = payload(alloc, put.value);
         let receipt = self.replicas[place].put(alloc, put.key.as_slice(), context, kind, value)?;
-        let copied = send_to(alloc, &mut self.replicas, put.node, &put.lose, &receipt)?;
-        Ok(Sent { receipt, copied })
+        let copied = send_to(
+            alloc,
+            &mut self.replicas,
+            down,
+            put.node,
+            &put.lose,
+            &receipt,
+        )?;
+        Ok(Sent {
+            receipt,
+            copied,
+            owners,
+        })
     }
+}
+
+/// Adds a node where it is wanted.
+pub(crate) fn push_if<T: Copy + Drop>(
+    nodes: &mut Vec<T>,
+    node: T,
+    wanted: bool,
+) -> Result<(), AllocError>
+    ensures { OnOk result (nodes.new.items ≡ (if wanted then nodes.old.items ++ node ∷ [] else nodes.old.items)) }
+{
+    if wanted {
+        nodes.push(node)?;
+    }
+    Ok(())
 }
 
 /// Sends the replicas a copy of an entry, and answers how many took it or knew it.
 fn send_to(
     alloc: Global,
     replicas: &mut [Replica],
+    down: &[u64],
     node: u64,
     lose: &[u64],
     entry: &Receipt,
 ) -> Result<u64, AllocError>
-    ensures count { IfOk result (λ n. n ≡ length (filter (takes node lose.now entry.now) replicas.old)) }
-    ensures all { OnOk result (replicas.new ≡ map (after_copy node lose.now entry.now) replicas.old) }
+    ensures count { IfOk result (λ n. n ≡ length (filter (takes down.now node lose.now entry.now) replicas.old)) }
+    ensures all { OnOk result (replicas.new ≡ map (after_copy down.now node lose.now entry.now) replicas.old) }
 {
     let mut copied = 0;
     for i in 0..replicas.len() {
-        copied += u64::from(replicas[i].send(alloc, node, lose, entry)?);
+        copied += u64::from(replicas[i].send(alloc, down, node, lose, entry)?);
     }
     Ok(copied)
 }

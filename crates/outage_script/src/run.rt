@@ -1,16 +1,23 @@
 // A script from its reader to its writer.
-ghost use Rattle.std.specs.Prelude.{◌≡◌, ◌⊎◌, ◌≤◌, ◌+◌, ◌*◌, vec_len, IfOk};
+ghost use Rattle.std.specs.Prelude.{◌≡◌, ◌⊎◌, ◌≤◌, ◌+◌, ◌*◌, [], vec_len, IfOk};
 ghost use Rattle.std.specs.Io.KnownBytes.{Keeps};
 ghost use Rattle.outage_script.specs.Ends.{Runs};
+ghost use Rattle.outage_script.specs.Moves.{place_of};
+ghost use Rattle.outage_script.specs.State.{start};
 
 use crate::ScriptEnd;
 use crate::session::Session;
 use std::alloc::{AllocError, Global};
 use std::io::{Read, Write};
+use std::marker::Brand;
+use std::sync::ledger::{Blank, Ledger};
 use std::thread::Threads;
 
 /// How often the reader is called at the most.
 const READ_CALLS: u64 = 4_000_000_000;
+
+/// How many slots a ledger can count.
+const SLOTS: u64 = 1_024;
 
 /// How many bytes a read wants.
 const READ_SIZE: usize = 65_536;
@@ -25,12 +32,46 @@ pub fn run_script<T: Threads + Sync, R: Read, W: Write>(
     ensures { Runs result (R.remaining reader.old) (R.remaining reader.new)
         (W.contents writer.old) (W.contents writer.new) }
 {
-    let Ok(mut buffer) = zeros(alloc, READ_SIZE) else {
+    run_with::<Brand, T, R, W>(Blank::new(SLOTS), rt, alloc, reader, writer)
+}
+
+/// Runs the script that the reader gives, whose slots are of that ledger.
+fn run_with<L: Ledger, T: Threads + Sync, R: Read, W: Write>(
+    blank: Blank,
+    rt: &T,
+    alloc: Global,
+    reader: &mut R,
+    writer: &mut W,
+) -> ScriptEnd
+    requires ledger { (blank.name ≡ L.name) × (blank.parts ≡ L.parts) × (blank.parts ≡ 1024) }
+    ensures { Runs result (R.remaining reader.old) (R.remaining reader.new)
+        (W.contents writer.old) (W.contents writer.new) }
+{
+    let Ok(buffer) = zeros(alloc, READ_SIZE) else {
         return ScriptEnd::NoMemory;
     };
-    let Ok(mut session) = Session::new(alloc) else {
+    let Ok(mut session) = Session::<L>::new(blank, alloc) else {
         return ScriptEnd::NoMemory;
     };
+    let end = drive(rt, alloc, &mut session, buffer, reader, writer);
+    session.close();
+    end
+}
+
+/// Feeds a session with what the reader gives.
+fn drive<L: Ledger, T: Threads + Sync, R: Read, W: Write>(
+    rt: &T,
+    alloc: Global,
+    session: &mut Session<L>,
+    mut buffer: Vec<u8>,
+    reader: &mut R,
+    writer: &mut W,
+) -> ScriptEnd
+    requires new { place_of session.old.number session.old.world session.old.line.items ≡ place_of 1 start [] }
+    requires room { vec_len buffer ≡ 65536 }
+    ensures { Runs result (R.remaining reader.old) (R.remaining reader.new)
+        (W.contents writer.old) (W.contents writer.new) }
+{
     for calls in 0..READ_CALLS {
         let count = match reader.read(buffer.as_mut_slice()) {
             Ok(0) => {

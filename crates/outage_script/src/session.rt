@@ -16,32 +16,43 @@ use crate::write::write_whole;
 use memchr::memchr;
 use std::alloc::{AllocError, Global};
 use std::io::Write;
+use std::sync::ledger::{Blank, Ledger};
 use std::thread::Threads;
 
 /// How many bytes a line has at the most.
 const LINE_LIMIT: usize = 1_048_576;
 
 /// A run in progress: the world, the line that is not whole yet, and its number.
-#[derive(Drop)]
-pub(crate) struct Session {
-    world: World,
+pub(crate) struct Session<L: Ledger> {
+    world: World<L>,
     line: Vec<u8>,
     number: u64,
     ghost short: { vec_len line ≤ 1048576 },
     ghost inside: { IsTrue (list_all is_inside line.items) },
 }
 
-impl Session {
+impl<L: Ledger> Session<L> {
     /// A run that has read nothing.
-    pub(crate) fn new(alloc: Global) -> Result<Session, AllocError>
+    pub(crate) fn new(blank: Blank, alloc: Global) -> Result<Session<L>, AllocError>
+        requires ledger { (blank.name ≡ L.name) × (blank.parts ≡ L.parts) × (blank.parts ≡ 1024) }
         ensures { IfOk result (λ session.
             place_of session.number session.world session.line.items ≡ place_of 1 start []) }
     {
         Ok(Session {
-            world: World::start(alloc)?,
+            world: World::start(blank, alloc)?,
             line: Vec::new(alloc),
             number: 1,
         })
+    }
+
+    /// Gives back what is lent at the end of the run.
+    pub(crate) fn close(self) {
+        let Session {
+            world,
+            line: _line,
+            number: _number,
+        } = self;
+        world.close();
     }
 
     /// Takes the next bytes, up to the end of the run.
@@ -182,10 +193,10 @@ fn bad_line(alloc: Global, number: u64) -> Result<String, AllocError>
 
 /// What is written for a line, or none if it is bad, and the world after it.
 #[tactic(auto, unfolding(crate::specs::Script::step), using(crate::proofs::AnswerLemmas::reply_plain))]
-fn turn(
-    rt: &(impl Threads + Sync),
+fn turn<L: Ledger, T: Threads + Sync>(
+    rt: &T,
     alloc: Global,
-    world: &mut World,
+    world: &mut World<L>,
     line: &[u8],
 ) -> Result<Option<String>, AllocError>
     ensures { IfOk result (λ o. IsTurn (option_map string_bytes o) world.new

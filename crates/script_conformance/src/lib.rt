@@ -4,6 +4,8 @@
 #[cfg(test)]
 mod devices;
 #[cfg(test)]
+mod handoffs;
+#[cfg(test)]
 mod outages;
 #[cfg(test)]
 mod scripts;

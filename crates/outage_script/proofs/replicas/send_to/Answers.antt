@@ -6,8 +6,8 @@ use Rattle.outage_script.proofs.replicas.send_to.Goals as goal
 
 pub loop-i-preserved : goal.loop-i-preserved
 loop-i-preserved c =
-    let f = after_copy c.args.node c.args.lose.now c.args.entry.now in
-    let p = takes c.args.node c.args.lose.now c.args.entry.now in
+    let f = after_copy c.args.down.now c.args.node c.args.lose.now c.args.entry.now in
+    let p = takes c.args.down.now c.args.node c.args.lose.now c.args.entry.now in
     let xs = c.args.replicas.now in
     let i = c.loop-i.i in
     let r = c.index-replicas-i.result in

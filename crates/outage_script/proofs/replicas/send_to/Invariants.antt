@@ -5,7 +5,7 @@ use Rattle.outage_script.proofs.replicas.send_to.Given as goal
 
 abbrev pub invariant-loop-i : goal.invariant-loop-i
 invariant-loop-i l = record {
-  all : l.replicas ≡ changed (after_copy l.node l.lose l.entry) l.i l.initial.replicas;
-  count : l.copied ≡ length (filter (takes l.node l.lose l.entry) (take l.i l.initial.replicas));
+  all : l.replicas ≡ changed (after_copy l.down l.node l.lose l.entry) l.i l.initial.replicas;
+  count : l.copied ≡ length (filter (takes l.down l.node l.lose l.entry) (take l.i l.initial.replicas));
   most : l.copied ≤ l.i;
 }

@@ -2,8 +2,8 @@ use Rattle.std.proofs.Common.{rules, ◌≡◌, ◌<◌, length, [], Some, None}
 use Rattle.std.specs.Io.KnownBytes.{Consumes, IsAtEnd}
 use Rattle.outage_script.specs.Moves.{place_of}
 use Rattle.outage_script.proofs.RunLemmas.{progress_next, runs_cut, runs_stopped, runs_finished, keeps_same, refilled}
-use Rattle.outage_script.proofs.run.run_script.Goals as goal
-use Rattle.outage_script.proofs.run.run_script.Goals.{in-Some, in-None}
+use Rattle.outage_script.proofs.run.drive.Goals as goal
+use Rattle.outage_script.proofs.run.drive.Goals.{in-Some, in-None}
 
 pub returns-in-Ok-eq0 : goal.returns-in-Ok-eq0
 returns-in-Ok-eq0 g c =
@@ -44,7 +44,7 @@ returns-in-Some-feed g c =
     (contents c.args.writer.now) (contents c.loop-calls.writer) (contents c.feed.new.writer) (contents c.flushed-in-Some-feed.new.writer)
     (place_of c.loop-calls.session.number c.loop-calls.session.world c.loop-calls.session.line.items)
     (place_of c.feed.new.self.number c.feed.new.self.world c.feed.new.self.line.items)
-    _ c.in-Some-feed.end c.flushed-in-Some-feed.result c.loop-calls.invariant.run (rw (c.deref.ensures.value, refilled c.read.new.buf c.loop-calls.buffer.items c.loop-calls.buffer.len same) c.in-Ok-read.ensures.bytes.0) c.in-Some-feed.ensures.feeds c.flushed-in-Some-feed.ensures.kept c.flushed-in-Some-feed.ensures.end
+    _ c.in-Some-feed.end c.flushed-in-Some-feed.result c.loop-calls.invariant.run (rw (c.deref.ensures.value, refilled c.read.new.buf c.loop-calls.buffer.items c.loop-calls.buffer.len same) c.in-Ok.ensures.bytes.0) c.in-Some-feed.ensures.feeds c.flushed-in-Some-feed.ensures.kept c.flushed-in-Some-feed.ensures.end
 
 pub loop-calls-preserved : goal.loop-calls-preserved
 loop-calls-preserved g c =
@@ -58,7 +58,7 @@ loop-calls-preserved g c =
           (contents c.args.writer.now) (contents c.loop-calls.writer) (contents c.feed.new.writer)
           (place_of c.loop-calls.session.number c.loop-calls.session.world c.loop-calls.session.line.items)
           (place_of c.feed.new.self.number c.feed.new.self.world c.feed.new.self.line.items)
-          _ c.loop-calls.invariant.run (rw (c.deref.ensures.value, refilled c.read.new.buf c.loop-calls.buffer.items c.loop-calls.buffer.len same) c.in-Ok-read.ensures.bytes.0) c.in_default-feed.ensures.feeds;
+          _ c.loop-calls.invariant.run (rw (c.deref.ensures.value, refilled c.read.new.buf c.loop-calls.buffer.items c.loop-calls.buffer.len same) c.in-Ok.ensures.bytes.0) c.in_default.ensures.feeds;
     }
 
 pub returns : goal.returns

@@ -1,8 +1,8 @@
 use Rattle.std.proofs.Common.{◌<◌, ◌≤◌, arith, sym}
 use Rattle.hash_tree.specs.Nodes.{tree_depth}
 use Rattle.outage_script.proofs.NodeLaws.{too_deep, too_wide}
-use Rattle.outage_script.proofs.world.tree_node.Goals as goal
-use Rattle.outage_script.proofs.world.tree_node.Goals.{then-depth-from-via-then-depth-from, then-depth-from-via-else-depth-from+then-index-from}
+use Rattle.outage_script.proofs.cluster.tree_node.Goals as goal
+use Rattle.outage_script.proofs.cluster.tree_node.Goals.{then-depth-from-via-then-depth-from, then-depth-from-via-else-depth-from+then-index-from}
 
 pub returns-then-depth-from-clause-some : goal.returns-then-depth-from-clause-some
 returns-then-depth-from-clause-some c = elim c.then-depth-from.branch [

@@ -1,8 +1,9 @@
-use Rattle.std.proofs.Common.{◌≡◌, length, ap, ◌∙◌, arith}
+use Rattle.std.proofs.Common.{rules, ◌≡◌, length, ap, ◌∙◌, arith}
+use Rattle.std.proofs.lemmas.List.{length-replicate}
 use Rattle.range_state.specs.Config.{Config}
 use Rattle.outage_script.specs.State.{replicas_made}
 use Rattle.outage_script.proofs.ReplicaLaws.{made_length, made_next}
-use Rattle.outage_script.proofs.world.World.new.Goals as goal
+use Rattle.outage_script.proofs.cluster.Cluster.new.Goals as goal
 
 pub loop-range-preserved : goal.loop-range-preserved
 loop-range-preserved c =
@@ -13,4 +14,5 @@ pub invariant_of-result : goal.invariant_of-result
 invariant_of-result c =
     let end : c.loop-range.range ≡ c.ranges-range-end.result = omega arith in
     let made = made_length (replicas_made c.args.ring c.args.config) c.loop-range.range in
-    ap length c.loop-range.invariant ∙ made ∙ end ∙ c.ranges-range-end.ensures
+    let stores : length c.in_ok-carriers.carriers.items ≡ length c.args.ring.nodes = ap length c.in_ok-carriers.ensures ∙ length-replicate _ _ ∙ (search rules) in
+    (ap length c.loop-range.invariant ∙ made ∙ end ∙ c.ranges-range-end.ensures, stores)

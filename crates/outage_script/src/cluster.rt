@@ -1,0 +1,435 @@
+// The cluster that a script changes: a ring, its nodes and their hints, and the replicas of its ranges.
+ghost use Rattle.std.specs.Prelude.{◌≡◌, ◌≢◌, ◌<◌, ◌≤◌, ◌^◌, ◌==◌, ⊤, [], length, filter, not, position, replicate, true, false, None, is_some, option_map, IsTrue, IfOk, IfErr, IfSome, OnOk, OnErr};
+ghost use Rattle.std.specs.List.{list_any, list_all, AllByRecursion};
+ghost use Rattle.serde_json.specs.View.{view};
+ghost use Rattle.vclock.specs.Answer.{Answers, AnswersAtOnce, AnswersOrNoMemory};
+ghost use Rattle.vclock.specs.Clock.{clock_of};
+ghost use Rattle.vclock.specs.Keys.{key_fault};
+ghost use Rattle.version_set.specs.Kind.{value_fault};
+ghost use Rattle.outage_script.specs.Acts.{ask_fault, done_at, get_done, get_fault, is_tree_node, kept_at, kind_of, node_done, nodes_fault, put_done, put_fault, range_fault, rehash_done, ring_nodes_fault, row_done, value_of};
+ghost use Rattle.outage_script.specs.Answers.{text_of, up_answer};
+ghost use Rattle.outage_script.specs.Handoff.{carrier_of, deliver_done, hinted, up_nodes};
+ghost use Rattle.outage_script.specs.Orders.{get_ask, node_ask, put_ask, rehash_ask};
+ghost use Rattle.outage_script.specs.State.{brought_up, first_config, first_ring, hints_of, home, is_down, is_member, made, replicas_of, taken_down};
+
+use crate::answer::{
+    deliver_answer, node_answer, put_answer, rehash_answer, row_answer, up_answer, versions_answer,
+};
+use crate::command::{Get, Put, Rehash, ShowNode};
+use crate::handoff::{deliver_all, keep_all};
+use crate::replica::Replica;
+use crate::replicas::{Replicas, push_if};
+use hash_tree::node::{NodeAt, tree_depth};
+use hint_store::store::HintStore;
+use key_ring::ring::Ring;
+use range_state::config::RangeConfig;
+use range_state::event::Receipt;
+use row_bytes::row::Row;
+use row_bytes::writing::write_row;
+use serde_json::Value;
+use std::alloc::{AllocError, Global};
+use std::marker::Model;
+use std::thread::Threads;
+use vclock::bytes::Bytes;
+use vclock::clock::Clock;
+use vclock::format::Format;
+use vclock::key::check_key;
+use vclock::refusal::Refusal;
+use version_set::kind::Kind;
+use version_set::set::VersionSet;
+
+/// How many entries a journal of the first ring may have.
+const JOURNAL_LIMIT: u64 = 1_000_000;
+
+/// A ring: its nodes, the hints that they keep, and the replicas of its ranges.
+#[derive(Drop)]
+pub(crate) struct Cluster {
+    ring: Ring,
+    format: Format,
+    down: Vec<u64>,
+    carriers: Vec<HintStore>,
+    ranges: Vec<Replicas>,
+}
+
+impl Model for Cluster {
+    ghost use Rattle.std.specs.Prelude.{◌≡◌, ◌^◌, length};
+    ghost use Rattle.outage_script.specs.State.{Cluster};
+
+    ghost Value = { Cluster };
+
+    ghost view = { λ c. record { ring = c.ring; format = c.format; down = c.down.items; hints = c.carriers.items; replicas = c.ranges.items } };
+
+    ghost invariant = { λ c. (length c.ranges.items ≡ 2 ^ c.ring.bits) × (length c.carriers.items ≡ length c.ring.nodes) };
+}
+
+impl Cluster {
+    /// The cluster that a script begins with: a ring of node 1, with one range.
+    pub(crate) fn start(alloc: Global) -> Result<Cluster, AllocError>
+        ensures { IfOk result (λ cluster. cluster ≡ made first_ring first_config) }
+    {
+        let config = RangeConfig::new(1, 0, 0, JOURNAL_LIMIT).unwrap();
+        match Ring::new(alloc, 0, &[1], 1) {
+            Ok(ring) => Cluster::new(alloc, ring, config),
+            Err(_) => Err(AllocError),
+        }
+    }
+
+    /// The cluster of a ring whose nodes are up, have no hints, and have accepted nothing.
+    #[tactic(auto, unfolding(crate::specs::State::made))]
+    pub(crate) fn new(alloc: Global, ring: Ring, config: RangeConfig) -> Result<Cluster, AllocError>
+        requires { config.bits ≡ ring.bits }
+        ensures { IfOk result (λ cluster. cluster ≡ made ring config) }
+    {
+        let carriers = empty_stores(alloc, ring.nodes().len())?;
+        let mut ranges = Vec::with_capacity(alloc, usize::from(ring.ranges()))?;
+        for range in 0..ring.ranges() {
+            ranges.push(Replicas::new(alloc, &ring, config.for_range(range))?)?;
+        }
+        Ok(Cluster {
+            ring,
+            format: config.format(),
+            down: Vec::new(alloc),
+            carriers,
+            ranges,
+        })
+    }
+
+    /// The format of the ring.
+    pub(crate) fn format(&self) -> Format
+        ensures { result ≡ self.now.format }
+    {
+        self.format
+    }
+
+    /// How many nodes the ring has, and how many ranges.
+    pub(crate) fn size(&self) -> (u64, u64)
+        ensures nodes { result.0 ≡ length self.now.ring.nodes }
+        ensures ranges { result.1 ≡ 2 ^ self.now.ring.bits }
+    {
+        (
+            self.ring.nodes().len() as u64,
+            u64::from(self.ring.ranges()),
+        )
+    }
+
+    /// Puts a value at a node, sends the copies and keeps the hints, and answers with the clock and the number.
+    pub(crate) fn put(&mut self, alloc: Global, put: Put) -> Result<Value, Refusal>
+        ensures answers { AnswersOrNoMemory result (put_fault (put_ask put) self.old) (λ v. view v
+            ≡ (done_at (put_done (put_ask put) self.old) (home put.node (replicas_of self.old put.key)) self.old).0) }
+        ensures ok { OnOk result (self.new
+            ≡ (done_at (put_done (put_ask put) self.old) (home put.node (replicas_of self.old put.key)) self.old).1) }
+        ensures err { IfErr result (λ e. e ≢ Refusal.NoMemory → self.new ≡ self.old) }
+    {
+        let context = self.check_put(alloc, &put)?;
+        let range = self.ring.range_of(put.key.as_slice());
+        let sent = self.ranges[usize::from(range)].put(alloc, &context, &self.down, put)?;
+        let receipt = sent.receipt;
+        let hinted = self.keep_hints(range, &sent.owners, &receipt)?;
+        let clock = &receipt.version.clock;
+        Ok(put_answer(alloc, clock, sent.copied, hinted, receipt.number)?)
+    }
+
+    /// Keeps a hint of an entry for each of these owners at the carrier of a range, and answers how many were kept.
+    fn keep_hints(&mut self, range: u16, owners: &[u16], entry: &Receipt) -> Result<u64, AllocError>
+        requires { range < 2 ^ self.old.ring.bits }
+        ensures count { IfOk result (λ n. n ≡ (hinted entry.now owners.now self.old (carrier_of self.old range)).0) }
+        ensures kept { OnOk result (self.new ≡ (hinted entry.now owners.now self.old (carrier_of self.old range)).1) }
+    {
+        let Some(carrier) = self.carrier_of(range) else {
+            return Ok(0);
+        };
+        match self.place_of(u64::from(carrier)) {
+            Some(place) => keep_all(&mut self.carriers[place], owners, entry),
+            None => Ok(0),
+        }
+    }
+
+    /// Who keeps the hints of a range: the first node that is up behind its replicas in its preference list.
+    #[tactic(auto, using(crate::proofs::ListSteps::find_end))]
+    fn carrier_of(&self, range: u16) -> Option<u16>
+        requires { range < 2 ^ self.now.ring.bits }
+        ensures { result ≡ carrier_of self.now range }
+    {
+        for place in self.ring.copies()..self.ring.nodes().len() {
+            let node = self.ring.preference(range, place);
+            if !self.is_down(u64::from(node)) {
+                return Some(node);
+            }
+        }
+        None
+    }
+
+    /// The place of a node in the ring.
+    fn place_of(&self, node: u64) -> Option<usize>
+        ensures { result ≡ position (λ m. m == node) self.now.ring.nodes }
+    {
+        self.ring.nodes().iter().position(|n| u64::from(*n) == node)
+    }
+
+    /// Takes a node down.
+    pub(crate) fn take_down(&mut self, alloc: Global, node: u64) -> Result<Value, Refusal>
+        ensures answers { Answers result (ring_nodes_fault self.old node []) (λ v. view v ≡ up_answer node false) }
+        ensures ok { OnOk result (self.new ≡ taken_down self.old node) }
+        ensures err { OnErr result (self.new ≡ self.old) }
+    {
+        self.check_ring_nodes(node, &[])?;
+        let answer = up_answer(alloc, node, false)?;
+        if !self.is_down(node) {
+            self.down.push(node)?;
+        }
+        Ok(answer)
+    }
+
+    /// Brings a node up.
+    pub(crate) fn bring_up(&mut self, alloc: Global, node: u64) -> Result<Value, Refusal>
+        ensures answers { Answers result (ring_nodes_fault self.old node []) (λ v. view v ≡ up_answer node true) }
+        ensures ok { OnOk result (self.new ≡ brought_up self.old node) }
+        ensures err { OnErr result (self.new ≡ self.old) }
+    {
+        self.check_ring_nodes(node, &[])?;
+        let answer = up_answer(alloc, node, true)?;
+        self.down = without(alloc, &self.down, node)?;
+        Ok(answer)
+    }
+
+    /// Whether a node is down.
+    fn is_down(&self, node: u64) -> bool
+        ensures { result ≡ is_down self.now node }
+    {
+        self.down.contains(&node)
+    }
+
+    /// The nodes that are up, in the order of the ring.
+    #[tactic(auto, using(crate::proofs::ListSteps::filtered_next, crate::proofs::ListSteps::filtered_all))]
+    fn up_nodes(&self, alloc: Global) -> Result<Vec<u16>, AllocError>
+        ensures { IfOk result (λ nodes. nodes.items ≡ up_nodes self.now) }
+    {
+        let nodes = self.ring.nodes();
+        let mut up = Vec::with_capacity(alloc, nodes.len())?;
+        for i in 0..nodes.len() {
+            push_if(&mut up, nodes[i], !self.is_down(u64::from(nodes[i])))?;
+        }
+        Ok(up)
+    }
+
+    /// Whether a node is on the ring and up, so that its hints can be delivered.
+    pub(crate) fn check_carrier(&self, node: u64) -> Result<(), Refusal>
+        ensures { AnswersAtOnce result (nodes_fault self.now node []) (λ _. ⊤) }
+    {
+        self.check_nodes(node, &[])
+    }
+
+    /// Offers the hints that a node keeps to their owners, and answers how many were taken and known, and how many are
+    /// pending after it.
+    pub(crate) fn deliver(&mut self, alloc: Global, node: u64) -> Result<Value, AllocError>
+        requires { nodes_fault self.old node [] ≡ None }
+        ensures answer { IfOk result (λ v. view v ≡ (deliver_done self.old node (hints_of self.old node)).0) }
+        ensures ok { OnOk result (self.new ≡ (deliver_done self.old node (hints_of self.old node)).1) }
+    {
+        let up = self.up_nodes(alloc)?;
+        let Some(place) = self.place_of(node) else {
+            unreachable!()
+        };
+        let hints = &mut self.carriers[place];
+        let done = deliver_all(alloc, &self.ring, &up, &mut self.ranges, hints)?;
+        deliver_answer(alloc, done.taken, done.known, hints.pending())
+    }
+
+    /// Answers with the versions that are held for a key.
+    pub(crate) fn get(&self, alloc: Global, get: &Get) -> Result<Value, Refusal>
+        ensures { AnswersOrNoMemory result (get_fault (get_ask get.now) self.now) (λ v. view v
+            ≡ (done_at (λ h. (get_done (get_ask get.now) h, self.now)) (home get.now.node (replicas_of self.now get.now.key)) self.now).0) }
+    {
+        self.check_nodes(get.node, &[])?;
+        check_key(get.key.as_slice())?;
+        let Some(replica) = self.replica_of(get.node, get.key.as_slice()) else {
+            return Err(Refusal::OtherRange);
+        };
+        Ok(versions_answer(alloc, replica.versions(get.key.as_slice()))?)
+    }
+
+    /// Answers with the text of the row of a key.
+    #[tactic(auto, unfolding(crate::specs::Answers::row_answer))]
+    pub(crate) fn row(&self, alloc: Global, get: Get) -> Result<Value, Refusal>
+        ensures { AnswersOrNoMemory result (get_fault (get_ask get) self.now) (λ v. view v
+            ≡ (done_at (λ h. (row_done (get_ask get) h, self.now)) (home get.node (replicas_of self.now get.key)) self.now).0) }
+    {
+        self.check_nodes(get.node, &[])?;
+        check_key(get.key.as_slice())?;
+        let Some(replica) = self.replica_of(get.node, get.key.as_slice()) else {
+            return Err(Refusal::OtherRange);
+        };
+        let versions = replica.version_set(alloc, get.key.as_slice())?;
+        let text = row_text(alloc, replica.format(), get.key, versions)?;
+        Ok(row_answer(alloc, &text)?)
+    }
+
+    /// Whether a node that is up keeps a range of that number.
+    pub(crate) fn check_range(&self, node: u64, range: u64) -> Result<(), Refusal>
+        ensures { AnswersAtOnce result (range_fault self.now node range) (λ _. ⊤) }
+    {
+        self.check_nodes(node, &[])?;
+        match self.replica_at(node, range) {
+            Some(_) => Ok(()),
+            None => Err(Refusal::OtherRange),
+        }
+    }
+
+    /// Makes every node of the tree of a range at a node clean, and answers with how many were dirty.
+    pub(crate) fn rehash(
+        &mut self,
+        rt: &(impl Threads + Sync),
+        alloc: Global,
+        ask: &Rehash,
+    ) -> Result<Value, Refusal>
+        requires { range_fault self.old ask.now.node ask.now.range ≡ None }
+        ensures answers { Answers result None (λ v. view v
+            ≡ (done_at (rehash_done (rehash_ask ask.now) self.old) (kept_at self.old ask.now.node ask.now.range) self.old).0) }
+        ensures ok { OnOk result (self.new
+            ≡ (done_at (rehash_done (rehash_ask ask.now) self.old) (kept_at self.old ask.now.node ask.now.range) self.old).1) }
+    {
+        if ask.range >= self.ranges.len() as u64 {
+            return Err(Refusal::OtherRange);
+        }
+        let hashed = self.ranges[ask.range as usize].rehash(rt, alloc, ask.node)?;
+        Ok(rehash_answer(alloc, hashed)?)
+    }
+
+    /// Answers with the digest of a node of the tree of a range.
+    pub(crate) fn node(&self, alloc: Global, ask: &ShowNode) -> Result<Value, Refusal>
+        requires { IsTrue (is_tree_node self.now.format ask.now.depth ask.now.index) }
+        ensures { AnswersOrNoMemory result (range_fault self.now ask.now.node ask.now.range) (λ v. view v
+            ≡ (done_at (λ h. (node_done (node_ask ask.now) h, self.now)) (kept_at self.now ask.now.node ask.now.range) self.now).0) }
+    {
+        self.check_nodes(ask.node, &[])?;
+        let Some(replica) = self.replica_at(ask.node, ask.range) else {
+            return Err(Refusal::OtherRange);
+        };
+        let Some(node) = tree_node(self.format, ask.depth, ask.index) else {
+            unreachable!()
+        };
+        Ok(node_answer(alloc, replica.digest_at(node))?)
+    }
+
+    /// The replica at a node of the range of that number, if the ring has such a range.
+    fn replica_at(&self, node: u64, range: u64) -> Option<&Replica>
+        ensures { option_map (λ r. r.now.range) result ≡ kept_at self.now node range }
+    {
+        if range >= self.ranges.len() as u64 {
+            return None;
+        }
+        self.ranges[range as usize].find(node)
+    }
+
+    /// The replica of a key's range at a node.
+    fn replica_of(&self, node: u64, key: &[u8]) -> Option<&Replica>
+        ensures { option_map (λ r. r.now.range) result ≡ home node (replicas_of self.now key.now) }
+    {
+        let range = usize::from(self.ring.range_of(key));
+        self.ranges[range].find(node)
+    }
+
+    /// The context of a put, where nothing that it names is refused.
+    fn check_put(&self, alloc: Global, put: &Put) -> Result<Clock, Refusal>
+        ensures { AnswersOrNoMemory result (ask_fault (put_ask put.now) self.now)
+            (λ context. context ≡ clock_of put.now.context.items) }
+    {
+        self.check_nodes(put.node, &put.lose)?;
+        let context = Clock::from_pairs(alloc, &put.context)?;
+        check_key(put.key.as_slice())?;
+        check_value(self.format, &put.value)?;
+        Ok(context)
+    }
+
+    /// Whether a node and the others that a command names are on the ring, and the node is up.
+    fn check_nodes(&self, node: u64, others: &[u64]) -> Result<(), Refusal>
+        ensures { AnswersAtOnce result (nodes_fault self.now node others.now) (λ _. ⊤) }
+    {
+        self.check_ring_nodes(node, others)?;
+        if self.is_down(node) {
+            return Err(Refusal::Down);
+        }
+        Ok(())
+    }
+
+    /// Whether a node and the others that a command names are on the ring.
+    fn check_ring_nodes(&self, node: u64, others: &[u64]) -> Result<(), Refusal>
+        ensures { AnswersAtOnce result (ring_nodes_fault self.now node others.now) (λ _. ⊤) }
+    {
+        if self.ring.contains(node) && self.are_nodes(others) {
+            Ok(())
+        } else {
+            Err(Refusal::BadRing)
+        }
+    }
+
+    /// Whether each of these is on the ring.
+    fn are_nodes(&self, nodes: &[u64]) -> bool
+        ensures { result ≡ list_all (is_member self.now) nodes.now }
+    {
+        nodes.iter().all(|node| self.ring.contains(*node))
+    }
+}
+
+/// The nodes but for one.
+#[tactic(auto, using(crate::proofs::ListSteps::filtered_next, crate::proofs::ListSteps::filtered_all))]
+fn without(alloc: Global, nodes: &[u64], node: u64) -> Result<Vec<u64>, AllocError>
+    ensures { IfOk result (λ others. others.items ≡ filter (λ m. not (m == node)) nodes.now) }
+{
+    let mut others = Vec::with_capacity(alloc, nodes.len())?;
+    for i in 0..nodes.len() {
+        push_if(&mut others, nodes[i], nodes[i] != node)?;
+    }
+    Ok(others)
+}
+
+/// Stores without hints, so many of them.
+#[tactic(auto, using(crate::proofs::ListSteps::copies_more))]
+fn empty_stores(alloc: Global, count: usize) -> Result<Vec<HintStore>, AllocError>
+    ensures { IfOk result (λ stores. stores.items ≡ replicate count []) }
+{
+    let mut stores = Vec::with_capacity(alloc, count)?;
+    for made in 0..count {
+        stores.push(HintStore::new(alloc))?;
+    }
+    Ok(stores)
+}
+
+/// The node of the tree of a format, if it has one of that depth and index.
+pub(crate) fn tree_node(format: Format, depth: u64, index: u64) -> Option<NodeAt>
+    ensures some { is_some result ≡ is_tree_node format depth index }
+    ensures depth { IfSome result (λ n. n.depth ≡ depth) }
+    ensures index { IfSome result (λ n. n.index ≡ index) }
+{
+    if depth > u64::from(tree_depth(format)) || index > u64::from(u16::MAX) {
+        return None;
+    }
+    NodeAt::new(depth as u8, index as u16)
+}
+
+/// Whether a put may have the value, or none, in a format.
+fn check_value(format: Format, value: &Option<Bytes>) -> Result<(), Refusal>
+    ensures { AnswersAtOnce result (value_fault format (kind_of value.now) (value_of value.now)) (λ _. ⊤) }
+{
+    match value {
+        Some(value) => Kind::Live.check_value(format, value.as_slice()),
+        None => Kind::Tombstone.check_value(format, &[]),
+    }
+}
+
+/// The text of the row of a key, or none where no version is held.
+fn row_text(
+    alloc: Global,
+    format: Format,
+    key: Bytes,
+    versions: VersionSet,
+) -> Result<Bytes, Refusal>
+    requires key { key_fault key ≡ None }
+    requires fit { AllByRecursion (λ v. value_fault format v.kind v.value ≡ None) versions }
+    ensures { Answers result None (λ text. text ≡ text_of format key versions) }
+{
+    if versions.is_empty() {
+        return Ok(Bytes::from(Vec::new(alloc)));
+    }
+    Ok(Bytes::from(write_row(alloc, format, &Row { key, versions })?))
+}
