@@ -15,18 +15,30 @@ fn pairs_of(alloc: Global, first: u64, last: u64) -> Result<Vec<(u64, u64)>, All
     Ok(pairs)
 }
 
+/// The greatest number of a node.
+fn last_node() -> u64 {
+    u64::from(u16::MAX)
+}
+
 #[test]
 fn clocks_are_ordered_by_their_counters(rt: HostRuntime) -> Result<(), Fail> {
     let alloc = rt.alloc();
     let clock = Clock::from_pairs(alloc, &[(2, 1), (1, 3)])?;
     assert_eq!(rt; clock.pairs(), [(1, 3), (2, 1)].as_slice());
+    assert_eq!(rt; clock.compare(&clock.try_clone()?), ClockOrder::Equal);
+    let apart = Clock::from_pairs(alloc, &[(3, 1)])?;
+    assert_eq!(rt; apart.compare(&clock), ClockOrder::Apart);
+    Ok(())
+}
+
+#[test]
+fn a_raised_clock_is_after_the_other(rt: HostRuntime) -> Result<(), Fail> {
+    let alloc = rt.alloc();
+    let clock = Clock::from_pairs(alloc, &[(2, 1), (1, 3)])?;
     let raised = clock.raise(alloc, 2)?;
     assert_eq!(rt; raised.pairs(), [(1, 3), (2, 2)].as_slice());
-    let apart = Clock::from_pairs(alloc, &[(3, 1)])?;
-    assert_eq!(rt; clock.compare(&clock.try_clone()?), ClockOrder::Equal);
     assert_eq!(rt; clock.compare(&raised), ClockOrder::Before);
     assert_eq!(rt; raised.compare(&clock), ClockOrder::After);
-    assert_eq!(rt; apart.compare(&clock), ClockOrder::Apart);
     Ok(())
 }
 
@@ -59,29 +71,36 @@ fn clocks_and_counters_have_limits(rt: HostRuntime) -> Result<(), Fail> {
 #[test]
 fn many_pairs_are_looked_at_once(rt: HostRuntime) -> Result<(), Fail> {
     let alloc = rt.alloc();
-    let mut pairs = pairs_of(alloc, 1, 65_535)?;
+    let last = last_node();
+    let mut pairs = pairs_of(alloc, 1, last)?;
     assert!(rt; matches!(&Clock::from_pairs(alloc, &pairs), Err(Refusal::ClockFull)));
-    pairs.pop();
-    pairs.push((65_534, 2))?;
-    assert_eq!(rt; pairs.len(), 65_535);
+    pairs.push((last, 2))?;
     assert!(rt; matches!(&Clock::from_pairs(alloc, &pairs), Err(Refusal::BadClock)));
     Ok(())
 }
 
 #[test]
-fn bytes_are_kept_and_keys_are_checked(rt: HostRuntime) -> Result<(), Fail> {
+fn bytes_are_kept(rt: HostRuntime) -> Result<(), Fail> {
     let alloc = rt.alloc();
     let bytes = Bytes::copy_of(alloc, &[0x78])?;
     assert_eq!(rt; bytes.as_slice(), b"x".as_slice());
     assert_eq!(rt; bytes.try_clone()?.as_slice(), b"x".as_slice());
-    for (length, is_key) in [(0, false), (1, true), (255, true), (256, false)] {
-        let answer = check_key(&vec![in alloc; 0x61; length]?);
-        assert_eq!(rt; answer.is_ok(), is_key, "at {length}");
-        assert_eq!(rt;
-            matches!(&answer, Err(Refusal::BadKey)),
-            !is_key,
-            "at {length}"
-        );
+    Ok(())
+}
+
+/// Why a key of so many bytes is none.
+fn fault_of_key(alloc: Global, length: usize) -> Result<Option<Refusal>, AllocError> {
+    Ok(check_key(&vec![in alloc; 0x61; length]?).err())
+}
+
+#[test]
+fn a_key_has_1_to_255_bytes(rt: HostRuntime) -> Result<(), Fail> {
+    let alloc = rt.alloc();
+    for length in [1, 255] {
+        assert!(rt; fault_of_key(alloc, length)?.is_none());
+    }
+    for length in [0, 256] {
+        assert!(rt; matches!(fault_of_key(alloc, length)?, Some(Refusal::BadKey)));
     }
     Ok(())
 }

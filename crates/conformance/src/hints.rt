@@ -4,6 +4,7 @@ use hint_store::hint::{Delivery, Fate};
 use hint_store::store::HintStore;
 use std::alloc::Global;
 use std::cmp::Ordering;
+use std::process::Abort;
 use std::test::Fail;
 use vclock::bytes::Bytes;
 use vclock::refusal::Refusal;
@@ -37,13 +38,42 @@ fn a_hint_waits_for_its_owner(rt: HostRuntime) -> Result<(), Fail> {
     assert_eq!(rt; hint.version.text_order(&kept), Ordering::Equal);
     assert!(rt; store.next(alloc, 2, 1)?.is_none());
     assert!(rt; store.next(alloc, 3, 0)?.is_none());
-    let refused = store.confirm(1, delivery(alloc, 2, 2)?);
-    assert!(rt; matches!(&refused, Err(Refusal::UnknownHint)));
-    store.confirm(1, delivery(alloc, 2, 1)?)?;
-    let refused = store.confirm(1, delivery(alloc, 2, 1)?);
-    assert!(rt; matches!(&refused, Err(Refusal::UnknownHint)));
+    Ok(())
+}
+
+/// Whether the first hint is confirmed by the answer of owner 2 that it journaled such a version.
+fn is_confirmed(alloc: Global, store: &mut HintStore, count: u64) -> Result<bool, Refusal> {
+    match store.confirm(1, delivery(alloc, 2, count)?) {
+        Ok(()) => Ok(true),
+        Err(Refusal::UnknownHint) => Ok(false),
+        Err(other) => Err(other),
+    }
+}
+
+#[test]
+fn a_hint_is_confirmed_once(rt: HostRuntime) -> Result<(), Fail> {
+    let alloc = rt.alloc();
+    let mut store = HintStore::new(alloc);
+    keep(alloc, &mut store, 2, 1)?;
+    assert!(rt; !is_confirmed(alloc, &mut store, 2)?);
+    assert!(rt; is_confirmed(alloc, &mut store, 1)?);
+    assert!(rt; !is_confirmed(alloc, &mut store, 1)?);
     assert_eq!(rt; (store.pending(), store.delivered()), (0, 1));
     assert_eq!(rt; store.get(1).ok_or("no hint 1")?.fate, Fate::Taken);
+    Ok(())
+}
+
+/// Asserts the number and the owner of the next hint.
+fn expect_next(
+    rt: &impl Abort,
+    alloc: Global,
+    store: &HintStore,
+    owners: &[u16],
+    after: u32,
+    expected: (u32, u16),
+) -> Result<(), Fail> {
+    let next = store.next_of(alloc, owners, after)?.ok_or("no hint")?;
+    assert_eq!(rt; (next.id, next.owner), expected);
     Ok(())
 }
 
@@ -54,12 +84,8 @@ fn the_next_hint_is_the_oldest(rt: HostRuntime) -> Result<(), Fail> {
     for (owner, id) in [(5, 1), (4, 2), (5, 3), (6, 4)] {
         assert_eq!(rt; keep(alloc, &mut store, owner, 1)?, id);
     }
-    let next = store
-        .next_of(alloc, &[4, 5], 0)?
-        .ok_or("no hint for 4 or 5")?;
-    assert_eq!(rt; (next.id, next.owner), (1, 5));
-    let after = store.next_of(alloc, &[5, 6], 1)?.ok_or("no later hint")?;
-    assert_eq!(rt; (after.id, after.owner), (3, 5));
+    expect_next(&rt, alloc, &store, &[4, 5], 0, (1, 5))?;
+    expect_next(&rt, alloc, &store, &[5, 6], 1, (3, 5))?;
     assert!(rt; store.next_of(alloc, &[], 0)?.is_none());
     Ok(())
 }

@@ -1,50 +1,58 @@
 // Journals.
 use crate::sets::version;
 use range_journal::journal::{Journal, Source};
+use std::alloc::Global;
 use std::test::Fail;
 use vclock::bytes::Bytes;
 use vclock::refusal::Refusal;
 use version_set::kind::Kind;
 
+/// Appends a version of `a` that node 1 has counted so often.
+fn append(alloc: Global, journal: &mut Journal, count: u64) -> Result<u64, Refusal> {
+    let key = Bytes::copy_of(alloc, b"a")?;
+    let put = version(alloc, (1, count), Kind::Live, b"x")?;
+    journal.append(0, Source::Client, key, put)
+}
+
 #[test]
 fn a_journal_keeps_its_limit(rt: HostRuntime) -> Result<(), Fail> {
     let alloc = rt.alloc();
     let mut journal = Journal::new(alloc, 2);
-    let (first, second) = (Bytes::copy_of(alloc, b"a")?, Bytes::copy_of(alloc, b"a")?);
-    assert_eq!(rt;
-        journal.append(
-            0,
-            Source::Client,
-            first,
-            version(alloc, (1, 1), Kind::Live, b"x")?
-        )?,
-        0
-    );
-    journal.reserve(1)?;
-    assert!(rt; journal.room() >= 1);
-    let later = version(alloc, (1, 2), Kind::Live, b"x")?;
-    assert_eq!(rt;
-        journal.append_reserved(7, Source::Partner, second, later),
-        1
-    );
-    let third = Bytes::copy_of(alloc, b"a")?;
-    let refused = journal.append(
-        0,
-        Source::Client,
-        third,
-        version(alloc, (1, 3), Kind::Live, b"x")?,
-    );
-    assert!(rt; matches!(&refused, Err(Refusal::JournalFull)));
+    assert_eq!(rt; append(alloc, &mut journal, 1)?, 0);
+    assert_eq!(rt; append(alloc, &mut journal, 2)?, 1);
+    let third = append(alloc, &mut journal, 3);
+    assert!(rt; matches!(&third, Err(Refusal::JournalFull)));
     assert!(rt; matches!(&journal.reserve(1), Err(Refusal::JournalFull)));
     journal.reserve(0)?;
     assert_eq!(rt; journal.len(), 2);
+    Ok(())
+}
+
+#[test]
+fn reserved_room_takes_an_entry(rt: HostRuntime) -> Result<(), Fail> {
+    let alloc = rt.alloc();
+    let mut journal = Journal::new(alloc, 1);
+    let key = Bytes::copy_of(alloc, b"a")?;
+    let copy = version(alloc, (1, 2), Kind::Live, b"x")?;
+    journal.reserve(1)?;
+    assert!(rt; journal.room() >= 1);
+    assert_eq!(rt; journal.append_reserved(7, Source::Partner, key, copy), 0);
     let entry = journal.get(0).ok_or("no entry 0")?;
     assert_eq!(rt;
         (entry.number, entry.seat, entry.source),
-        (0, 0, Source::Client)
+        (0, 7, Source::Partner)
     );
     assert_eq!(rt; entry.key.as_slice(), b"a".as_slice());
-    assert!(rt; journal.get(2).is_none());
+    assert!(rt; journal.get(1).is_none());
+    Ok(())
+}
+
+#[test]
+fn held_versions_are_the_latest(rt: HostRuntime) -> Result<(), Fail> {
+    let alloc = rt.alloc();
+    let mut journal = Journal::new(alloc, 2);
+    append(alloc, &mut journal, 1)?;
+    append(alloc, &mut journal, 2)?;
     let held = journal.held_set(alloc, b"a")?;
     assert_eq!(rt; held.len(), 1);
     assert!(rt; held.covers(&version(alloc, (1, 2), Kind::Live, b"x")?));

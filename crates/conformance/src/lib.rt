@@ -8,14 +8,20 @@ mod hints;
 #[cfg(test)]
 mod journals;
 #[cfg(test)]
+mod messages;
+#[cfg(test)]
 mod places;
 #[cfg(test)]
 mod ranges;
 #[cfg(test)]
 mod rows;
 #[cfg(test)]
+mod sessions;
+#[cfg(test)]
 mod sets;
 #[cfg(test)]
 mod slots;
+#[cfg(test)]
+mod snapshots;
 #[cfg(test)]
 mod trees;

@@ -1,12 +1,13 @@
 // Range states.
 ghost use Rattle.std.specs.Prelude.{◌<◌};
 
-use crate::sets::version;
+use crate::sets::{members, version};
 use range_journal::journal::Source;
 use range_state::config::RangeConfig;
 use range_state::event::{AcceptEvent, Accepted, Event, PutEvent, Reply};
 use range_state::state::RangeState;
 use std::alloc::Global;
+use std::process::Abort;
 use std::test::Fail;
 use vclock::bytes::Bytes;
 use vclock::clock::Clock;
@@ -44,55 +45,68 @@ fn a_range_has_a_format_a_place_and_a_limit(rt: HostRuntime) -> Result<(), Fail>
     Ok(())
 }
 
+/// Accepts a copy of `a` that node 2 has counted once, and answers its number, or none where it is known.
+fn accept_a(alloc: Global, state: &mut RangeState, value: &[u8]) -> Result<Option<u64>, Refusal> {
+    let copy = version(alloc, (2, 1), Kind::Live, value)?;
+    match state.accept(alloc, 0, Source::Copy, b"a", copy)? {
+        Accepted::Taken(receipt) => Ok(Some(receipt.number)),
+        Accepted::Known => Ok(None),
+    }
+}
+
 #[test]
 fn versions_with_equal_clocks_are_both_kept(rt: HostRuntime) -> Result<(), Fail> {
     let alloc = rt.alloc();
     let mut state = range(alloc, 1, 10)?;
-    for (value, number) in [(b"q", 0), (b"p", 1)] {
-        let copy = version(alloc, (2, 1), Kind::Live, value)?;
-        match state.accept(alloc, 0, Source::Copy, b"a", copy)? {
-            Accepted::Taken(receipt) => assert_eq!(rt; receipt.number, number),
-            Accepted::Known => assert!(rt; false),
-        }
-    }
-    let copy = version(alloc, (2, 1), Kind::Live, b"q")?;
-    let known = state.accept(alloc, 0, Source::Copy, b"a", copy)?;
-    assert!(rt; matches!(&known, Accepted::Known));
-    assert_eq!(rt; state.journal().len(), 2);
-    let held = state.versions(b"a");
-    assert_eq!(rt; held.len(), 2);
-    for (version, value) in held.iter().zip([b"p", b"q"]) {
-        assert_eq!(rt; version.clock.pairs(), [(2, 1)].as_slice());
-        assert_eq!(rt; version.value.as_slice(), value.as_slice());
-    }
+    assert_eq!(rt; accept_a(alloc, &mut state, b"q")?, Some(0));
+    assert_eq!(rt; accept_a(alloc, &mut state, b"p")?, Some(1));
+    assert_eq!(rt; accept_a(alloc, &mut state, b"q")?, None);
+    let both = "[(2, 1)] Live [112]\n[(2, 1)] Live [113]\n";
+    let held = state.get(alloc, b"a")?;
+    assert_eq!(rt; members(alloc, &held)?.as_str(), both);
     Ok(())
 }
 
-#[test]
-fn events_are_answered_in_order(rt: HostRuntime) -> Result<(), Fail> {
-    let alloc = rt.alloc();
-    let mut state = range(alloc, 1, 10)?;
-    let mut events = Vec::new(alloc);
-    events.push(Event::Put(PutEvent {
+/// A put of `a` at node 1.
+fn put_of_a(alloc: Global) -> Result<Event, Refusal> {
+    Ok(Event::Put(PutEvent {
         seat: 0,
         at: 1,
         key: Bytes::copy_of(alloc, b"a")?,
         context: Clock::from_pairs(alloc, &[])?,
         kind: Kind::Live,
         value: Bytes::copy_of(alloc, b"x")?,
-    }))?;
-    events.push(Event::Accept(AcceptEvent {
+    }))
+}
+
+/// A hint that comes without a key.
+fn hint_without_a_key(alloc: Global) -> Result<Event, Refusal> {
+    Ok(Event::Accept(AcceptEvent {
         seat: 0,
         source: Source::Hint,
         key: Bytes::copy_of(alloc, b"")?,
         version: version(alloc, (2, 1), Kind::Live, b"y")?,
-    }))?;
+    }))
+}
+
+/// A put, a version that is refused, and a get.
+fn three_events(alloc: Global) -> Result<Vec<Event>, Refusal> {
+    let mut events = Vec::with_capacity(alloc, 3)?;
+    events.push(put_of_a(alloc)?)?;
+    events.push(hint_without_a_key(alloc)?)?;
     events.push(Event::Get(Bytes::copy_of(alloc, b"a")?))?;
-    let replies = state.run_events(alloc, events)?;
-    assert_eq!(rt; replies.len(), 3);
-    assert!(rt; matches!(&replies[0], Reply::Put(Ok(receipt)) if receipt.number == 0));
-    assert!(rt; matches!(&replies[1], Reply::Accept(Err(Refusal::BadKey))));
-    assert!(rt; matches!(&replies[2], Reply::Get(Ok(set)) if set.len() == 1));
+    Ok(events)
+}
+
+#[test]
+fn events_are_answered_in_order(rt: HostRuntime) -> Result<(), Fail> {
+    let alloc = rt.alloc();
+    let mut state = range(alloc, 1, 10)?;
+    let replies = state.run_events(alloc, three_events(alloc)?)?;
+    assert!(rt; matches!(replies.get(0), Some(Reply::Put(Ok(receipt))) if receipt.number == 0));
+    assert!(rt; matches!(replies.get(1), Some(Reply::Accept(Err(Refusal::BadKey)))));
+    assert!(rt; matches!(replies.get(2), Some(Reply::Get(Ok(set))) if set.len() == 1));
+    assert!(rt; replies.get(3).is_none());
     Ok(())
 }
 
@@ -106,23 +120,42 @@ fn rows_in(state: &RangeState, leaf: u16) -> usize
     }
 }
 
+/// Accepts a copy of a key at seat 3.
+fn accept_key(alloc: Global, state: &mut RangeState, key: &[u8]) -> Result<Accepted, Refusal> {
+    let copy = version(alloc, (1, 1), Kind::Live, b"x")?;
+    state.accept(alloc, 3, Source::Copy, key, copy)
+}
+
+/// Asserts that the row of `a` alone is held, in that leaf.
+fn expect_a_in(rt: &impl Abort, state: &RangeState, leaf: u16)
+    requires { leaf < 256 }
+{
+    assert_eq!(rt; rows_in(state, leaf), 1);
+    assert_eq!(rt; rows_in(state, 0), 0);
+    assert_eq!(rt; state.versions(b"a").len(), 1);
+    assert_eq!(rt; state.versions(b"b").len(), 0);
+}
+
 #[test]
 fn rows_lie_in_the_leaf_of_their_key(rt: HostRuntime) -> Result<(), Fail> {
     let alloc = rt.alloc();
     for (format, leaf) in [(1, 12), (2, 204)] {
         let mut state = range(alloc, format, 1)?;
-        let copy = version(alloc, (1, 1), Kind::Live, b"x")?;
-        state.accept(alloc, 3, Source::Copy, b"a", copy)?;
+        accept_key(alloc, &mut state, b"a")?;
         assert!(rt; leaf < 256);
-        assert_eq!(rt; rows_in(&state, leaf), 1);
-        assert_eq!(rt; rows_in(&state, 0), 0);
-        assert_eq!(rt; state.versions(b"a").len(), 1);
-        assert_eq!(rt; state.versions(b"b").len(), 0);
-        let entry = state.journal().get(0).ok_or("no entry 0")?;
-        assert_eq!(rt; (entry.seat, entry.source), (3, Source::Copy));
-        let copy = version(alloc, (1, 1), Kind::Live, b"x")?;
-        let full = state.accept(alloc, 3, Source::Copy, b"b", copy);
-        assert!(rt; matches!(&full, Err(Refusal::JournalFull)));
+        expect_a_in(&rt, &state, leaf);
     }
+    Ok(())
+}
+
+#[test]
+fn a_journal_is_full_at_its_limit(rt: HostRuntime) -> Result<(), Fail> {
+    let alloc = rt.alloc();
+    let mut state = range(alloc, 1, 1)?;
+    accept_key(alloc, &mut state, b"a")?;
+    let entry = state.journal().get(0).ok_or("no entry 0")?;
+    assert_eq!(rt; (entry.seat, entry.source), (3, Source::Copy));
+    let full = accept_key(alloc, &mut state, b"b");
+    assert!(rt; matches!(&full, Err(Refusal::JournalFull)));
     Ok(())
 }

@@ -1,6 +1,7 @@
 // Versions and sets of them.
 use std::alloc::Global;
 use std::fmt::Write;
+use std::process::Abort;
 use std::test::Fail;
 use vclock::bytes::Bytes;
 use vclock::clock::Clock;
@@ -25,7 +26,7 @@ pub(crate) fn version(
 }
 
 /// The members of a set, each on a line.
-fn members(alloc: Global, set: &VersionSet) -> Result<String, Fail> {
+pub(crate) fn members(alloc: Global, set: &VersionSet) -> Result<String, Fail> {
     let mut text = String::new(alloc);
     for version in set.iter() {
         let (pairs, kind, value) = (
@@ -38,27 +39,33 @@ fn members(alloc: Global, set: &VersionSet) -> Result<String, Fail> {
     Ok(text)
 }
 
+/// Offers a version that node 1 has counted so often, and asserts the answer and the members then.
+fn expect_offered(
+    rt: &impl Abort,
+    alloc: Global,
+    set: &mut VersionSet,
+    (counter, value): (u64, &[u8]),
+    answer: Offered,
+    text: &str,
+) -> Result<(), Fail> {
+    let offered = set.offer(version(alloc, (1, counter), Kind::Live, value)?)?;
+    assert_eq!(rt; offered, answer);
+    assert_eq!(rt; members(alloc, set)?.as_str(), text);
+    assert_eq!(rt; members(alloc, &set.try_clone(alloc)?)?.as_str(), text);
+    Ok(())
+}
+
 #[test]
 fn later_versions_take_the_place_of_earlier_ones(rt: HostRuntime) -> Result<(), Fail> {
-    let alloc = rt.alloc();
+    let (alloc, added) = (rt.alloc(), Offered::Added);
     let mut set = VersionSet::empty(alloc);
     assert!(rt; set.is_empty());
-    for (counter, value, answer, text) in [
-        (1, b"x", Offered::Added, "[(1, 1)] Live [120]\n"),
-        (2, b"y", Offered::Added, "[(1, 2)] Live [121]\n"),
-        (1, b"x", Offered::Known, "[(1, 2)] Live [121]\n"),
-        (
-            2,
-            b"a",
-            Offered::Added,
-            "[(1, 2)] Live [97]\n[(1, 2)] Live [121]\n",
-        ),
-    ] {
-        let offered = set.offer(version(alloc, (1, counter), Kind::Live, value)?)?;
-        assert_eq!(rt; offered, answer, "after {text}");
-        assert_eq!(rt; members(alloc, &set)?.as_str(), text);
-        assert_eq!(rt; members(alloc, &set.try_clone(alloc)?)?.as_str(), text);
-    }
+    let (first, later) = ("[(1, 1)] Live [120]\n", "[(1, 2)] Live [121]\n");
+    let both = "[(1, 2)] Live [97]\n[(1, 2)] Live [121]\n";
+    expect_offered(&rt, alloc, &mut set, (1, b"x"), added, first)?;
+    expect_offered(&rt, alloc, &mut set, (2, b"y"), added, later)?;
+    expect_offered(&rt, alloc, &mut set, (1, b"x"), Offered::Known, later)?;
+    expect_offered(&rt, alloc, &mut set, (2, b"a"), added, both)?;
     assert_eq!(rt; set.len(), 2);
     Ok(())
 }

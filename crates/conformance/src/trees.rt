@@ -1,7 +1,7 @@
 // Trees: node texts, marks, jobs and rehashes. The digests were made by another program from the definition.
 use crate::sets::version;
 use hash_tree::comparing::{is_inner_text, is_leaf_text};
-use hash_tree::hashed::{Digest, hash};
+use hash_tree::hashed::{Digest, Hashed, hash};
 use hash_tree::marks::Marks;
 use hash_tree::node::NodeAt;
 use hash_tree::texts::{inner_text, leaf_text};
@@ -10,8 +10,9 @@ use range_state::config::RangeConfig;
 use range_state::event::{Event, InstallEvent, Reply};
 use range_state::state::RangeState;
 use rehash::bulk::hash_all;
-use rehash::job::run_job;
+use rehash::job::{Job, run_job};
 use std::alloc::Global;
+use std::process::Abort;
 use std::test::Fail;
 use vclock::bytes::Bytes;
 use vclock::clock::Clock;
@@ -85,23 +86,34 @@ fn a_new_tree_is_dirty(rt: HostRuntime) -> Result<(), Fail> {
     Ok(())
 }
 
+/// The job that is taken, of that node.
+fn job_at(
+    rt: &impl Abort,
+    alloc: Global,
+    state: &RangeState,
+    depth: u8,
+    index: u16,
+) -> Result<Job, Fail> {
+    let job = state.take_job(alloc, 0)?.ok_or("no job")?;
+    let node = job.node();
+    assert_eq!(rt; (node.depth, node.index), (depth, index));
+    Ok(job)
+}
+
 #[test]
 fn a_late_digest_is_not_installed(rt: HostRuntime) -> Result<(), Fail> {
     let alloc = rt.alloc();
     let mut state = range(alloc, 1)?;
     assert_eq!(rt; state.rehash(&rt, alloc)?, 273);
     put(alloc, &mut state, &[])?;
-    let job = state.take_job(alloc, 0)?.ok_or("no job")?;
+    let job = job_at(&rt, alloc, &state, 2, 12)?;
     let node = job.node();
-    assert_eq!(rt; (node.depth, node.index), (2, 12));
     put(alloc, &mut state, &[(1, 1)])?;
     let late = state.install(node, &run_job(job));
     assert!(rt; matches!(&late, Err(Refusal::Stale)));
     for (depth, index) in [(2, 12), (1, 0), (0, 0)] {
-        let job = state.take_job(alloc, 7)?.ok_or("no job")?;
-        let node = job.node();
-        assert_eq!(rt; (node.depth, node.index), (depth, index));
-        state.install(node, &run_job(job))?;
+        let job = job_at(&rt, alloc, &state, depth, index)?;
+        state.install(job.node(), &run_job(job))?;
     }
     assert!(rt; state.take_job(alloc, 0)?.is_none());
     Ok(())
@@ -114,32 +126,64 @@ fn workers_take_different_jobs(rt: HostRuntime) -> Result<(), Fail> {
     let first = state.take_job(alloc, 0)?.ok_or("no job")?;
     let second = state.take_job(alloc, 1)?.ok_or("no job")?;
     assert!(rt; first.node() != second.node());
-    for (most, taken) in [(0, 0), (5, 5), (5_000, 4_096)] {
-        assert_eq!(rt; state.take_jobs(alloc, most)?.len(), taken);
-    }
-    let state = range(alloc, 1)?;
-    assert_eq!(rt; state.take_jobs(alloc, 300)?.len(), 256);
     Ok(())
 }
 
+/// How many jobs are taken of a new range, where so many are asked for.
+fn count_taken(alloc: Global, format: u64, most: usize) -> Result<usize, Fail> {
+    let state = range(alloc, format)?;
+    Ok(state.take_jobs(alloc, most)?.len())
+}
+
 #[test]
-fn many_jobs_are_hashed_in_order(rt: HostRuntime) -> Result<(), Fail> {
+fn as_many_jobs_are_taken_as_there_are(rt: HostRuntime) -> Result<(), Fail> {
     let alloc = rt.alloc();
+    assert_eq!(rt; count_taken(alloc, 1, 300)?, 256);
+    assert_eq!(rt; count_taken(alloc, 2, 5_000)?, 4_096);
+    assert_eq!(rt; count_taken(alloc, 2, 5)?, 5);
+    assert_eq!(rt; count_taken(alloc, 2, 0)?, 0);
+    Ok(())
+}
+
+/// A range with three rows.
+fn three_rows(alloc: Global) -> Result<RangeState, Fail> {
     let mut state = range(alloc, 2)?;
     for (node, key) in [(1, b"a"), (2, b"b"), (3, b"c")] {
         let copy = version(alloc, (node, 1), Kind::Live, b"x")?;
         state.accept(alloc, 0, Source::Copy, key, copy)?;
     }
+    Ok(state)
+}
+
+/// Asserts that each is what its job gives when it is run alone.
+fn expect_run(rt: &impl Abort, hashed: &[Hashed], jobs: Vec<Job>) {
+    for (one, job) in hashed.iter().zip(jobs) {
+        let other = run_job(job);
+        assert_eq!(rt; one.text(), other.text());
+        assert_eq!(rt; one.digest(), other.digest());
+    }
+}
+
+#[test]
+fn many_jobs_are_hashed_in_order(rt: HostRuntime) -> Result<(), Fail> {
+    let alloc = rt.alloc();
+    let state = three_rows(alloc)?;
     for count in [0, 1, 3, 4_000] {
         let hashed = hash_all(&rt, alloc, state.take_jobs(alloc, count)?)?;
         assert_eq!(rt; hashed.len(), count);
-        for (one, job) in hashed.iter().zip(state.take_jobs(alloc, count)?) {
-            let other = run_job(job);
-            assert_eq!(rt; one.text(), other.text());
-            assert_eq!(rt; one.digest(), other.digest());
-        }
+        expect_run(&rt, &hashed, state.take_jobs(alloc, count)?);
     }
     Ok(())
+}
+
+/// A job, and a text that is not the root's.
+fn two_events(alloc: Global) -> Result<Vec<Event>, Fail> {
+    let node = NodeAt::new(0, 0).ok_or("no root")?;
+    let hashed = hash(Bytes::copy_of(alloc, b"abc")?);
+    let mut events = Vec::with_capacity(alloc, 2)?;
+    events.push(Event::TakeJob(0))?;
+    events.push(Event::Install(InstallEvent { node, hashed }))?;
+    Ok(events)
 }
 
 #[test]
@@ -147,16 +191,10 @@ fn jobs_and_installs_are_events(rt: HostRuntime) -> Result<(), Fail> {
     let alloc = rt.alloc();
     let mut state = range(alloc, 1)?;
     put(alloc, &mut state, &[])?;
-    let root = NodeAt::new(0, 0).ok_or("no root")?;
-    let mut events = Vec::new(alloc);
-    events.push(Event::TakeJob(0))?;
-    events.push(Event::Install(InstallEvent {
-        node: root,
-        hashed: hash(Bytes::copy_of(alloc, b"abc")?),
-    }))?;
-    let replies = state.run_events(alloc, events)?;
-    assert_eq!(rt; replies.len(), 2);
-    assert!(rt; matches!(&replies[0], Reply::TakeJob(Ok(Some(job))) if job.node().depth == 2));
-    assert!(rt; matches!(&replies[1], Reply::Install(Err(Refusal::Stale))));
+    let replies = state.run_events(alloc, two_events(alloc)?)?;
+    assert!(rt;
+        matches!(replies.get(0), Some(Reply::TakeJob(Ok(Some(job)))) if job.node().depth == 2)
+    );
+    assert!(rt; matches!(replies.get(1), Some(Reply::Install(Err(Refusal::Stale)))));
     Ok(())
 }

@@ -5,9 +5,11 @@
 mod hints;
 mod histories;
 mod leaves;
+mod messages;
 mod ranges;
 mod rings;
 mod rows;
+mod sessions;
 mod slots;
 mod trees;
 mod versions;
@@ -25,6 +27,8 @@ fn main(rt: HostRuntime) -> io::Result<()> {
     leaves::show_all(&rt)?;
     ranges::show_all(&rt)?;
     trees::show_all(&rt)?;
+    messages::show_all(&rt)?;
+    sessions::show_all(&rt)?;
     hints::show_all(&rt)?;
     slots::show_all(&rt)
 }

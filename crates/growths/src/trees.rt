@@ -37,7 +37,7 @@ fn texts(alloc: Global) -> Result<u64, Refusal> {
 }
 
 /// A range that holds a version of each of three keys.
-fn range(alloc: Global) -> Result<RangeState, Refusal> {
+pub(crate) fn range(alloc: Global) -> Result<RangeState, Refusal> {
     let config = RangeConfig::new(1, 0, 0, 100).ok_or(Refusal::BadRing)?;
     let mut state = RangeState::new(alloc, config)?;
     for key in [b"a", b"b", b"c"] {

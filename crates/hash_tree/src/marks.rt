@@ -1,5 +1,5 @@
 //! Which nodes of a tree are clean, and their digests.
-ghost use Rattle.std.specs.Prelude.{◌≡◌, ◌+◌, ◌/◌, ◌<◌, ◌≤◌, ◌^◌, ◌∷◌, [], length, Option, Some, None, map, replicate, slice_set, false, IsTrue, MatchOption};
+ghost use Rattle.std.specs.Prelude.{◌≡◌, ◌+◌, ◌/◌, ◌<◌, ◌≤◌, ◌^◌, ◌∷◌, [], length, Option, Some, None, map, replicate, slice_set, false, if◌then◌else◌, IsTrue, MatchOption};
 ghost use Rattle.vclock.specs.Answer.{Answers};
 ghost use Rattle.hash_tree.specs.Nodes.{tree_depth, nodes_above, node_count, place_at, digest_at, children_of, are_clean, is_ready, ready_from, dirtied, dirty_count, IsTree};
 
@@ -107,6 +107,24 @@ impl Marks {
             .iter()
             .filter(|digest| digest.is_none())
             .count()
+    }
+
+    /// The digests of all nodes, by place, if all are clean. Refused, in order: Dirty (some node has no digest), NoMemory.
+    pub fn digests(&self, alloc: Global) -> Result<Vec<Digest>, Refusal>
+        ensures { Answers result (if are_clean self.now.digests then None else Some Refusal.Dirty)
+            (λ digests. map Some digests.items ≡ self.now.digests) }
+    {
+        if !are_clean(&self.digests) {
+            return Err(Refusal::Dirty);
+        }
+        let mut digests = Vec::with_capacity(alloc, self.digests.len())?;
+        for place in 0..self.digests.len() {
+            let Some(digest) = self.digests[place] else {
+                unreachable!()
+            };
+            digests.push(digest)?;
+        }
+        Ok(digests)
     }
 
     /// Makes a leaf and every node above it dirty. It takes no memory.

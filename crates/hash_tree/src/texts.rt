@@ -17,7 +17,7 @@ use vclock::refusal::Refusal;
 pub const INNER_LEN: usize = 513;
 
 /// The first byte of a leaf's text.
-pub(crate) fn leaf_byte(format: Format) -> u8
+pub fn leaf_byte(format: Format) -> u8
     ensures { result ≡ leaf_byte format }
 {
     match format {
@@ -27,7 +27,7 @@ pub(crate) fn leaf_byte(format: Format) -> u8
 }
 
 /// The first byte of the text of any other node.
-pub(crate) fn inner_byte(format: Format) -> u8
+pub fn inner_byte(format: Format) -> u8
     ensures { result ≡ inner_byte format }
 {
     match format {

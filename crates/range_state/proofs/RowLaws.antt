@@ -145,7 +145,8 @@ versions_in-map f k (x ∷ ks) a none =
           versions_in-map f k ks a.1 (λ n. none (rw apart n))
     ] refl
 
-versions_in-rows_of : (es : List Entry) (k : List ℕ) → versions_in k (rows_of es) ≡ held es k
+-- What the rows have for a key is what is held for it.
+pub versions_in-rows_of : (es : List Entry) (k : List ℕ) → versions_in k (rows_of es) ≡ held es k
 unfolding rows_of
 versions_in-rows_of es k = versions_in-map (held es) k (keys_from [] es) (KeysAscend-keys_from [] es tt) (λ n. ap (λ vs. maximal (set_from [] vs)) (absent k [] es n).1)
 

@@ -7,7 +7,7 @@ use Rattle.std.proofs.lemmas.Bool.Decides.{nat_tests}
 use Rattle.std.proofs.lemmas.List.{get_or-set_same, get_or-set_other, set-get_or, get_or-replicate, length-replicate}
 use Rattle.std.specs.List.{AllByRecursion, list_any}
 use Rattle.vclock.specs.Answer.{first_fault}
-use Rattle.vclock.specs.Clock.{at_most, Pairs, Rises}
+use Rattle.vclock.specs.Clock.{at_most, Pairs, Rises, IsClock}
 use Rattle.vclock.specs.Keys.{key_fault}
 use Rattle.vclock.proofs.ClockLemmas.{at_most_itself}
 use Rattle.vclock.specs.declared.format.Format.{Format}
@@ -23,6 +23,7 @@ use Rattle.range_journal.specs.declared.journal.Entry.{Entry}
 use Rattle.range_journal.specs.Log.{Log}
 use Rattle.range_journal.specs.Journal.{accepted, held, versions_of, reserve_fault}
 use Rattle.range_journal.proofs.JournalLaws.{AreNews-push, covered-held}
+use Rattle.row_bytes.specs.Rows.{IsRow}
 use Rattle.row_bytes.specs.declared.row.Row.{Row}
 use Rattle.key_ring.specs.Places.{leaf_at, leaf_bits, range_at}
 use Rattle.hash_tree.specs.Leaves.{Bucket, rows_at, with_offer, versions_in}
@@ -32,7 +33,8 @@ use Rattle.hash_tree.proofs.TreeLaws.{true_kept, true_fresh, tree_fresh}
 use Rattle.range_state.specs.Config.{Config, is_config}
 use Rattle.range_state.specs.Rows.{rows_of}
 use Rattle.range_state.specs.State.{State, all_dirty, fresh, tree_of, bucket_of, leaf_in, leaf_count, place_fault, journaled, full_fault, knows, accept_fault, stale_fault, IsOwn, IsRight, AreLeaves}
-use Rattle.range_state.proofs.RowLaws.{leaf_holds, leaf-push, rows_of-push, rows_of-ascend}
+use Rattle.range_state.proofs.RowLaws.{leaf_holds, leaf-push, rows_of-push, rows_of-ascend, versions_in-rows_of}
+use Rattle.range_state.proofs.RowTexts.{rows_offered, no_row}
 
 -- ---- leaves
 
@@ -104,6 +106,7 @@ fresh_right c h = record {
   config = h;
   own = tt;
   news = tt;
+  rows = no_row c.format;
   marks = record { tree = tree_fresh c.format; digests = true_fresh c.format (leaf_in c) (rows_of []) (node_count c.format) };
 }
 
@@ -202,11 +205,14 @@ leaf_in_tree c key = within c.format (leaf_in c key) (leaf_below c key)
     within One n h = h
     within Two n h = h
 
-grown-right : (s : State) (e : Entry) → IsRight s → place_fault s.config e.key e.version.kind e.version.value ≡ None → covered e.version (held s.entries e.key) ≡ false → IsTree (tree_of (journaled s e)) → IsRight (journaled s e)
-grown-right s e ok here unknown tree = record {
+grown-right : (s : State) (e : Entry) → IsRight s → place_fault s.config e.key e.version.kind e.version.value ≡ None → covered e.version (held s.entries e.key) ≡ false → IsClock e.version.clock → offer_fault e.version (held s.entries e.key) ≡ None → IsTree (tree_of (journaled s e)) → IsRight (journaled s e)
+grown-right s e ok here unknown clock fits tree = record {
   config = ok.config;
   own = all-push (IsOwn s.config) s.entries e ok.own (own s.config e here);
   news = AreNews-push s.entries e ok.news (sym (covered-held e.version s.entries e.key) ∙ unknown);
+  rows = subst (AllByRecursion (IsRow s.config.format)) (sym (rows_of-push s.entries e))
+      (rows_offered s.config.format e.key e.version (rows_of s.entries) (in_limits s.config e.key e.version.kind e.version.value here).0 (in_limits s.config e.key e.version.kind e.version.value here).1 clock
+      (ap (offer_fault e.version) (versions_in-rows_of s.entries e.key) ∙ fits) ok.rows);
   marks = record {
     tree = tree;
     digests = subst (λ (rows : List Row). AreTrue s.config.format (leaf_in s.config) rows (dirtied s.config.format (leaf_in s.config e.key) s.marks)) (sym (rows_of-push s.entries e))
@@ -251,16 +257,16 @@ grown-leaves s leaves e new ok is = record {
 
 -- a range after an entry that is news
 pub admitted : (s : State) (leaves : List Bucket) (leaf : ℕ) (e : Entry) (entries : List Entry) (marks : Marks) (b new : Bucket) (key : List ℕ) (w : Version) → IsRight s → AreLeaves s.config s.entries leaves
-    → leaf ≡ leaf_in s.config e.key → place_fault s.config e.key e.version.kind e.version.value ≡ None → knows s e.key e.version ≡ false
+    → leaf ≡ leaf_in s.config e.key → place_fault s.config e.key e.version.kind e.version.value ≡ None → knows s e.key e.version ≡ false → IsClock e.version.clock → offer_fault e.version (held s.entries e.key) ≡ None
     → b ≡ get_or leaves leaf b → key ≡ e.key → w ≡ e.version → new ≡ record { format = b.format; rows = with_offer key w b.rows } → entries ≡ s.entries ++ e ∷ []
     → marks ≡ dirtied s.config.format leaf s.marks → IsTree (record { format = s.config.format; digests = marks })
     → IsRight (record { config = s.config; entries = entries; marks = marks }) × AreLeaves s.config entries (set leaves leaf new)
-admitted s leaves leaf e entries marks b new key w ok are at here news was k copy now es path tree =
+admitted s leaves leaf e entries marks b new key w ok are at here news clock fits was k copy now es path tree =
     let rows = rows_here s leaves leaf e.key b are at was in
     let made : new ≡ record { format = s.config.format; rows = with_offer e.key e.version (rows_at (leaf_in s.config) (leaf_in s.config e.key) (rows_of s.entries)) } =
     now ∙ (λ i. record { format = (rows i).format; rows = with_offer (k i) (copy i) (rows i).rows }) ∙ ap (λ (n : ℕ). record { format = s.config.format; rows = with_offer e.key e.version (rows_at (leaf_in s.config) n (rows_of s.entries)) }) at in
     let dirty : marks ≡ dirtied s.config.format (leaf_in s.config e.key) s.marks = path ∙ ap (λ (n : ℕ). dirtied s.config.format n s.marks) at in
-    let right = grown-right s e ok here (covered-maximal e.version (accepted s.entries e.key) ∙ news) (subst (λ (m : Marks). IsTree (record { format = s.config.format; digests = m })) dirty tree) in (
+    let right = grown-right s e ok here (covered-maximal e.version (accepted s.entries e.key) ∙ news) clock fits (subst (λ (m : Marks). IsTree (record { format = s.config.format; digests = m })) dirty tree) in (
       subst (λ (m : Marks). IsRight (record { config = s.config; entries = entries; marks = m })) (sym dirty)
           (subst (λ (t : List Entry). IsRight (record { config = s.config; entries = t; marks = dirtied s.config.format (leaf_in s.config e.key) s.marks })) (sym es) right),
       subst (λ (n : ℕ). AreLeaves s.config entries (set leaves n new)) (sym at)

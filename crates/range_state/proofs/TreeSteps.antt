@@ -114,6 +114,7 @@ cleaned_right s node text tree ok current is valid =
       config = ok.config;
       own = ok.own;
       news = ok.news;
+      rows = ok.rows;
       marks = record { tree = subst IsTree is valid; digests = right };
     } in
     subst (λ (t : Tree). IsRight (record { config = s.config; entries = s.entries; marks = t.digests })) (sym is) made

@@ -1,5 +1,8 @@
 -- Runs of the range machine: what each event may answer and leave.
 use Rattle.std.specs.Prelude.{◌≡◌, ⊤, Result, Option, List, [], ◌∷◌, ℕ}
+use Rattle.std.specs.Arc.{arc_value}
+use Rattle.std.specs.declared.alloc.Global.{Global}
+use Rattle.std.specs.declared.sync.Arc.{Arc}
 use Rattle.vclock.specs.Answer.{Answers, AnswersAtOnce, AnswersOrNoMemory}
 use Rattle.vclock.specs.declared.refusal.Refusal.{Refusal}
 use Rattle.std.specs.Prelude.{None, OnOk, OnErr}
@@ -14,8 +17,9 @@ use Rattle.range_state.specs.declared.event.AcceptEvent.{AcceptEvent}
 use Rattle.range_state.specs.declared.event.InstallEvent.{InstallEvent}
 use Rattle.range_state.specs.declared.event.Reply.{Reply}
 use Rattle.range_state.specs.declared.event.Reply.TheVariants as replies
-use Rattle.range_state.specs.State.{State, IsRight, GivesJob, journaled, put_fault, put_entry, accept_fault, accept_step, accept_reply, install_fault, installed}
+use Rattle.range_state.specs.State.{State, IsRight, GivesJob, journaled, put_fault, put_entry, accept_fault, accept_step, accept_reply, install_fault, installed, rows_now, dirty_fault}
 use Rattle.rehash.specs.Jobs.{NodeText}
+use Rattle.snapshot.specs.RowMaps.{RowMap}
 
 -- a put answered its entry, which the journal has from then on; or it was refused, and nothing changed
 abbrev pub PutStep : State → PutEvent → Result Entry Refusal → State → Type 0
@@ -37,6 +41,10 @@ TakeJobStep s r t = Answers r None (GivesJob s) × (t ≡ s)
 abbrev pub InstallStep : State → InstallEvent → Result ⊤ Refusal → State → Type 0
 InstallStep s i r t = AnswersAtOnce r (install_fault s i.node i.hashed) (λ _. ⊤) × OnOk r (t ≡ installed s i.node i.hashed) × OnErr r (t ≡ s)
 
+-- the rows now were answered, or some node had no digest; and nothing changed
+abbrev pub SnapshotStep : State → Result (Arc RowMap Global) Refusal → State → Type 0
+SnapshotStep s r t = Answers r (dirty_fault s) (λ snapshot. arc_value snapshot ≡ rows_now s) × (t ≡ s)
+
 -- from s, the event is answered by the reply, and leaves t
 unfoldable pub IsStep : State → Event → Reply → State → Type 0
 IsStep s (events.Put p) reply t = (r : Result Entry Refusal) × (reply ≡ replies.Put r) × PutStep s p r t
@@ -44,6 +52,7 @@ IsStep s (events.Accept a) reply t = (r : Result Accepted Refusal) × (reply ≡
 IsStep s (events.Get key) reply t = (r : Result (List Version) Refusal) × (reply ≡ replies.Get r) × GetStep s key r t
 IsStep s (events.TakeJob skip) reply t = (r : Result (Option NodeText) Refusal) × (reply ≡ replies.TakeJob r) × TakeJobStep s r t
 IsStep s (events.Install i) reply t = (r : Result ⊤ Refusal) × (reply ≡ replies.Install r) × InstallStep s i r t
+IsStep s events.Snapshot reply t = (r : Result (Arc RowMap Global) Refusal) × (reply ≡ replies.Snapshot r) × SnapshotStep s r t
 
 -- from s, the events are answered by the replies, one by one, over states that are all right, and leave t
 unfoldable pub Run : State → List Event → List Reply → State → Type 0

@@ -9,7 +9,7 @@ use Rattle.vclock.specs.Clock.{at_most, raised, raise_fault, Pairs}
 use Rattle.vclock.specs.Keys.{key_fault}
 use Rattle.vclock.specs.declared.format.Format.{Format}
 use Rattle.vclock.specs.declared.refusal.Refusal.{Refusal}
-use Rattle.vclock.specs.declared.refusal.Refusal.TheVariants.{OtherRange, JournalFull, Stale, StaleContext}
+use Rattle.vclock.specs.declared.refusal.Refusal.TheVariants.{OtherRange, JournalFull, Stale, StaleContext, Dirty}
 use Rattle.version_set.specs.Kind.{value_fault}
 use Rattle.version_set.specs.Version.{covered, offer_fault}
 use Rattle.version_set.specs.declared.kind.Kind.{Kind}
@@ -19,11 +19,13 @@ use Rattle.range_journal.specs.declared.journal.Source.{Source}
 use Rattle.range_journal.specs.declared.journal.Source.TheVariants.{Client}
 use Rattle.range_journal.specs.Journal.{accepted, held, AreNews}
 use Rattle.key_ring.specs.Places.{range_at, leaf_at, leaf_bits}
+use Rattle.row_bytes.specs.Rows.{IsRow}
 use Rattle.hash_tree.specs.Leaves.{Bucket, rows_at}
 use Rattle.hash_tree.specs.Nodes.{Tree, tree_depth, node_count, place_at, children_of, are_clean, is_ready, ready_from, dirtied}
 use Rattle.hash_tree.specs.Texts.{node_text, IsTreeFor}
 use Rattle.hash_tree.specs.declared.node.NodeAt.{NodeAt}
 use Rattle.rehash.specs.Jobs.{NodeText}
+use Rattle.snapshot.specs.RowMaps.{RowMap}
 use Rattle.range_state.specs.declared.event.Accepted.{Accepted}
 use Rattle.range_state.specs.declared.event.Accepted.TheVariants.{Taken, Known}
 use Rattle.range_state.specs.Config.{Config, is_config}
@@ -146,6 +148,14 @@ install_fault s node text = if is_current s node text then None else Some Stale
 abbrev pub installed : State → NodeAt → List ℕ → State
 installed s node text = record { config = s.config; entries = s.entries; marks = slice_set s.marks (place_of node) (Some (sha256 text)) }
 
+-- the rows now
+abbrev pub rows_now : State → RowMap
+rows_now s = record { format = s.config.format; bits = s.config.bits; range = s.config.range; rows = rows_of s.entries }
+
+-- why they cannot be offered to another replica: some node has no digest
+abbrev pub dirty_fault : State → Option Refusal
+dirty_fault s = if are_clean s.marks then None else Some Dirty
+
 -- an entry within the limits, of this range
 pub record IsOwn (c : Config) (e : Entry) : Type 0 where
   pub key : key_fault e.key ≡ None
@@ -156,12 +166,13 @@ pub record IsOwn (c : Config) (e : Entry) : Type 0 where
 abbrev pub tree_of : State → Tree
 tree_of s = record { format = s.config.format; digests = s.marks }
 
--- what holds of each state: the entries are of the range, each was news, the children of a clean node are clean, and each clean
--- node has the digest of its text for the rows now
+-- what holds of each state: the entries are of the range, each was news, each row has a text, the children of a clean node are
+-- clean, and each clean node has the digest of its text for the rows now
 pub record IsRight (s : State) : Type 0 where
   pub config : IsTrue (is_config s.config)
   pub own : AllByRecursion (IsOwn s.config) s.entries
   pub news : AreNews s.entries
+  pub rows : AllByRecursion (IsRow s.config.format) (rows_of s.entries)
   pub marks : IsTreeFor (leaf_in s.config) (rows_of s.entries) (tree_of s)
 
 -- the rows of a leaf

@@ -6,6 +6,9 @@ use hash_tree::hashed::Hashed;
 use hash_tree::node::NodeAt;
 use range_journal::journal::{Entry, Source};
 use rehash::job::Job;
+use snapshot::snapshot::Snapshot;
+use std::alloc::Global;
+use std::sync::Arc;
 use vclock::bytes::Bytes;
 use vclock::clock::Clock;
 use vclock::refusal::Refusal;
@@ -79,6 +82,8 @@ pub enum Event {
     TakeJob(u64),
     /// `install`.
     Install(InstallEvent),
+    /// `snapshot`.
+    Snapshot,
 }
 
 /// What a call answered.
@@ -94,4 +99,6 @@ pub enum Reply {
     TakeJob(Result<Option<Job>, Refusal>),
     /// Whether a node got its digest.
     Install(Result<(), Refusal>),
+    /// The rows with the digests of their tree.
+    Snapshot(Result<Arc<Snapshot, Global>, Refusal>),
 }

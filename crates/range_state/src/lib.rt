@@ -2,7 +2,7 @@
 //!
 //! - [`config`]: which range a state is of, and its limits.
 //! - [`state`]: the state and its calls: `put`, `accept`, `get`, and for the tree `take_job`, `take_jobs`,
-//!   `install`, `digest_at` and `rehash`.
+//!   `install`, `digest_at`, `rehash` and `snapshot`.
 //! - [`event`], [`run`]: the same calls as events, and lists of them.
 //! - [`laws`]: what the definitions of rows say.
 #![tactic(auto)]

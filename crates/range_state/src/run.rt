@@ -60,6 +60,7 @@ impl RangeState {
             Event::Install(install) => {
                 Reply::Install(self.install(install.node, &install.hashed))
             }
+            Event::Snapshot => Reply::Snapshot(self.snapshot(alloc)),
         };
         let _right = self.journal();
         reply

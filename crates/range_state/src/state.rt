@@ -33,6 +33,7 @@ use version_set::set::VersionSet;
 use version_set::version::Version;
 
 mod bulk;
+mod offering;
 mod tree;
 
 /// One replica of a range: the journal of the versions that it accepted; its rows, which are exactly the maximal versions
@@ -81,8 +82,8 @@ impl RangeState {
         self.config
     }
 
-    /// The journal. Its entries are of this range, and each was news when it came; and the marks of the tree are right for
-    /// the rows that the journal makes. It takes no memory.
+    /// The journal. Its entries are of this range, and each was news when it came; the rows that it makes have texts; and
+    /// the marks of the tree are right for them. It takes no memory.
     pub fn journal(&self) -> &Journal
         ensures entries { result.now.entries ≡ self.now.entries }
         ensures limit { result.now.limit ≡ self.now.config.limit }
@@ -248,6 +249,7 @@ impl RangeState {
             ≡ journaled self.old (entry_of self.old seat source key.now version)) }
         ensures err { OnErr result (self.new ≡ self.old) }
     {
+        let _valid = version.clock.pairs();
         self.journal.reserve(1)?;
         let receipt = Receipt {
             number: self.journal.len(),

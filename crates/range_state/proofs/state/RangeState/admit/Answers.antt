@@ -4,6 +4,8 @@ use Rattle.range_journal.specs.declared.journal.Entry.{Entry}
 use Rattle.range_journal.specs.Log.{Log}
 use Rattle.vclock.specs.declared.format.Format.{Format}
 use Rattle.version_set.specs.Kind.{value_fault}
+use Rattle.version_set.specs.Version.{offer_fault}
+use Rattle.range_journal.specs.Journal.{held}
 use Rattle.hash_tree.specs.Leaves.{Bucket, IsPlace}
 use Rattle.hash_tree.specs.Nodes.{Tree, IsTree, dirtied, tree_depth}
 use Rattle.range_state.specs.State.{State, AreLeaves, bucket_of, leaf_in, place_fault, full_fault, knows}
@@ -69,11 +71,12 @@ invariant_of-self-2 c =
     let leaf : c.from.result ≡ leaf_in s.config e.key = c.from.ensures ∙ c.requires.leaf ∙ (λ i. leaf_in (back i).config (key i)) in
     let here : place_fault s.config e.key e.version.kind e.version.value ≡ None = sym (λ i. place_fault (back i).config (key i) c.args.version.kind c.args.version.value) ∙ c.requires.here in
     let news : knows s e.key e.version ≡ false = sym (λ i. knows (back i) (key i) c.args.version) ∙ c.requires.news in
+    let fits : offer_fault e.version (held s.entries e.key) ≡ None = sym (λ i. offer_fault c.args.version (held (back i).entries (key i))) ∙ c.requires.fits in
     let log = c.append_reserved.ensures.added in
     let entries = ap (λ (t : Log). t.entries) log ∙ ap (λ (t : Log). t.entries ++ e ∷ []) c.in_ok-reserve.ensures.ok in
     let format : c.dirty.new.self.format ≡ s.config.format = ap (λ (t : Tree). t.format) c.dirty.ensures.path ∙ c.self.invariant.3 in
     let path : c.dirty.new.self.digests ≡ dirtied s.config.format c.from.result s.marks = ap (λ (t : Tree). t.digests) c.dirty.ensures.path ∙ ap (λ (f : Format). dirtied f c.args.leaf s.marks) c.self.invariant.3 ∙ ap (λ (n : ℕ). dirtied s.config.format n s.marks) (sym c.from.ensures) in
     let tree : IsTree (record { format = s.config.format; digests = c.dirty.new.self.digests }) = subst (λ (f : Format). IsTree (record { format = f; digests = c.dirty.new.self.digests })) format c.dirty.ensures.valid in
-    let both = admitted s c.self.inside.leaves.items c.from.result e c.append_reserved.new.self.entries c.dirty.new.self.digests c.index_mut.result.now c.offer.new.self c.args.key.now c.in_ok-row_version.row_version c.self.invariant.0 c.self.invariant.1 leaf here news
+    let both = admitted s c.self.inside.leaves.items c.from.result e c.append_reserved.new.self.entries c.dirty.new.self.digests c.index_mut.result.now c.offer.new.self c.args.key.now c.in_ok-row_version.row_version c.self.invariant.0 c.self.invariant.1 leaf here news c.pairs-valid.ensures.valid fits
     c.index_mut.ensures.value key c.in_ok-row_version.ensures.1 c.in_ok-offer.ensures.ok entries path tree in
     (both.0, both.1, ap (λ (t : Log). t.limit) log ∙ ap (λ (t : Log). t.limit) c.in_ok-reserve.ensures.ok ∙ c.self.invariant.2, format)

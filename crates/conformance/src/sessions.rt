@@ -1,0 +1,161 @@
+// Sessions: two trees compared, and what is taken of the partner's answers.
+use hash_tree::hashed::{Digest, Hashed, hash};
+use hash_tree::node::NodeAt;
+use range_state::config::RangeConfig;
+use range_state::state::RangeState;
+use snapshot::snapshot::Snapshot;
+use std::alloc::Global;
+use std::sync::Arc;
+use std::test::Fail;
+use std::thread::Threads;
+use sync_session::session::{Answered, Session};
+use sync_session::state::SessionState;
+use vclock::bytes::Bytes;
+use vclock::clock::Clock;
+use vclock::refusal::Refusal;
+use version_set::kind::Kind;
+use walk_messages::message::Ask;
+
+/// Puts a value under `a`, which lies in leaf 12.
+fn put(alloc: Global, state: &mut RangeState) -> Result<(), Refusal> {
+    let context = Clock::from_pairs(alloc, &[])?;
+    let value = Bytes::copy_of(alloc, b"x")?;
+    state.put(alloc, 0, 1, b"a", &context, Kind::Live, value)?;
+    Ok(())
+}
+
+/// The snapshot of a range without rows, or with the row of `a`.
+fn snapshot(
+    rt: &(impl Threads + Sync),
+    alloc: Global,
+    has_a: bool,
+) -> Result<Arc<Snapshot, Global>, Fail> {
+    let config = RangeConfig::new(1, 0, 0, 1_000).ok_or("no such range")?;
+    let mut state = RangeState::new(alloc, config)?;
+    if has_a {
+        put(alloc, &mut state)?;
+    }
+    state.rehash(rt, alloc)?;
+    Ok(state.snapshot(alloc)?)
+}
+
+/// A session of a range without rows, with a partner whose root is this.
+fn session(rt: &(impl Threads + Sync), alloc: Global, root: Digest) -> Result<Session, Fail> {
+    let own = snapshot(rt, alloc, false)?;
+    Ok(Session::start(alloc, own, root)?)
+}
+
+/// The first node that is outstanding.
+fn first(session: &Session) -> Result<NodeAt, Fail> {
+    Ok(
+        *session
+            .outstanding()
+            .first()
+            .ok_or("nothing is outstanding")?,
+    )
+}
+
+/// A partner's text of a node.
+fn text_of(alloc: Global, partner: &Snapshot, node: NodeAt) -> Result<Hashed, Refusal> {
+    let text = partner.answer(alloc, Ask { offer: 1, node })?;
+    Ok(hash(Bytes::from(text)))
+}
+
+/// Answers the first outstanding node truly, and tells how many rows came: none for a node with children.
+fn answer_first(
+    alloc: Global,
+    session: &mut Session,
+    partner: &Snapshot,
+) -> Result<Option<usize>, Fail> {
+    let node = first(session)?;
+    match session.take(alloc, node, text_of(alloc, partner, node)?)? {
+        Answered::Inner => Ok(None),
+        Answered::Leaf(rows) => Ok(Some(rows.len())),
+    }
+}
+
+#[test]
+fn a_session_ends_with_the_partners_rows(rt: HostRuntime) -> Result<(), Fail> {
+    let alloc = rt.alloc();
+    let partner = snapshot(&rt, alloc, true)?;
+    let mut session = session(&rt, alloc, partner.root())?;
+    assert_eq!(rt; answer_first(alloc, &mut session, &partner)?, None);
+    assert_eq!(rt; answer_first(alloc, &mut session, &partner)?, None);
+    assert_eq!(rt; answer_first(alloc, &mut session, &partner)?, Some(1));
+    assert_eq!(rt; session.state(), SessionState::Finished);
+    assert_eq!(rt; session.asked().len(), 3);
+    assert_eq!(rt; session.taken().len(), 3);
+    Ok(())
+}
+
+#[test]
+fn equal_roots_ask_nothing(rt: HostRuntime) -> Result<(), Fail> {
+    let alloc = rt.alloc();
+    let root = snapshot(&rt, alloc, false)?.root();
+    let session = session(&rt, alloc, root)?;
+    assert_eq!(rt; session.state(), SessionState::Finished);
+    assert!(rt; session.asked().is_empty());
+    Ok(())
+}
+
+/// The partner's text of the root with its last byte turned.
+fn forged_root(alloc: Global, partner: &Snapshot) -> Result<Hashed, Fail> {
+    let node = NodeAt::new(0, 0).ok_or("no root")?;
+    let mut text = partner.answer(alloc, Ask { offer: 1, node })?;
+    let last = text.pop().ok_or("no text")?;
+    text.push(!last)?;
+    Ok(hash(Bytes::from(text)))
+}
+
+#[test]
+fn a_forged_text_is_not_taken(rt: HostRuntime) -> Result<(), Fail> {
+    let alloc = rt.alloc();
+    let partner = snapshot(&rt, alloc, true)?;
+    let mut session = session(&rt, alloc, partner.root())?;
+    let root = first(&session)?;
+    let forged = session.take(alloc, root, forged_root(alloc, &partner)?);
+    assert!(rt; matches!(&forged, Err(Refusal::WrongDigest)));
+    assert_eq!(rt; first(&session)?, root);
+    Ok(())
+}
+
+#[test]
+fn a_text_is_taken_once(rt: HostRuntime) -> Result<(), Fail> {
+    let alloc = rt.alloc();
+    let partner = snapshot(&rt, alloc, true)?;
+    let mut session = session(&rt, alloc, partner.root())?;
+    let root = first(&session)?;
+    assert!(rt;
+        session
+            .rows_of(alloc, root, &text_of(alloc, &partner, root)?)?
+            .is_empty()
+    );
+    assert_eq!(rt; answer_first(alloc, &mut session, &partner)?, None);
+    let again = session.take(alloc, root, text_of(alloc, &partner, root)?);
+    assert!(rt; matches!(&again, Err(Refusal::NotAsked)));
+    Ok(())
+}
+
+#[test]
+fn a_text_of_no_node_fails_the_session(rt: HostRuntime) -> Result<(), Fail> {
+    let alloc = rt.alloc();
+    let text = hash(Bytes::copy_of(alloc, b"abc")?);
+    let mut session = session(&rt, alloc, text.digest())?;
+    let root = first(&session)?;
+    let answer = session.take(alloc, root, text);
+    assert!(rt; matches!(&answer, Err(Refusal::NotCanonical)));
+    assert_eq!(rt; session.state(), SessionState::Failed);
+    assert!(rt; session.outstanding().is_empty());
+    Ok(())
+}
+
+#[test]
+fn a_cancelled_session_asks_nothing_more(rt: HostRuntime) -> Result<(), Fail> {
+    let alloc = rt.alloc();
+    let root = snapshot(&rt, alloc, true)?.root();
+    let mut session = session(&rt, alloc, root)?;
+    session.cancel();
+    assert_eq!(rt; session.state(), SessionState::Cancelled);
+    assert!(rt; session.outstanding().is_empty());
+    Ok(())
+}

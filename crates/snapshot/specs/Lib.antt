@@ -1,0 +1,2 @@
+pub mod RowMaps
+pub mod Snapshots

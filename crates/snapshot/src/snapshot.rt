@@ -1,0 +1,143 @@
+//! Snapshots.
+ghost use Rattle.std.specs.Prelude.{◌≡◌, ◌<◌, ◌≤◌, ◌^◌, None};
+ghost use Rattle.std.specs.Arc.{arc_value};
+ghost use Rattle.vclock.specs.Answer.{Answers};
+ghost use Rattle.key_ring.specs.Places.{leaf_bits};
+ghost use Rattle.hash_tree.specs.Leaves.{rows_at};
+ghost use Rattle.hash_tree.specs.Nodes.{tree_depth};
+ghost use Rattle.hash_tree.specs.Texts.{inner_text};
+ghost use Rattle.snapshot.specs.RowMaps.{IsRowMap, leaf_in, text_at, digest_at, root_of};
+ghost use Rattle.snapshot.specs.Snapshots.{IsSnapshot, map_of, answer_fault};
+
+use hash_tree::hashed::Digest;
+use hash_tree::node::{NodeAt, tree_depth};
+use hash_tree::shared::SharedLeaf;
+use hash_tree::texts::{inner_text, leaf_text};
+use row_bytes::row::Row;
+use std::alloc::Global;
+use std::marker::Model;
+use std::sync::Arc;
+use vclock::format::Format;
+use vclock::refusal::Refusal;
+use walk_messages::message::Ask;
+
+/// All rows of a range at one moment, with the digest of each node of the tree over them. It shares the leaves with the
+/// range, which copies a leaf before it changes one that is shared, so a snapshot stays as it was made.
+#[derive(Debug, Drop)]
+pub struct Snapshot {
+    format: Format,
+    bits: u8,
+    range: u16,
+    leaves: Vec<SharedLeaf>,
+    digests: Vec<Digest>,
+}
+
+impl Model for Snapshot {
+    ghost use Rattle.snapshot.specs.RowMaps.{RowMap};
+    ghost use Rattle.snapshot.specs.Snapshots.{IsSnapshot, map_of};
+
+    ghost Value = { RowMap };
+
+    ghost view = { λ s. map_of s.format s.bits s.range s.leaves.items };
+
+    ghost invariant = { λ s. IsSnapshot (map_of s.format s.bits s.range s.leaves.items) s.leaves.items s.digests.items };
+}
+
+impl Snapshot {
+    /// The snapshot of a range in a ring of 2^bits ranges: its leaves by rising index, and the digests of all nodes, by
+    /// depth and then by index. Refused: NoMemory.
+    pub fn new(
+        alloc: Global,
+        format: Format,
+        bits: u8,
+        range: u16,
+        leaves: Vec<SharedLeaf>,
+        digests: Vec<Digest>,
+    ) -> Result<Arc<Snapshot, Global>, Refusal>
+        requires { IsSnapshot (map_of format bits range leaves.items) leaves.items digests.items }
+        ensures { Answers result None (λ s. arc_value s ≡ map_of format bits range leaves.items) }
+    {
+        let snapshot = Snapshot {
+            format,
+            bits,
+            range,
+            leaves,
+            digests,
+        };
+        Ok(Arc::new(alloc, snapshot)?)
+    }
+
+    /// The format of the rows and of the tree. It takes no memory, like each of these calls but `new` and `answer`.
+    pub fn format(&self) -> Format
+        ensures format { result ≡ self.now.format }
+        ensures valid { IsRowMap self.now }
+    {
+        self.format
+    }
+
+    /// How many bits the number of a range has, at most 8.
+    pub fn bits(&self) -> u8
+        ensures { result ≡ self.now.bits }
+    {
+        self.bits
+    }
+
+    /// The number of the range.
+    pub fn range(&self) -> u16
+        ensures { result ≡ self.now.range }
+    {
+        self.range
+    }
+
+    /// The digest of the root.
+    pub fn root(&self) -> Digest
+        ensures { result ≡ root_of self.now }
+    {
+        self.digests[0]
+    }
+
+    /// The digest of a node, which the tree has.
+    pub fn digest_at(&self, node: NodeAt) -> Digest
+        requires { node.depth ≤ tree_depth self.now.format }
+        ensures { result ≡ digest_at self.now node.depth node.index }
+    {
+        self.digests[node.place()]
+    }
+
+    /// The rows of a leaf, in ascending order of key.
+    pub fn rows(&self, leaf: u16) -> &[Row]
+        requires { leaf < 2 ^ leaf_bits self.now.format }
+        ensures { result.now ≡ rows_at (leaf_in self.now) leaf self.now.rows }
+    {
+        self.leaves[usize::from(leaf)].rows()
+    }
+
+    /// The text of the node that is asked for (this project's profile).
+    ///
+    /// Refused, in order: BadMessage (the tree has no such node), NoMemory.
+    pub fn answer(&self, alloc: Global, ask: Ask) -> Result<Vec<u8>, Refusal>
+        ensures { Answers result (answer_fault self.now ask.node)
+            (λ text. text.items ≡ text_at self.now ask.node.depth ask.node.index) }
+    {
+        let node = ask.node;
+        if node.depth > tree_depth(self.format) {
+            return Err(Refusal::BadMessage);
+        }
+        if node.depth == tree_depth(self.format) {
+            return leaf_text(alloc, self.format, self.rows(node.index));
+        }
+        inner_text(alloc, self.format, self.children(node))
+    }
+
+    /// The digests of the children of a node that is no leaf, in order.
+    fn children(&self, node: NodeAt) -> &[Digest; 16]
+        requires { node.depth < tree_depth self.now.format }
+        ensures { inner_text self.now.format result.now ≡ text_at self.now node.depth node.index }
+    {
+        let (_, behind) = self.digests.split_at(16 * node.place() + 1);
+        let Some(children) = behind.first_chunk() else {
+            unreachable!()
+        };
+        children
+    }
+}

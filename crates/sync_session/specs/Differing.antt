@@ -1,0 +1,65 @@
+-- Where two trees differ.
+use Rattle.std.specs.Prelude.{◌≡◌, ℕ, zero, suc, ◌+◌, ◌/◌, ◌^◌, ◌<◌, ◌≤◌, Bool, true, ◌&&◌, not, bytes_eq, map, if◌then◌else◌, List, [], ◌∷◌, ◌++◌}
+use Rattle.std.specs.List.{filter, AllByRecursion}
+use Rattle.vclock.specs.declared.format.Format.{Format}
+use Rattle.hash_tree.specs.Nodes.{tree_depth}
+use Rattle.snapshot.specs.RowMaps.{RowMap}
+use Rattle.sync_session.specs.TreeNodes.{Node, is_node, has_node, place_of, text_of, digest_of}
+use Rattle.sync_session.specs.Walks.{TakenText, Walk}
+
+-- the first k nodes of a depth
+unfoldable pub first_of_level : ℕ → ℕ → List Node
+first_of_level depth zero = []
+first_of_level depth (suc k) = first_of_level depth k ++ record { depth = depth; index = k } ∷ []
+
+-- the nodes above a depth, by depth and then by index
+unfoldable pub nodes_above_depth : ℕ → List Node
+nodes_above_depth zero = []
+nodes_above_depth (suc depth) = nodes_above_depth depth ++ first_of_level depth (16 ^ depth)
+
+-- all nodes of a format's tree
+abbrev pub all_nodes : Format → List Node
+all_nodes f = nodes_above_depth (suc (tree_depth f))
+
+-- whether two trees have different digests at a node
+abbrev pub is_unlike : RowMap → RowMap → Node → Bool
+is_unlike own other n = not (bytes_eq (digest_of own n) (digest_of other n))
+
+-- whether they have different digests at a node and at each node above it
+abbrev pub differs_at : RowMap → RowMap → ℕ → ℕ → Bool
+differs_at own other zero i = is_unlike own other (record { depth = zero; index = i })
+differs_at own other (suc depth) i = differs_at own other depth (i / 16) && is_unlike own other (record { depth = suc depth; index = i })
+
+-- the nodes where they differ so
+abbrev pub differ : RowMap → RowMap → List Node
+differ own other = filter (λ n. differs_at own other n.depth n.index) (all_nodes own.format)
+
+-- how often a list has a node
+abbrev pub times : Node → List Node → ℕ
+times n [] = 0
+times n (m ∷ nodes) = (if is_node n m then 1 else 0) + times n nodes
+
+abbrev pub nodes_of : List TakenText → List Node
+nodes_of taken = map (λ t. t.node) taken
+
+-- Each node was asked once at most, and each that was asked is taken or outstanding, and not both.
+pub record IsOrderly (w : Walk) : Type 0 where
+  pub shared : (n : Node) → times n w.asked ≡ times n (nodes_of w.taken) + times n w.outstanding
+  pub once : (n : Node) → times n w.asked ≤ 1
+
+-- each text that was taken is the partner's own
+abbrev pub IsHonest : Walk → RowMap → Type 0
+IsHonest w other = AllByRecursion (λ t. t.text ≡ text_of other t.node) w.taken
+
+-- nothing is left, or leaves alone
+abbrev pub IsNearlyDone : Walk → Type 0
+IsNearlyDone w = (n : Node) → has_node n w.outstanding ≡ true → n.depth ≡ tree_depth w.own.format
+
+-- the texts were taken in the order in which their nodes were asked
+abbrev pub IsInTurn : Walk → Type 0
+IsInTurn w = (rest : List Node) × (w.asked ≡ nodes_of w.taken ++ rest)
+
+-- nodes by depth, and then by index
+abbrev pub Ascends : List Node → Type 0
+Ascends [] = Unit {0}
+Ascends (n ∷ nodes) = AllByRecursion (λ m. place_of n < place_of m) nodes × Ascends nodes

@@ -1,0 +1,5 @@
+pub mod TreeNodes
+pub mod Walks
+pub mod Steps
+pub mod Readings
+pub mod Differing

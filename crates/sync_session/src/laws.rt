@@ -1,0 +1,54 @@
+//! What the definitions say of sessions.
+ghost use Rattle.std.specs.Prelude.{◌≡◌, ℕ, List, true, IsTrue};
+ghost use Rattle.std.specs.List.{AllByRecursion};
+ghost use Rattle.row_bytes.specs.declared.row.Row.{Row};
+ghost use Rattle.version_set.specs.declared.version.Version.{Version};
+ghost use Rattle.snapshot.specs.RowMaps.{RowMap, IsRowMap};
+ghost use Rattle.sync_session.specs.declared.state.SessionState.TheVariants.{Finished};
+ghost use Rattle.sync_session.specs.TreeNodes.{Node, has_node, text_of};
+ghost use Rattle.sync_session.specs.Walks.{TakenText, Walk, Walked, Held, IsLeafHeld, IsCanonical, AreSpelled, NoTwoShareADigest, IsPartners};
+ghost use Rattle.sync_session.specs.Steps.{started, after, IsDue, Grows};
+ghost use Rattle.sync_session.specs.Differing.{differ, IsOrderly, IsHonest, IsNearlyDone, IsInTurn, Ascends};
+
+/// After a finished session each version of the partner's rows is held or is below one that is: of any rows of the same
+/// format, ring bits and range whose root is the one that was offered, provided that no two different texts among those
+/// compared share a digest. Nothing is supposed of the answers.
+pub fn a_finished_session_is_held()
+    ensures { (held : List ℕ → List Version) (w : Walk) (other : RowMap) → Walked held w → w.state ≡ Finished
+        → IsPartners w other → NoTwoShareADigest w.own other w.taken → Held other.rows held }
+{}
+
+/// A record stays right, whatever is accepted and whatever is taken.
+pub fn a_walk_stays_right()
+    ensures started { (held : List ℕ → List Version) (own : RowMap) (offered : List ℕ) → IsRowMap own
+        → Held own.rows held → Walked held (started own offered) }
+    ensures grows { (before now : List ℕ → List Version) (w : Walk) → Grows before now → Walked before w → Walked now w }
+    ensures taken { (held : List ℕ → List Version) (w : Walk) (t : TakenText) → Walked held w → IsDue w t
+        → IsCanonical w.own t.node t.text → IsLeafHeld w.own held t → Walked held (after w t) }
+    ensures spelled { (held : List ℕ → List Version) (own : RowMap) (t : TakenText) (rows : List Row)
+        → AreSpelled own t.node t.text rows → Held rows held → IsLeafHeld own held t }
+{}
+
+/// A session asks no node twice, and a node that was asked is taken or outstanding, whatever is taken.
+pub fn a_walk_stays_orderly()
+    ensures started { (own : RowMap) (offered : List ℕ) → IsOrderly (started own offered) }
+    ensures taken { (held : List ℕ → List Version) (w : Walk) (t : TakenText) → Walked held w → IsOrderly w → IsDue w t
+        → IsOrderly (after w t) }
+{}
+
+/// Where each text that was taken is the partner's own, a session asks nodes where the trees differ and no others; all of
+/// them, once no node with children is outstanding; and the partner's text of an outstanding node is never refused.
+/// Texts that are taken in the order of the asks leave the nodes asked by depth, and then by index, whoever answers.
+pub fn a_session_asks_where_the_trees_differ()
+    ensures only { (held : List ℕ → List Version) (w : Walk) (other : RowMap) → Walked held w → IsOrderly w
+        → IsPartners w other → IsHonest w other
+        → (n : Node) → has_node n w.asked ≡ true → has_node n (differ w.own other) ≡ true }
+    ensures all { (held : List ℕ → List Version) (w : Walk) (other : RowMap) → Walked held w → IsOrderly w
+        → IsPartners w other → IsHonest w other → IsNearlyDone w
+        → (n : Node) → has_node n (differ w.own other) ≡ true → has_node n w.asked ≡ true }
+    ensures due { (held : List ℕ → List Version) (w : Walk) (other : RowMap) → Walked held w → IsOrderly w
+        → IsPartners w other → IsHonest w other → (n : Node) → has_node n w.outstanding ≡ true
+        → IsDue w (record { node = n; text = text_of other n }) × IsCanonical w.own n (text_of other n) }
+    ensures ordered { (held : List ℕ → List Version) (w : Walk) → Walked held w → IsInTurn w → Ascends w.asked }
+    ensures both_ways { (a b : RowMap) → a.format ≡ b.format → differ a b ≡ differ b a }
+{}

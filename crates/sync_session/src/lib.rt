@@ -1,0 +1,15 @@
+//! Sessions of anti-entropy (the paper of 2007, section 4.7): a walk of two trees from the root down, which ends with all
+//! that the partner held.
+//!
+//! - [`session`]: one walk: what is asked, and what the answers are worth.
+//! - [`state`]: how a session stands.
+//! - [`taken`]: texts that a session took.
+//! - [`laws`]: what the definitions say: a finished session holds what the partner's rows had.
+#![tactic(auto)]
+
+mod asking;
+pub mod laws;
+mod reading;
+pub mod session;
+pub mod state;
+pub mod taken;

@@ -1,0 +1,220 @@
+//! One walk of two trees.
+ghost use Rattle.std.specs.Prelude.{◌≡◌, ⊤, None, OnOk, OnErr, map};
+ghost use Rattle.std.specs.Arc.{arc_value};
+ghost use Rattle.vclock.specs.Answer.{Answers};
+ghost use Rattle.sync_session.specs.TreeNodes.{node_of};
+ghost use Rattle.sync_session.specs.Walks.{asks};
+ghost use Rattle.sync_session.specs.Steps.{state_by, started, after, cancelled_by, Takes};
+ghost use Rattle.sync_session.specs.Readings.{Shows};
+
+use crate::state::SessionState;
+use crate::taken::Taken;
+use crate::{asking, reading};
+use hash_tree::hashed::{Digest, Hashed};
+use hash_tree::node::{NodeAt, tree_depth};
+use row_bytes::row::RowList;
+use snapshot::snapshot::Snapshot;
+use std::alloc::Global;
+use std::marker::Model;
+use std::sync::Arc;
+use vclock::refusal::Refusal;
+
+/// What a text was that a session took.
+#[derive(Debug, Drop)]
+pub enum Answered {
+    /// That of a node with children: those that differ are asked from then on.
+    Inner,
+    /// That of a leaf, with its rows.
+    Leaf(RowList),
+}
+
+/// A walk of two trees: the own rows, as a snapshot has them, are compared with those of a partner, of which the root is
+/// known at first. The partner is not trusted: each text must have the digest that was expected at its node.
+#[derive(Drop)]
+pub struct Session {
+    own: Arc<Snapshot, Global>,
+    root: Digest,
+    asked: Vec<NodeAt>,
+    outstanding: Vec<NodeAt>,
+    taken: Vec<Taken>,
+    state: SessionState,
+}
+
+impl Model for Session {
+    ghost use Rattle.std.specs.Prelude.{map};
+    ghost use Rattle.std.specs.Arc.{arc_value};
+    ghost use Rattle.sync_session.specs.TreeNodes.{node_of};
+    ghost use Rattle.sync_session.specs.Walks.{Walk};
+
+    ghost Value = { Walk };
+
+    ghost view = { λ s. record {
+      own = arc_value s.own;
+      root = s.root;
+      asked = map node_of s.asked.items;
+      outstanding = map node_of s.outstanding.items;
+      taken = s.taken.items;
+      state = s.state;
+    } };
+}
+
+impl Session {
+    /// A new session, which compares a snapshot with a partner's root. Where the roots are equal it is finished, and
+    /// nothing is asked; else the root's text is asked. Refused: NoMemory.
+    pub fn start(
+        alloc: Global,
+        own: Arc<Snapshot, Global>,
+        root: Digest,
+    ) -> Result<Session, Refusal>
+        ensures { Answers result None (λ session. session ≡ started (arc_value own) root) }
+    {
+        let mut asked = Vec::new(alloc);
+        let mut outstanding = Vec::new(alloc);
+        if root != own.root() {
+            asked.push(asking::root())?;
+            outstanding.push(asking::root())?;
+        }
+        let state = state_by(&outstanding);
+        Ok(Session {
+            own,
+            root,
+            asked,
+            outstanding,
+            taken: Vec::new(alloc),
+            state,
+        })
+    }
+
+    /// The own snapshot. It takes no memory, like each of these calls but `start`, `rows_of` and `take`.
+    pub fn own(&self) -> &Arc<Snapshot, Global>
+        ensures { arc_value result.now ≡ self.now.own }
+    {
+        &self.own
+    }
+
+    /// The root that the partner offered.
+    pub fn root(&self) -> Digest
+        ensures { result ≡ self.now.root }
+    {
+        self.root
+    }
+
+    /// The nodes that were asked and are not answered, in the order in which they are to be answered.
+    pub fn outstanding(&self) -> &[NodeAt]
+        ensures { map node_of result.now ≡ self.now.outstanding }
+    {
+        &self.outstanding
+    }
+
+    /// All nodes that were ever asked, in order.
+    pub fn asked(&self) -> &[NodeAt]
+        ensures { map node_of result.now ≡ self.now.asked }
+    {
+        &self.asked
+    }
+
+    /// The texts that were taken, in order.
+    pub fn taken(&self) -> &[Taken]
+        ensures { result.now ≡ self.now.taken }
+    {
+        &self.taken
+    }
+
+    /// How it stands.
+    pub fn state(&self) -> SessionState
+        ensures { result ≡ self.now.state }
+    {
+        self.state
+    }
+
+    /// The rows that taking this text would give: none for a node with children. The session stays as it is.
+    ///
+    /// Refused, in order: NotAsked (the node is not outstanding), WrongDigest (the text has not the digest that is
+    /// expected at the node), NotCanonical (no rows of the range give the node this text), NoMemory. Reading rows takes
+    /// memory, so NoMemory may stand in place of NotCanonical.
+    pub fn rows_of(&self, alloc: Global, node: NodeAt, text: &Hashed) -> Result<RowList, Refusal>
+        ensures { Shows self.now (record { node = node_of node; text = text.now }) result }
+    {
+        if !asking::has(&self.outstanding, node) {
+            return Err(Refusal::NotAsked);
+        }
+        if !asking::is_expected(&self.root, &self.taken, node, &text.digest()) {
+            return Err(Refusal::WrongDigest);
+        }
+        let format = self.own.format();
+        if node.depth == tree_depth(format) {
+            reading::leaf_rows(alloc, &self.own, node, text.text())
+        } else if node.depth < tree_depth(format) && reading::is_inner(format, text.text()) {
+            Ok(RowList::from(Vec::new(alloc)))
+        } else {
+            Err(Refusal::NotCanonical)
+        }
+    }
+
+    /// Takes a text for a node. A node with children asks each child whose digest in the text is not the own snapshot's,
+    /// by rising index, at the end of those outstanding; a leaf gives its rows. With nothing outstanding the session is
+    /// finished.
+    ///
+    /// Refused, in order: NotAsked, WrongDigest, NotCanonical and NoMemory, as by `rows_of`. After NotCanonical the
+    /// session has failed, with nothing outstanding; after any other it is as it was.
+    pub fn take(&mut self, alloc: Global, node: NodeAt, text: Hashed) -> Result<Answered, Refusal>
+        ensures { Takes self.old (record { node = node_of node; text = text }) result self.new }
+    {
+        match self.rows_of(alloc, node, &text) {
+            Ok(rows) => {
+                if node.depth < tree_depth(self.own.format()) {
+                    let new = asking::differing(alloc, &self.own, node, text.text())?;
+                    self.record(node, text, &new)?;
+                    Ok(Answered::Inner)
+                } else {
+                    self.record(node, text, &[])?;
+                    Ok(Answered::Leaf(rows))
+                }
+            }
+            Err(Refusal::NotCanonical) => {
+                self.outstanding.clear();
+                self.state = SessionState::Failed;
+                Err(Refusal::NotCanonical)
+            }
+            Err(other) => Err(other),
+        }
+    }
+
+    /// Keeps a text, and asks these nodes.
+    fn record(&mut self, node: NodeAt, text: Hashed, new: &[NodeAt]) -> Result<(), Refusal>
+        requires { map node_of new.now ≡ asks self.old.own (record { node = node_of node; text = text }) }
+        ensures answers { Answers result None (λ _. ⊤) }
+        ensures ok { OnOk result (self.new ≡ after self.old (record { node = node_of node; text = text })) }
+        ensures err { OnErr result (self.new ≡ self.old) }
+    {
+        self.asked.reserve(new.len())?;
+        self.outstanding.reserve(new.len())?;
+        self.taken.push(Taken::new(node, text))?;
+        asking::remove(&mut self.outstanding, node);
+        asking::append(&mut self.asked, new);
+        asking::append(&mut self.outstanding, new);
+        self.state = state_by(&self.outstanding);
+        Ok(())
+    }
+
+    /// Ends a session that is open; another stays as it is.
+    pub fn cancel(&mut self)
+        ensures { self.new ≡ cancelled_by self.old self.old.state }
+    {
+        if self.state == SessionState::Open {
+            self.outstanding.clear();
+            self.state = SessionState::Cancelled;
+        }
+    }
+}
+
+/// How a session stands that goes on: open, or finished where nothing is outstanding.
+fn state_by(outstanding: &[NodeAt]) -> SessionState
+    ensures { result ≡ state_by (map node_of outstanding.now) }
+{
+    if outstanding.is_empty() {
+        SessionState::Finished
+    } else {
+        SessionState::Open
+    }
+}

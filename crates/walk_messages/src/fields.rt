@@ -1,0 +1,93 @@
+// The fields that messages are made of, read from the left.
+ghost use Rattle.std.specs.Prelude.{◌≡◌, ◌<◌, ◌^◌, ℕ, List, ◌∷◌, ◌++◌, length, MatchOption};
+ghost use Rattle.std.specs.Int.{w32, w64, to_be_bytes};
+ghost use Rattle.hash_tree.specs.declared.node.NodeAt.{NodeAt};
+ghost use Rattle.walk_messages.specs.declared.message.Answer.{Answer};
+ghost use Rattle.walk_messages.specs.declared.message.Ask.{Ask};
+ghost use Rattle.walk_messages.specs.declared.message.Offer.{Offer};
+ghost use Rattle.walk_messages.specs.declared.message.Message.TheVariants as messages;
+ghost use Rattle.walk_messages.specs.Messages.{node_text, message_text, IsMessage};
+
+use crate::message::{Ask, Offer};
+use hash_tree::hashed::Digest;
+use hash_tree::node::NodeAt;
+
+/// The number of an offer, and what follows it: none where there are not four bytes.
+fn offer_number_at(bytes: &[u8]) -> Option<(u32, &[u8])>
+    ensures { MatchOption result (length bytes.now < 4) (λ x. bytes.now ≡ to_be_bytes w32 x.0 ++ x.1.now) }
+{
+    let (number, rest) = bytes.split_first_chunk::<4>()?;
+    Some((u32::from_be_bytes(*number), rest))
+}
+
+/// A node, and what follows it: none where no node stands there.
+fn node_at(bytes: &[u8]) -> Option<(NodeAt, &[u8])>
+    ensures { MatchOption result ((n : NodeAt) (rest : List ℕ) → bytes.now ≡ node_text n ++ rest → ⊥) (λ x. bytes.now ≡ node_text x.0 ++ x.1.now) }
+{
+    let ([depth, high, low], rest) = bytes.split_first_chunk::<3>()?;
+    let node = NodeAt::new(*depth, u16::from_be_bytes([*high, *low]))?;
+    Some((node, rest))
+}
+
+/// The number of an offer and a node, with which an ask and an answer begin, and what follows them: none where they do
+/// not stand there.
+fn head_at(bytes: &[u8]) -> Option<(Ask, &[u8])>
+    ensures { MatchOption result ((a : Ask) (rest : List ℕ) → bytes.now ≡ to_be_bytes w32 a.offer ++ node_text a.node ++ rest → ⊥) (λ x. bytes.now ≡ to_be_bytes w32 x.0.offer ++ node_text x.0.node ++ x.1.now) }
+{
+    let (offer, rest) = offer_number_at(bytes)?;
+    let (node, rest) = node_at(rest)?;
+    Some((Ask { offer, node }, rest))
+}
+
+/// The offer with these fields: none where no offer has them.
+#[tactic(auto, unfolding(crate::specs::Messages::message_text))]
+pub(crate) fn offer_of(fields: &[u8]) -> Option<Offer>
+    ensures { MatchOption result ((o : Offer) → IsMessage (messages.Offer o) → message_text (messages.Offer o) ≡ 1 ∷ fields.now → ⊥) (λ o. IsMessage (messages.Offer o) × (message_text (messages.Offer o) ≡ 1 ∷ fields.now)) }
+{
+    let (offer, rest) = offer_number_at(fields)?;
+    let ([format, range], root) = rest.split_first_chunk::<2>()?;
+    Some(Offer {
+        offer,
+        format: *format,
+        range: *range,
+        root: Digest::try_from(root).ok()?,
+    })
+}
+
+/// The ask with these fields: none where no ask has them.
+#[tactic(auto, unfolding(crate::specs::Messages::message_text))]
+pub(crate) fn ask_of(fields: &[u8]) -> Option<Ask>
+    ensures { MatchOption result ((a : Ask) → message_text (messages.Ask a) ≡ 2 ∷ fields.now → ⊥) (λ a. IsMessage (messages.Ask a) × (message_text (messages.Ask a) ≡ 2 ∷ fields.now)) }
+{
+    let (ask, rest) = head_at(fields)?;
+    if rest.is_empty() { Some(ask) } else { None }
+}
+
+/// The length of a text, and what follows it: none where there are not eight bytes.
+fn text_len_at(bytes: &[u8]) -> Option<(u64, &[u8])>
+    ensures { MatchOption result (length bytes.now < 8) (λ x. bytes.now ≡ to_be_bytes w64 x.0 ++ x.1.now) }
+{
+    let (number, rest) = bytes.split_first_chunk::<8>()?;
+    Some((u64::from_be_bytes(*number), rest))
+}
+
+/// The text with its length before it: none where the length is another.
+fn text_of(bytes: &[u8]) -> Option<&[u8]>
+    ensures { MatchOption result ((text : List ℕ) → bytes.now ≡ to_be_bytes w64 (length text) ++ text → ⊥) (λ text. bytes.now ≡ to_be_bytes w64 (length text.now) ++ text.now) }
+{
+    let (len, text) = text_len_at(bytes)?;
+    if len == text.len() as u64 {
+        Some(text)
+    } else {
+        None
+    }
+}
+
+/// The offer's number, the node and the text of an answer with these fields: none where no answer has them.
+#[tactic(auto, unfolding(crate::specs::Messages::message_text))]
+pub(crate) fn answer_parts_of(fields: &[u8]) -> Option<(Ask, &[u8])>
+    ensures { MatchOption result ((a : Answer) → message_text (messages.Answer a) ≡ 3 ∷ fields.now → ⊥) (λ x. let answer = messages.Answer (record { offer = x.0.offer; node = x.0.node; text = x.1.now }) in IsMessage answer × (message_text answer ≡ 3 ∷ fields.now)) }
+{
+    let (head, rest) = head_at(fields)?;
+    Some((head, text_of(rest)?))
+}
