@@ -1,15 +1,17 @@
 #!/usr/bin/env python3
-"""Writes two scripts that differ in their rehash lines alone. usage: rehash_scripts.py KIND N WITHOUT WITH
+"""Writes two scripts that differ in their rehash lines, or in their syncs. usage: rehash_scripts.py KIND N WITHOUT WITH
 
-Both put N new keys at node 1. `full`: then ten rounds, each a put of a further key for each of the 256 leaves; WITH has
-a rehash before the first round and after each. `one`: then a rehash, and 2000 puts of further keys; WITH has a rehash
-after each of these. N is made smaller where a journal, of 1000000 entries, would not take all that.
+Both put N new keys at node 1. `full`: then ten rounds, each a put of a further key for each of the 256 leaves; WITH
+has a rehash before the first round and after each. `one`: then a rehash, and 2000 puts of further keys; WITH has a
+rehash after each of these. `sync`: the puts are copied to node 2, then both are rehashed, and 500 puts of further keys
+follow, after each of which both are rehashed; in WITH node 2 gets no copies of these, and takes each in a sync before
+its rehash. N is made smaller where a journal, of 1000000 entries, would not take all that.
 
-Prints N, how many rehashes WITHOUT lacks, how many nodes each of them hashes, and the bytes of their texts in all.
+Prints N, how many rehashes or syncs WITHOUT lacks, of how many nodes each is, and the bytes of their texts in all.
 """
 import hashlib, itertools, random, sys
 
-LEAVES, ROUNDS, SINGLE_PUTS, JOURNAL = 256, 10, 2000, 1_000_000
+LEAVES, ROUNDS, SINGLE_PUTS, SYNCS, JOURNAL = 256, 10, 2000, 500, 1_000_000
 kind, wanted, without, with_them = sys.argv[1], int(sys.argv[2]), open(sys.argv[3], "w"), open(sys.argv[4], "w")
 rnd = random.Random(1)
 row_bytes, dirty = [0] * LEAVES, set(range(LEAVES))
@@ -25,19 +27,20 @@ def leaf_of(i):
     return hashlib.md5(key(i)).digest()[0]
 
 
-def put(i):
-    line = '{"put":{"node":1,"key":"%s","context":[],"value":"%s"}}\n' % (key(i).hex(), rnd.randbytes(32).hex())
-    without.write(line)
-    with_them.write(line)
+def put(i, lose=""):
+    line = '{"put":{"node":1,"key":"%s","context":[],"value":"%s"%s}}\n'
+    value = rnd.randbytes(32).hex()
+    without.write(line % (key(i).hex(), value, ""))
+    with_them.write(line % (key(i).hex(), value, lose))
     leaf = leaf_of(i)
     dirty.add(leaf)
     row_bytes[leaf] += 2 + len(key(i)) + 2 + 1 + 10 + 4 + 32
 
 
-def rehash(*scripts):
+def rehash(*scripts, node=1):
     global rehashes, nodes, hashed
     for script in scripts:
-        script.write('{"rehash":{"node":1,"range":0}}\n')
+        script.write('{"rehash":{"node":%d,"range":0}}\n' % node)
     if without not in scripts:
         inner = 1 + len({leaf // 16 for leaf in dirty})
         rehashes += 1
@@ -46,8 +49,19 @@ def rehash(*scripts):
     dirty.clear()
 
 
-n = min(wanted, JOURNAL - {"full": ROUNDS * LEAVES, "one": SINGLE_PUTS}[kind])
+def sync(i):
+    global rehashes, nodes, hashed
+    with_them.write('{"sync":{"from":1,"node":2,"range":0}}\n')
+    rehashes += 1
+    nodes = 3
+    hashed += 2 * 513 + 1 + row_bytes[leaf_of(i)]
+
+
+n = min(wanted, JOURNAL - {"full": ROUNDS * LEAVES, "one": SINGLE_PUTS, "sync": SYNCS}[kind])
 further = itertools.count(n)
+if kind == "sync":
+    for script in (without, with_them):
+        script.write('{"ring":{"bits":0,"copies":2,"nodes":[1,2]}}\n')
 for i in range(n):
     put(i)
 if kind == "full":
@@ -59,6 +73,15 @@ if kind == "full":
                 stock[leaf_of(i)].append(i)
             put(stock[leaf].pop(0))
         rehash(with_them)
+elif kind == "sync":
+    rehash(without, with_them)
+    rehash(without, with_them, node=2)
+    for _ in range(SYNCS):
+        i = next(further)
+        put(i, ',"lose":[2]')
+        rehash(without, with_them)
+        sync(i)
+        rehash(without, with_them, node=2)
 else:
     rehash(without, with_them)
     for _ in range(SINGLE_PUTS):

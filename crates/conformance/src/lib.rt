@@ -8,9 +8,13 @@ mod hints;
 #[cfg(test)]
 mod journals;
 #[cfg(test)]
+mod leaves;
+#[cfg(test)]
 mod messages;
 #[cfg(test)]
 mod places;
+#[cfg(test)]
+mod range_sessions;
 #[cfg(test)]
 mod ranges;
 #[cfg(test)]

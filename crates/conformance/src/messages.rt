@@ -69,12 +69,9 @@ fn an_offer_carries_its_root(rt: HostRuntime) -> Result<(), Fail> {
 }
 
 #[test]
-fn no_message_is_cut_off_or_goes_on(rt: HostRuntime) {
-    let alloc = rt.alloc();
-    expect_none(&rt, alloc, b"");
-    expect_none(&rt, alloc, b"\x04\x00\x00\x00\x01\x02\x00\x0c");
-    expect_none(&rt, alloc, b"\x02\x00\x00\x00\x01\x02\x00");
-    expect_none(&rt, alloc, b"\x02\x00\x00\x00\x01\x02\x00\x0c\x00");
+fn there_is_no_fourth_kind_of_message(rt: HostRuntime) {
+    let bytes = b"\x04\x00\x00\x00\x01\x02\x00\x0c";
+    expect_none(&rt, rt.alloc(), bytes);
 }
 
 #[test]
@@ -91,4 +88,30 @@ fn a_message_names_a_node_of_some_tree(rt: HostRuntime) {
 fn a_false_length_is_that_of_no_message(rt: HostRuntime) {
     let bytes = b"\x03\x00\x00\x00\x01\x02\x00\x00\xff\xff\xff\xff\xff\xff\xff\xff\x00";
     expect_none(&rt, rt.alloc(), bytes);
+}
+
+/// The bytes of an ask for the twelfth leaf of a tree of format 1.
+const ASK: &[u8] = b"\x02\x00\x00\x00\x01\x02\x00\x0c";
+
+/// The bytes of an answer with a text of one byte.
+const ANSWER: &[u8] = b"\x03\x00\x00\x00\x01\x02\x00\x00\x00\x00\x00\x00\x00\x00\x00\x01\x00";
+
+/// Asserts that no message has the bytes less some at their end, or has them with a byte behind.
+fn expect_whole(rt: &impl Abort, alloc: Global, bytes: &[u8]) -> Result<(), Refusal> {
+    assert!(rt; decode(alloc, bytes).is_ok());
+    for length in 0..bytes.len() {
+        expect_none(rt, alloc, &bytes[..length]);
+    }
+    let mut longer = Vec::from_slice(alloc, bytes)?;
+    longer.push(0)?;
+    expect_none(rt, alloc, &longer);
+    Ok(())
+}
+
+#[test]
+fn no_message_is_cut_off_or_goes_on(rt: HostRuntime) -> Result<(), Fail> {
+    let alloc = rt.alloc();
+    expect_whole(&rt, alloc, ASK)?;
+    expect_whole(&rt, alloc, ANSWER)?;
+    Ok(())
 }

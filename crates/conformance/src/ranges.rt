@@ -1,6 +1,7 @@
 // Range states.
 ghost use Rattle.std.specs.Prelude.{◌<◌};
 
+use crate::leaves::count;
 use crate::sets::{members, version};
 use range_journal::journal::Source;
 use range_state::config::RangeConfig;
@@ -115,8 +116,8 @@ fn rows_in(state: &RangeState, leaf: u16) -> usize
     requires { leaf < 256 }
 {
     match state.config().format() {
-        Format::One => state.rows(leaf).len(),
-        Format::Two => state.rows(leaf).len(),
+        Format::One => count(state.rows(leaf)),
+        Format::Two => count(state.rows(leaf)),
     }
 }
 

@@ -12,7 +12,15 @@ use vclock::refusal::Refusal;
 pub(crate) fn show_all<R: Print + AllocGlobal>(rt: &R) -> io::Result<()> {
     let alloc = rt.alloc();
     show(rt, "offer to a leaf", offer(alloc))?;
-    show(rt, "offer to a leaf of two owners", offer_to_a_copy(alloc))
+    show(rt, "offer to a leaf of two owners", offer_to_a_copy(alloc))?;
+    show(rt, "offer to a full chunk", offer_to_a_full_chunk(alloc))
+}
+
+/// How many rows a leaf has.
+fn count(leaf: &SharedLeaf) -> u64 {
+    leaf.chunks().iter().fold(0, |rows: u64, chunk| {
+        rows.saturating_add(chunk.rows().len() as u64)
+    })
 }
 
 /// Offers a version to the set of a key.
@@ -29,12 +37,12 @@ fn offer_to(alloc: Global, leaf: &mut SharedLeaf, key: &[u8]) -> Result<(), Refu
 /// Offers versions of several keys, until the leaf has had to grow.
 fn grow(alloc: Global, leaf: &mut SharedLeaf) -> Result<u64, Refusal> {
     for key in [b"c", b"a", b"b", b"e", b"d", b"a"] {
-        let rows = leaf.rows().len();
+        let rows = count(leaf);
         if let Err(refusal) = offer_to(alloc, leaf, key) {
-            return Err(unchanged(refusal, leaf.rows().len() == rows));
+            return Err(unchanged(refusal, count(leaf) == rows));
         }
     }
-    Ok(leaf.rows().len() as u64)
+    Ok(count(leaf))
 }
 
 fn offer(alloc: Global) -> Result<u64, Refusal> {
@@ -47,7 +55,16 @@ fn offer_to_a_copy(alloc: Global) -> Result<u64, Refusal> {
     offer_to(alloc, &mut leaf, b"a")?;
     let other = leaf.share()?;
     match grow(alloc, &mut leaf) {
-        Ok(rows) => Ok(rows.saturating_add(other.rows().len() as u64)),
-        Err(refusal) => Err(unchanged(refusal, other.rows().len() == 1)),
+        Ok(rows) => Ok(rows.saturating_add(count(&other))),
+        Err(refusal) => Err(unchanged(refusal, count(&other) == 1)),
     }
+}
+
+/// The chunk of 128 rows is split for one more.
+fn offer_to_a_full_chunk(alloc: Global) -> Result<u64, Refusal> {
+    let mut leaf = SharedLeaf::empty(Format::One);
+    for key in 0..129u8 {
+        offer_to(alloc, &mut leaf, &[key])?;
+    }
+    Ok(count(&leaf))
 }

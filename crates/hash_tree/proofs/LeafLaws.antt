@@ -10,11 +10,11 @@ use Rattle.row_bytes.specs.declared.row.Row.{Row}
 use Rattle.hash_tree.specs.Leaves.{key_cmp, AscendByKey, rows_at, with_offer, versions_in}
 use Rattle.hash_tree.proofs.KeyOrder.{key_exact, all_filter, less_rows}
 
-offer_first : (k : List ℕ) (v : Version) (rows : List Row) → AllByRecursion (λ (y : Row). key_cmp k y.key ≡ Less) rows → with_offer k v rows ≡ record { key = k; versions = offered v [] } ∷ rows
+pub offer_first : (k : List ℕ) (v : Version) (rows : List Row) → AllByRecursion (λ (y : Row). key_cmp k y.key ≡ Less) rows → with_offer k v rows ≡ record { key = k; versions = offered v [] } ∷ rows
 offer_first k v [] h = refl
 offer_first k v (r ∷ rows) h = rw h.0 refl
 
-in_first : (k : List ℕ) (rows : List Row) → AllByRecursion (λ (y : Row). key_cmp k y.key ≡ Less) rows → versions_in k rows ≡ []
+pub in_first : (k : List ℕ) (rows : List Row) → AllByRecursion (λ (y : Row). key_cmp k y.key ≡ Less) rows → versions_in k rows ≡ []
 in_first k [] h = refl
 in_first k (r ∷ rows) h = rw h.0 refl
 

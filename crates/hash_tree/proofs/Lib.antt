@@ -1,6 +1,10 @@
 pub mod KeyOrder
 pub mod SearchLaws
 pub mod LeafLaws
+pub mod TextMoves
+pub mod ChunkLaws
+pub mod ChunkPlaces
+pub mod KeySpots
 pub mod RowLengths
 pub mod PlaceLaws
 pub mod PathLaws

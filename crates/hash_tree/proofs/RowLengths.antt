@@ -1,23 +1,22 @@
--- The lengths of leaves' texts, and that rows still fit them after an offer.
-use Rattle.std.proofs.Common.{◌≡◌, ℕ, zero, suc, ◌+◌, ◌-◌, ◌*◌, ◌<◌, ◌≤◌, true, false, cond, inl, inr, Result, None, List, [], ◌∷◌, length, set, get_or, refl, ap, sym, subst, ◌∙◌, arith}
-use Rattle.std.specs.List.{AllByRecursion, sum_by, insert}
+-- Rows after an offer: they still have texts, and how long these are.
+use Rattle.std.proofs.Common.{◌≡◌, ℕ, ◌+◌, ◌≤◌, Bool, true, false, not, cond, inl, inr, None, List, [], ◌∷◌, filter, length, refl, ap, ◌∙◌, arith}
+use Rattle.std.specs.List.{AllByRecursion, flat_map, list_any}
 use Rattle.std.specs.Ordering.{is_eq}
 use Rattle.std.specs.declared.cmp.Ordering.TheVariants.{Less, Equal, Greater}
 use Rattle.std.proofs.lemmas.Bool.{cases_Bool, or_left, or_right, both_ways}
 use Rattle.std.proofs.lemmas.Cmp.{tied_itself}
-use Rattle.std.proofs.lemmas.List.Concat.{length-flat_map}
-use Rattle.std.proofs.lemmas.List.Sums.{sum_by-set, sum_by-insert, sum_by-le, get_or-le-sum_by}
+use Rattle.std.proofs.lemmas.List.{length-append}
 use Rattle.vclock.specs.Keys.{key_fault}
 use Rattle.vclock.specs.declared.format.Format.{Format}
 use Rattle.version_set.specs.Kind.{value_fault}
 use Rattle.version_set.specs.declared.version.Version.{Version}
-use Rattle.version_set.specs.Version.{version_cmp, place_by, covered, maximal, with_version, offered}
+use Rattle.version_set.specs.Version.{version_cmp, place_by, is_below, covered, maximal, with_version, offered, version_text}
 use Rattle.version_set.proofs.SetLaws.{version_total, covered-maximal, all-with_version, all-filter}
 use Rattle.row_bytes.specs.declared.row.Row.{Row}
 use Rattle.row_bytes.specs.Rows.{row_text, FitsText}
-use Rattle.hash_tree.specs.Leaves.{key_cmp, Bucket, IsBucket, IsShort, IsPlace, with_offer}
-use Rattle.hash_tree.specs.Texts.{leaf_text}
-use Rattle.hash_tree.proofs.KeyOrder.{all_get, AscendByKey-with_offer}
+use Rattle.row_bytes.proofs.TextLengths.{row_text_len}
+use Rattle.hash_tree.specs.Leaves.{key_cmp, IsBucket, with_offer}
+use Rattle.hash_tree.proofs.KeyOrder.{AscendByKey-with_offer}
 
 -- ---- what an offer keeps of the versions of a row
 
@@ -61,6 +60,33 @@ fits-offered format k v S key value all = record {
   each = all-offered (λ (u : Version). value_fault format u.kind u.value ≡ None) v S value all;
 }
 
+-- what passes a test has no longer texts
+len-filter : {X : Type 0} (f : X → List ℕ) (p : X → Bool) (xs : List X) → length (flat_map f (filter p xs)) ≤ length (flat_map f xs)
+len-filter f p [] = omega arith
+len-filter f p (x ∷ xs) = elim (p x) as (λ b. length (flat_map f (cond b (x ∷ filter p xs) (filter p xs))) ≤ length (flat_map f (x ∷ xs))) [
+  | true ↦ omega (arith, length-append (f x) (flat_map f (filter p xs)), length-append (f x) (flat_map f xs), len-filter f p xs)
+  | false ↦ omega (arith, length-append (f x) (flat_map f xs), len-filter f p xs)
+]
+
+-- with one more version there is at most its text more
+len-with_version : (f : Version → List ℕ) (v : Version) (S : List Version) → length (flat_map f (with_version v S)) ≤ length (f v) + length (flat_map f S)
+len-with_version f v [] = omega (arith, length-append (f v) [])
+len-with_version f v (w ∷ S) = elim (version_cmp v w) as (λ o. length (flat_map f (place_by o (v ∷ w ∷ S) (w ∷ S) (w ∷ with_version v S))) ≤ length (f v) + length (flat_map f (w ∷ S))) [
+  | Less ↦ omega (arith, length-append (f v) (flat_map f (w ∷ S)))
+  | Equal ↦ omega arith
+  | Greater ↦ omega (arith, length-append (f w) (flat_map f (with_version v S)), length-append (f w) (flat_map f S), len-with_version f v S)
+]
+
+len-offered : (f : Version → List ℕ) (v : Version) (S : List Version) → length (flat_map f (offered v S)) ≤ length (f v) + length (flat_map f S)
+len-offered f v S = elim (covered v S) as (λ b. length (flat_map f (cond b S (maximal (with_version v S)))) ≤ length (f v) + length (flat_map f S)) [
+  | true ↦ omega arith
+  | false ↦ omega (arith, len-filter f (λ w. not (list_any (is_below w) (with_version v S))) (with_version v S), len-with_version f v S)
+]
+
+-- after an offer the text of a row is longer by at most that of the version
+pub row-grows : (format : Format) (k : List ℕ) (v : Version) (S : List Version) → length (row_text format (record { key = k; versions = offered v S })) ≤ length (row_text format (record { key = k; versions = S })) + length (version_text format v)
+row-grows format k v S = omega (arith, row_text_len format (record { key = k; versions = offered v S }), row_text_len format (record { key = k; versions = S }), len-offered (version_text format) v S)
+
 -- ---- rows after an offer
 
 -- each row has a text after an offer
@@ -78,63 +104,3 @@ IsBucket-with_offer format k v rows key value b = record {
   ascending = AscendByKey-with_offer k v rows b.ascending;
   each = all_fit-with_offer format k v rows key value b.each;
 }
-
--- ---- the length of a leaf's text
-
-leaf_len : (format : Format) (rows : List Row) → length (leaf_text format rows) ≡ 1 + sum_by (λ (r : Row). length (row_text format r)) rows
-unfolding leaf_text
-leaf_len format rows = omega (arith, length-flat_map (row_text format) rows)
-
--- what a leaf keeps of its rows besides them
-abbrev Keeps : Format → List Row → ℕ → Type 0
-Keeps format rows n = IsBucket (record { format = format; rows = rows }) × (n ≡ length (leaf_text format rows)) × AllByRecursion (IsShort format) rows
-
-pub keeps_none : (format : Format) → Keeps format [] 1
-unfolding leaf_text
-keeps_none format = (record { ascending = tt; each = tt }, refl, tt)
-
--- the text of a leaf whose rows' texts are short is at most so long
-pub leaf_short : (format : Format) (rows : List Row) (n : ℕ) → Keeps format rows n → n ≤ 1 + length rows * 4215427
-leaf_short format rows n h =
-    omega (arith, h.1, leaf_len format rows, sum_by-le (λ (r : Row). length (row_text format r)) 4215427 rows (λ i d within. all_get (IsShort format) rows i d h.2 within))
-
--- the text of a row is within that of its leaf
-pub row_within : (format : Format) (rows : List Row) (n i : ℕ) (d : Row) → Keeps format rows n → i < length rows → length (row_text format (get_or rows i d)) ≤ n
-row_within format rows n i d h within =
-    omega (arith, h.1, leaf_len format rows, get_or-le-sum_by (λ (r : Row). length (row_text format r)) rows i d within)
-
-all-set : {X : Type 0} (P : X → Type 0) (xs : List X) (i : ℕ) (y : X) → P y → AllByRecursion P xs → AllByRecursion P (set xs i y)
-all-set P [] i y h all = tt
-all-set P (x ∷ xs) zero y h all = (h, all.1)
-all-set P (x ∷ xs) (suc i) y h all = (all.0, all-set P xs i y h all.1)
-
-all-insert : {X : Type 0} (P : X → Type 0) (xs : List X) (i : ℕ) (y : X) → P y → AllByRecursion P xs → AllByRecursion P (insert xs i y)
-all-insert P xs zero y h all = (h, all)
-all-insert P [] (suc i) y h all = (h, tt)
-all-insert P (x ∷ xs) (suc i) y h all = (all.0, all-insert P xs i y h all.1)
-
--- an offer to the row of a key
-pub keeps-set : (format : Format) (k : List ℕ) (v : Version) (rows : List Row) (n i before now : ℕ) (d r : Row) → Keeps format rows n → key_fault k ≡ None → value_fault format v.kind v.value ≡ None
-    → i < length rows → with_offer k v rows ≡ set rows i r → before ≡ length (row_text format (get_or rows i d)) → now ≡ length (row_text format r) → now ≤ 4215427 → Keeps format (set rows i r) (n - before + now)
-keeps-set format k v rows n i before now d r h key value within offers was is short = (
-  subst (λ (rs : List Row). IsBucket (record { format = format; rows = rs })) offers (IsBucket-with_offer format k v rows key value h.0),
-  omega (arith, h.1, leaf_len format rows, leaf_len format (set rows i r), row_within format rows n i d h within, sum_by-set (λ (x : Row). length (row_text format x)) rows i r d within),
-  all-set (IsShort format) rows i r (omega arith) h.2,
-)
-
--- an offer to a key that has no row
-pub keeps-insert : (format : Format) (k : List ℕ) (v : Version) (rows : List Row) (n i now : ℕ) (r : Row) → Keeps format rows n → key_fault k ≡ None → value_fault format v.kind v.value ≡ None
-    → with_offer k v rows ≡ insert rows i r → now ≡ length (row_text format r) → now ≤ 4215427 → Keeps format (insert rows i r) (n + now)
-keeps-insert format k v rows n i now r h key value offers is short = (
-  subst (λ (rs : List Row). IsBucket (record { format = format; rows = rs })) offers (IsBucket-with_offer format k v rows key value h.0),
-  omega (arith, h.1, leaf_len format rows, leaf_len format (insert rows i r), sum_by-insert (λ (x : Row). length (row_text format x)) rows i r),
-  all-insert (IsShort format) rows i r (omega arith) h.2,
-)
-
--- ---- what is known of a leaf's value is known of its fields
-
-pub place-inside : (b : Bucket) (format : Format) (rows : List Row) (k : List ℕ) (place : Result ℕ ℕ) → record { format = format; rows = rows } ≡ b → IsPlace k b.rows place → IsPlace k rows place
-place-inside b format rows k place same h = subst (λ (x : Bucket). IsPlace k x.rows place) (sym same) h
-
-pub value-inside : (b : Bucket) (format : Format) (rows : List Row) (v : Version) → record { format = format; rows = rows } ≡ b → value_fault b.format v.kind v.value ≡ None → value_fault format v.kind v.value ≡ None
-value-inside b format rows v same h = subst (λ (x : Bucket). value_fault x.format v.kind v.value ≡ None) (sym same) h

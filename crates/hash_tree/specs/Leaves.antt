@@ -9,7 +9,7 @@ use Rattle.version_set.specs.declared.version.Version.{Version}
 use Rattle.version_set.specs.Version.{place_by, offered}
 use Rattle.vclock.specs.declared.format.Format.{Format}
 use Rattle.row_bytes.specs.declared.row.Row.{Row}
-use Rattle.row_bytes.specs.Rows.{row_text, FitsText}
+use Rattle.row_bytes.specs.Rows.{FitsText}
 
 -- keys are ordered byte by byte
 abbrev pub key_cmp : List ℕ → List ℕ → Ordering
@@ -29,10 +29,6 @@ pub record Bucket : Type 0 where
 pub record IsBucket (b : Bucket) : Type 0 where
   pub ascending : AscendByKey b.rows
   pub each : AllByRecursion (FitsText b.format) b.rows
-
--- no longer than the text of a row can be: 2 bytes, a key of 255, 2 more, and 64 versions of 65,862 bytes each
-abbrev pub IsShort : Format → Row → Type 0
-IsShort format r = length (row_text format r) ≤ 4215427
 
 -- the rows of leaf i, where leaf says in which leaf a key is
 abbrev pub rows_at : (List ℕ → ℕ) → ℕ → List Row → List Row

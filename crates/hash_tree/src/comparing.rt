@@ -1,10 +1,12 @@
 //! Comparing a text with that of a node in place, with no memory taken.
-ghost use Rattle.std.specs.Prelude.{◌≡◌, ◌↔◌, IsTrue};
+ghost use Rattle.std.specs.Prelude.{◌≡◌, ◌↔◌, ◌∷◌, IsTrue};
 ghost use Rattle.std.specs.List.{AllByRecursion, flat_map};
 ghost use Rattle.row_bytes.specs.Rows.{FitsText};
 ghost use Rattle.row_bytes.specs.Strip.{Strips};
-ghost use Rattle.hash_tree.specs.Texts.{leaf_text, inner_text};
+ghost use Rattle.hash_tree.specs.Chunks.{chunk_text};
+ghost use Rattle.hash_tree.specs.Texts.{leaf_byte, leaf_text, inner_text};
 
+use crate::chunk::Chunk;
 use crate::hashed::Digest;
 use crate::texts::{inner_byte, leaf_byte};
 use row_bytes::row::Row;
@@ -17,6 +19,16 @@ pub fn is_leaf_text(format: Format, text: &[u8], rows: &[Row]) -> bool
     ensures { IsTrue result ↔ (text.now ≡ leaf_text format rows.now) }
 {
     match strip_leaf(format, text, rows) {
+        Some(rest) => rest.is_empty(),
+        None => false,
+    }
+}
+
+/// Whether a text is that of a leaf with these chunks.
+pub(crate) fn is_chunked_text(format: Format, text: &[u8], chunks: &[Chunk]) -> bool
+    ensures { IsTrue result ↔ (text.now ≡ leaf_byte format ∷ flat_map chunk_text chunks.now) }
+{
+    match strip_chunked(format, text, chunks) {
         Some(rest) => rest.is_empty(),
         None => false,
     }
@@ -39,6 +51,25 @@ fn strip_leaf<'a>(format: Format, text: &'a [u8], rows: &[Row]) -> Option<&'a [u
 {
     let rest = strip(text, &[leaf_byte(format)])?;
     strip_rows(format, rest, rows)
+}
+
+/// What follows the text of a leaf with these chunks.
+fn strip_chunked<'a>(format: Format, text: &'a [u8], chunks: &[Chunk]) -> Option<&'a [u8]>
+    ensures { Strips (λ x. x.now) (leaf_byte format ∷ flat_map chunk_text chunks.now) text.now result }
+{
+    let rest = strip(text, &[leaf_byte(format)])?;
+    strip_chunks(rest, chunks)
+}
+
+/// What follows the texts of chunks, one after another.
+fn strip_chunks<'a>(text: &'a [u8], chunks: &[Chunk]) -> Option<&'a [u8]>
+    ensures { Strips (λ x. x.now) (flat_map chunk_text chunks.now) text.now result }
+{
+    let mut rest = text;
+    for chunk in chunks {
+        rest = strip(rest, chunk.text())?;
+    }
+    Some(rest)
 }
 
 /// What follows the text of a node whose children have these digests.

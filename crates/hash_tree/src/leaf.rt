@@ -1,16 +1,21 @@
 //! The rows of one leaf.
-ghost use Rattle.std.specs.Prelude.{◌≡◌, ◌≤◌, [], ⊤, None, length, unwrap_or, option_map, IfOk, OnOk, OnErr};
+ghost use Rattle.std.specs.Prelude.{◌≡◌, ◌↔◌, ◌++◌, ◌+◌, ◌<◌, [], ⊤, None, IsTrue, length, unwrap_or, option_map, OnOk, OnErr};
+ghost use Rattle.std.specs.List.{flat_map};
+ghost use Rattle.std.specs.Vec.{vec_capacity};
 ghost use Rattle.vclock.specs.Answer.{Answers};
 ghost use Rattle.vclock.specs.Keys.{key_fault};
 ghost use Rattle.version_set.specs.Kind.{value_fault};
 ghost use Rattle.version_set.specs.Version.{offer_fault, offered};
-ghost use Rattle.row_bytes.specs.Rows.{row_text, FitsText};
-ghost use Rattle.hash_tree.specs.Leaves.{AscendByKey, IsBucket, IsPlace, versions_in, with_offer};
+ghost use Rattle.hash_tree.specs.Leaves.{Bucket, AscendByKey, IsBucket, IsPlace, versions_in, with_offer};
+ghost use Rattle.hash_tree.specs.Chunks.{all_rows, AreChunks};
 ghost use Rattle.hash_tree.specs.Texts.{leaf_text};
 
-use row_bytes::lengths::row_len;
+use crate::chunk::Chunk;
+use crate::chunked::{chunk_of, clone_chunks, count_rows, insert_at, offer_at, text_len};
+use crate::comparing::is_chunked_text;
+use crate::texts::put_chunks;
 use row_bytes::row::Row;
-use std::alloc::Global;
+use std::alloc::{AllocError, Global};
 use std::marker::Model;
 use vclock::bytes::Bytes;
 use vclock::format::Format;
@@ -27,27 +32,28 @@ pub struct FoundRow<'a> {
     pub place: Result<usize, usize>,
 }
 
-/// Rows in ascending order of key, each key once.
+/// Rows in ascending order of key, each key once, in chunks: what is put into a leaf moves the rows of one chunk only.
 #[derive(Debug, Drop)]
 pub struct Leaf {
     format: Format,
-    rows: Vec<Row>,
+    chunks: Vec<Chunk>,
     text_len: u128,
 }
 
 impl Model for Leaf {
     ghost use Rattle.std.specs.Prelude.{◌≡◌, length};
-    ghost use Rattle.std.specs.List.{AllByRecursion};
-    ghost use Rattle.hash_tree.specs.Leaves.{Bucket, IsBucket, IsShort};
+    ghost use Rattle.std.specs.List.{flat_map};
+    ghost use Rattle.hash_tree.specs.Leaves.{Bucket, IsBucket};
+    ghost use Rattle.hash_tree.specs.Chunks.{all_rows, AreChunks};
     ghost use Rattle.hash_tree.specs.Texts.{leaf_text};
 
     ghost Value = { Bucket };
 
-    ghost view = { λ l. record { format = l.format; rows = l.rows.items } };
+    ghost view = { λ l. record { format = l.format; rows = all_rows l.chunks.items } };
 
-    ghost invariant = { λ l. IsBucket (record { format = l.format; rows = l.rows.items })
-        × (l.text_len ≡ length (leaf_text l.format l.rows.items))
-        × AllByRecursion (IsShort l.format) l.rows.items };
+    ghost invariant = { λ l. IsBucket (record { format = l.format; rows = all_rows l.chunks.items })
+        × (l.text_len ≡ length (leaf_text l.format (all_rows l.chunks.items)))
+        × AreChunks l.format l.chunks.items };
 }
 
 impl Leaf {
@@ -57,7 +63,7 @@ impl Leaf {
     {
         Leaf {
             format,
-            rows: Vec::new(alloc),
+            chunks: Vec::new(alloc),
             text_len: 1,
         }
     }
@@ -76,46 +82,64 @@ impl Leaf {
         self.text_len
     }
 
-    /// The rows, in ascending order of key.
-    pub fn rows(&self) -> &[Row]
-        ensures all { result.now ≡ self.now.rows }
+    /// The rows in chunks, in ascending order of key throughout.
+    pub fn chunks(&self) -> &[Chunk]
+        ensures all { flat_map (λ (c : Bucket). c.rows) result.now ≡ self.now.rows }
         ensures valid { IsBucket self.now }
     {
-        self.rows.as_slice()
+        self.chunks.as_slice()
+    }
+
+    /// Appends the text of the leaf, without a look at its rows. It fails only where memory is needed beyond the room of
+    /// `out`, and then some of the text stands at the end.
+    pub fn put_text(&self, out: &mut Vec<u8>) -> Result<(), AllocError>
+        ensures ok { OnOk result (out.new.items ≡ out.old.items ++ leaf_text self.now.format self.now.rows) }
+        ensures room { OnErr result (vec_capacity out.old < length out.old.items + length (leaf_text self.now.format self.now.rows)) }
+    {
+        put_chunks(out, self.format, &self.chunks)
+    }
+
+    /// Whether a text is that of the leaf. It takes no memory.
+    pub fn is_text(&self, text: &[u8]) -> bool
+        ensures { IsTrue result ↔ (text.now ≡ leaf_text self.now.format self.now.rows) }
+    {
+        is_chunked_text(self.format, text, &self.chunks)
     }
 
     /// An equal leaf. Refused: NoMemory. It takes time in proportion to what is held.
     pub fn try_clone(&self, alloc: Global) -> Result<Leaf, Refusal>
         ensures { Answers result None (λ copy. copy ≡ self.now) }
     {
-        let mut rows = Vec::with_capacity(alloc, self.rows.len())?;
-        for row in &self.rows {
-            rows.push(Row {
-                key: row.key.try_clone()?,
-                versions: row.versions.try_clone(alloc)?,
-            })?;
-        }
         Ok(Leaf {
             format: self.format,
-            rows,
+            chunks: clone_chunks(alloc, &self.chunks)?,
             text_len: self.text_len,
         })
     }
 
     /// What is held for a key, and the place of its row, for an offer that comes next. It takes no memory, and time in
-    /// proportion to the logarithm of the rows.
+    /// proportion to the chunks of 128 rows.
     pub fn find(&self, key: &[u8]) -> FoundRow<'_>
         ensures set { unwrap_or (option_map (λ s. s.now) result.set) [] ≡ versions_in key.now self.now.rows }
         ensures place { IsPlace key.now self.now.rows result.place }
     {
-        match find_place(&self.rows, key) {
+        if self.chunks.is_empty() {
+            return FoundRow {
+                set: None,
+                place: Err(0),
+            };
+        }
+        let number = chunk_of(&self.chunks, key);
+        let before = count_rows(&self.chunks[..number]);
+        let rows = self.chunks[number].rows();
+        match find_place(rows, key) {
             Ok(at) => FoundRow {
-                set: Some(&self.rows[at].versions),
-                place: Ok(at),
+                set: Some(&rows[at].versions),
+                place: Ok(before + at),
             },
             Err(at) => FoundRow {
                 set: None,
-                place: Err(at),
+                place: Err(before + at),
             },
         }
     }
@@ -137,36 +161,39 @@ impl Leaf {
         ensures ok { OnOk result (self.new ≡ record self.old { rows = with_offer key.now version self.old.rows }) }
         ensures err { OnErr result (self.new ≡ self.old) }
     {
-        match place {
-            Ok(at) => {
-                let (before, after) = offer_to_row(self.format, &mut self.rows[at], version)?;
-                self.text_len = self.text_len - before as u128 + after as u128;
-            }
-            Err(at) => {
-                let row = first_row(alloc, key, version)?;
-                let len = row_len(self.format, &row);
-                self.rows.insert(at, row)?;
-                self.text_len += len as u128;
-            }
-        }
+        offer_to_key(alloc, self.format, &mut self.chunks, key, place, version)?;
+        self.text_len = text_len(&self.chunks);
         Ok(())
     }
 }
 
-/// Offers a version to the set of a row, and answers how many bytes the row's text had before, and has now.
-fn offer_to_row(format: Format, row: &mut Row, version: Version) -> Result<(u64, u64), Refusal>
-    requires fits { FitsText format row.old }
+/// Offers a version to the set of a key, whose place was found among the rows of chunks.
+///
+/// Refused, in order: Crowded (the set would have over 64 versions), NoMemory. The rows are then as they were.
+fn offer_to_key(
+    alloc: Global,
+    format: Format,
+    chunks: &mut Vec<Chunk>,
+    key: &[u8],
+    place: Result<usize, usize>,
+    version: Version,
+) -> Result<(), Refusal>
+    requires place { IsPlace key.now (all_rows chunks.old.items) place }
+    requires key { key_fault key.now ≡ None }
     requires value { value_fault format version.kind version.value ≡ None }
-    ensures answers { Answers result (offer_fault version row.old.versions) (λ _. ⊤) }
-    ensures ok { OnOk result (row.new ≡ record { key = row.old.key; versions = offered version row.old.versions }) }
-    ensures before { IfOk result (λ lens. lens.0 ≡ length (row_text format row.old)) }
-    ensures after { IfOk result (λ lens. lens.1 ≡ length (row_text format row.new)) }
-    ensures short { IfOk result (λ lens. lens.1 ≤ 4215427) }
-    ensures err { OnErr result (row.new ≡ row.old) }
+    requires chunks { AreChunks format chunks.old.items }
+    ensures answers { Answers result (offer_fault version (versions_in key.now (all_rows chunks.old.items))) (λ _. ⊤) }
+    ensures ok { OnOk result (all_rows chunks.new.items ≡ with_offer key.now version (all_rows chunks.old.items)) }
+    ensures chunks { AreChunks format chunks.new.items }
+    ensures err { OnErr result (all_rows chunks.new.items ≡ all_rows chunks.old.items) }
 {
-    let before = row_len(format, row);
-    row.versions.offer(version)?;
-    Ok((before, row_len(format, row)))
+    match place {
+        Ok(at) => offer_at(chunks, at, version),
+        Err(at) => {
+            let row = first_row(alloc, key, version)?;
+            insert_at(alloc, format, chunks, at, row)
+        }
+    }
 }
 
 /// The row of a key that has no other version.

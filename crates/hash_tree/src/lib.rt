@@ -1,6 +1,7 @@
 //! The tree of a range (the paper of 2007, section 4.7): its rows in leaves, and a digest for each node.
 //!
 //! - [`leaf`]: the rows of one leaf, in order of key.
+//! - [`chunk`]: consecutive rows of a leaf, with their texts.
 //! - [`shared`]: a leaf that a range shares with whoever looked at it.
 //! - [`node`]: nodes by depth and index.
 //! - [`hashed`]: texts with their digests.
@@ -9,6 +10,8 @@
 //! - [`laws`]: what the definitions say.
 #![tactic(auto)]
 
+pub mod chunk;
+mod chunked;
 pub mod comparing;
 pub mod hashed;
 pub mod laws;

@@ -1,16 +1,20 @@
 //! Leaves that have several owners: a range, and the jobs that look at it.
-ghost use Rattle.std.specs.Prelude.{◌≡◌, [], ⊤, None, length, unwrap_or, option_map, OnOk, OnErr};
+ghost use Rattle.std.specs.Prelude.{◌≡◌, ◌↔◌, ◌++◌, ◌+◌, ◌<◌, [], ⊤, None, IsTrue, length, unwrap_or, option_map, OnOk, OnErr};
+ghost use Rattle.std.specs.List.{flat_map};
+ghost use Rattle.std.specs.Vec.{vec_capacity};
 ghost use Rattle.std.specs.Arc.{arc_value};
 ghost use Rattle.vclock.specs.Answer.{Answers};
 ghost use Rattle.vclock.specs.Keys.{key_fault};
 ghost use Rattle.version_set.specs.Kind.{value_fault};
 ghost use Rattle.version_set.specs.Version.{offer_fault};
-ghost use Rattle.hash_tree.specs.Leaves.{IsBucket, IsPlace, versions_in, with_offer};
+ghost use Rattle.hash_tree.specs.Leaves.{Bucket, IsBucket, IsPlace, versions_in, with_offer};
 ghost use Rattle.hash_tree.specs.Texts.{leaf_text};
 
+use crate::chunk::Chunk;
+use crate::comparing::is_chunked_text;
 use crate::leaf::{FoundRow, Leaf};
-use row_bytes::row::Row;
-use std::alloc::Global;
+use crate::texts::leaf_byte;
+use std::alloc::{AllocError, Global};
 use std::marker::Model;
 use std::sync::Arc;
 use vclock::format::Format;
@@ -76,14 +80,38 @@ impl SharedLeaf {
         })
     }
 
-    /// The rows, in ascending order of key.
-    pub fn rows(&self) -> &[Row]
-        ensures all { result.now ≡ self.now.rows }
+    /// The rows in chunks, in ascending order of key throughout.
+    pub fn chunks(&self) -> &[Chunk]
+        ensures all { flat_map (λ (c : Bucket). c.rows) result.now ≡ self.now.rows }
         ensures valid { IsBucket self.now }
     {
         match &self.leaf {
-            Some(leaf) => leaf.rows(),
+            Some(leaf) => leaf.chunks(),
             None => &[],
+        }
+    }
+
+    /// Appends the text of the leaf, without a look at its rows. It fails only where memory is needed beyond the room of
+    /// `out`, and then some of the text stands at the end.
+    #[tactic(auto, unfolding(crate::specs::Texts::leaf_text))]
+    pub fn put_text(&self, out: &mut Vec<u8>) -> Result<(), AllocError>
+        ensures ok { OnOk result (out.new.items ≡ out.old.items ++ leaf_text self.now.format self.now.rows) }
+        ensures room { OnErr result (vec_capacity out.old < length out.old.items + length (leaf_text self.now.format self.now.rows)) }
+    {
+        match &self.leaf {
+            Some(leaf) => leaf.put_text(out),
+            None => Ok(out.push(leaf_byte(self.format))?),
+        }
+    }
+
+    /// Whether a text is that of the leaf. It takes no memory.
+    #[tactic(auto, unfolding(crate::specs::Texts::leaf_text))]
+    pub fn is_text(&self, text: &[u8]) -> bool
+        ensures { IsTrue result ↔ (text.now ≡ leaf_text self.now.format self.now.rows) }
+    {
+        match &self.leaf {
+            Some(leaf) => leaf.is_text(text),
+            None => is_chunked_text(self.format, text, &[]),
         }
     }
 

@@ -1,11 +1,13 @@
 //! The texts of nodes. What stands in them, this project's profile says.
-ghost use Rattle.std.specs.Prelude.{◌≡◌, ◌++◌, ◌+◌, ◌<◌, ◌≤◌, length, None, OnOk, OnErr};
-ghost use Rattle.std.specs.List.{AllByRecursion};
+ghost use Rattle.std.specs.Prelude.{◌≡◌, ◌++◌, ◌+◌, ◌<◌, ◌≤◌, ◌∷◌, length, None, OnOk, OnErr};
+ghost use Rattle.std.specs.List.{AllByRecursion, flat_map};
 ghost use Rattle.std.specs.Vec.{vec_capacity};
 ghost use Rattle.vclock.specs.Answer.{Answers};
 ghost use Rattle.row_bytes.specs.Rows.{FitsText};
+ghost use Rattle.hash_tree.specs.Chunks.{chunk_text};
 ghost use Rattle.hash_tree.specs.Texts.{leaf_byte, inner_byte, leaf_text, inner_text};
 
+use crate::chunk::Chunk;
 use crate::hashed::Digest;
 use row_bytes::row::Row;
 use row_bytes::writing::put_row;
@@ -47,6 +49,23 @@ pub fn put_leaf_text(out: &mut Vec<u8>, format: Format, rows: &[Row]) -> Result<
     out.push(leaf_byte(format))?;
     for row in rows {
         put_row(out, format, row)?;
+    }
+    Ok(())
+}
+
+/// Appends the text of a leaf with these chunks. It fails only where memory is needed beyond the room of `out`, and then
+/// some of the text stands at the end.
+pub(crate) fn put_chunks(
+    out: &mut Vec<u8>,
+    format: Format,
+    chunks: &[Chunk],
+) -> Result<(), AllocError>
+    ensures ok { OnOk result (out.new.items ≡ out.old.items ++ leaf_byte format ∷ flat_map chunk_text chunks.now) }
+    ensures room { OnErr result (vec_capacity out.old < length out.old.items + length (flat_map chunk_text chunks.now) + 1) }
+{
+    out.push(leaf_byte(format))?;
+    for chunk in chunks {
+        out.extend_from_slice(chunk.text())?;
     }
     Ok(())
 }

@@ -6,22 +6,23 @@ use Rattle.serde_json.specs.Data.{Data, Items, no_items, item, null}
 use Rattle.serde_json.specs.View.{view, items_view}
 use Rattle.serde_json.specs.declared.value.Value.{Value}
 use Rattle.vclock.specs.Clock.{Pairs}
+use Rattle.vclock.specs.Refusal.{name_of, number_of}
 use Rattle.vclock.specs.declared.refusal.Refusal.{Refusal}
 use Rattle.vclock.specs.declared.refusal.Refusal.TheVariants.{StaleContext}
-use Rattle.outage_script.specs.Answers.{items_of, pair_data, clock_data, put_members, put_answer, cause_members, held_members, line_members, bad_line_answer, refusal_answer, value_data, version_members, version_data, versions_members, versions_answer, row_members, row_answer, ring_answer, rehash_answer, node_answer, digest_members, bytes_data, up_answer, deliver_answer, slot_members, adjust_members, maybe_number, sample_answer, settled}
+use Rattle.outage_script.specs.Answers.{items_of, pair_data, clock_data, put_members, put_answer, cause_members, held_members, line_members, bad_line_answer, refusal_answer, value_data, version_members, version_data, versions_members, versions_answer, row_members, row_answer, ring_answer, rehash_answer, sync_answer, finished_members, stopped_members, node_answer, digest_members, bytes_data, up_answer, deliver_answer, slot_members, adjust_members, maybe_number, sample_answer, settled}
 use Rattle.version_set.specs.declared.kind.Kind.{Kind}
 use Rattle.version_set.specs.declared.kind.Kind.TheVariants.{Live, Tombstone}
 use Rattle.version_set.specs.declared.version.Version.{Version}
 use Rattle.vclock.specs.declared.format.Format.{Format}
 use Rattle.range_state.specs.State as range
-use Rattle.outage_script.specs.Asks.{SlotAsk, lend_slot, give_slot_back, set_target, adjust_target, Ask, ring, put, get, row, take_down, bring_up, deliver, rehash, show_node, slot, sample}
-use Rattle.outage_script.specs.State.{Cluster, State, brought_up, home, hints_of, replicas_of, taken_down}
+use Rattle.outage_script.specs.Asks.{SyncAsk, SlotAsk, lend_slot, give_slot_back, set_target, adjust_target, Ask, ring, put, get, row, take_down, bring_up, deliver, rehash, sync, show_node, slot, sample}
+use Rattle.outage_script.specs.State.{Cluster, Replica, State, brought_up, home, hints_of, replicas_of, taken_down}
 use Rattle.hint_store.specs.declared.hint.Kept.{Kept}
 use Rattle.vclock.specs.Answer.{first_fault}
 use Rattle.admission.specs.Admission.{Admission, clock_fault, lend_fault}
 use Rattle.outage_script.specs.Slots.{lent, slot_done, sample_done, slot_fault}
 use Rattle.outage_script.specs.Handoff.{deliver_done}
-use Rattle.outage_script.specs.Acts.{act, done_at, new_ring_fault, ring_config, remade, put_fault, put_done, get_fault, get_done, row_done, kept_at, nodes_fault, range_fault, rehash_done, ring_nodes_fault, node_done}
+use Rattle.outage_script.specs.Acts.{act, done_at, new_ring_fault, ring_config, remade, put_fault, put_done, get_fault, get_done, row_done, kept_at, nodes_fault, range_fault, rehash_done, replica_in, ring_nodes_fault, sync_done, sync_fault, node_done}
 
 -- some items and then more
 abbrev pub joined : Items → Items → Items
@@ -147,6 +148,24 @@ rehash_answer_plain : (hashed : ℕ) → has_float (rehash_answer hashed) ≡ fa
 unfolding rehash_answer
 rehash_answer_plain hashed = refl
 
+finished_plain : (accepted asked known : ℕ) → has_float (finished_members accepted asked known) ≡ false
+unfolding finished_members
+finished_plain accepted asked known = refl
+
+stopped_plain : (accepted asked : ℕ) (cause : List ℕ) (known n : ℕ) → has_float (stopped_members accepted asked cause known n) ≡ false
+unfolding stopped_members
+stopped_plain accepted asked cause known n = refl
+
+sync_answer_plain : (accepted asked known : ℕ) (fault : Option Refusal) → has_float (sync_answer accepted asked known fault) ≡ false
+unfolding sync_answer
+sync_answer_plain accepted asked known None = finished_plain accepted asked known
+sync_answer_plain accepted asked known (Some refusal) = stopped_plain accepted asked (name_of refusal) known (number_of refusal)
+
+sync_plain : (q : SyncAsk) (s : Cluster) (partner : Option range.State) (own : Option Replica) → has_float (sync_done q s partner own).0 ≡ false
+sync_plain q s partner None = refl
+sync_plain q s None (Some own) = refl
+sync_plain q s (Some h) (Some own) = sync_answer_plain _ _ _ _
+
 members_plain : (d : Data) → has_float d ≡ false → has_float (digest_members d) ≡ false
 unfolding digest_members
 members_plain d h = rw h refl
@@ -166,6 +185,7 @@ reply_plain (take_down n) s = settled_plain (ring_nodes_fault s.cluster n []) (u
 reply_plain (bring_up n) s = settled_plain (ring_nodes_fault s.cluster n []) (up_answer n true, brought_up s.cluster n) s.cluster (up_answer_plain n true)
 reply_plain (deliver n) s = settled_plain (first_fault (nodes_fault s.cluster n []) (lend_fault s.slots)) (deliver_done s.cluster n (hints_of s.cluster n)) s.cluster (deliver_plain s.cluster n (hints_of s.cluster n))
 reply_plain (rehash q) s = settled_plain (first_fault (range_fault s.cluster q.node q.range) (lend_fault s.slots)) (done_at (rehash_done q s.cluster) (kept_at s.cluster q.node q.range) s.cluster) s.cluster (done_plain (rehash_done q s.cluster) (kept_at s.cluster q.node q.range) s.cluster (λ h. rehash_answer_plain _))
+reply_plain (sync q) s = settled_plain (sync_fault q s) (sync_done q s.cluster (kept_at s.cluster q.from q.range) (replica_in s.cluster q.node q.range)) s.cluster (sync_plain q s.cluster (kept_at s.cluster q.from q.range) (replica_in s.cluster q.node q.range))
 reply_plain (show_node q) s = settled_plain (range_fault s.cluster q.node q.range) (done_at (λ h. (node_done q h, s.cluster)) (kept_at s.cluster q.node q.range) s.cluster) s.cluster (done_plain (λ h. (node_done q h, s.cluster)) (kept_at s.cluster q.node q.range) s.cluster (λ h. node_answer_plain _))
 reply_plain (slot x) s = settled_plain (slot_fault x s.slots) (slot_done x s.slots) s.slots (slot_plain x s.slots)
 reply_plain (sample q) s = settled_plain (clock_fault s.slots q.moment) (sample_done q s.slots) s.slots (sample_answer_plain _)

@@ -6,6 +6,7 @@ pub mod LineLemmas
 pub mod FeedLemmas
 pub mod RunLemmas
 pub mod NodeLaws
+pub mod SyncLaws
 pub mod ListSteps
 pub mod AnswerSteps
 pub mod HandoffLaws

@@ -1,36 +1,44 @@
 -- Replicas: which of them is a node's, and what a loop over them does.
 use mir.Val.{bool_byte}
 use Rattle.std.proofs.Common.{◌≡◌, ℕ, zero, suc, ◌+◌, ◌<◌, ◌≤◌, Bool, true, false, cond, set, List, [], ◌∷◌, ◌++◌, length, map, filter, take, drop, get_or, refl, ap, sym, subst, ◌∙◌, arith, Some, None, add-one, drop-cons}
-use Rattle.std.specs.Prelude.{nat_eq, slice_get, IsTrue, ◌%◌}
+use Rattle.std.specs.Prelude.{nat_eq, slice_get, option_map, IsTrue, ◌%◌}
 use Rattle.std.specs.List.{list_all, range_with_len}
 use Rattle.std.proofs.lemmas.List.{length-map, map_push}
 use Rattle.std.proofs.lemmas.List.FromFn.{length-range_with_len}
 use Rattle.std.proofs.lemmas.Bool.{and_parts}
 use Rattle.std.proofs.lemmas.Bool.Decides.{nat_tests}
 use Rattle.key_ring.specs.Ring.{Places, is_ring, is_node, preference_list}
+use Rattle.hash_tree.proofs.ChunkLaws.{all-drop, all-set, all-take}
+use Rattle.range_state.proofs.SessionLaws.{all-append}
+use Rattle.hash_tree.proofs.KeyOrder.{all_get}
+use Rattle.range_state.specs.Config.{Config}
+use Rattle.outage_script.specs.Homes.{AreOf, IsHome}
+use Rattle.snapshot.specs.RowMaps.{RowMap}
 use Rattle.range_state.specs.State as range
-use Rattle.outage_script.specs.State.{Replica, home, with_home, IsHome}
+use Rattle.range_state.specs.Syncs.{IsOfRange}
+use Rattle.outage_script.specs.State.{Replica, empty_range, home, keeping, replica_at, at_node}
+use Rattle.outage_script.specs.Syncs.{synced_with}
 
 -- ---- the replica of a node
 
 -- a loop up to i has not found it
 pub record NotYet (n : ℕ) (reps : List Replica) (i : ℕ) : Type 0 where
   pub within : i ≤ length reps
-  pub keeps : (h : range.State) → with_home n h reps ≡ take i reps ++ with_home n h (drop i reps)
-  pub holds : home n (drop i reps) ≡ home n reps
+  pub changes : (f : Replica → Replica) → at_node n f reps ≡ take i reps ++ at_node n f (drop i reps)
+  pub is : replica_at n (drop i reps) ≡ replica_at n reps
 
 is_it : (r : Replica) (n : ℕ) → r.node ≡ n → nat_eq r.node n ≡ true
 is_it r n e = grind (arith, nat_tests, e)
 
-keeps_here : (reps : List Replica) (i n : ℕ) (h : range.State) (d : Replica) → i < length reps → (get_or reps i d).node ≡ n → take i reps ++ with_home n h (drop i reps) ≡ set reps i (record { node = (get_or reps i d).node; range = h })
-keeps_here [] i n h d lt e = absurd (omega arith)
-keeps_here (r ∷ reps) zero n h d lt e = rw (is_it r n e) refl
-keeps_here (r ∷ reps) (suc i) n h d lt e = ap (λ t. r ∷ t) (keeps_here reps i n h d (omega arith) e)
+changes_here : (reps : List Replica) (i n : ℕ) (f : Replica → Replica) (d : Replica) → i < length reps → (get_or reps i d).node ≡ n → take i reps ++ at_node n f (drop i reps) ≡ set reps i (f (get_or reps i d))
+changes_here [] i n f d lt e = absurd (omega arith)
+changes_here (r ∷ reps) zero n f d lt e = rw (is_it r n e) refl
+changes_here (r ∷ reps) (suc i) n f d lt e = ap (λ t. r ∷ t) (changes_here reps i n f d (omega arith) e)
 
-holds_here : (reps : List Replica) (i n : ℕ) (d : Replica) → i < length reps → (get_or reps i d).node ≡ n → home n (drop i reps) ≡ Some (get_or reps i d).range
-holds_here [] i n d lt e = absurd (omega arith)
-holds_here (r ∷ reps) zero n d lt e = rw (is_it r n e) refl
-holds_here (r ∷ reps) (suc i) n d lt e = holds_here reps i n d (omega arith) e
+is_here : (reps : List Replica) (i n : ℕ) (d : Replica) → i < length reps → (get_or reps i d).node ≡ n → replica_at n (drop i reps) ≡ Some (get_or reps i d)
+is_here [] i n d lt e = absurd (omega arith)
+is_here (r ∷ reps) zero n d lt e = rw (is_it r n e) refl
+is_here (r ∷ reps) (suc i) n d lt e = is_here reps i n d (omega arith) e
 
 same_default : (reps : List Replica) (i : ℕ) (d e : Replica) → i < length reps → get_or reps i d ≡ get_or reps i e
 same_default [] i d e h = absurd (omega arith)
@@ -39,13 +47,17 @@ same_default (r ∷ reps) (suc i) d e h = same_default reps i d e (omega arith)
 
 -- it is found at i
 pub found_here : (reps : List Replica) (i n : ℕ) (r : Replica) → i < length reps → r ≡ get_or reps i r → r.node ≡ n → NotYet n reps i → IsHome n reps i
-found_here reps i n r lt is e so =
-    let node : (d : Replica) → (get_or reps i d).node ≡ n = λ d. subst (λ (x : Replica). x.node ≡ n) (is ∙ same_default reps i r d lt) e in
+found_here reps i n r lt there e so =
+    let node : (d : Replica) → (get_or reps i d).node ≡ n = λ d. subst (λ (x : Replica). x.node ≡ n) (there ∙ same_default reps i r d lt) e in
+    let is : (d : Replica) → replica_at n reps ≡ Some (get_or reps i d) = λ d. sym so.is ∙ is_here reps i n d lt (node d) in
+    let changes : (f : Replica → Replica) (d : Replica) → at_node n f reps ≡ set reps i (f (get_or reps i d)) = λ f d. so.changes f ∙ changes_here reps i n f d lt (node d) in
     record {
       within = lt;
       node = node;
-      holds = λ d. sym so.holds ∙ holds_here reps i n d lt (node d);
-      keeps = λ h d. so.keeps h ∙ keeps_here reps i n h d lt (node d);
+      is = is;
+      holds = λ d. ap (option_map (λ (x : Replica). x.range)) (is d);
+      keeps = λ h d. changes (keeping h) d;
+      syncs = λ other d. changes (synced_with other) d;
     }
 
 -- it is not at i
@@ -54,30 +66,64 @@ not_here reps i n r lt is other so =
     let here : drop i reps ≡ r ∷ drop (suc i) reps = drop-cons reps i r lt ∙ ap (λ x. x ∷ drop (suc i) reps) (sym is) in
     rw (add-one) (record {
       within = omega arith;
-      keeps = λ h. so.keeps h ∙ ap (λ (t : List Replica). take i reps ++ with_home n h t) here ∙ passes h;
-      holds = sym (ap (home n) here ∙ rw other refl) ∙ so.holds;
+      changes = λ f. so.changes f ∙ ap (λ (t : List Replica). take i reps ++ at_node n f t) here ∙ passes f;
+      is = sym (ap (replica_at n) here ∙ rw other refl) ∙ so.is;
     })
   where
-    kept : (xs : List Replica) (j : ℕ) (h : range.State) → j < length xs → take j xs ++ (get_or xs j r ∷ with_home n h (drop (suc j) xs)) ≡ take (suc j) xs ++ with_home n h (drop (suc j) xs)
-    kept [] j h l = absurd (omega arith)
-    kept (x ∷ xs) zero h l = refl
-    kept (x ∷ xs) (suc j) h l = ap (λ t. x ∷ t) (kept xs j h (omega arith))
+    kept : (xs : List Replica) (j : ℕ) (f : Replica → Replica) → j < length xs → take j xs ++ (get_or xs j r ∷ at_node n f (drop (suc j) xs)) ≡ take (suc j) xs ++ at_node n f (drop (suc j) xs)
+    kept [] j f l = absurd (omega arith)
+    kept (x ∷ xs) zero f l = refl
+    kept (x ∷ xs) (suc j) f l = ap (λ t. x ∷ t) (kept xs j f (omega arith))
 
-    passes : (h : range.State) → take i reps ++ with_home n h (r ∷ drop (suc i) reps) ≡ take (suc i) reps ++ with_home n h (drop (suc i) reps)
-    passes h = ap (λ (t : List Replica). take i reps ++ t) (rw other refl) ∙ ap (λ (x : Replica). take i reps ++ (x ∷ with_home n h (drop (suc i) reps))) is ∙ kept reps i h lt
+    passes : (f : Replica → Replica) → take i reps ++ at_node n f (r ∷ drop (suc i) reps) ≡ take (suc i) reps ++ at_node n f (drop (suc i) reps)
+    passes f = ap (λ (t : List Replica). take i reps ++ t) (rw other refl) ∙ ap (λ (x : Replica). take i reps ++ (x ∷ at_node n f (drop (suc i) reps))) is ∙ kept reps i f lt
 
 -- it is nowhere
-pub nowhere : (reps : List Replica) (i n : ℕ) → length reps ≤ i → NotYet n reps i → home n reps ≡ None
-nowhere reps i n past so = sym so.holds ∙ past_end reps i past
+pub nowhere : (reps : List Replica) (i n : ℕ) → length reps ≤ i → NotYet n reps i → replica_at n reps ≡ None
+nowhere reps i n past so = sym so.is ∙ past_end reps i past
   where
-    past_end : (xs : List Replica) (j : ℕ) → length xs ≤ j → home n (drop j xs) ≡ None
+    past_end : (xs : List Replica) (j : ℕ) → length xs ≤ j → replica_at n (drop j xs) ≡ None
     past_end [] j le = drop_none j
       where
-        drop_none : (j : ℕ) → home n (drop j []) ≡ None
+        drop_none : (j : ℕ) → replica_at n (drop j []) ≡ None
         drop_none zero = refl
         drop_none (suc j) = refl
     past_end (x ∷ xs) zero le = absurd (omega arith)
     past_end (x ∷ xs) (suc j) le = past_end xs j (omega arith)
+
+-- ---- replicas of one range
+
+-- one that is of the same range as before is put in its place
+pub of_set : (c : Config) (reps : List Replica) (i : ℕ) (new d : Replica) → AreOf c reps → i < length reps → new.range.config ≡ (get_or reps i d).range.config → AreOf c (set reps i new)
+of_set c reps i new d are lt same = all-set (λ (r : Replica). r.range.config ≡ c) reps i new (same ∙ all_get (λ (r : Replica). r.range.config ≡ c) reps i d are lt) are
+
+-- what a node keeps is of that range
+pub home_of : (c : Config) (reps : List Replica) (n : ℕ) (h : range.State) → AreOf c reps → home n reps ≡ Some h → h.config ≡ c
+home_of c [] n h are e = cc
+home_of c (r ∷ reps) n h are e = by_case (nat_eq r.node n) (home_of c reps n h are.1) e
+  where
+    by_case : (b : Bool) → (home n reps ≡ Some h → h.config ≡ c) → option_map (λ (x : Replica). x.range) (cond b (Some r) (replica_at n reps)) ≡ Some h → h.config ≡ c
+    by_case true rest found = let same : r.range ≡ h = cc in sym (ap (λ (x : range.State). x.config) same) ∙ are.0
+    by_case false rest found = rest found
+
+-- so are the rows that it offers
+pub of_range : (h : range.State) (c : Config) (m : RowMap) → m ≡ range.rows_now h → h.config ≡ c → IsOfRange c m
+of_range h c m rows same = record {
+  format = ap (λ (x : RowMap). x.format) rows ∙ ap (λ (x : Config). x.format) same;
+  bits = ap (λ (x : RowMap). x.bits) rows ∙ ap (λ (x : Config). x.bits) same;
+  range = ap (λ (x : RowMap). x.range) rows ∙ ap (λ (x : Config). x.range) same;
+}
+
+-- those that have accepted nothing are
+pub of_made : (c : Config) (nodes : List ℕ) → AreOf c (map (λ n. record { node = n; range = empty_range c c.range; sessions = [] }) nodes)
+of_made c [] = tt
+of_made c (n ∷ nodes) = (refl, of_made c nodes)
+
+-- so are those that a part of all was sent to
+pub of_sent : (c : Config) (sent all : List Replica) (k : ℕ) → AreOf c sent → AreOf c all → AreOf c (take k (sent ++ drop (length sent) all))
+of_sent c sent all k are rest =
+    let is = λ (r : Replica). r.range.config ≡ c in
+    all-take is (sent ++ drop (length sent) all) k (all-append is sent (drop (length sent) all) are (all-drop is all (length sent) rest))
 
 -- ---- a loop that changes each element
 

@@ -1,5 +1,5 @@
 -- What the commands do to the state, and what they answer.
-use Rattle.std.specs.Prelude.{ℕ, ◌^◌, Bool, true, false, not, ◌==◌, ◌&&◌, ◌-◌, nat_le, nat_lt, slice_index_or, List, [], length, map, filter, if◌then◌else◌, Option, Some, None, is_none, is_some}
+use Rattle.std.specs.Prelude.{ℕ, ◌^◌, Bool, true, false, not, ◌==◌, ◌&&◌, ◌-◌, nat_le, nat_lt, slice_index_or, List, [], ◌∷◌, length, map, filter, if◌then◌else◌, Option, Some, None, is_none, is_some}
 use Rattle.std.specs.List.{list_any, list_all}
 use Rattle.serde_json.specs.Data.{Data, null}
 use Rattle.vclock.specs.Answer.{first_fault}
@@ -24,10 +24,11 @@ use Rattle.range_state.specs.State as range
 use Rattle.range_state.specs.Trees.{rehashed}
 use Rattle.hash_tree.specs.Nodes.{tree_depth, place_at, digest_at, dirty_count}
 use Rattle.hash_tree.specs.Texts.{node_digest}
-use Rattle.outage_script.specs.Asks.{RingAsk, PutAsk, GetAsk, RehashAsk, NodeAsk, Ask, ring, put, get, row, take_down, bring_up, deliver, rehash, show_node, slot, sample}
+use Rattle.outage_script.specs.Asks.{RingAsk, PutAsk, GetAsk, RehashAsk, SyncAsk, NodeAsk, Ask, ring, put, get, row, take_down, bring_up, deliver, rehash, sync, show_node, slot, sample}
 use Rattle.outage_script.specs.Answers.{ring_answer, put_answer, versions_answer, row_answer, up_answer, rehash_answer, node_answer, settled}
-use Rattle.outage_script.specs.State.{Cluster, State, Replica, first_slots, made, replicas_of, with_range, with_replicas, home, with_home, is_member, is_down, taken_down, brought_up, hints_of}
+use Rattle.outage_script.specs.State.{Cluster, State, Replica, first_slots, made, keeping, replica_at, at_node, replicas_of, with_range, with_replicas, home, with_home, is_member, is_down, taken_down, brought_up, hints_of}
 use Rattle.outage_script.specs.Handoff.{owners_of, carrier_of, hinted, deliver_done}
+use Rattle.outage_script.specs.Syncs.{session_fault, told, synced_with}
 use Rattle.outage_script.specs.Slots.{slot_fault, slot_done, sample_done, is_target}
 
 -- ---- a ring
@@ -52,9 +53,13 @@ remade r None s = s
 abbrev pub ring_nodes_fault : Cluster → ℕ → List ℕ → Option Refusal
 ring_nodes_fault s node others = if is_member s node && list_all (is_member s) others then None else Some BadRing
 
--- or the first of them is down
+-- why a node is refused: it is down
+abbrev pub down_fault : Cluster → ℕ → Option Refusal
+down_fault s node = if is_down s node then Some Down else None
+
+-- why nodes are refused: one is not on the ring, or the first is down
 abbrev pub nodes_fault : Cluster → ℕ → List ℕ → Option Refusal
-nodes_fault s node others = first_fault (ring_nodes_fault s node others) (if is_down s node then Some Down else None)
+nodes_fault s node others = first_fault (ring_nodes_fault s node others) (down_fault s node)
 
 -- null is a tombstone, whose value is empty
 abbrev pub kind_of : Option (List ℕ) → Kind
@@ -104,7 +109,7 @@ takes down node lose e r = gets_copy down node lose r.node && is_none (range.acc
 
 -- a replica after the copies were sent: one that refuses its copy is as it was
 abbrev pub after_copy : List ℕ → ℕ → List ℕ → Entry → Replica → Replica
-after_copy down node lose e r = if takes down node lose e r then record { node = r.node; range = range.accept_step r.range 0 Copy e.key e.version } else r
+after_copy down node lose e r = if takes down node lose e r then keeping (range.accept_step r.range 0 Copy e.key e.version) r else r
 
 -- the replicas of the key's range with the entry of a put, before the copies are sent
 abbrev pub entered : PutAsk → range.State → List Replica → List Replica
@@ -151,6 +156,31 @@ range_fault s node r = first_fault (nodes_fault s node []) (home_fault (λ _. No
 abbrev pub rehash_done : RehashAsk → Cluster → range.State → Data × Cluster
 rehash_done q s h = (rehash_answer (dirty_count h.marks), with_range s q.range (with_home q.node (rehashed h) (slice_index_or s.replicas q.range [])))
 
+-- why a sync is refused for its nodes: one is not on the ring, one is down, or one does not keep the range
+abbrev pub pair_fault : SyncAsk → Cluster → Option Refusal
+pair_fault q s = first_fault (ring_nodes_fault s q.node (q.from ∷ [])) (first_fault (down_fault s q.node) (down_fault s q.from))
+
+abbrev pub keepers_fault : SyncAsk → Cluster → Option Refusal
+keepers_fault q s = first_fault (pair_fault q s) (first_fault (home_fault (λ _. None) (kept_at s q.node q.range)) (home_fault (λ _. None) (kept_at s q.from q.range)))
+
+-- the replica at a node of the range of that number
+abbrev pub replica_in : Cluster → ℕ → ℕ → Option Replica
+replica_in s node r = replica_at node (slice_index_or s.replicas r [])
+
+-- why a sync is refused for what the nodes keep: the other's tree has a dirty node, or no session is opened
+abbrev pub walk_fault : SyncAsk → Cluster → Option Refusal
+walk_fault q s = first_fault (home_fault range.dirty_fault (kept_at s q.from q.range)) (session_fault (replica_in s q.node q.range))
+
+-- why a sync is refused, in the order in which the causes are tested
+abbrev pub sync_fault : SyncAsk → State → Option Refusal
+sync_fault q s = first_fault (keepers_fault q s.cluster) (first_fault (lend_fault s.slots) (walk_fault q s.cluster))
+
+-- a sync of a replica with the rows of another
+abbrev pub sync_done : SyncAsk → Cluster → Option range.State → Option Replica → Data × Cluster
+sync_done q s partner None = (null, s)
+sync_done q s None (Some own) = (null, s)
+sync_done q s (Some h) (Some own) = (told own (range.rows_now h), with_range s q.range (at_node q.node (synced_with (range.rows_now h)) (slice_index_or s.replicas q.range [])))
+
 -- the digest of a node, shown where it is clean: that of the node's text for the rows now
 abbrev pub shown_digest : ℕ → ℕ → range.State → Option (List ℕ)
 shown_digest depth index h = if is_some (digest_at h.marks (place_at depth index)) then Some (node_digest h.config.format (range.leaf_in h.config) (rows_of h.entries) (tree_depth h.config.format - depth) index) else None
@@ -173,7 +203,7 @@ slots_act fault done s = in_slots s (settled fault (done s.slots) s.slots)
 abbrev pub cluster_act : Option Refusal → (Cluster → Data × Cluster) → State → Data × State
 cluster_act fault done s = in_cluster s (settled fault (done s.cluster) s.cluster)
 
--- a command's answer, and the state after it; a rehash and a delivery borrow a slot
+-- a command's answer, and the state after it; a rehash, a sync and a delivery borrow a slot
 unfoldable pub act : Ask → State → Data × State
 act (ring r) s = settled (new_ring_fault r) (ring_answer (length r.nodes) (2 ^ r.bits), remade r (ring_config r) s) s
 act (put p) s = cluster_act (put_fault p s.cluster) (λ c. done_at (put_done p c) (home p.node (replicas_of c p.key)) c) s
@@ -183,6 +213,7 @@ act (take_down n) s = cluster_act (ring_nodes_fault s.cluster n []) (λ c. (up_a
 act (bring_up n) s = cluster_act (ring_nodes_fault s.cluster n []) (λ c. (up_answer n true, brought_up c n)) s
 act (deliver n) s = cluster_act (first_fault (nodes_fault s.cluster n []) (lend_fault s.slots)) (λ c. deliver_done c n (hints_of c n)) s
 act (rehash q) s = cluster_act (first_fault (range_fault s.cluster q.node q.range) (lend_fault s.slots)) (λ c. done_at (rehash_done q c) (kept_at c q.node q.range) c) s
+act (sync q) s = cluster_act (sync_fault q s) (λ c. sync_done q c (kept_at c q.from q.range) (replica_in c q.node q.range)) s
 act (show_node q) s = cluster_act (range_fault s.cluster q.node q.range) (λ c. done_at (λ h. (node_done q h, c)) (kept_at c q.node q.range) c) s
 act (slot x) s = slots_act (slot_fault x s.slots) (slot_done x) s
 act (sample q) s = slots_act (clock_fault s.slots q.moment) (sample_done q) s
@@ -205,6 +236,7 @@ suits s (take_down n) = true
 suits s (bring_up n) = true
 suits s (deliver n) = true
 suits s (rehash q) = true
+suits s (sync q) = true
 suits s (show_node q) = is_tree_node s.cluster.format q.depth q.index
 suits s (slot x) = is_target s.slots x
 suits s (sample q) = true

@@ -111,6 +111,20 @@ ring_answer nodes ranges = object (member (codes "nodes") (number_data nodes) (m
 unfoldable pub rehash_answer : ℕ → Data
 rehash_answer hashed = object (member (codes "hashed") (number_data hashed) no_members)
 
+-- the members of a sync's answer, in ascending order
+unfoldable pub finished_members : ℕ → ℕ → ℕ → Data
+finished_members accepted asked known = object (member (codes "accepted") (number_data accepted) (member (codes "asked") (number_data asked) (member (codes "known") (number_data known) (member (codes "state") (string (codes "Finished")) no_members))))
+
+-- the same of a sync that a refusal stopped
+unfoldable pub stopped_members : ℕ → ℕ → List ℕ → ℕ → ℕ → Data
+stopped_members accepted asked cause known n = object (member (codes "accepted") (number_data accepted) (member (codes "asked") (number_data asked) (member (codes "cause") (string cause) (member (codes "known") (number_data known) (member (codes "refused") (number_data n) (member (codes "state") (string (codes "Open")) no_members))))))
+
+-- a sync: how many versions of the other replica came, how many nodes were asked, how many of the versions were known, and
+-- why a leaf was refused, if one was
+unfoldable pub sync_answer : ℕ → ℕ → ℕ → Option Refusal → Data
+sync_answer accepted asked known None = finished_members accepted asked known
+sync_answer accepted asked known (Some refusal) = stopped_members accepted asked (name_of refusal) known (number_of refusal)
+
 -- a digest, or null for a dirty node
 abbrev pub digest_data : Option (List ℕ) → Data
 digest_data (Some digest) = bytes_data digest

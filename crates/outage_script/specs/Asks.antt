@@ -28,6 +28,12 @@ pub record RehashAsk : Type 0 where
   pub node : ℕ
   pub range : ℕ
 
+-- a range, and two nodes that keep it: one is to have what the other has
+pub record SyncAsk : Type 0 where
+  pub from : ℕ
+  pub node : ℕ
+  pub range : ℕ
+
 -- a node of the tree of a range at a node of the ring
 pub record NodeAsk : Type 0 where
   pub node : ℕ
@@ -48,7 +54,7 @@ pub record SampleAsk : Type 0 where
   pub micros : ℕ
 
 -- a new ring, a put, the versions that are held, the text of their row, a node taken down or up, the delivery of a node's
--- hints, a rehash, the digest of a node, something done with the slots, or a sample
+-- hints, a rehash, a sync, the digest of a node, something done with the slots, or a sample
 pub data Ask : Type 0 where
   ring : RingAsk → Ask
   put : PutAsk → Ask
@@ -58,6 +64,7 @@ pub data Ask : Type 0 where
   bring_up : ℕ → Ask
   deliver : ℕ → Ask
   rehash : RehashAsk → Ask
+  sync : SyncAsk → Ask
   show_node : NodeAsk → Ask
   slot : SlotAsk → Ask
   sample : SampleAsk → Ask

@@ -3,7 +3,7 @@ use Rattle.std.specs.Prelude.{ℕ, ◌+◌, ◌^◌, nat_lt, List, [], codes, if
 use Rattle.std.specs.Str.{bytes_eq}
 use Rattle.serde_json.specs.Data.{Data}
 use Rattle.serde_json.specs.Find.{as_object, as_str}
-use Rattle.outage_script.specs.Asks.{RingAsk, PutAsk, GetAsk, RehashAsk, NodeAsk, SlotAsk, SampleAsk, Ask, ring, put, get, row, take_down, bring_up, deliver, rehash, show_node, slot, sample, lend_slot, give_slot_back, set_target, adjust_target}
+use Rattle.outage_script.specs.Asks.{RingAsk, PutAsk, GetAsk, RehashAsk, SyncAsk, NodeAsk, SlotAsk, SampleAsk, Ask, ring, put, get, row, take_down, bring_up, deliver, rehash, sync, show_node, slot, sample, lend_slot, give_slot_back, set_target, adjust_target}
 use Rattle.outage_script.specs.Reading.{◌>>=◌, has_members, number_of, bytes_of, numbers_of, pairs_of, nullable, member_of, optional_of, count_of, default_of, sole_member}
 
 -- what the members of a ring say
@@ -55,6 +55,18 @@ rehash_parts d = do
 -- what the members of a rehash say, if it has no others
 unfoldable pub rehash_of : Data → Option RehashAsk
 rehash_of d = if has_members 2 (as_object d) then rehash_parts d else None
+
+-- what the three members of a sync say
+abbrev pub sync_parts : Data → Option SyncAsk
+sync_parts d = do
+  from ← member_of number_of (codes "from") d
+  node ← member_of number_of (codes "node") d
+  range ← member_of number_of (codes "range") d
+  Some (record { from = from; node = node; range = range })
+
+-- what the members of a sync say, if it has no others
+unfoldable pub sync_of : Data → Option SyncAsk
+sync_of d = if has_members 3 (as_object d) then sync_parts d else None
 
 -- what the four members of a node say
 abbrev pub node_parts : Data → Option NodeAsk
@@ -108,7 +120,7 @@ sample_of d = if has_members 2 (as_object d) then sample_parts d else None
 
 -- the commands that touch no key
 abbrev pub other_named : List ℕ × Data → Option Ask
-other_named m = if bytes_eq m.0 (codes "down") then option_map take_down (sole_node_of m.1) else if bytes_eq m.0 (codes "up") then option_map bring_up (sole_node_of m.1) else if bytes_eq m.0 (codes "deliver") then option_map deliver (sole_node_of m.1) else if bytes_eq m.0 (codes "rehash") then option_map rehash (rehash_of m.1) else if bytes_eq m.0 (codes "node") then option_map show_node (node_of m.1) else if bytes_eq m.0 (codes "slot") then option_map slot (slot_of m.1) else if bytes_eq m.0 (codes "sample") then option_map sample (sample_of m.1) else None
+other_named m = if bytes_eq m.0 (codes "down") then option_map take_down (sole_node_of m.1) else if bytes_eq m.0 (codes "up") then option_map bring_up (sole_node_of m.1) else if bytes_eq m.0 (codes "deliver") then option_map deliver (sole_node_of m.1) else if bytes_eq m.0 (codes "rehash") then option_map rehash (rehash_of m.1) else if bytes_eq m.0 (codes "sync") then option_map sync (sync_of m.1) else if bytes_eq m.0 (codes "node") then option_map show_node (node_of m.1) else if bytes_eq m.0 (codes "slot") then option_map slot (slot_of m.1) else if bytes_eq m.0 (codes "sample") then option_map sample (sample_of m.1) else None
 
 -- the command of a name, with its members
 abbrev pub named : List ℕ × Data → Option Ask

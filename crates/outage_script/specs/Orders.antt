@@ -1,5 +1,5 @@
 -- What a command that was read asks for.
-use Rattle.outage_script.specs.Asks.{RingAsk, PutAsk, GetAsk, RehashAsk, NodeAsk, SlotAsk, SampleAsk, Ask, ring, put, get, row, take_down, bring_up, deliver, rehash, show_node, slot, sample, lend_slot, give_slot_back, set_target, adjust_target}
+use Rattle.outage_script.specs.Asks.{RingAsk, PutAsk, GetAsk, RehashAsk, SyncAsk, NodeAsk, SlotAsk, SampleAsk, Ask, ring, put, get, row, take_down, bring_up, deliver, rehash, sync, show_node, slot, sample, lend_slot, give_slot_back, set_target, adjust_target}
 use Rattle.outage_script.specs.declared.command.Command.{Command}
 use Rattle.outage_script.specs.declared.command.Command.TheVariants as Variants
 use Rattle.outage_script.specs.declared.command.NewRing.{NewRing}
@@ -7,6 +7,7 @@ use Rattle.outage_script.specs.declared.command.Put.{Put}
 use Rattle.outage_script.specs.declared.command.Get.{Get}
 use Rattle.outage_script.specs.declared.command.Rehash.{Rehash}
 use Rattle.outage_script.specs.declared.command.ShowNode.{ShowNode}
+use Rattle.outage_script.specs.declared.command.SyncFrom.{SyncFrom}
 use Rattle.outage_script.specs.declared.command.SlotCommand.{SlotCommand}
 use Rattle.outage_script.specs.declared.command.SlotCommand.TheVariants as Slots
 use Rattle.outage_script.specs.declared.command.Sample.{Sample}
@@ -22,6 +23,9 @@ get_ask g = record { node = g.node; key = g.key }
 
 abbrev pub rehash_ask : Rehash → RehashAsk
 rehash_ask r = record { node = r.node; range = r.range }
+
+abbrev pub sync_ask : SyncFrom → SyncAsk
+sync_ask s = record { from = s.from; node = s.node; range = s.range }
 
 abbrev pub node_ask : ShowNode → NodeAsk
 node_ask n = record { node = n.node; range = n.range; depth = n.depth; index = n.index }
@@ -44,6 +48,7 @@ ask_of (Variants.Down n) = take_down n
 ask_of (Variants.Up n) = bring_up n
 ask_of (Variants.Deliver n) = deliver n
 ask_of (Variants.Rehash r) = rehash (rehash_ask r)
+ask_of (Variants.Sync s) = sync (sync_ask s)
 ask_of (Variants.Node n) = show_node (node_ask n)
 ask_of (Variants.Slot s) = slot (slot_ask s)
 ask_of (Variants.Sample s) = sample (sample_ask s)

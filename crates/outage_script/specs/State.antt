@@ -1,5 +1,5 @@
 -- The state of a script: the ring, its nodes and their hints, each replica's journal and clean nodes, and the slots.
-use Rattle.std.specs.Prelude.{◌≡◌, ℕ, ◌<◌, length, ◌^◌, ◌==◌, Bool, not, List, [], ◌∷◌, ◌++◌, map, filter, take, replicate, position, slice_get, slice_index_or, slice_set, Option, Some, None, option_and_then, if◌then◌else◌}
+use Rattle.std.specs.Prelude.{ℕ, length, ◌^◌, ◌==◌, Bool, not, List, [], ◌∷◌, ◌++◌, map, filter, take, replicate, position, slice_get, slice_index_or, slice_set, Option, Some, None, option_map, option_and_then, if◌then◌else◌}
 use Rattle.std.specs.List.{list_any, range_with_len}
 use Rattle.vclock.specs.declared.format.Format.{Format}
 use Rattle.vclock.specs.declared.format.Format.TheVariants.{One}
@@ -8,12 +8,24 @@ use Rattle.hint_store.specs.declared.hint.Kept.{Kept}
 use Rattle.key_ring.specs.Places.{range_at}
 use Rattle.key_ring.specs.Ring.{Places, preference_list}
 use Rattle.range_state.specs.Config.{Config}
+use Rattle.range_state.specs.Sessions.{standings}
 use Rattle.range_state.specs.State as range
+use Rattle.sync_session.specs.declared.state.SessionState.{SessionState}
 
--- a node that keeps a range: which range, the entries of the node's journal of it, and which nodes of its tree are clean
+-- a node that keeps a range: which range, the entries of the node's journal of it, and which nodes of its tree are clean;
+-- and how each of its sessions stands, in the order in which they were opened. No session itself is kept.
 pub record Replica : Type 0 where
   pub node : ℕ
   pub range : range.State
+  pub sessions : List SessionState
+
+-- a range without the records of its sessions
+abbrev pub without_records : range.State → range.State
+without_records s = record { config = s.config; entries = s.entries; marks = s.marks; records = [] }
+
+-- the replica of a node whose state of the range is that
+abbrev pub replica_of : ℕ → range.State → Replica
+replica_of n s = record { node = n; range = without_records s; sessions = standings s.records }
 
 -- the ring, its format, the nodes that are down, the hints of each node in the order of the ring, and range by range the
 -- replicas, in the order of the range's preference list
@@ -35,7 +47,7 @@ empty_range c r = range.fresh (record { format = c.format; bits = c.bits; range 
 
 -- the replicas of range r: the first nodes of its preference list
 abbrev pub replicas_made : Places → Config → ℕ → List Replica
-replicas_made ring c r = map (λ n. record { node = n; range = empty_range c r }) (take ring.copies (preference_list ring.nodes r))
+replicas_made ring c r = map (λ n. record { node = n; range = empty_range c r; sessions = [] }) (take ring.copies (preference_list ring.nodes r))
 
 -- everything anew: each node is up and has no hints; each replica of each range has an empty journal, and no node of its
 -- tree is clean
@@ -73,22 +85,27 @@ with_range s r reps = record s { replicas = slice_set s.replicas r reps }
 abbrev pub with_replicas : Cluster → List ℕ → List Replica → Cluster
 with_replicas s key reps = with_range s (range_at s.ring.bits key) reps
 
--- what a node keeps, if it is one of the replicas
+-- a node's replica, if the node is one of those that keep the range
+abbrev pub replica_at : ℕ → List Replica → Option Replica
+replica_at n [] = None
+replica_at n (r ∷ reps) = if r.node == n then Some r else replica_at n reps
+
+-- what it keeps of the range
 abbrev pub home : ℕ → List Replica → Option range.State
-home n [] = None
-home n (r ∷ reps) = if r.node == n then Some r.range else home n reps
+home n reps = option_map (λ (r : Replica). r.range) (replica_at n reps)
+
+-- the replicas, of which a node's was changed so
+abbrev pub at_node : ℕ → (Replica → Replica) → List Replica → List Replica
+at_node n f [] = []
+at_node n f (r ∷ reps) = if r.node == n then f r ∷ reps else r ∷ at_node n f reps
+
+-- a replica that keeps that now
+abbrev pub keeping : range.State → Replica → Replica
+keeping h r = record { node = r.node; range = h; sessions = r.sessions }
 
 -- the replicas, of which the node keeps that now
 abbrev pub with_home : ℕ → range.State → List Replica → List Replica
-with_home n h [] = []
-with_home n h (r ∷ reps) = if r.node == n then record { node = r.node; range = h } ∷ reps else r ∷ with_home n h reps
-
--- the node's replica stands at i
-pub record IsHome (n : ℕ) (reps : List Replica) (i : ℕ) : Type 0 where
-  pub within : i < length reps
-  pub node : (d : Replica) → (slice_index_or reps i d).node ≡ n
-  pub holds : (d : Replica) → home n reps ≡ Some (slice_index_or reps i d).range
-  pub keeps : (h : range.State) (d : Replica) → with_home n h reps ≡ slice_set reps i (record { node = (slice_index_or reps i d).node; range = h })
+with_home n h reps = at_node n (keeping h) reps
 
 -- whether a node is on the ring
 abbrev pub is_member : Cluster → ℕ → Bool

@@ -1,12 +1,13 @@
 //! The answers of the commands, as JSON.
 ghost use Rattle.std.specs.Prelude.{◌≡◌, false, IfOk, string_bytes};
-ghost use Rattle.outage_script.specs.Answers.{pair_data, clock_data, put_answer, put_members, refusal_answer, cause_members, held_members, line_members, bad_line_answer, answer_line, version_data, version_members, versions_members, versions_answer, row_members, bytes_data, ring_answer, rehash_answer, digest_data, digest_members, node_answer, up_answer, deliver_answer, slot_answer, adjust_answer, sample_answer};
+ghost use Rattle.outage_script.specs.Answers.{pair_data, clock_data, put_answer, put_members, refusal_answer, cause_members, held_members, line_members, bad_line_answer, answer_line, version_data, version_members, versions_members, versions_answer, row_members, bytes_data, ring_answer, rehash_answer, sync_answer, finished_members, stopped_members, digest_data, digest_members, node_answer, up_answer, deliver_answer, slot_answer, adjust_answer, sample_answer};
 ghost use Rattle.serde_json.specs.Written.{has_float};
 ghost use Rattle.serde_json.specs.View.{view};
 
 use crate::json::{ToValue, list_value};
 use admission::controller::Controller;
 use hash_tree::hashed::Digest;
+use range_state::state::syncing::Synced;
 use serde_json::{Value, json};
 use std::alloc::{AllocError, Global};
 use std::sync::ledger::Ledger;
@@ -187,6 +188,40 @@ pub(crate) fn rehash_answer(alloc: Global, hashed: u64) -> Result<Value, AllocEr
     ensures { IfOk result (λ v. view v ≡ rehash_answer hashed) }
 {
     json!(in alloc; {"hashed": hashed})
+}
+
+/// The answer of a sync.
+#[tactic(auto, unfolding(crate::specs::Answers::sync_answer))]
+pub(crate) fn sync_answer(alloc: Global, done: &Synced) -> Result<Value, AllocError>
+    ensures { IfOk result (λ v. view v ≡ sync_answer done.now.accepted done.now.asked done.now.known done.now.fault) }
+{
+    match &done.fault {
+        Some(refusal) => stopped_members(alloc, done, refusal.name(), refusal.number()),
+        None => finished_members(alloc, done),
+    }
+}
+
+/// The members of the answer of a sync.
+#[tactic(auto, unfolding(crate::specs::Answers::finished_members))]
+fn finished_members(alloc: Global, done: &Synced) -> Result<Value, AllocError>
+    ensures { IfOk result (λ v. view v ≡ finished_members done.now.accepted done.now.asked done.now.known) }
+{
+    let (accepted, asked, known) = (done.accepted, done.asked, done.known);
+    json!(in alloc; {"accepted": accepted, "asked": asked, "known": known, "state": "Finished"})
+}
+
+/// The members of the answer of a sync that a refusal stopped.
+#[tactic(auto, unfolding(crate::specs::Answers::stopped_members))]
+fn stopped_members(
+    alloc: Global,
+    done: &Synced,
+    cause: &str,
+    number: u64,
+) -> Result<Value, AllocError>
+    ensures { IfOk result (λ v. view v ≡ stopped_members done.now.accepted done.now.asked cause.now done.now.known number) }
+{
+    let (accepted, asked, known) = (done.accepted, done.asked, done.known);
+    json!(in alloc; {"accepted": accepted, "asked": asked, "cause": cause, "known": known, "refused": number, "state": "Open"})
 }
 
 /// The answer of a node: its digest, or null where it is dirty.

@@ -6,16 +6,17 @@ ghost use Rattle.vclock.specs.Answer.{Answers, AnswersAtOnce, AnswersOrNoMemory}
 ghost use Rattle.vclock.specs.Clock.{clock_of};
 ghost use Rattle.vclock.specs.Keys.{key_fault};
 ghost use Rattle.version_set.specs.Kind.{value_fault};
-ghost use Rattle.outage_script.specs.Acts.{ask_fault, done_at, get_done, get_fault, is_tree_node, kept_at, kind_of, node_done, nodes_fault, put_done, put_fault, range_fault, rehash_done, ring_nodes_fault, row_done, value_of};
+ghost use Rattle.outage_script.specs.Acts.{ask_fault, done_at, down_fault, get_done, get_fault, is_tree_node, keepers_fault, kept_at, kind_of, node_done, nodes_fault, put_done, put_fault, range_fault, rehash_done, replica_in, ring_nodes_fault, row_done, sync_done, value_of, walk_fault};
 ghost use Rattle.outage_script.specs.Answers.{text_of, up_answer};
 ghost use Rattle.outage_script.specs.Handoff.{carrier_of, deliver_done, hinted, up_nodes};
-ghost use Rattle.outage_script.specs.Orders.{get_ask, node_ask, put_ask, rehash_ask};
+ghost use Rattle.outage_script.specs.Orders.{get_ask, node_ask, put_ask, rehash_ask, sync_ask};
 ghost use Rattle.outage_script.specs.State.{brought_up, first_config, first_ring, hints_of, home, is_down, is_member, made, replicas_of, taken_down};
 
 use crate::answer::{
-    deliver_answer, node_answer, put_answer, rehash_answer, row_answer, up_answer, versions_answer,
+    deliver_answer, node_answer, put_answer, rehash_answer, row_answer, sync_answer, up_answer,
+    versions_answer,
 };
-use crate::command::{Get, Put, Rehash, ShowNode};
+use crate::command::{Get, Put, Rehash, ShowNode, SyncFrom};
 use crate::handoff::{deliver_all, keep_all};
 use crate::replica::Replica;
 use crate::replicas::{Replicas, push_if};
@@ -295,6 +296,37 @@ impl Cluster {
         Ok(rehash_answer(alloc, hashed)?)
     }
 
+    /// Whether both nodes of a sync are up and keep the range.
+    pub(crate) fn check_sync(&self, ask: &SyncFrom) -> Result<(), Refusal>
+        ensures { AnswersAtOnce result (keepers_fault (sync_ask ask.now) self.now) (λ _. ⊤) }
+    {
+        self.check_ring_nodes(ask.node, &[ask.from])?;
+        self.check_up(ask.node)?;
+        self.check_up(ask.from)?;
+        let own = self.replica_at(ask.node, ask.range);
+        let partner = self.replica_at(ask.from, ask.range);
+        if own.is_none() || partner.is_none() {
+            return Err(Refusal::OtherRange);
+        }
+        Ok(())
+    }
+
+    /// Makes a node take what another has of a range, and answers with what came of it.
+    pub(crate) fn sync(&mut self, alloc: Global, ask: &SyncFrom) -> Result<Value, Refusal>
+        requires { keepers_fault (sync_ask ask.now) self.old ≡ None }
+        ensures answers { AnswersOrNoMemory result (walk_fault (sync_ask ask.now) self.old) (λ v. view v
+            ≡ (sync_done (sync_ask ask.now) self.old (kept_at self.old ask.now.from ask.now.range) (replica_in self.old ask.now.node ask.now.range)).0) }
+        ensures ok { OnOk result (self.new
+            ≡ (sync_done (sync_ask ask.now) self.old (kept_at self.old ask.now.from ask.now.range) (replica_in self.old ask.now.node ask.now.range)).1) }
+        ensures err { IfErr result (λ e. e ≢ Refusal.NoMemory → self.new ≡ self.old) }
+    {
+        if ask.range >= self.ranges.len() as u64 {
+            return Err(Refusal::OtherRange);
+        }
+        let done = self.ranges[ask.range as usize].sync(alloc, ask.node, ask.from)?;
+        Ok(sync_answer(alloc, &done)?)
+    }
+
     /// Answers with the digest of a node of the tree of a range.
     pub(crate) fn node(&self, alloc: Global, ask: &ShowNode) -> Result<Value, Refusal>
         requires { IsTrue (is_tree_node self.now.format ask.now.depth ask.now.index) }
@@ -346,6 +378,13 @@ impl Cluster {
         ensures { AnswersAtOnce result (nodes_fault self.now node others.now) (λ _. ⊤) }
     {
         self.check_ring_nodes(node, others)?;
+        self.check_up(node)
+    }
+
+    /// Whether a node is up.
+    fn check_up(&self, node: u64) -> Result<(), Refusal>
+        ensures { AnswersAtOnce result (down_fault self.now node) (λ _. ⊤) }
+    {
         if self.is_down(node) {
             return Err(Refusal::Down);
         }

@@ -1,8 +1,8 @@
 //! From a line to the command that it is.
 ghost use Rattle.std.specs.Prelude.{◌≡◌, IfOk, option_map, option_and_then};
-ghost use Rattle.outage_script.specs.Commands.{ring_of, put_of, get_of, rehash_of, node_of, other_named, sole_node_of, slot_of, plain_slot, numbered_slot, sample_of, command_of};
+ghost use Rattle.outage_script.specs.Commands.{ring_of, put_of, get_of, rehash_of, sync_of, node_of, other_named, sole_node_of, slot_of, plain_slot, numbered_slot, sample_of, command_of};
 ghost use Rattle.outage_script.specs.Reading.{value_of};
-ghost use Rattle.outage_script.specs.Orders.{ask_of, ring_ask, put_ask, get_ask, rehash_ask, node_ask, slot_ask, sample_ask};
+ghost use Rattle.outage_script.specs.Orders.{ask_of, ring_ask, put_ask, get_ask, rehash_ask, sync_ask, node_ask, slot_ask, sample_ask};
 ghost use Rattle.serde_json.specs.View.{view};
 
 use crate::json::{
@@ -67,6 +67,17 @@ pub(crate) struct Rehash {
     pub(crate) range: u64,
 }
 
+/// A sync: a node is to have what another has of a range.
+#[derive(Drop)]
+pub(crate) struct SyncFrom {
+    /// The node whose rows are taken.
+    pub(crate) from: u64,
+    /// The node that takes them.
+    pub(crate) node: u64,
+    /// The number of the range.
+    pub(crate) range: u64,
+}
+
 /// The digest of a node of a range's tree.
 #[derive(Drop)]
 pub(crate) struct ShowNode {
@@ -121,6 +132,8 @@ pub(crate) enum Command {
     Deliver(u64),
     /// `rehash`.
     Rehash(Rehash),
+    /// `sync`.
+    Sync(SyncFrom),
     /// `node`.
     Node(ShowNode),
     /// `slot`.
@@ -175,6 +188,8 @@ fn other_in(name: &str, members: &Value) -> Option<Command>
         sole_node_in(members).map(Command::Deliver)
     } else if name == "rehash" {
         rehash_in(members).map(Command::Rehash)
+    } else if name == "sync" {
+        sync_in(members).map(Command::Sync)
     } else if name == "node" {
         node_in(members).map(Command::Node)
     } else if name == "slot" {
@@ -270,6 +285,21 @@ fn rehash_in(members: &Value) -> Option<Rehash>
         return None;
     }
     Some(Rehash {
+        node: number_at(members, "node")?,
+        range: number_at(members, "range")?,
+    })
+}
+
+/// The sync of these members.
+#[tactic(auto, unfolding(crate::specs::Commands::sync_of))]
+fn sync_in(members: &Value) -> Option<SyncFrom>
+    ensures { option_map sync_ask result ≡ sync_of (view members.now) }
+{
+    if !has_members(members, 3) {
+        return None;
+    }
+    Some(SyncFrom {
+        from: number_at(members, "from")?,
         node: number_at(members, "node")?,
         range: number_at(members, "range")?,
     })

@@ -1,5 +1,5 @@
 // A replica of a range.
-ghost use Rattle.std.specs.Prelude.{◌≡◌, ◌≤◌, IsTrue, ⊤, [], not, ◌&&◌, ◌==◌, IfOk, OnOk, OnErr, None};
+ghost use Rattle.std.specs.Prelude.{◌≡◌, ◌≤◌, IsTrue, ⊤, [], not, ◌&&◌, ◌==◌, ◌≢◌, Some, IfOk, IfErr, OnOk, OnErr, None};
 ghost use Rattle.std.specs.List.{list_any, AllByRecursion};
 ghost use Rattle.vclock.specs.Answer.{Answers, AnswersOrNoMemory};
 ghost use Rattle.version_set.specs.Kind.{value_fault};
@@ -7,9 +7,13 @@ ghost use Rattle.range_journal.specs.Journal.{held};
 ghost use Rattle.range_journal.specs.declared.journal.Source.{Source};
 ghost use Rattle.hash_tree.specs.Nodes.{dirty_count};
 ghost use Rattle.range_state.specs.Sent.{is_sent};
+ghost use Rattle.range_state.specs.Syncs.{IsOfRange};
+ghost use Rattle.std.specs.Arc.{arc_value};
 ghost use Rattle.range_state.specs.Trees.{rehashed};
-ghost use Rattle.range_state.specs.State.{fresh, accept_fault, accept_reply, accept_step, put_entry, put_fault, journaled};
+ghost use Rattle.range_state.specs.State.{dirty_fault, rows_now, fresh, accept_fault, accept_reply, accept_step, put_entry, put_fault, journaled};
 ghost use Rattle.outage_script.specs.Acts.{takes, after_copy, gets_hint, is_sent_to, shown_digest};
+ghost use Rattle.outage_script.specs.State.{keeping, replica_of};
+ghost use Rattle.outage_script.specs.Syncs.{IsCounted, session_fault, synced_with};
 
 use hash_tree::hashed::Digest;
 use hash_tree::node::NodeAt;
@@ -17,8 +21,11 @@ use range_journal::journal::Source;
 use range_state::config::RangeConfig;
 use range_state::event::{Accepted, Receipt};
 use range_state::state::RangeState;
+use range_state::state::syncing::Synced;
+use snapshot::snapshot::Snapshot;
 use std::alloc::{AllocError, Global};
 use std::marker::Model;
+use std::sync::Arc;
 use std::thread::Threads;
 use vclock::bytes::Bytes;
 use vclock::clock::Clock;
@@ -41,11 +48,11 @@ pub(crate) struct Replica {
 
 impl Model for Replica {
     ghost use Rattle.std.specs.Prelude.{◌≤◌, ◌≡◌};
-    ghost use Rattle.outage_script.specs.State.{Replica, range_in};
+    ghost use Rattle.outage_script.specs.State.{Replica, range_in, replica_of};
 
     ghost Value = { Replica };
 
-    ghost view = { λ r. record { node = r.node; range = range_in r.config r.state } };
+    ghost view = { λ r. replica_of r.node (range_in r.config r.state) };
 
     ghost invariant = { λ r. (1 ≤ r.node) × ((range_in r.config r.state).config ≡ r.config) };
 }
@@ -54,7 +61,7 @@ impl Replica {
     /// A replica that has accepted nothing.
     pub(crate) fn new(node: u16, config: RangeConfig) -> Replica
         requires { 1 ≤ node }
-        ensures { result ≡ record { node = node; range = fresh config } }
+        ensures { result ≡ replica_of node (fresh config) }
     {
         Replica {
             node,
@@ -111,11 +118,8 @@ impl Replica {
         ensures answers { AnswersOrNoMemory result
             (put_fault self.old.range self.old.node key.now context.now kind value)
             (λ receipt. receipt ≡ put_entry self.old.range 0 self.old.node key.now context.now kind value) }
-        ensures ok { OnOk result (self.new ≡ record {
-          node = self.old.node;
-          range = journaled self.old.range
-              (put_entry self.old.range 0 self.old.node key.now context.now kind value);
-        }) }
+        ensures ok { OnOk result (self.new ≡ keeping (journaled self.old.range
+            (put_entry self.old.range 0 self.old.node key.now context.now kind value)) self.old) }
         ensures err { OnErr result (self.new ≡ self.old) }
     {
         if let Some(state) = &mut self.state {
@@ -135,8 +139,8 @@ impl Replica {
         alloc: Global,
     ) -> Result<u64, Refusal>
         ensures answers { Answers result None (λ hashed. hashed ≡ dirty_count self.old.range.marks) }
-        ensures ok { OnOk result (self.new
-            ≡ record { node = self.old.node; range = rehashed self.old.range }) }
+        ensures ok { OnOk result (self.new ≡ keeping (rehashed self.old.range) self.old) }
+        ensures config { self.new.range.config ≡ self.old.range.config }
     {
         if let Some(state) = &mut self.state {
             return state.rehash(rt, alloc);
@@ -157,6 +161,35 @@ impl Replica {
         }
     }
 
+    /// The rows now and their tree, to be offered to another node.
+    pub(crate) fn snapshot(&self, alloc: Global) -> Result<Arc<Snapshot, Global>, Refusal>
+        ensures { Answers result (dirty_fault self.now.range) (λ snapshot. arc_value snapshot ≡ rows_now self.now.range) }
+    {
+        match &self.state {
+            Some(state) => state.snapshot(alloc),
+            None => Err(Refusal::Dirty),
+        }
+    }
+
+    /// Takes what another node has, in a session with it.
+    pub(crate) fn sync_with(
+        &mut self,
+        alloc: Global,
+        partner: u16,
+        other: &Snapshot,
+    ) -> Result<Synced, Refusal>
+        requires { IsOfRange self.old.range.config other.now }
+        ensures answers { AnswersOrNoMemory result (session_fault (Some self.old)) (IsCounted self.old other.now) }
+        ensures ok { OnOk result (self.new ≡ synced_with other.now self.old) }
+        ensures err { IfErr result (λ e. e ≢ Refusal.NoMemory → self.new ≡ self.old) }
+        ensures config { self.new.range.config ≡ self.old.range.config }
+    {
+        if let Some(state) = &mut self.state {
+            return state.sync_with(alloc, SEAT, partner, other);
+        }
+        Err(Refusal::Dirty)
+    }
+
     /// Sends the replica a copy of an entry, where it is to get one, and answers whether it took it or knew it.
     pub(crate) fn send(
         &mut self,
@@ -168,6 +201,7 @@ impl Replica {
     ) -> Result<bool, AllocError>
         ensures taken { IfOk result (λ taken. taken ≡ takes down.now node lose.now entry.now self.old) }
         ensures after { OnOk result (self.new ≡ after_copy down.now node lose.now entry.now self.old) }
+        ensures config { self.new.range.config ≡ self.old.range.config }
     {
         if !is_sent_to(node, lose, self.node) || down.contains(&u64::from(self.node)) {
             return Ok(false);
@@ -182,10 +216,8 @@ impl Replica {
     /// Takes in a copy of an entry's version, unless it is known.
     fn take_copy(&mut self, alloc: Global, entry: &Receipt) -> Result<Accepted, Refusal>
         ensures answers { AnswersOrNoMemory result (accept_fault self.old.range entry.now.key entry.now.version) (λ _. ⊤) }
-        ensures ok { OnOk result (self.new ≡ record {
-          node = self.old.node;
-          range = accept_step self.old.range 0 Source.Copy entry.now.key entry.now.version;
-        }) }
+        ensures ok { OnOk result (self.new
+            ≡ keeping (accept_step self.old.range 0 Source.Copy entry.now.key entry.now.version) self.old) }
         ensures err { OnErr result (self.new ≡ self.old) }
     {
         let version = entry.version.try_clone()?;
@@ -203,10 +235,8 @@ impl Replica {
         requires { IsTrue (is_sent source) }
         ensures answers { AnswersOrNoMemory result (accept_fault self.old.range key.now version)
             (λ reply. reply ≡ accept_reply self.old.range 0 source key.now version) }
-        ensures ok { OnOk result (self.new ≡ record {
-          node = self.old.node;
-          range = accept_step self.old.range 0 source key.now version;
-        }) }
+        ensures ok { OnOk result (self.new
+            ≡ keeping (accept_step self.old.range 0 source key.now version) self.old) }
         ensures err { OnErr result (self.new ≡ self.old) }
     {
         if let Some(state) = &mut self.state {

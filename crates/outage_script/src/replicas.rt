@@ -1,14 +1,17 @@
 // The replicas of a range, in the order of its preference list.
 ghost use Rattle.std.specs.Prelude.{◌≡◌, ◌≢◌, ◌≤◌, ◌<◌, ◌^◌, ◌++◌, ◌∷◌, [], if◌then◌else◌, length, filter, map, option_map, IfOk, IfErr, IfSome, IfNone, OnOk, OnErr, None};
-ghost use Rattle.vclock.specs.Answer.{Answers, AnswersOrNoMemory};
+ghost use Rattle.vclock.specs.Answer.{Answers, AnswersOrNoMemory, first_fault};
 ghost use Rattle.vclock.specs.Clock.{clock_of};
 ghost use Rattle.outage_script.specs.Acts.{takes, after_copy, gets_hint, copied, sent, home_fault, put_fault_at, put_entry_at, kind_of, value_of};
 ghost use Rattle.outage_script.specs.Orders.{put_ask};
-ghost use Rattle.outage_script.specs.State.{home, with_home, IsHome, replicas_made};
+ghost use Rattle.outage_script.specs.State.{home, with_home, replica_at, at_node, replicas_made};
+ghost use Rattle.outage_script.specs.Homes.{AreOf, IsHome};
+ghost use Rattle.outage_script.specs.Syncs.{IsCounted, session_fault, synced_with};
+ghost use Rattle.range_state.specs.Config.{Config};
 ghost use Rattle.hash_tree.specs.Nodes.{dirty_count};
 ghost use Rattle.outage_script.specs.Handoff.{owners_of};
 ghost use Rattle.range_journal.specs.declared.journal.Source.{Source};
-ghost use Rattle.range_state.specs.State.{accept_fault, accept_reply, accept_step};
+ghost use Rattle.range_state.specs.State.{dirty_fault, rows_now, accept_fault, accept_reply, accept_step};
 ghost use Rattle.range_state.specs.Trees.{rehashed};
 
 use crate::command::Put;
@@ -17,6 +20,7 @@ use key_ring::ring::Ring;
 use range_journal::journal::Source;
 use range_state::config::RangeConfig;
 use range_state::event::{Accepted, Receipt};
+use range_state::state::syncing::Synced;
 use std::alloc::{AllocError, Global};
 use std::marker::Model;
 use std::thread::Threads;
@@ -29,16 +33,20 @@ use version_set::version::Version;
 /// The replicas of a range.
 #[derive(Drop)]
 pub(crate) struct Replicas {
+    config: RangeConfig,
     replicas: Vec<Replica>,
 }
 
 impl Model for Replicas {
     ghost use Rattle.std.specs.Prelude.{List};
+    ghost use Rattle.outage_script.specs.Homes.{AreOf};
     ghost use Rattle.outage_script.specs.State.{Replica};
 
     ghost Value = { List Replica };
 
     ghost view = { λ r. r.replicas.items };
+
+    ghost invariant = { λ r. AreOf r.config r.replicas.items };
 }
 
 /// What a put and its copies did.
@@ -68,7 +76,7 @@ impl Replicas {
             let node = ring.preference(config.range(), place);
             replicas.push(Replica::new(node, config))?;
         }
-        Ok(Replicas { replicas })
+        Ok(Replicas { config, replicas })
     }
 
     /// The replica at a node.
@@ -95,6 +103,25 @@ impl Replicas {
             return Err(Refusal::OtherRange);
         };
         self.replicas[place].rehash(rt, alloc)
+    }
+
+    /// Makes a node take what another has, in a session with it.
+    pub(crate) fn sync(&mut self, alloc: Global, node: u64, from: u64) -> Result<Synced, Refusal>
+        ensures answers { AnswersOrNoMemory result
+            (first_fault (home_fault dirty_fault (home from self.old)) (session_fault (replica_at node self.old)))
+            (λ a. IfSome (home from self.old) (λ h. IfSome (replica_at node self.old) (λ r. IsCounted r (rows_now h) a))) }
+        ensures ok { OnOk result (IfSome (home from self.old) (λ h.
+            self.new ≡ at_node node (synced_with (rows_now h)) self.old)) }
+        ensures err { IfErr result (λ e. e ≢ Refusal.NoMemory → self.new ≡ self.old) }
+    {
+        let Some(partner) = self.find(from) else {
+            return Err(Refusal::OtherRange);
+        };
+        let (partner, other) = (partner.node(), partner.snapshot(alloc)?);
+        let Some(place) = place_of(&self.replicas, node) else {
+            return Err(Refusal::OtherRange);
+        };
+        self.replicas[place].sync_with(alloc, partner, &other)
     }
 
     /// The nodes that are to have a hint of a put, for they are down, in the order of the preference list.
@@ -197,6 +224,7 @@ fn send_to(
 ) -> Result<u64, AllocError>
     ensures count { IfOk result (λ n. n ≡ length (filter (takes down.now node lose.now entry.now) replicas.old)) }
     ensures all { OnOk result (replicas.new ≡ map (after_copy down.now node lose.now entry.now) replicas.old) }
+    ensures config { (config : Config) → AreOf config replicas.old → AreOf config replicas.new }
 {
     let mut copied = 0;
     for i in 0..replicas.len() {
@@ -208,7 +236,7 @@ fn send_to(
 /// The place of a node's replica.
 fn place_of(replicas: &[Replica], node: u64) -> Option<usize>
     ensures some { IfSome result (λ i. IsHome node replicas.now i) }
-    ensures none { IfNone result (home node replicas.now ≡ None) }
+    ensures none { IfNone result (replica_at node replicas.now ≡ None) }
 {
     for place in 0..replicas.len() {
         if u64::from(replicas[place].node()) == node {

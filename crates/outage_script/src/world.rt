@@ -3,15 +3,15 @@ ghost use Rattle.std.specs.Prelude.{◌≡◌, ◌≢◌, ◌^◌, [], length, I
 ghost use Rattle.serde_json.specs.View.{view};
 ghost use Rattle.vclock.specs.Answer.{AnswersOrNoMemory, first_fault};
 ghost use Rattle.admission.specs.Admission.{lend_fault};
-ghost use Rattle.outage_script.specs.Acts.{act, done_at, kept_at, new_ring_fault, nodes_fault, range_fault, rehash_done, remade, ring_config, suits};
+ghost use Rattle.outage_script.specs.Acts.{act, done_at, kept_at, new_ring_fault, nodes_fault, range_fault, rehash_done, remade, replica_in, ring_config, suits, sync_done, sync_fault};
 ghost use Rattle.outage_script.specs.Handoff.{deliver_done};
 ghost use Rattle.outage_script.specs.Answers.{refusal_answer, ring_answer};
-ghost use Rattle.outage_script.specs.Orders.{ask_of, rehash_ask, ring_ask};
+ghost use Rattle.outage_script.specs.Orders.{ask_of, rehash_ask, ring_ask, sync_ask};
 ghost use Rattle.outage_script.specs.State.{hints_of, start};
 
 use crate::answer::{refusal_answer, ring_answer};
 use crate::cluster::{Cluster, tree_node};
-use crate::command::{Command, NewRing, Rehash};
+use crate::command::{Command, NewRing, Rehash, SyncFrom};
 use crate::slots::Slots;
 use key_ring::ring::Ring;
 use range_state::config::RangeConfig;
@@ -94,6 +94,7 @@ impl<L: Ledger> World<L> {
             Command::Up(node) => self.cluster.bring_up(alloc, node),
             Command::Deliver(node) => self.deliver(alloc, node),
             Command::Rehash(ask) => self.rehash(rt, alloc, &ask),
+            Command::Sync(ask) => self.sync(alloc, &ask),
             Command::Node(ask) => self.cluster.node(alloc, &ask),
             Command::Slot(command) => self.slots.act(alloc, command),
             Command::Sample(sample) => self.slots.sample(alloc, sample),
@@ -147,6 +148,23 @@ impl<L: Ledger> World<L> {
         self.cluster.check_range(ask.node, ask.range)?;
         self.slots.lend()?;
         let answer = self.cluster.rehash(rt, alloc, ask);
+        self.slots.give_back();
+        answer
+    }
+
+    /// Makes a node take what another has of a range, with a slot that is given back.
+    fn sync(&mut self, alloc: Global, ask: &SyncFrom) -> Result<Value, Refusal>
+        ensures answers { AnswersOrNoMemory result (sync_fault (sync_ask ask.now) self.old) (λ v. view v
+            ≡ (sync_done (sync_ask ask.now) self.old.cluster (kept_at self.old.cluster ask.now.from ask.now.range) (replica_in self.old.cluster ask.now.node ask.now.range)).0) }
+        ensures ok { OnOk result (self.new ≡ record self.old {
+          cluster
+              = (sync_done (sync_ask ask.now) self.old.cluster (kept_at self.old.cluster ask.now.from ask.now.range) (replica_in self.old.cluster ask.now.node ask.now.range)).1;
+        }) }
+        ensures err { IfErr result (λ e. e ≢ Refusal.NoMemory → self.new ≡ self.old) }
+    {
+        self.cluster.check_sync(ask)?;
+        self.slots.lend()?;
+        let answer = self.cluster.sync(alloc, ask);
         self.slots.give_back();
         answer
     }

@@ -88,7 +88,7 @@ pub cleaning_next : (start : State) (nodes : List NodeAt) (texts : List (List �
     → place_of node < length start.marks → digest_at start.marks (place_of node) ≡ None → t ≡ installed s node text → IsCleaning start nodes texts (done + 1) t
 cleaning_next start nodes texts done s t node text was within dirty is =
     subst (λ (u : State). IsCleaning start nodes texts (done + 1) u) (sym is) (record {
-      same = record { config = was.same.config; entries = was.same.entries };
+      same = record { config = was.same.config; entries = was.same.entries; records = was.same.records };
       long = length-set s.marks (place_of node) (Some (sha256 text)) ∙ was.long;
       current = λ i n u less. still_current s (get_or nodes i n) node (get_or texts i u) text (was.current i n u less);
       none = λ e. absurd (omega arith);
@@ -178,11 +178,11 @@ levels s marks all are (suc height) depth sum =
 -- A range whose nodes are all clean is as if rehashed.
 pub all_rehashed : (s t : State) → IsSameRange s t → IsRight t → are_clean t.marks ≡ true → t ≡ rehashed s
 all_rehashed s t same right clean =
-    let moved : t ≡ record { config = s.config; entries = s.entries; marks = t.marks } = λ i. record { config = same.config i; entries = same.entries i; marks = t.marks } in
+    let moved : t ≡ record { config = s.config; entries = s.entries; marks = t.marks; records = s.records } = λ i. record { config = same.config i; entries = same.entries i; marks = t.marks; records = same.records i } in
     let here = (subst IsRight moved right).marks in
     let marks : t.marks ≡ digests_below s 0 (tree_depth s.config.format) =
     levels s t.marks here.tree.all (clean_all s.config.format (leaf_in s.config) (rows_of s.entries) t.marks here.digests here.tree.all clean) (tree_depth s.config.format) 0 (omega arith) in
-    moved ∙ ap (λ (m : Marks). record { config = s.config; entries = s.entries; marks = m }) marks
+    moved ∙ ap (λ (m : Marks). record { config = s.config; entries = s.entries; marks = m; records = s.records }) marks
 
 pub same_trans : (s t u : State) → IsSameRange s t → IsSameRange t u → IsSameRange s u
-same_trans s t u a b = record { config = b.config ∙ a.config; entries = b.entries ∙ a.entries }
+same_trans s t u a b = record { config = b.config ∙ a.config; entries = b.entries ∙ a.entries; records = b.records ∙ a.records }

@@ -21,18 +21,21 @@ use Rattle.version_set.specs.Version.{covered, offer_fault, is_below, is_same, w
 use Rattle.version_set.proofs.SetLaws.{covered-maximal, is_same-exact, all-with_version, all-filter}
 use Rattle.range_journal.specs.declared.journal.Entry.{Entry}
 use Rattle.range_journal.specs.Log.{Log}
-use Rattle.range_journal.specs.Journal.{accepted, held, versions_of, reserve_fault}
+use Rattle.range_journal.specs.declared.journal.Source.TheVariants.{Partner}
+use Rattle.range_journal.specs.Journal.{accepted, held, versions_of, AreNews, reserve_fault}
 use Rattle.range_journal.proofs.JournalLaws.{AreNews-push, covered-held}
 use Rattle.row_bytes.specs.Rows.{IsRow}
 use Rattle.row_bytes.specs.declared.row.Row.{Row}
 use Rattle.key_ring.specs.Places.{leaf_at, leaf_bits, range_at}
 use Rattle.hash_tree.specs.Leaves.{Bucket, rows_at, with_offer, versions_in}
-use Rattle.hash_tree.specs.Nodes.{Tree, tree_depth, node_count, dirtied, IsTree}
-use Rattle.hash_tree.specs.Texts.{AreTrue}
-use Rattle.hash_tree.proofs.TreeLaws.{true_kept, true_fresh, tree_fresh}
+use Rattle.hash_tree.specs.Nodes.{Tree, tree_depth, node_count, dirtied}
+use Rattle.hash_tree.specs.Texts.{AreTrue, IsTreeFor}
+use Rattle.hash_tree.proofs.TreeLaws.{true_kept, true_fresh, tree_fresh, tree_dirtied}
 use Rattle.range_state.specs.Config.{Config, is_config}
 use Rattle.range_state.specs.Rows.{rows_of}
-use Rattle.range_state.specs.State.{State, all_dirty, fresh, tree_of, bucket_of, leaf_in, leaf_count, place_fault, journaled, full_fault, knows, accept_fault, stale_fault, IsOwn, IsRight, AreLeaves}
+use Rattle.range_state.specs.State.{State, all_dirty, fresh, tree_of, bucket_of, leaf_in, leaf_count, place_fault, journaled, full_fault, knows, accept_fault, stale_fault, IsOwn, IsRight, IsFromPartner, AreLeaves}
+use Rattle.range_state.specs.declared.«record».Record.{Record}
+use Rattle.range_state.proofs.RecordLaws.{all_kept}
 use Rattle.range_state.proofs.RowLaws.{leaf_holds, leaf-push, rows_of-push, rows_of-ascend, versions_in-rows_of}
 use Rattle.range_state.proofs.RowTexts.{rows_offered, no_row}
 
@@ -108,6 +111,9 @@ fresh_right c h = record {
   news = tt;
   rows = no_row c.format;
   marks = record { tree = tree_fresh c.format; digests = true_fresh c.format (leaf_in c) (rows_of []) (node_count c.format) };
+  records = tt;
+  few = omega arith;
+  partners = tt;
 }
 
 abbrev no_bucket : Config → Bucket
@@ -129,21 +135,21 @@ abbrev dirty_tree : Format → Tree
 dirty_tree format = record { format = format; digests = replicate (node_count format) None }
 
 -- what a new range has
-pub new_range : (c : Config) (entries : List Entry) (leaves : List Bucket) (marks : Tree) → IsTrue (is_config c) → entries ≡ [] → leaves ≡ replicate (leaf_count c) (no_bucket c) → marks ≡ dirty_tree c.format
-    → IsRight (record { config = c; entries = entries; marks = marks.digests }) × AreLeaves c entries leaves × (record { config = c; entries = entries; marks = marks.digests } ≡ fresh c)
+pub new_range : (c : Config) (entries : List Entry) (leaves : List Bucket) (marks : Tree) (records : List Record) → IsTrue (is_config c) → entries ≡ [] → records ≡ [] → leaves ≡ replicate (leaf_count c) (no_bucket c) → marks ≡ dirty_tree c.format
+    → IsRight (record { config = c; entries = entries; marks = marks.digests; records = records }) × AreLeaves c entries leaves × (record { config = c; entries = entries; marks = marks.digests; records = records } ≡ fresh c)
 unfolding all_dirty
-new_range c entries leaves marks h none rows dirty =
-    let back : record { config = c; entries = entries; marks = marks.digests } ≡ fresh c = λ i. record { config = c; entries = none i; marks = (dirty i).digests } in
+new_range c entries leaves marks records h none no_records rows dirty =
+    let back : record { config = c; entries = entries; marks = marks.digests; records = records } ≡ fresh c = λ i. record { config = c; entries = none i; marks = (dirty i).digests; records = no_records i } in
     (subst IsRight (sym back) (fresh_right c h), subst (λ (t : List Entry). AreLeaves c t leaves) (sym none) (fresh_leaves c leaves rows), back)
 
 -- ---- causes
 
 -- of two causes none stands where the first of them is none
-later_none : (a b : Option Refusal) → first_fault a b ≡ None → b ≡ None
+pub later_none : (a b : Option Refusal) → first_fault a b ≡ None → b ≡ None
 later_none None b e = e
 later_none (Some x) b e = absurd (let no : Some x ≡ None = e in cc)
 
-first_none : (a b : Option Refusal) → first_fault a b ≡ None → a ≡ None
+pub first_none : (a b : Option Refusal) → first_fault a b ≡ None → a ≡ None
 first_none None b e = refl
 first_none (Some x) b e = absurd (let no : Some x ≡ None = e in cc)
 
@@ -205,20 +211,43 @@ leaf_in_tree c key = within c.format (leaf_in c key) (leaf_below c key)
     within One n h = h
     within Two n h = h
 
-grown-right : (s : State) (e : Entry) → IsRight s → place_fault s.config e.key e.version.kind e.version.value ≡ None → covered e.version (held s.entries e.key) ≡ false → IsClock e.version.clock → offer_fault e.version (held s.entries e.key) ≡ None → IsTree (tree_of (journaled s e)) → IsRight (journaled s e)
-grown-right s e ok here unknown clock fits tree = record {
-  config = ok.config;
+-- what holds of journal, rows and tree, whatever the sessions are
+pub record IsSound (s : State) : Type 0 where
+  pub own : AllByRecursion (IsOwn s.config) s.entries
+  pub news : AreNews s.entries
+  pub rows : AllByRecursion (IsRow s.config.format) (rows_of s.entries)
+  pub marks : IsTreeFor (leaf_in s.config) (rows_of s.entries) (tree_of s)
+
+pub sound_of : (s : State) → IsRight s → IsSound s
+sound_of s ok = record { own = ok.own; news = ok.news; rows = ok.rows; marks = ok.marks }
+
+pub grown_sound : (s : State) (e : Entry) → IsSound s → place_fault s.config e.key e.version.kind e.version.value ≡ None → covered e.version (held s.entries e.key) ≡ false → IsClock e.version.clock → offer_fault e.version (held s.entries e.key) ≡ None → IsSound (journaled s e)
+grown_sound s e ok here unknown clock fits = record {
   own = all-push (IsOwn s.config) s.entries e ok.own (own s.config e here);
   news = AreNews-push s.entries e ok.news (sym (covered-held e.version s.entries e.key) ∙ unknown);
   rows = subst (AllByRecursion (IsRow s.config.format)) (sym (rows_of-push s.entries e))
       (rows_offered s.config.format e.key e.version (rows_of s.entries) (in_limits s.config e.key e.version.kind e.version.value here).0 (in_limits s.config e.key e.version.kind e.version.value here).1 clock
       (ap (offer_fault e.version) (versions_in-rows_of s.entries e.key) ∙ fits) ok.rows);
   marks = record {
-    tree = tree;
+    tree = tree_dirtied s.config.format (leaf_in s.config e.key) s.marks (leaf_in_tree s.config e.key) ok.marks.tree;
     digests = subst (λ (rows : List Row). AreTrue s.config.format (leaf_in s.config) rows (dirtied s.config.format (leaf_in s.config e.key) s.marks)) (sym (rows_of-push s.entries e))
         (true_kept s.config.format (leaf_in s.config) (rows_of s.entries) e.key e.version s.marks (rows_of-ascend s.entries) ok.marks.digests (leaf_in_tree s.config e.key));
   };
 }
+
+grown-right : (s : State) (e : Entry) → IsRight s → ¬ (e.source ≡ Partner) → place_fault s.config e.key e.version.kind e.version.value ≡ None → covered e.version (held s.entries e.key) ≡ false → IsClock e.version.clock → offer_fault e.version (held s.entries e.key) ≡ None → IsRight (journaled s e)
+grown-right s e ok other here unknown clock fits =
+    let sound = grown_sound s e (sound_of s ok) here unknown clock fits in
+    record {
+      config = ok.config;
+      own = sound.own;
+      news = sound.news;
+      rows = sound.rows;
+      marks = sound.marks;
+      records = all_kept s.config s.entries (e ∷ []) s.records ok.records;
+      few = ok.few;
+      partners = all-push (λ (x : Entry). x.source ≡ Partner → IsFromPartner s x) s.entries e ok.partners (λ from. absurd (other from));
+    }
 
 grown-leaves : (s : State) (leaves : List Bucket) (e : Entry) (new : Bucket) → AreLeaves s.config s.entries leaves
     → new ≡ record { format = s.config.format; rows = with_offer e.key e.version (rows_at (leaf_in s.config) (leaf_in s.config e.key) (rows_of s.entries)) }
@@ -256,29 +285,29 @@ grown-leaves s leaves e new ok is = record {
         ]
 
 -- a range after an entry that is news
-pub admitted : (s : State) (leaves : List Bucket) (leaf : ℕ) (e : Entry) (entries : List Entry) (marks : Marks) (b new : Bucket) (key : List ℕ) (w : Version) → IsRight s → AreLeaves s.config s.entries leaves
+pub admitted : (s : State) (leaves : List Bucket) (leaf : ℕ) (e : Entry) (entries : List Entry) (marks : Marks) (b new : Bucket) (key : List ℕ) (w : Version) → IsRight s → AreLeaves s.config s.entries leaves → ¬ (e.source ≡ Partner)
     → leaf ≡ leaf_in s.config e.key → place_fault s.config e.key e.version.kind e.version.value ≡ None → knows s e.key e.version ≡ false → IsClock e.version.clock → offer_fault e.version (held s.entries e.key) ≡ None
     → b ≡ get_or leaves leaf b → key ≡ e.key → w ≡ e.version → new ≡ record { format = b.format; rows = with_offer key w b.rows } → entries ≡ s.entries ++ e ∷ []
-    → marks ≡ dirtied s.config.format leaf s.marks → IsTree (record { format = s.config.format; digests = marks })
-    → IsRight (record { config = s.config; entries = entries; marks = marks }) × AreLeaves s.config entries (set leaves leaf new)
-admitted s leaves leaf e entries marks b new key w ok are at here news clock fits was k copy now es path tree =
+    → marks ≡ dirtied s.config.format leaf s.marks
+    → IsRight (record { config = s.config; entries = entries; marks = marks; records = s.records }) × AreLeaves s.config entries (set leaves leaf new)
+admitted s leaves leaf e entries marks b new key w ok are other at here news clock fits was k copy now es path =
     let rows = rows_here s leaves leaf e.key b are at was in
     let made : new ≡ record { format = s.config.format; rows = with_offer e.key e.version (rows_at (leaf_in s.config) (leaf_in s.config e.key) (rows_of s.entries)) } =
     now ∙ (λ i. record { format = (rows i).format; rows = with_offer (k i) (copy i) (rows i).rows }) ∙ ap (λ (n : ℕ). record { format = s.config.format; rows = with_offer e.key e.version (rows_at (leaf_in s.config) n (rows_of s.entries)) }) at in
     let dirty : marks ≡ dirtied s.config.format (leaf_in s.config e.key) s.marks = path ∙ ap (λ (n : ℕ). dirtied s.config.format n s.marks) at in
-    let right = grown-right s e ok here (covered-maximal e.version (accepted s.entries e.key) ∙ news) clock fits (subst (λ (m : Marks). IsTree (record { format = s.config.format; digests = m })) dirty tree) in (
-      subst (λ (m : Marks). IsRight (record { config = s.config; entries = entries; marks = m })) (sym dirty)
-          (subst (λ (t : List Entry). IsRight (record { config = s.config; entries = t; marks = dirtied s.config.format (leaf_in s.config e.key) s.marks })) (sym es) right),
+    let right = grown-right s e ok other here (covered-maximal e.version (accepted s.entries e.key) ∙ news) clock fits in (
+      subst (λ (m : Marks). IsRight (record { config = s.config; entries = entries; marks = m; records = s.records })) (sym dirty)
+          (subst (λ (t : List Entry). IsRight (record { config = s.config; entries = t; marks = dirtied s.config.format (leaf_in s.config e.key) s.marks; records = s.records })) (sym es) right),
       subst (λ (n : ℕ). AreLeaves s.config entries (set leaves n new)) (sym at)
           (subst (λ (t : List Entry). AreLeaves s.config t (set leaves (leaf_in s.config e.key) new)) (sym es) (grown-leaves s leaves e new are made)),
     )
 
 -- a range where a leaf was offered a version in vain
 pub in_vain : (s : State) (leaves : List Bucket) (leaf : ℕ) (entries : List Entry) (b new : Bucket) → IsRight s → AreLeaves s.config s.entries leaves → b ≡ get_or leaves leaf b → new ≡ b → entries ≡ s.entries
-    → IsRight (record { config = s.config; entries = entries; marks = s.marks }) × AreLeaves s.config entries (set leaves leaf new)
+    → IsRight (record { config = s.config; entries = entries; marks = s.marks; records = s.records }) × AreLeaves s.config entries (set leaves leaf new)
 in_vain s leaves leaf entries b new ok are was same es =
     let back : set leaves leaf new ≡ leaves = ap (set leaves leaf) (same ∙ was) ∙ set-get_or leaves leaf b in (
-      subst (λ (t : List Entry). IsRight (record { config = s.config; entries = t; marks = s.marks })) (sym es) ok,
+      subst (λ (t : List Entry). IsRight (record { config = s.config; entries = t; marks = s.marks; records = s.records })) (sym es) ok,
       subst (AreLeaves s.config entries) (sym back) (subst (λ (t : List Entry). AreLeaves s.config t leaves) (sym es) are),
     )
 
@@ -299,7 +328,7 @@ unseen v (w ∷ S) r h =
     ] in
     rw (same, below) (unseen v S r parts.1)
 
-passed : (b : Bool) (e : Refusal) → cond b (Some e) None ≡ None → b ≡ false
+pub passed : (b : Bool) (e : Refusal) → cond b (Some e) None ≡ None → b ≡ false
 passed true e h = absurd (let no : Some e ≡ None = h in cc)
 passed false e h = refl
 

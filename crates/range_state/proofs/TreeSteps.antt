@@ -80,10 +80,9 @@ clean_some [] = refl
 clean_some (d ∷ ds) = clean_some ds
 
 pub leaf_current : (s : State) (leaves : List Bucket) (node : NodeAt) (text : List ℕ) (leaf : Bucket) (b : Bool) → IsRight s → AreLeaves s.config s.entries leaves → node.depth ≡ tree_depth s.config.format → leaf ≡ get_or leaves node.index leaf
-    → (IsTrue b ↔ (text ≡ leaf_text s.config.format leaf.rows)) → b ≡ is_current s node text
+    → (IsTrue b ↔ (text ≡ leaf_text leaf.format leaf.rows)) → b ≡ is_current s node text
 leaf_current s leaves node text leaf b ok are deep is h =
-    let here = leaf_text_here s leaves node leaf are deep is in
-    let now : leaf_text s.config.format leaf.rows ≡ text_in s node = ap (λ (f : Format). leaf_text f leaf.rows) (sym here.0) ∙ here.1 in
+    let now = (leaf_text_here s leaves node leaf are deep is).1 in
     let has : has_node s.config node ≡ true = le-leb node.depth (tree_depth s.config.format) (omega (arith, deep)) in
     let clean : are_clean (children_of s.marks (place_of node)) ≡ true = ap are_clean (leaf_children s.config.format s.marks node.depth node.index deep ok.marks.tree.all) in
     rw (has, clean) (decided b text (text_in s node) (subst (λ (t : List ℕ). IsTrue b ↔ (text ≡ t)) now h))
@@ -105,19 +104,22 @@ current_parts s node text h =
     (two.0, two.1, (bytes_decides text (text_in s node)).0 first.1)
 
 pub cleaned_right : (s : State) (node : NodeAt) (text : List ℕ) (tree : Tree) → IsRight s → IsTrue (is_current s node text) → tree ≡ record { format = s.config.format; digests = set s.marks (place_of node) (Some (sha256 text)) } → IsTree tree
-    → IsRight (record { config = s.config; entries = s.entries; marks = tree.digests })
+    → IsRight (record { config = s.config; entries = s.entries; marks = tree.digests; records = s.records })
 cleaned_right s node text tree ok current is valid =
     let parts = current_parts s node text current in
     let low = leb-true node.depth (tree_depth s.config.format) parts.0 in
     let right = true_set s.config.format (leaf_in s.config) (rows_of s.entries) s.marks node.depth (tree_depth s.config.format - node.depth) node.index text ok.marks.digests (omega (arith, low)) node.within parts.2 in
-    let made : IsRight (record { config = s.config; entries = s.entries; marks = set s.marks (place_of node) (Some (sha256 text)) }) = record {
+    let made : IsRight (record { config = s.config; entries = s.entries; marks = set s.marks (place_of node) (Some (sha256 text)); records = s.records }) = record {
       config = ok.config;
       own = ok.own;
       news = ok.news;
       rows = ok.rows;
       marks = record { tree = subst IsTree is valid; digests = right };
+      records = ok.records;
+      few = ok.few;
+      partners = ok.partners;
     } in
-    subst (λ (t : Tree). IsRight (record { config = s.config; entries = s.entries; marks = t.digests })) (sym is) made
+    subst (λ (t : Tree). IsRight (record { config = s.config; entries = s.entries; marks = t.digests; records = s.records })) (sym is) made
 
 -- ---- digests that are shown
 

@@ -1,6 +1,10 @@
 pub mod Sent
 pub mod Config
 pub mod Rows
+pub mod Records
 pub mod State
+pub mod Sessions
+pub mod Syncs
+pub mod Batches
 pub mod Trees
 pub mod Run

@@ -1,5 +1,5 @@
 -- Runs of the range machine: what each event may answer and leave.
-use Rattle.std.specs.Prelude.{◌≡◌, ⊤, Result, Option, List, [], ◌∷◌, ℕ}
+use Rattle.std.specs.Prelude.{◌≡◌, ⊤, Result, Option, List, [], ◌∷◌, ℕ, length}
 use Rattle.std.specs.Arc.{arc_value}
 use Rattle.std.specs.declared.alloc.Global.{Global}
 use Rattle.std.specs.declared.sync.Arc.{Arc}
@@ -15,9 +15,14 @@ use Rattle.range_state.specs.declared.event.Event.TheVariants as events
 use Rattle.range_state.specs.declared.event.PutEvent.{PutEvent}
 use Rattle.range_state.specs.declared.event.AcceptEvent.{AcceptEvent}
 use Rattle.range_state.specs.declared.event.InstallEvent.{InstallEvent}
+use Rattle.range_state.specs.declared.event.OpenEvent.{OpenEvent}
+use Rattle.range_state.specs.declared.event.AnswerEvent.{AnswerEvent}
+use Rattle.range_state.specs.declared.event.AnswerTaken.{AnswerTaken}
 use Rattle.range_state.specs.declared.event.Reply.{Reply}
 use Rattle.range_state.specs.declared.event.Reply.TheVariants as replies
 use Rattle.range_state.specs.State.{State, IsRight, GivesJob, journaled, put_fault, put_entry, accept_fault, accept_step, accept_reply, install_fault, installed, rows_now, dirty_fault}
+use Rattle.range_state.specs.Sessions.{open_fault, opened, unknown_fault, cancelled_at, TakesAnswer}
+use Rattle.sync_session.specs.TreeNodes.{node_of}
 use Rattle.rehash.specs.Jobs.{NodeText}
 use Rattle.snapshot.specs.RowMaps.{RowMap}
 
@@ -45,6 +50,18 @@ InstallStep s i r t = AnswersAtOnce r (install_fault s i.node i.hashed) (λ _. �
 abbrev pub SnapshotStep : State → Result (Arc RowMap Global) Refusal → State → Type 0
 SnapshotStep s r t = Answers r (dirty_fault s) (λ snapshot. arc_value snapshot ≡ rows_now s) × (t ≡ s)
 
+-- a session was opened, and its number answered; or it was refused, and nothing changed
+abbrev pub OpenStep : State → OpenEvent → Result ℕ Refusal → State → Type 0
+OpenStep s o r t = Answers r (open_fault s o.offer) (λ id. id ≡ length s.records) × OnOk r (t ≡ opened s o.partner o.offer) × OnErr r (t ≡ s)
+
+-- a partner's text was taken or refused
+abbrev pub TakeAnswerStep : State → AnswerEvent → Result AnswerTaken Refusal → State → Type 0
+TakeAnswerStep s a r t = TakesAnswer s a.seat a.id (record { node = node_of a.node; text = a.text }) r t
+
+-- a session that was open has ended; or there is none of that number, and nothing changed
+abbrev pub CancelStep : State → ℕ → Result ⊤ Refusal → State → Type 0
+CancelStep s id r t = AnswersAtOnce r (unknown_fault s id) (λ _. ⊤) × (t ≡ cancelled_at s id)
+
 -- from s, the event is answered by the reply, and leaves t
 unfoldable pub IsStep : State → Event → Reply → State → Type 0
 IsStep s (events.Put p) reply t = (r : Result Entry Refusal) × (reply ≡ replies.Put r) × PutStep s p r t
@@ -53,6 +70,9 @@ IsStep s (events.Get key) reply t = (r : Result (List Version) Refusal) × (repl
 IsStep s (events.TakeJob skip) reply t = (r : Result (Option NodeText) Refusal) × (reply ≡ replies.TakeJob r) × TakeJobStep s r t
 IsStep s (events.Install i) reply t = (r : Result ⊤ Refusal) × (reply ≡ replies.Install r) × InstallStep s i r t
 IsStep s events.Snapshot reply t = (r : Result (Arc RowMap Global) Refusal) × (reply ≡ replies.Snapshot r) × SnapshotStep s r t
+IsStep s (events.OpenSession o) reply t = (r : Result ℕ Refusal) × (reply ≡ replies.OpenSession r) × OpenStep s o r t
+IsStep s (events.TakeAnswer a) reply t = (r : Result AnswerTaken Refusal) × (reply ≡ replies.TakeAnswer r) × TakeAnswerStep s a r t
+IsStep s (events.CancelSession id) reply t = (r : Result ⊤ Refusal) × (reply ≡ replies.CancelSession r) × CancelStep s id r t
 
 -- from s, the events are answered by the replies, one by one, over states that are all right, and leave t
 unfoldable pub Run : State → List Event → List Reply → State → Type 0

@@ -1,6 +1,6 @@
 -- The range machine: its state, which has no rows, and what its calls answer and change. Trees are those of the paper of 2007,
 -- section 4.7.
-use Rattle.std.specs.Prelude.{◌≡◌, ℕ, ◌<◌, ◌-◌, ◌^◌, Bool, ◌==◌, ◌&&◌, nat_eq, nat_le, nat_lt, ◌++◌, List, [], ◌∷◌, length, map, take, replicate, slice_index_or, slice_set, IsTrue, Option, Some, None, if◌then◌else◌}
+use Rattle.std.specs.Prelude.{◌≡◌, Any, Contains, ℕ, ◌<◌, ◌≤◌, ◌-◌, ◌^◌, Bool, ◌==◌, ◌&&◌, nat_eq, nat_le, nat_lt, ◌++◌, List, [], ◌∷◌, length, map, take, replicate, slice_index_or, slice_set, IsTrue, Option, Some, None, if◌then◌else◌}
 use Rattle.std.specs.List.{list_any, AllByRecursion}
 use Rattle.std.specs.Cmp.Lexicographic.{pointwise}
 use Rattle.sha2.specs.Sha256.{sha256}
@@ -16,26 +16,32 @@ use Rattle.version_set.specs.declared.kind.Kind.{Kind}
 use Rattle.version_set.specs.declared.version.Version.{Version}
 use Rattle.range_journal.specs.declared.journal.Entry.{Entry}
 use Rattle.range_journal.specs.declared.journal.Source.{Source}
-use Rattle.range_journal.specs.declared.journal.Source.TheVariants.{Client}
+use Rattle.range_journal.specs.declared.journal.Source.TheVariants.{Client, Partner}
 use Rattle.range_journal.specs.Journal.{accepted, held, AreNews}
 use Rattle.key_ring.specs.Places.{range_at, leaf_at, leaf_bits}
-use Rattle.row_bytes.specs.Rows.{IsRow}
+use Rattle.row_bytes.specs.Rows.{IsRow, AreRows}
+use Rattle.row_bytes.specs.declared.row.Row.{Row}
 use Rattle.hash_tree.specs.Leaves.{Bucket, rows_at}
 use Rattle.hash_tree.specs.Nodes.{Tree, tree_depth, node_count, place_at, children_of, are_clean, is_ready, ready_from, dirtied}
-use Rattle.hash_tree.specs.Texts.{node_text, IsTreeFor}
+use Rattle.hash_tree.specs.Texts.{node_text, leaf_text, IsTreeFor}
 use Rattle.hash_tree.specs.declared.node.NodeAt.{NodeAt}
 use Rattle.rehash.specs.Jobs.{NodeText}
 use Rattle.snapshot.specs.RowMaps.{RowMap}
+use Rattle.range_state.specs.declared.«record».Record.{Record}
 use Rattle.range_state.specs.declared.event.Accepted.{Accepted}
 use Rattle.range_state.specs.declared.event.Accepted.TheVariants.{Taken, Known}
 use Rattle.range_state.specs.Config.{Config, is_config}
+use Rattle.sync_session.specs.Walks.{TakenText}
+use Rattle.range_state.specs.Records.{IsKept}
 use Rattle.range_state.specs.Rows.{rows_of}
 
--- which range it is, the entries of its journal, and by place the digests of the clean nodes of its tree
+-- which range it is, the entries of its journal, by place the digests of the clean nodes of its tree, and the records of
+-- its sessions, each at the place of its number
 pub record State : Type 0 where
   pub config : Config
   pub entries : List Entry
   pub marks : List (Option (List ℕ))
+  pub records : List Record
 
 -- no node is clean
 unfoldable pub all_dirty : Format → List (Option (List ℕ))
@@ -43,7 +49,7 @@ all_dirty format = replicate (node_count format) None
 
 -- a range that has accepted nothing
 abbrev pub fresh : Config → State
-fresh c = record { config = c; entries = []; marks = all_dirty c.format }
+fresh c = record { config = c; entries = []; marks = all_dirty c.format; records = [] }
 
 -- the leaf of a key
 abbrev pub leaf_in : Config → List ℕ → ℕ
@@ -63,7 +69,7 @@ entry_of s seat source key v = record { number = length s.entries; seat = seat; 
 
 -- the state with an entry at the end: the leaf of its key is dirty, and so is each node above
 abbrev pub journaled : State → Entry → State
-journaled s e = record { config = s.config; entries = s.entries ++ e ∷ []; marks = dirtied s.config.format (leaf_in s.config e.key) s.marks }
+journaled s e = record { config = s.config; entries = s.entries ++ e ∷ []; marks = dirtied s.config.format (leaf_in s.config e.key) s.marks; records = s.records }
 
 -- why no entry can come
 abbrev pub full_fault : State → Option Refusal
@@ -146,7 +152,7 @@ install_fault s node text = if is_current s node text then None else Some Stale
 
 -- the state with the digest of a text
 abbrev pub installed : State → NodeAt → List ℕ → State
-installed s node text = record { config = s.config; entries = s.entries; marks = slice_set s.marks (place_of node) (Some (sha256 text)) }
+installed s node text = record { config = s.config; entries = s.entries; marks = slice_set s.marks (place_of node) (Some (sha256 text)); records = s.records }
 
 -- the rows now
 abbrev pub rows_now : State → RowMap
@@ -166,14 +172,30 @@ pub record IsOwn (c : Config) (e : Entry) : Type 0 where
 abbrev pub tree_of : State → Tree
 tree_of s = record { format = s.config.format; digests = s.marks }
 
+-- a text of a leaf that spells some rows of the format, and one of them has the entry's key and version
+pub record IsLeafWith (format : Format) (e : Entry) (t : TakenText) : Type 0 where
+  pub leaf : t.node.depth ≡ tree_depth format
+  pub rows : List Row
+  pub are : AreRows format rows
+  pub text : t.text ≡ leaf_text format rows
+  pub has : Any (λ (r : Row). (r.key ≡ e.key) × Contains r.versions e.version) rows
+
+-- some session took a leaf's text that has the entry's version
+abbrev pub IsFromPartner : State → Entry → Type 0
+IsFromPartner s e = Any (λ (r : Record). Any (IsLeafWith s.config.format e) r.session.taken) s.records
+
 -- what holds of each state: the entries are of the range, each was news, each row has a text, the children of a clean node are
--- clean, and each clean node has the digest of its text for the rows now
+-- clean, each clean node has the digest of its text for the rows now, each record is right for the entries, there are at most
+-- 1,024 records, and what came from a partner was in a text that a session took
 pub record IsRight (s : State) : Type 0 where
   pub config : IsTrue (is_config s.config)
   pub own : AllByRecursion (IsOwn s.config) s.entries
   pub news : AreNews s.entries
   pub rows : AllByRecursion (IsRow s.config.format) (rows_of s.entries)
   pub marks : IsTreeFor (leaf_in s.config) (rows_of s.entries) (tree_of s)
+  pub records : AllByRecursion (IsKept s.config s.entries) s.records
+  pub few : length s.records ≤ 1024
+  pub partners : AllByRecursion (λ (e : Entry). e.source ≡ Partner → IsFromPartner s e) s.entries
 
 -- the rows of a leaf
 abbrev pub bucket_of : Config → List Entry → ℕ → Bucket

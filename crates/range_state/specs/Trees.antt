@@ -17,9 +17,10 @@ digests_below s depth (suc height) = level_digests s depth (suc height) ++ diges
 
 -- the state with every node clean
 abbrev pub rehashed : State → State
-rehashed s = record { config = s.config; entries = s.entries; marks = digests_below s 0 (tree_depth s.config.format) }
+rehashed s = record { config = s.config; entries = s.entries; marks = digests_below s 0 (tree_depth s.config.format); records = s.records }
 
 -- only the digests of nodes differ
 pub record IsSameRange (s t : State) : Type 0 where
   pub config : t.config ≡ s.config
   pub entries : t.entries ≡ s.entries
+  pub records : t.records ≡ s.records

@@ -9,12 +9,14 @@ use rehash::job::Job;
 use snapshot::snapshot::Snapshot;
 use std::alloc::Global;
 use std::sync::Arc;
+use sync_session::state::SessionState;
 use vclock::bytes::Bytes;
 use vclock::clock::Clock;
 use vclock::refusal::Refusal;
 use version_set::kind::Kind;
 use version_set::set::VersionSet;
 use version_set::version::Version;
+use walk_messages::message::Offer;
 
 /// What a range tells a caller whose version it journaled: the entry.
 pub type Receipt = Entry;
@@ -26,6 +28,17 @@ pub enum Accepted {
     Taken(Receipt),
     /// It was covered by those accepted before: nothing was journaled.
     Known,
+}
+
+/// What became of a text that a session took.
+#[derive(Debug, Drop)]
+pub struct AnswerTaken {
+    /// The entries of the versions that came, in order: none for a node with children.
+    pub receipts: Vec<Receipt>,
+    /// How many versions were covered by those accepted before: none of them was journaled.
+    pub known: u64,
+    /// How the session stands.
+    pub state: SessionState,
 }
 
 /// A value put at a node.
@@ -69,6 +82,28 @@ pub struct InstallEvent {
     pub hashed: Hashed,
 }
 
+/// A partner's offer, with which a session is to be opened.
+#[derive(Debug, Drop)]
+pub struct OpenEvent {
+    /// The number of the partner.
+    pub partner: u16,
+    /// What the partner offers.
+    pub offer: Offer,
+}
+
+/// A text that a partner sent.
+#[derive(Debug, Drop)]
+pub struct AnswerEvent {
+    /// The seat of the caller.
+    pub seat: u16,
+    /// The number of the session.
+    pub id: u64,
+    /// The node that the text is said to be of.
+    pub node: NodeAt,
+    /// The text, with its digest.
+    pub text: Hashed,
+}
+
 /// A call of a range.
 #[derive(Debug, Drop)]
 pub enum Event {
@@ -84,6 +119,12 @@ pub enum Event {
     Install(InstallEvent),
     /// `snapshot`.
     Snapshot,
+    /// `open_session`.
+    OpenSession(OpenEvent),
+    /// `take_answer`.
+    TakeAnswer(AnswerEvent),
+    /// `cancel_session` of a number.
+    CancelSession(u64),
 }
 
 /// What a call answered.
@@ -101,4 +142,10 @@ pub enum Reply {
     Install(Result<(), Refusal>),
     /// The rows with the digests of their tree.
     Snapshot(Result<Arc<Snapshot, Global>, Refusal>),
+    /// The number of a new session.
+    OpenSession(Result<u64, Refusal>),
+    /// What became of a partner's text.
+    TakeAnswer(Result<AnswerTaken, Refusal>),
+    /// Whether there is a session of that number.
+    CancelSession(Result<(), Refusal>),
 }

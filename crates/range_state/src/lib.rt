@@ -1,14 +1,18 @@
-//! The state of a range: the journal of what it accepted, the rows that the journal makes, and the digests of their tree.
+//! The state of a range: the journal of what it accepted, the rows that the journal makes, the digests of their tree, and
+//! its sessions with partners.
 //!
 //! - [`config`]: which range a state is of, and its limits.
-//! - [`state`]: the state and its calls: `put`, `accept`, `get`, and for the tree `take_job`, `take_jobs`,
-//!   `install`, `digest_at`, `rehash` and `snapshot`.
+//! - [`state`]: the state and its calls: `put`, `accept`, `get`; for the tree `take_job`, `take_jobs`, `install`,
+//!   `digest_at`, `rehash` and `snapshot`; for sessions with partners `open_session`, `take_answer`, `cancel_session` and
+//!   `records`, and `sync_with` for a whole session.
+//! - [`record`]: a session of a range, and with whom.
 //! - [`event`], [`run`]: the same calls as events, and lists of them.
-//! - [`laws`]: what the definitions of rows say.
+//! - [`laws`]: what the definitions say: a range that finished a session holds what the partner had.
 #![tactic(auto)]
 
 pub mod config;
 pub mod event;
 pub mod laws;
+pub mod record;
 pub mod run;
 pub mod state;

@@ -2,9 +2,11 @@
 ghost use Rattle.std.specs.Prelude.{◌≡◌, None, IfOk, OnOk, OnErr};
 ghost use Rattle.vclock.specs.Answer.{Answers};
 ghost use Rattle.range_state.specs.State.{IsRight};
-ghost use Rattle.range_state.specs.Run.{IsStep, Run};
+ghost use Rattle.range_state.specs.Run.{IsStep, Run, PutStep, AcceptStep, TakeAnswerStep};
 
-use crate::event::{Event, Reply};
+use crate::event::{
+    AcceptEvent, Accepted, AnswerEvent, AnswerTaken, Event, PutEvent, Receipt, Reply,
+};
 use crate::state::RangeState;
 use std::alloc::Global;
 use vclock::refusal::Refusal;
@@ -33,36 +35,52 @@ impl RangeState {
         ensures right { IsRight self.new }
     {
         let reply = match event {
-            Event::Put(put) => {
-                let (key, context) = (put.key, put.context);
-                Reply::Put(self.put(
-                    alloc,
-                    put.seat,
-                    put.at,
-                    key.as_slice(),
-                    &context,
-                    put.kind,
-                    put.value,
-                ))
-            }
-            Event::Accept(accept) => {
-                let (key, version) = (accept.key, accept.version);
-                Reply::Accept(self.accept(
-                    alloc,
-                    accept.seat,
-                    accept.source,
-                    key.as_slice(),
-                    version,
-                ))
-            }
+            Event::Put(put) => Reply::Put(self.run_put(alloc, put)),
+            Event::Accept(accept) => Reply::Accept(self.run_accept(alloc, accept)),
             Event::Get(key) => Reply::Get(self.get(alloc, key.as_slice())),
             Event::TakeJob(skip) => Reply::TakeJob(self.take_job(alloc, skip)),
             Event::Install(install) => {
                 Reply::Install(self.install(install.node, &install.hashed))
             }
             Event::Snapshot => Reply::Snapshot(self.snapshot(alloc)),
+            Event::OpenSession(open) => {
+                Reply::OpenSession(self.open_session(alloc, open.partner, open.offer))
+            }
+            Event::TakeAnswer(answer) => Reply::TakeAnswer(self.run_answer(alloc, answer)),
+            Event::CancelSession(id) => Reply::CancelSession(self.cancel_session(id)),
         };
         let _right = self.journal();
         reply
+    }
+
+    /// Runs a put.
+    fn run_put(&mut self, alloc: Global, put: PutEvent) -> Result<Receipt, Refusal>
+        ensures { PutStep self.old put result self.new }
+    {
+        let (key, context) = (put.key, put.context);
+        self.put(
+            alloc,
+            put.seat,
+            put.at,
+            key.as_slice(),
+            &context,
+            put.kind,
+            put.value,
+        )
+    }
+
+    /// Takes in a version that another node sent.
+    fn run_accept(&mut self, alloc: Global, accept: AcceptEvent) -> Result<Accepted, Refusal>
+        ensures { AcceptStep self.old accept result self.new }
+    {
+        let (key, version) = (accept.key, accept.version);
+        self.accept(alloc, accept.seat, accept.source, key.as_slice(), version)
+    }
+
+    /// Takes a partner's text.
+    fn run_answer(&mut self, alloc: Global, answer: AnswerEvent) -> Result<AnswerTaken, Refusal>
+        ensures { TakeAnswerStep self.old answer result self.new }
+    {
+        self.take_answer(alloc, answer.seat, answer.id, answer.node, answer.text)
     }
 }

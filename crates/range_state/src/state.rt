@@ -15,12 +15,12 @@ ghost use Rattle.range_state.specs.State.{IsRight, fresh, leaf_in, leaf_count, p
 
 use crate::config::RangeConfig;
 use crate::event::{Accepted, Receipt};
+use crate::record::Record;
 use hash_tree::leaf::FoundRow;
 use hash_tree::marks::Marks;
 use hash_tree::shared::SharedLeaf;
 use key_ring::places::place;
 use range_journal::journal::{Journal, Source};
-use row_bytes::row::Row;
 use std::alloc::Global;
 use std::marker::Model;
 use vclock::bytes::Bytes;
@@ -34,6 +34,10 @@ use version_set::version::Version;
 
 mod bulk;
 mod offering;
+mod preparing;
+mod sessions;
+pub mod syncing;
+mod taking;
 mod tree;
 
 /// One replica of a range: the journal of the versions that it accepted; its rows, which are exactly the maximal versions
@@ -45,6 +49,7 @@ pub struct RangeState {
     journal: Journal,
     leaves: Vec<SharedLeaf>,
     marks: Marks,
+    records: Vec<Record>,
 }
 
 impl Model for RangeState {
@@ -53,9 +58,9 @@ impl Model for RangeState {
 
     ghost Value = { State };
 
-    ghost view = { λ r. record { config = r.config; entries = r.journal.entries; marks = r.marks.digests } };
+    ghost view = { λ r. record { config = r.config; entries = r.journal.entries; marks = r.marks.digests; records = r.records.items } };
 
-    ghost invariant = { λ r. IsRight (record { config = r.config; entries = r.journal.entries; marks = r.marks.digests })
+    ghost invariant = { λ r. IsRight (record { config = r.config; entries = r.journal.entries; marks = r.marks.digests; records = r.records.items })
         × AreLeaves r.config r.journal.entries r.leaves.items
         × (r.journal.limit ≡ r.config.limit)
         × (r.marks.format ≡ r.config.format) };
@@ -72,6 +77,7 @@ impl RangeState {
             journal: Journal::new(alloc, config.limit()),
             leaves: empty_leaves(alloc, format)?,
             marks: Marks::new(alloc, format)?,
+            records: Vec::new(alloc),
         })
     }
 
@@ -92,12 +98,12 @@ impl RangeState {
         &self.journal
     }
 
-    /// The rows of a leaf, in ascending order of key. It takes no memory.
-    pub fn rows(&self, leaf: u16) -> &[Row]
+    /// A leaf: its rows in ascending order of key, and their text. It takes no memory.
+    pub fn rows(&self, leaf: u16) -> &SharedLeaf
         requires { leaf < leaf_count self.now.config }
-        ensures { result.now ≡ rows_at (leaf_in self.now.config) leaf (rows_of self.now.entries) }
+        ensures { result.now ≡ record { format = self.now.config.format; rows = rows_at (leaf_in self.now.config) leaf (rows_of self.now.entries) } }
     {
-        self.leaves[usize::from(leaf)].rows()
+        &self.leaves[usize::from(leaf)]
     }
 
     /// The versions that are held for a key, in the order of their texts: none where the key is not held. It takes no
@@ -238,6 +244,7 @@ impl RangeState {
         key: &[u8],
         version: Version,
     ) -> Result<Receipt, Refusal>
+        requires own { ¬ (source ≡ Source.Partner) }
         requires leaf { leaf ≡ leaf_in self.old.config key.now }
         requires place { IsPlace key.now (rows_at (leaf_in self.old.config) leaf (rows_of self.old.entries)) place }
         requires here { place_fault self.old.config key.now version.kind version.value ≡ None }

@@ -7,7 +7,7 @@ use crate::source::Source;
 use hash_tree::hashed::{Digest, Hashed, hash};
 use hash_tree::node::NodeAt;
 use hash_tree::shared::SharedLeaf;
-use hash_tree::texts::{INNER_LEN, put_inner_text, put_leaf_text};
+use hash_tree::texts::{INNER_LEN, put_inner_text};
 use std::alloc::Global;
 use std::marker::Model;
 use vclock::bytes::Bytes;
@@ -79,7 +79,7 @@ impl Job {
     {
         let mut text = self.room;
         match &self.source {
-            Source::Leaf(leaf) => put_leaf_text(&mut text, leaf.format(), leaf.rows()).unwrap(),
+            Source::Leaf(leaf) => leaf.put_text(&mut text).unwrap(),
             Source::Children(format, digests) => {
                 put_inner_text(&mut text, *format, digests).unwrap()
             }

@@ -21,7 +21,7 @@ fn plain_len(version: &Version) -> u64
 
 /// How many bytes the text of a version has: at most 65,862.
 #[tactic(auto, using(crate::proofs::Limits::value_short))]
-fn version_len(format: Format, version: &Version) -> u64
+pub fn version_len(format: Format, version: &Version) -> u64
     requires { value_fault format version.now.kind version.now.value ≡ None }
     ensures exact { result ≡ length (version_text format version.now) }
     ensures short { result ≤ 65862 }

@@ -10,4 +10,6 @@ mod outages;
 #[cfg(test)]
 mod scripts;
 #[cfg(test)]
+mod syncs;
+#[cfg(test)]
 mod trees;

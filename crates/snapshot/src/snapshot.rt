@@ -5,15 +5,14 @@ ghost use Rattle.vclock.specs.Answer.{Answers};
 ghost use Rattle.key_ring.specs.Places.{leaf_bits};
 ghost use Rattle.hash_tree.specs.Leaves.{rows_at};
 ghost use Rattle.hash_tree.specs.Nodes.{tree_depth};
-ghost use Rattle.hash_tree.specs.Texts.{inner_text};
+ghost use Rattle.hash_tree.specs.Texts.{inner_text, leaf_text};
 ghost use Rattle.snapshot.specs.RowMaps.{IsRowMap, leaf_in, text_at, digest_at, root_of};
 ghost use Rattle.snapshot.specs.Snapshots.{IsSnapshot, map_of, answer_fault};
 
 use hash_tree::hashed::Digest;
 use hash_tree::node::{NodeAt, tree_depth};
 use hash_tree::shared::SharedLeaf;
-use hash_tree::texts::{inner_text, leaf_text};
-use row_bytes::row::Row;
+use hash_tree::texts::inner_text;
 use std::alloc::Global;
 use std::marker::Model;
 use std::sync::Arc;
@@ -104,12 +103,12 @@ impl Snapshot {
         self.digests[node.place()]
     }
 
-    /// The rows of a leaf, in ascending order of key.
-    pub fn rows(&self, leaf: u16) -> &[Row]
+    /// A leaf: its rows in ascending order of key, and their text.
+    pub fn rows(&self, leaf: u16) -> &SharedLeaf
         requires { leaf < 2 ^ leaf_bits self.now.format }
-        ensures { result.now ≡ rows_at (leaf_in self.now) leaf self.now.rows }
+        ensures { result.now ≡ record { format = self.now.format; rows = rows_at (leaf_in self.now) leaf self.now.rows } }
     {
-        self.leaves[usize::from(leaf)].rows()
+        &self.leaves[usize::from(leaf)]
     }
 
     /// The text of the node that is asked for (this project's profile).
@@ -124,7 +123,7 @@ impl Snapshot {
             return Err(Refusal::BadMessage);
         }
         if node.depth == tree_depth(self.format) {
-            return leaf_text(alloc, self.format, self.rows(node.index));
+            return text_of(alloc, self.rows(node.index));
         }
         inner_text(alloc, self.format, self.children(node))
     }
@@ -140,4 +139,16 @@ impl Snapshot {
         };
         children
     }
+}
+
+/// The text of a leaf. Refused: NoMemory.
+fn text_of(alloc: Global, leaf: &SharedLeaf) -> Result<Vec<u8>, Refusal>
+    ensures { Answers result None (λ text. text.items ≡ leaf_text leaf.now.format leaf.now.rows) }
+{
+    let Ok(len) = usize::try_from(leaf.text_len()) else {
+        return Err(Refusal::NoMemory);
+    };
+    let mut text = Vec::with_capacity(alloc, len)?;
+    leaf.put_text(&mut text)?;
+    Ok(text)
 }

@@ -6,7 +6,7 @@ ghost use Rattle.hash_tree.specs.Nodes.{digest_at, is_ready, ready_from};
 ghost use Rattle.range_state.specs.State.{has_node, place_of, text_in, IsJob, GivesJob, AreJobs, is_current, install_fault, installed};
 
 use crate::state::RangeState;
-use hash_tree::comparing::{is_inner_text, is_leaf_text};
+use hash_tree::comparing::is_inner_text;
 use hash_tree::hashed::{Digest, Hashed};
 use hash_tree::node::{NodeAt, tree_depth};
 use rehash::job::Job;
@@ -82,8 +82,7 @@ impl RangeState {
     {
         let format = self.config.format();
         if node.depth == tree_depth(format) {
-            let leaf = &self.leaves[usize::from(node.index)];
-            return is_leaf_text(format, text, leaf.rows());
+            return self.leaves[usize::from(node.index)].is_text(text);
         }
         node.depth < tree_depth(format)
             && match self.marks.children(node) {

@@ -7,7 +7,7 @@ use Rattle.version_set.specs.Kind.{value_fault}
 use Rattle.version_set.specs.Version.{offer_fault}
 use Rattle.range_journal.specs.Journal.{held}
 use Rattle.hash_tree.specs.Leaves.{Bucket, IsPlace}
-use Rattle.hash_tree.specs.Nodes.{Tree, IsTree, dirtied, tree_depth}
+use Rattle.hash_tree.specs.Nodes.{Tree, dirtied, tree_depth}
 use Rattle.range_state.specs.State.{State, AreLeaves, bucket_of, leaf_in, place_fault, full_fault, knows}
 use Rattle.range_state.proofs.StateLaws.{leaf_within, leaf_in_tree, rows_here, in_limits, in_vain, admitted, admit_err, room_left}
 use Rattle.range_state.proofs.state.RangeState.admit.Goals as goal
@@ -40,13 +40,13 @@ offer-requires-clause-value c =
 
 pub invariant_of-self-in_err-offer : goal.invariant_of-self-in_err-offer
 invariant_of-self-in_err-offer c =
-    let s : State = record { config = c.self.inside.config; entries = c.self.inside.journal.entries; marks = c.self.inside.marks.digests } in
+    let s : State = record { config = c.self.inside.config; entries = c.self.inside.journal.entries; marks = c.self.inside.marks.digests; records = c.self.inside.records.items } in
     let both = in_vain s c.self.inside.leaves.items c.from.result c.reserve.new.self.entries c.index_mut.result.now c.offer.new.self c.self.invariant.0 c.self.invariant.1 c.index_mut.ensures.value c.in_err-offer.ensures.err (ap (λ (t : Log). t.entries) c.in_ok-reserve.ensures.ok) in
     (both.0, both.1, ap (λ (t : Log). t.limit) c.in_ok-reserve.ensures.ok ∙ c.self.invariant.2, c.self.invariant.3)
 
 pub returns-in_err-offer-clause-answers : goal.returns-in_err-offer-clause-answers
 returns-in_err-offer-clause-answers c =
-    let s : State = record { config = c.self.inside.config; entries = c.self.inside.journal.entries; marks = c.self.inside.marks.digests } in
+    let s : State = record { config = c.self.inside.config; entries = c.self.inside.journal.entries; marks = c.self.inside.marks.digests; records = c.self.inside.records.items } in
     let ok = subst (λ (s : State). AreLeaves s.config s.entries c.self.inside.leaves.items) c.self.view_is c.self.invariant.1 in
     let at = c.from.ensures ∙ c.requires.leaf in
     let room = subst (λ (s : State). full_fault s ≡ None) c.self.view_is (room_left s c.self.inside.journal (λ i. s.entries) c.self.invariant.2 c.in_ok-reserve.ensures.answers.0) in
@@ -64,7 +64,7 @@ dirty-requires c =
 
 pub invariant_of-self-2 : goal.invariant_of-self-2
 invariant_of-self-2 c =
-    let s : State = record { config = c.self.inside.config; entries = c.self.inside.journal.entries; marks = c.self.inside.marks.digests } in
+    let s : State = record { config = c.self.inside.config; entries = c.self.inside.journal.entries; marks = c.self.inside.marks.digests; records = c.self.inside.records.items } in
     let e : Entry = record { number = length c.reserve.new.self.entries; seat = c.args.seat; source = c.args.source; key = c.in_ok-entry_key.entry_key; version = c.args.version } in
     let key : c.args.key.now ≡ c.in_ok-entry_key.entry_key = sym c.in_ok-entry_key.ensures.1 in
     let back : c.args.self.now ≡ s = sym c.self.view_is in
@@ -76,7 +76,6 @@ invariant_of-self-2 c =
     let entries = ap (λ (t : Log). t.entries) log ∙ ap (λ (t : Log). t.entries ++ e ∷ []) c.in_ok-reserve.ensures.ok in
     let format : c.dirty.new.self.format ≡ s.config.format = ap (λ (t : Tree). t.format) c.dirty.ensures.path ∙ c.self.invariant.3 in
     let path : c.dirty.new.self.digests ≡ dirtied s.config.format c.from.result s.marks = ap (λ (t : Tree). t.digests) c.dirty.ensures.path ∙ ap (λ (f : Format). dirtied f c.args.leaf s.marks) c.self.invariant.3 ∙ ap (λ (n : ℕ). dirtied s.config.format n s.marks) (sym c.from.ensures) in
-    let tree : IsTree (record { format = s.config.format; digests = c.dirty.new.self.digests }) = subst (λ (f : Format). IsTree (record { format = f; digests = c.dirty.new.self.digests })) format c.dirty.ensures.valid in
-    let both = admitted s c.self.inside.leaves.items c.from.result e c.append_reserved.new.self.entries c.dirty.new.self.digests c.index_mut.result.now c.offer.new.self c.args.key.now c.in_ok-row_version.row_version c.self.invariant.0 c.self.invariant.1 leaf here news c.pairs-valid.ensures.valid fits
-    c.index_mut.ensures.value key c.in_ok-row_version.ensures.1 c.in_ok-offer.ensures.ok entries path tree in
+    let both = admitted s c.self.inside.leaves.items c.from.result e c.append_reserved.new.self.entries c.dirty.new.self.digests c.index_mut.result.now c.offer.new.self c.args.key.now c.in_ok-row_version.row_version c.self.invariant.0 c.self.invariant.1 c.requires.own leaf here news c.pairs-valid.ensures.valid fits
+    c.index_mut.ensures.value key c.in_ok-row_version.ensures.1 c.in_ok-offer.ensures.ok entries path in
     (both.0, both.1, ap (λ (t : Log). t.limit) log ∙ ap (λ (t : Log). t.limit) c.in_ok-reserve.ensures.ok ∙ c.self.invariant.2, format)

@@ -9,13 +9,13 @@ use Rattle.range_state.proofs.state.RangeState.snapshot.Goals as goal
 
 pub new-requires : goal.new-requires
 new-requires c =
-    let s : State = record { config = c.self.inside.config; entries = c.self.inside.journal.entries; marks = c.self.inside.marks.digests } in
+    let s : State = record { config = c.self.inside.config; entries = c.self.inside.journal.entries; marks = c.self.inside.marks.digests; records = c.self.inside.records.items } in
     (offered_now s c.args.self.now c.self.inside.leaves.items c.in_ok-leaves.leaves.items c.in_ok-digests.digests.items c.format.result c.bits.result c.range.result
     c.self.view_is c.self.invariant.0 c.self.invariant.1 (c.in_ok-leaves.ensures.1 ∙ c.deref.ensures.value) c.in_ok-digests.ensures.1 c.format.ensures c.bits.ensures c.range.ensures).1
 
 pub returns : goal.returns
 returns c =
-    let s : State = record { config = c.self.inside.config; entries = c.self.inside.journal.entries; marks = c.self.inside.marks.digests } in
+    let s : State = record { config = c.self.inside.config; entries = c.self.inside.journal.entries; marks = c.self.inside.marks.digests; records = c.self.inside.records.items } in
     let now = c.args.self.now in
     let offered = offered_now s now c.self.inside.leaves.items c.in_ok-leaves.leaves.items c.in_ok-digests.digests.items c.format.result c.bits.result c.range.result
     c.self.view_is c.self.invariant.0 c.self.invariant.1 (c.in_ok-leaves.ensures.1 ∙ c.deref.ensures.value) c.in_ok-digests.ensures.1 c.format.ensures c.bits.ensures c.range.ensures in

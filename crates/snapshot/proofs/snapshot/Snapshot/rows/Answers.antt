@@ -1,5 +1,4 @@
 use Rattle.std.proofs.Common.{ℕ, get_or, subst, ap, ◌∙◌, arith}
-use Rattle.hash_tree.specs.Leaves.{Bucket}
 use Rattle.snapshot.specs.RowMaps.{RowMap}
 use Rattle.snapshot.specs.Snapshots.{IsSnapshot}
 use Rattle.snapshot.proofs.ShownLaws.{leaf_count, leaf_shown}
@@ -15,6 +14,5 @@ pub returns : goal.returns
 returns c =
     let s = c.self.inside in
     let is = subst (λ (m : RowMap). IsSnapshot m s.leaves.items s.digests.items) c.self.view_is c.self.invariant in
-    let leaf = c.index.ensures ∙ ap (λ (n : ℕ). get_or s.leaves.items n c.index.result.now) c.from.ensures
-    ∙ leaf_shown c.args.self.now s.leaves.items s.digests.items c.args.leaf c.index.result.now is c.requires in
-    c.rows.ensures.all ∙ ap (λ (b : Bucket). b.rows) leaf
+    c.index.ensures ∙ ap (λ (n : ℕ). get_or s.leaves.items n c.index.result.now) c.from.ensures
+    ∙ leaf_shown c.args.self.now s.leaves.items s.digests.items c.args.leaf c.index.result.now is c.requires

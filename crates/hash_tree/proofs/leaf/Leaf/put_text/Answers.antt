@@ -1,0 +1,22 @@
+use Rattle.std.proofs.Common.{◌≡◌, ◌++◌, ◌+◌, ◌<◌, ◌∷◌, ◌∙◌, ℕ, List, length, ap, arith}
+use Rattle.std.specs.List.{flat_map}
+use Rattle.std.specs.Vec.{vec_capacity}
+use Rattle.hash_tree.specs.Leaves.{Bucket}
+use Rattle.hash_tree.specs.Chunks.{chunk_text}
+use Rattle.hash_tree.specs.Texts.{leaf_byte}
+use Rattle.hash_tree.proofs.ChunkPlaces.{text_of_chunks, on_ok_map, on_err_map}
+use Rattle.hash_tree.proofs.leaf.Leaf.put_text.Goals as goal
+
+pub returns-clause-ok : goal.returns-clause-ok
+returns-clause-ok c =
+    let s = c.self.inside in
+    let out = c.args.out.now.items in
+    let text = ap (λ (cs : List Bucket). leaf_byte s.format ∷ flat_map chunk_text cs) c.deref.ensures.value ∙ text_of_chunks c.args.self.now s.format s.chunks.items c.self.view_is c.self.invariant.2 in
+    on_ok_map c.put_chunks.result (λ (put : c.put_chunks.new.out.items ≡ out ++ leaf_byte s.format ∷ flat_map chunk_text c.deref.result.now). put ∙ ap (λ (t : List ℕ). out ++ t) text) c.put_chunks.ensures.ok
+
+pub returns-clause-room : goal.returns-clause-room
+returns-clause-room c =
+    let s = c.self.inside in
+    let out = c.args.out.now.items in
+    let text = ap (λ (cs : List Bucket). leaf_byte s.format ∷ flat_map chunk_text cs) c.deref.ensures.value ∙ text_of_chunks c.args.self.now s.format s.chunks.items c.self.view_is c.self.invariant.2 in
+    on_err_map c.put_chunks.result (λ (full : vec_capacity c.args.out.now < length out + length (flat_map chunk_text c.deref.result.now) + 1). omega (arith, full, ap (λ (t : List ℕ). length t) text)) c.put_chunks.ensures.room

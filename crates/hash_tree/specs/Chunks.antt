@@ -1,0 +1,74 @@
+-- The rows of a leaf in chunks, and the text of each chunk.
+use Rattle.std.specs.Prelude.{◌≡◌, ℕ, zero, suc, ◌+◌, ◌^◌, ◌<◌, ◌≤◌, Bool, false, List, [], ◌∷◌, ◌++◌, length, take}
+use Rattle.std.specs.List.{AllByRecursion, flat_map}
+use Rattle.std.specs.Ordering.{is_le}
+use Rattle.vclock.specs.declared.format.Format.{Format}
+use Rattle.version_set.specs.declared.version.Version.{Version}
+use Rattle.version_set.specs.Version.{offered}
+use Rattle.row_bytes.specs.declared.row.Row.{Row}
+use Rattle.row_bytes.specs.Rows.{row_text}
+use Rattle.hash_tree.specs.Leaves.{Bucket, key_cmp}
+
+-- the rows of all chunks, in order
+abbrev pub all_rows : List Bucket → List Row
+all_rows chunks = flat_map (λ (c : Bucket). c.rows) chunks
+
+-- the rows of chunk i
+abbrev pub rows_of : List Bucket → ℕ → List Row
+rows_of [] i = []
+rows_of (c ∷ chunks) zero = c.rows
+rows_of (c ∷ chunks) (suc i) = rows_of chunks i
+
+-- the texts of the rows of a chunk, one after another
+abbrev pub chunk_text : Bucket → List ℕ
+chunk_text c = flat_map (row_text c.format) c.rows
+
+-- a chunk of a leaf: 1 to 128 rows of the leaf's format
+pub record IsChunk (format : Format) (c : Bucket) : Type 0 where
+  pub same : c.format ≡ format
+  pub some : 1 ≤ length c.rows
+  pub few : length c.rows ≤ 128
+
+-- the chunks of a leaf: no more than 2^56, so that a number of rows fits its type
+pub record AreChunks (format : Format) (chunks : List Bucket) : Type 0 where
+  pub each : AllByRecursion (IsChunk format) chunks
+  pub few : length chunks ≤ 2 ^ 56
+
+-- the row of a place among all rows stands in chunk i, at a place among the rows of the chunk
+pub record IsRowSpot (chunks : List Bucket) (place i at : ℕ) : Type 0 where
+  pub chunk : i < length chunks
+  pub before : length (all_rows (take i chunks)) + at ≡ place
+  pub within : at < length (rows_of chunks i)
+
+-- a row that is put into chunk i, at a place among the rows of the chunk, comes to stand at a place among all rows
+pub record IsGapSpot (chunks : List Bucket) (place i at : ℕ) : Type 0 where
+  pub chunk : i < length chunks
+  pub before : length (all_rows (take i chunks)) + at ≡ place
+  pub within : at ≤ length (rows_of chunks i)
+
+-- whether the first key of some rows is at most a key
+abbrev pub begin_by : List ℕ → List Row → Bool
+begin_by k [] = false
+begin_by k (r ∷ rows) = is_le (key_cmp r.key k)
+
+-- the versions of row i
+abbrev pub versions_at : List Row → ℕ → List Version
+versions_at [] i = []
+versions_at (r ∷ rows) zero = r.versions
+versions_at (r ∷ rows) (suc i) = versions_at rows i
+
+-- the rows after a version was offered to the set of row i
+abbrev pub offered_at : List Row → ℕ → Version → List Row
+offered_at [] i v = []
+offered_at (r ∷ rows) zero v = record { key = r.key; versions = offered v r.versions } ∷ rows
+offered_at (r ∷ rows) (suc i) v = r ∷ offered_at rows i v
+
+-- chunks after chunk i, of 128 rows, was split into halves
+pub record IsSplit (chunks : List Bucket) (i : ℕ) (halves : List Bucket) : Type 0 where
+  pub rows : all_rows halves ≡ all_rows chunks
+  pub more : length halves ≡ length chunks + 1
+  pub before : take i halves ≡ take i chunks
+  pub front : length (rows_of halves i) ≡ 64
+  pub first : all_rows (take (i + 1) halves) ≡ all_rows (take i chunks) ++ rows_of halves i
+  pub back : length (rows_of halves (i + 1)) ≡ 64
+  pub each : (format : Format) → AreChunks format chunks → AreChunks format halves

@@ -1,0 +1,310 @@
+-- What a session answers to a text, and what the range is then.
+use Rattle.std.proofs.Common.{◌≡◌, ◌≢◌, ℕ, zero, suc, ◌+◌, ◌<◌, ◌≤◌, ◌^◌, ◌⊎◌, Bool, true, false, cond, Option, Some, None, List, [], ◌∷◌, ◌++◌, length, set, get_or, refl, sym, ap, subst, ◌∙◌, inl, inr, arith, append_assoc, append-nil, slice_get}
+use Rattle.std.specs.Prelude.{nat_eq, nat_lt, nat_le, Ok, Err, MatchOption}
+use Rattle.std.specs.List.{AllByRecursion}
+use Rattle.std.proofs.lemmas.Bool.{cases_eq, cases_lt, lt-ltb, le-ltb, le-leb}
+use Rattle.std.proofs.lemmas.Bool.Decides.{nat_tests}
+use Rattle.std.proofs.lemmas.List.{length-append, length-set, set-get_or, get_or-set_same, get_or-set_other}
+use Rattle.std.proofs.lemmas.Option.{slice_get_read, slice_get_within, get_or_from_slice_get}
+use Rattle.vclock.specs.Answer.{first_fault}
+use Rattle.vclock.specs.declared.format.Format.{Format}
+use Rattle.vclock.specs.declared.format.Format.TheVariants.{One, Two}
+use Rattle.vclock.specs.declared.refusal.Refusal.{Refusal}
+use Rattle.vclock.specs.declared.refusal.Refusal.TheVariants.{NoMemory, Crowded, JournalFull, NotCanonical}
+use Rattle.version_set.specs.Version.{covered, maximal, with_version, offer_fault}
+use Rattle.version_set.specs.declared.version.Version.{Version}
+use Rattle.range_journal.specs.declared.journal.Entry.{Entry}
+use Rattle.range_journal.specs.Journal.{held, reserve_fault}
+use Rattle.range_journal.specs.Log.{Log}
+use Rattle.range_journal.specs.declared.journal.Source.TheVariants.{Partner}
+use Rattle.key_ring.specs.Places.{leaf_bits}
+use Rattle.row_bytes.specs.declared.row.Row.{Row}
+use Rattle.hash_tree.specs.Leaves.{Bucket, rows_at}
+use Rattle.hash_tree.specs.Nodes.{tree_depth, dirtied}
+use Rattle.sync_session.specs.Walks.{Walk, TakenText, IsInnerText, AreSpelled}
+use Rattle.sync_session.specs.Steps.{IsDue, after, after_refusal, IsTakeFault}
+use Rattle.sync_session.proofs.StepLaws.{All-weaker}
+use Rattle.range_state.specs.Config.{Config}
+use Rattle.range_state.specs.declared.«record».Record.{Record}
+use Rattle.range_state.specs.declared.event.AnswerTaken.{AnswerTaken}
+use Rattle.range_state.specs.declared.state.preparing.Batch.{Batch}
+use Rattle.range_state.specs.Records.{IsKept}
+use Rattle.range_state.specs.Rows.{rows_of}
+use Rattle.range_state.specs.State.{State, IsRight, AreLeaves, leaf_in, leaf_count, bucket_of, accept_step}
+use Rattle.range_state.specs.Sessions.{offers_of, taken_in, crowded_in, walked_to, IsInnerRead, IsLeafRead, TakesLeaf, IsLeafFault, Refuses, TakesText, TakesFor}
+use Rattle.range_state.specs.Batches.{IsRowFor, IsBatch, seen_count}
+use Rattle.range_state.proofs.RowLaws.{leaf-push}
+use Rattle.range_state.proofs.BatchLaws.{Offers}
+use Rattle.range_state.proofs.TakenLaws.{Reached, reached, taken_grown, still_right, record_kept, spelled_offers, spelled_rows, spelled_short, leaf_right, failed_right}
+
+-- ---- the record of a number
+
+pub has_record : (rs : List Record) (id : ℕ) (P : Record → Type 0) → MatchOption (slice_get rs id) ⊥ P → id < length rs
+has_record [] id P h = absurd h
+has_record (r ∷ rs) zero P h = omega arith
+has_record (r ∷ rs) (suc id) P h = omega (arith, has_record rs id P h)
+
+pub got_record : (rs : List Record) (id : ℕ) (r : Record) → id < length rs → r ≡ get_or rs id r → slice_get rs id ≡ Some r
+got_record rs id r within was = slice_get_read rs (length rs) id r refl within was
+
+pub the_record : (rs : List Record) (id : ℕ) (r : Record) (P : Record → Type 0) → id < length rs → r ≡ get_or rs id r → MatchOption (slice_get rs id) ⊥ P → P r
+the_record rs id r P within was h = subst (λ (o : Option Record). MatchOption o ⊥ P) (got_record rs id r within was) h
+
+with_record : (rs : List Record) (id : ℕ) (P : Record → Type 0) (Q : Type 0) → ((r : Record) → id < length rs → r ≡ get_or rs id r → P r → Q) → MatchOption (slice_get rs id) ⊥ P → Q
+with_record [] id P Q f h = absurd h
+with_record (r ∷ rs) zero P Q f h = f r (omega arith) refl h
+with_record (r ∷ rs) (suc id) P Q f h = with_record rs id P Q (λ x within was p. f x (omega (arith, within)) was p) h
+
+kept_at : (s : State) (id : ℕ) (r : Record) → IsRight s → slice_get s.records id ≡ Some r → IsKept s.config s.entries r
+kept_at s id r ok here =
+    let within = slice_get_within s.records id r here in
+    record_kept s id r ok within (sym (get_or_from_slice_get s.records id r r here))
+
+-- the state with a record in its own place
+pub in_place : (s : State) (id : ℕ) (r : Record) → r ≡ get_or s.records id r → s ≡ walked_to s id r r.session
+in_place s id r was =
+    let same : set s.records id r ≡ s.records = ap (set s.records id) was ∙ set-get_or s.records id r in
+    λ i. record { config = s.config; entries = s.entries; marks = s.marks; records = sym same i }
+
+-- ---- a text that is refused
+
+pub refused_right : (s : State) (id : ℕ) (r : Record) (e : Refusal) (w : Walk) → IsRight s → r ≡ get_or s.records id r → w ≡ after_refusal r.session e → IsRight (walked_to s id r w)
+refused_right s id r e w ok was is = subst (λ (v : Walk). IsRight (walked_to s id r v)) (sym is) (by_cause e)
+  where
+    by_cause : (x : Refusal) → IsRight (walked_to s id r (after_refusal r.session x))
+    by_cause NotCanonical = failed_right s id r ok was
+    by_cause x = subst IsRight (in_place s id r was) ok
+
+refuses : (s new : State) (seat id : ℕ) (r : Record) (t : TakenText) (e : Refusal) → IsTakeFault r.session t e → new ≡ walked_to s id r (after_refusal r.session e) → Refuses s seat id r t e new
+refuses s new seat id r t Crowded fault is = absurd fault
+refuses s new seat id r t JournalFull fault is = absurd fault
+refuses s new seat id r t e fault is = (fault, is)
+
+pub refused : (s new : State) (seat id : ℕ) (r : Record) (t : TakenText) (e : Refusal) → slice_get s.records id ≡ Some r → IsTakeFault r.session t e → new ≡ walked_to s id r (after_refusal r.session e) → TakesFor s seat id (slice_get s.records id) t (Err e) new
+refused s new seat id r t e here fault is = subst (λ (o : Option Record). TakesFor s seat id o t (Err e) new) (sym here) (refuses s new seat id r t e fault is)
+
+-- nothing changes but where a session fails
+pub refused_early : (s : State) (id : ℕ) (r : Record) (e : Refusal) → r ≡ get_or s.records id r → e ≢ NotCanonical → s ≡ walked_to s id r (after_refusal r.session e)
+refused_early s id r e was other = by_cause e other
+  where
+    by_cause : (x : Refusal) → x ≢ NotCanonical → s ≡ walked_to s id r (after_refusal r.session x)
+    by_cause NotCanonical no_way = absurd (no_way refl)
+    by_cause x no_way = in_place s id r was
+
+-- ---- a text of a node with children
+
+pub inner_taken : (s : State) (seat id : ℕ) (r : Record) (t : TakenText) (a : AnswerTaken) (w : Walk) → slice_get s.records id ≡ Some r → IsInnerRead s r t → a.receipts.items ≡ [] → a.known ≡ 0 → a.state ≡ w.state → w ≡ after r.session t
+    → TakesFor s seat id (slice_get s.records id) t (Ok a) (walked_to s id r w)
+inner_taken s seat id r t a w here read receipts known state is =
+    let took : TakesText s seat id r t (Ok a) (walked_to s id r w) = (state ∙ ap (λ (v : Walk). v.state) is, inl (record { read = read; receipts = receipts; known = known; new_is = ap (walked_to s id r) is })) in
+    subst (λ (o : Option Record). TakesFor s seat id o t (Ok a) (walked_to s id r w)) (sym here) took
+
+-- ---- a text of a leaf, before anything changes
+
+pub rows_ready : (s : State) (id : ℕ) (t : TakenText) (rows : List Row) → IsRight s → MatchOption (slice_get s.records id) ⊥ (λ r. IsLeafRead s r t rows) → AllByRecursion (IsRowFor s.config t.node.index) rows × (length (offers_of rows) ≤ length t.text)
+rows_ready s id t rows ok h = with_record s.records id (λ r. IsLeafRead s r t rows) _ (λ r within was read.
+    let right = still_right s.config s.entries r t (record_kept s id r ok within was) read.due in
+    (spelled_rows s.config r.session t.node t.text rows right.here read.spelled, spelled_short r.session.own t.node t.text rows read.spelled)) h
+
+crowded_cause : (v : Version) (S : List Version) (e : Refusal) → offer_fault v S ≡ Some e → e ≡ Crowded
+crowded_cause v S e h = by_case (covered v S) (nat_lt 64 (length (maximal (with_version v S)))) h
+  where
+    by_case : (a b : Bool) → cond a None (cond b (Some Crowded) None) ≡ Some e → e ≡ Crowded
+    by_case true b h = absurd (let clash : None ≡ Some e = h in cc)
+    by_case false true h = let same : Some Crowded ≡ Some e = h in cc
+    by_case false false h = absurd (let clash : None ≡ Some e = h in cc)
+
+first_cause : (a b : Option Refusal) (e : Refusal) → (a ≡ Some e → e ≡ Crowded) → (b ≡ Some e → e ≡ Crowded) → first_fault a b ≡ Some e → e ≡ Crowded
+first_cause None b e f g h = g h
+first_cause (Some x) b e f g h = f h
+
+crowded_is : (s : State) (seat : ℕ) (offers : Offers) (e : Refusal) → crowded_in s seat offers ≡ Some e → e ≡ Crowded
+crowded_is s seat [] e h = absurd (let clash : None ≡ Some e = h in cc)
+crowded_is s seat (o ∷ offers) e h = first_cause (offer_fault o.1 (held s.entries o.0)) _ e (crowded_cause o.1 (held s.entries o.0) e) (crowded_is (accept_step s seat Partner o.0 o.1) seat offers e) h
+
+-- a version too many, or no memory
+pub not_prepared : (s : State) (seat id : ℕ) (t : TakenText) (rows : List Row) (e : Refusal) → MatchOption (slice_get s.records id) ⊥ (λ r. IsLeafRead s r t rows) → (e ≡ NoMemory) ⊎ (crowded_in s seat (offers_of rows) ≡ Some e)
+    → TakesFor s seat id (slice_get s.records id) t (Err e) s
+not_prepared s seat id t rows e h cause = with_record s.records id (λ r. IsLeafRead s r t rows) _ (λ r within was read.
+    let here = got_record s.records id r within was in
+    elim cause [
+      | inl memory ↦ subst (λ (x : Refusal). TakesFor s seat id (slice_get s.records id) t (Err x) s) (sym memory) (refused s s seat id r t NoMemory here read.due (in_place s id r was))
+      | inr crowd ↦
+          let is = crowded_is s seat (offers_of rows) e crowd in
+          let full : crowded_in s seat (offers_of rows) ≡ Some Crowded = crowd ∙ ap (λ (x : Refusal). Some x) is in
+          let fault : IsLeafFault s seat r t Crowded = record { rows = rows; read = read; fault = rw full refl } in
+          subst (λ (x : Refusal). TakesFor s seat id (slice_get s.records id) t (Err x) s) (sym is)
+          (subst (λ (o : Option Record). TakesFor s seat id o t (Err Crowded) s) (sym here) (fault, refl))
+    ]) h
+
+-- the journal has no room for the entries, or there is no memory
+pub no_room : (s : State) (seat id : ℕ) (t : TakenText) (rows : List Row) (e : Refusal) (log : Log) (n : ℕ) → MatchOption (slice_get s.records id) ⊥ (λ r. IsLeafRead s r t rows) → crowded_in s seat (offers_of rows) ≡ None
+    → length (taken_in s seat (offers_of rows)).entries ≡ length s.entries + n → log.entries ≡ s.entries → log.limit ≡ s.config.limit
+    → ((reserve_fault log n ≡ None) × (e ≡ NoMemory)) ⊎ (reserve_fault log n ≡ Some e) → TakesFor s seat id (slice_get s.records id) t (Err e) s
+no_room s seat id t rows e log n h fits count entries limit cause = with_record s.records id (λ r. IsLeafRead s r t rows) _ (λ r within was read.
+    let here = got_record s.records id r within was in
+    elim cause [
+      | inl memory ↦ subst (λ (x : Refusal). TakesFor s seat id (slice_get s.records id) t (Err x) s) (sym memory.1) (refused s s seat id r t NoMemory here read.due (in_place s id r was))
+      | inr full ↦
+          let both = over log.limit (length log.entries + n) e full in
+          let past : nat_le (length (taken_in s seat (offers_of rows)).entries) s.config.limit ≡ false = not_within _ _ (omega (arith, both.1, count, limit, ap length entries)) in
+          let fault : IsLeafFault s seat r t JournalFull = record { rows = rows; read = read; fault = rw (fits, past) refl } in
+          subst (λ (x : Refusal). TakesFor s seat id (slice_get s.records id) t (Err x) s) (sym both.0)
+          (subst (λ (o : Option Record). TakesFor s seat id o t (Err JournalFull) s) (sym here) (fault, refl))
+    ]) h
+  where
+    over : (a b : ℕ) (x : Refusal) → cond (nat_lt a b) (Some JournalFull) None ≡ Some x → (x ≡ JournalFull) × (a < b)
+    over a b x h = elim (cases_lt a b) [
+      | inl less ↦ ((let same : Some JournalFull ≡ Some x = rw (lt-ltb a b less) at h in cc), less)
+      | inr past ↦ absurd (let clash : None ≡ Some x = rw (le-ltb a b past) at h in cc)
+    ]
+
+    not_within : (a b : ℕ) → b < a → nat_le a b ≡ false
+    not_within a b h = grind (arith, nat_tests)
+
+-- ---- a text of a leaf that is taken
+
+leaf_off : (c : Config) (i leaf : ℕ) (es more : List Entry) → i ≢ leaf → AllByRecursion (λ (e : Entry). leaf ≡ leaf_in c e.key) more → rows_at (leaf_in c) i (rows_of (es ++ more)) ≡ rows_at (leaf_in c) i (rows_of es)
+leaf_off c i leaf es [] other all = ap (λ (xs : List Entry). rows_at (leaf_in c) i (rows_of xs)) (append-nil es)
+leaf_off c i leaf es (e ∷ more) other all =
+    let off : nat_eq (leaf_in c e.key) i ≡ false = apart (leaf_in c e.key) i (λ h. other (sym (all.0 ∙ h))) in
+    ap (λ (xs : List Entry). rows_at (leaf_in c) i (rows_of xs)) (sym (append_assoc es (e ∷ []) more))
+    ∙ leaf_off c i leaf (es ++ e ∷ []) more other all.1
+    ∙ leaf-push (leaf_in c) es e i ∙ rw off refl
+  where
+    apart : (a b : ℕ) → a ≢ b → nat_eq a b ≡ false
+    apart a b h = grind (arith, nat_tests)
+
+-- the leaves with another in the place of the one that the entries are of
+leaves_after : (c : Config) (es more : List Entry) (leaves : List Bucket) (leaf : ℕ) (new : Bucket) → AreLeaves c es leaves → leaf < leaf_count c → AllByRecursion (λ (e : Entry). leaf ≡ leaf_in c e.key) more → new ≡ bucket_of c (es ++ more) leaf
+    → AreLeaves c (es ++ more) (set leaves leaf new)
+leaves_after c es more leaves leaf new ok within all is = record {
+  all = length-set leaves leaf new ∙ ok.all;
+  each = λ i d lt. elim (cases_eq i leaf) [
+    | inl same ↦
+        ap (λ (k : ℕ). get_or (set leaves leaf new) k d) same ∙ get_or-set_same leaves leaf new d (omega (arith, ok.all, within)) ∙ is
+        ∙ ap (bucket_of c (es ++ more)) (sym same)
+    | inr other ↦
+        get_or-set_other leaves leaf i new d other ∙ ok.each i d lt
+        ∙ ap (λ (rows : List Row). record { format = c.format; rows = rows }) (sym (leaf_off c i leaf es more other all))
+  ];
+}
+
+-- the facts of a leaf's text whose versions are prepared
+pub record IsAccepted (s : State) (seat id : ℕ) (r : Record) (t : TakenText) (rows : List Row) (b : Batch) (entries : List Entry) (marks : List (Option (List ℕ))) (w : Walk) : Type 0 where
+  pub within : id < length s.records
+  pub was : r ≡ get_or s.records id r
+  pub read : IsLeafRead s r t rows
+  pub fits : crowded_in s seat (offers_of rows) ≡ None
+  pub batch : IsBatch s t.node.index b
+  pub taken : s.entries ++ b.entries.items ≡ (taken_in s seat (offers_of rows)).entries
+  pub seen : seen_count b ≡ length (offers_of rows)
+  pub entries_are : entries ≡ s.entries ++ b.entries.items
+  pub marks_are : marks ≡ cond (nat_eq (length b.entries.items) 0) s.marks (dirtied s.config.format t.node.index s.marks)
+  pub walk : w ≡ after r.session t
+
+homes : (s : State) (seat id : ℕ) (r : Record) (t : TakenText) (rows : List Row) (b : Batch) (entries : List Entry) (marks : List (Option (List ℕ))) (w : Walk) → IsRight s → IsAccepted s seat id r t rows b entries marks w → AllByRecursion (λ o. t.node.index ≡ leaf_in s.config o.0) (offers_of rows)
+homes s seat id r t rows b entries marks w ok is =
+    let right = still_right s.config s.entries r t (record_kept s id r ok is.within is.was) is.read.due in
+    All-weaker _ _ (offers_of rows) (λ o x. x.leaf_is) (spelled_offers s.config r.session t.node t.text rows right.here is.read.spelled)
+
+-- the state then
+pub accepted_is : (s : State) (seat id : ℕ) (r : Record) (t : TakenText) (rows : List Row) (b : Batch) (entries : List Entry) (marks : List (Option (List ℕ))) (w : Walk) → IsRight s → IsAccepted s seat id r t rows b entries marks w
+    → record { config = s.config; entries = entries; marks = marks; records = set s.records id (record { partner = r.partner; session = w }) } ≡ walked_to (taken_in s seat (offers_of rows)) id r (after r.session t)
+accepted_is s seat id r t rows b entries marks w ok is =
+    let end = taken_in s seat (offers_of rows) in
+    let es : entries ≡ end.entries = is.entries_are ∙ is.taken in
+    let moved = reached s s t.node.index seat (offers_of rows) (homes s seat id r t rows b entries marks w ok is) (inl refl) in
+    let count : length end.entries ≡ length s.entries + length b.entries.items = sym (ap length is.taken) ∙ length-append s.entries b.entries.items in
+    let same = by_case s t.node.index end (length b.entries.items) count moved in
+    λ i. record { config = same.0 i; entries = es i; marks = (is.marks_are ∙ same.2) i; records = set (same.1 i) id (record { partner = r.partner; session = is.walk i }) }
+  where
+    some_news : (n : ℕ) → 0 < n → nat_eq n 0 ≡ false
+    some_news n h = grind (arith, nat_tests)
+
+    no_news : (n : ℕ) → n ≡ 0 → nat_eq n 0 ≡ true
+    no_news n h = grind (arith, nat_tests)
+
+    by_case : (u : State) (leaf : ℕ) (v : State) (n : ℕ) → length v.entries ≡ length u.entries + n → Reached u leaf v
+        → (u.config ≡ v.config) × (u.records ≡ v.records) × (cond (nat_eq n 0) u.marks (dirtied u.config.format leaf u.marks) ≡ v.marks)
+    by_case u leaf v n count (inl e) = (
+      ap (λ (x : State). x.config) (sym e),
+      ap (λ (x : State). x.records) (sym e),
+      rw (no_news n (omega (arith, count, ap (λ (x : State). length x.entries) e))) (ap (λ (x : State). x.marks) (sym e)),
+    )
+    by_case u leaf v n count (inr news) = (
+      sym news.config,
+      sym news.records,
+      rw (some_news n (omega (arith, count, news.more))) (sym news.marks),
+    )
+
+pub accepted_right : (s : State) (seat id : ℕ) (r : Record) (t : TakenText) (rows : List Row) (b : Batch) (entries : List Entry) (marks : List (Option (List ℕ))) (w : Walk) → IsRight s → IsAccepted s seat id r t rows b entries marks w
+    → IsRight (record { config = s.config; entries = entries; marks = marks; records = set s.records id (record { partner = r.partner; session = w }) })
+accepted_right s seat id r t rows b entries marks w ok is =
+    subst IsRight (sym (accepted_is s seat id r t rows b entries marks w ok is)) (leaf_right s seat id r t rows ok is.within is.was is.read is.fits)
+
+pub accepted_leaves : (s : State) (seat id : ℕ) (r : Record) (t : TakenText) (rows : List Row) (b : Batch) (entries : List Entry) (marks : List (Option (List ℕ))) (w : Walk) (leaves : List Bucket) → IsRight s → AreLeaves s.config s.entries leaves → IsAccepted s seat id r t rows b entries marks w
+    → t.node.index < leaf_count s.config → AreLeaves s.config entries (set leaves t.node.index b.leaf)
+accepted_leaves s seat id r t rows b entries marks w leaves ok are is within =
+    let grown = taken_grown (λ key v. t.node.index ≡ leaf_in s.config key) s seat (offers_of rows) (homes s seat id r t rows b entries marks w ok is) in
+    let es : entries ≡ s.entries ++ grown.more = is.entries_are ∙ is.taken ∙ grown.entries in
+    let leaf : b.leaf ≡ bucket_of s.config (s.entries ++ grown.more) t.node.index = is.batch.leaf_is ∙ ap (λ (xs : List Entry). bucket_of s.config xs t.node.index) (sym is.entries_are ∙ es) in
+    subst (λ (xs : List Entry). AreLeaves s.config xs (set leaves t.node.index b.leaf)) (sym es) (leaves_after s.config s.entries grown.more leaves t.node.index b.leaf are within grown.all leaf)
+
+pub leaf_taken : (s : State) (seat id : ℕ) (r : Record) (t : TakenText) (rows : List Row) (b : Batch) (entries : List Entry) (marks : List (Option (List ℕ))) (w : Walk) (a : AnswerTaken) (log : Log) → IsRight s → IsAccepted s seat id r t rows b entries marks w
+    → a.receipts.items ≡ b.receipts.items → a.known ≡ b.known → a.state ≡ w.state → log.entries ≡ s.entries → log.limit ≡ s.config.limit → reserve_fault log (length b.entries.items) ≡ None
+    → TakesFor s seat id (slice_get s.records id) t (Ok a) (record { config = s.config; entries = entries; marks = marks; records = set s.records id (record { partner = r.partner; session = w }) })
+leaf_taken s seat id r t rows b entries marks w a log ok is receipts known state es limit room =
+    let end = taken_in s seat (offers_of rows) in
+    let new : State = record { config = s.config; entries = entries; marks = marks; records = set s.records id (record { partner = r.partner; session = w }) } in
+    let here = got_record s.records id r is.within is.was in
+    let count : length end.entries ≡ length s.entries + length b.entries.items = sym (ap length is.taken) ∙ length-append s.entries b.entries.items in
+    let low : nat_le (length end.entries) s.config.limit ≡ true = le-leb _ _ (omega (arith, count, limit, ap length es, enough log.limit (length log.entries + length b.entries.items) room)) in
+    let came : a.receipts.items ≡ b.entries.items = receipts ∙ is.batch.receipts in
+    let took : TakesLeaf s seat id r t a new = record {
+      rows = rows;
+      read = is.read;
+      fault = rw (is.fits, low) refl;
+      receipts = ap (λ (xs : List Entry). s.entries ++ xs) came ∙ is.taken;
+      known = omega (arith, ap length came, known, is.seen);
+      new_is = accepted_is s seat id r t rows b entries marks w ok is;
+    } in
+    let text : TakesText s seat id r t (Ok a) new = (state ∙ ap (λ (v : Walk). v.state) is.walk, inr took) in
+    subst (λ (o : Option Record). TakesFor s seat id o t (Ok a) new) (sym here) text
+  where
+    enough : (x y : ℕ) → cond (nat_lt x y) (Some JournalFull) None ≡ None → y ≤ x
+    enough x y h = elim (cases_lt x y) [
+      | inl less ↦ absurd (let clash : Some JournalFull ≡ None = rw (lt-ltb x y less) at h in cc)
+      | inr room ↦ room
+    ]
+
+-- the leaves are the nodes of their depth
+pub leaf_inside : (c : Config) (depth index : ℕ) → depth ≡ tree_depth c.format → index < 16 ^ depth → index < leaf_count c
+leaf_inside c depth index deep within = counted c.format index (subst (λ (d : ℕ). index < 16 ^ d) deep within)
+  where
+    counted : (f : Format) (n : ℕ) → n < 16 ^ tree_depth f → n < 2 ^ leaf_bits f
+    counted One n h = h
+    counted Two n h = h
+
+-- ---- what was read
+
+abbrev pub Reads : Record → TakenText → List Row → Type 0
+Reads r t rows = ((t.node.depth < tree_depth r.session.own.format) × IsInnerText r.session.own.format t.text × (rows ≡ [])) ⊎ ((t.node.depth ≡ tree_depth r.session.own.format) × AreSpelled r.session.own t.node t.text rows)
+
+pub leaf_read : (s : State) (id : ℕ) (r : Record) (t : TakenText) (rows : List Row) → IsRight s → slice_get s.records id ≡ Some r → IsDue r.session t → Reads r t rows → t.node.depth ≡ tree_depth s.config.format → IsLeafRead s r t rows
+leaf_read s id r t rows ok here due reads deep =
+    let right = still_right s.config s.entries r t (kept_at s id r ok here) due in
+    let depth : tree_depth r.session.own.format ≡ tree_depth s.config.format = ap tree_depth right.here.format in
+    elim reads [
+      | inl inner ↦ absurd (omega (arith, inner.0, depth, deep))
+      | inr leaf ↦ record { due = due; leaf = deep; spelled = leaf.1 }
+    ]
+
+pub inner_read : (s : State) (id : ℕ) (r : Record) (t : TakenText) (rows : List Row) → IsRight s → slice_get s.records id ≡ Some r → IsDue r.session t → Reads r t rows → t.node.depth ≢ tree_depth s.config.format → IsInnerRead s r t
+inner_read s id r t rows ok here due reads other =
+    let right = still_right s.config s.entries r t (kept_at s id r ok here) due in
+    let depth : tree_depth r.session.own.format ≡ tree_depth s.config.format = ap tree_depth right.here.format in
+    elim reads [
+      | inl inner ↦ record { due = due; inner = omega (arith, inner.0, depth); form = subst (λ (f : Format). IsInnerText f t.text) right.here.format inner.1 }
+      | inr leaf ↦ absurd (other (leaf.0 ∙ depth))
+    ]

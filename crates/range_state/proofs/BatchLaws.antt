@@ -1,0 +1,195 @@
+-- What becomes of versions that are accepted in their turn.
+use Rattle.std.proofs.Common.{◌≡◌, ℕ, ◌+◌, ◌<◌, ◌⊎◌, true, false, cond, Option, Some, None, List, [], ◌∷◌, ◌++◌, length, map, take, drop, get_or, refl, sym, ap, subst, ◌∙◌, inl, inr, arith, append_assoc, append-nil}
+use Rattle.std.specs.Prelude.{nat_eq}
+use Rattle.std.proofs.lemmas.Bool.Decides.{nat_tests}
+use Rattle.std.proofs.lemmas.List.{length-append, take_more, map-append, take-append-drop}
+use Rattle.std.proofs.lemmas.Grind.{flat_map-append}
+use Rattle.vclock.specs.Answer.{first_fault}
+use Rattle.vclock.specs.declared.refusal.Refusal.{Refusal}
+use Rattle.vclock.specs.declared.refusal.Refusal.TheVariants.{NoMemory}
+use Rattle.version_set.specs.declared.version.Version.{Version}
+use Rattle.version_set.specs.Version.{covered, offer_fault}
+use Rattle.range_journal.specs.declared.journal.Entry.{Entry}
+use Rattle.range_journal.specs.declared.journal.Source.TheVariants.{Partner}
+use Rattle.range_journal.specs.Journal.{accepted, held}
+use Rattle.range_journal.specs.Log.{AreNumberedFrom}
+use Rattle.range_journal.proofs.JournalLaws.{AreNumberedFrom-push}
+use Rattle.row_bytes.specs.declared.row.Row.{Row}
+use Rattle.hash_tree.specs.Leaves.{Bucket, rows_at, versions_in, with_offer}
+use Rattle.range_state.specs.declared.state.preparing.Batch.{Batch}
+use Rattle.range_state.specs.Config.{Config}
+use Rattle.range_state.specs.Rows.{rows_of}
+use Rattle.range_state.specs.State.{State, leaf_in, bucket_of, knows, entry_of, journaled, accept_step}
+use Rattle.range_state.specs.Sessions.{offers_in, offers_of, taken_in, crowded_in}
+use Rattle.range_state.specs.Batches.{ahead, IsBatch, IsPrepared}
+use Rattle.range_state.proofs.RowLaws.{leaf_holds, leaf-push}
+use Rattle.range_state.proofs.StateLaws.{knows_held}
+
+abbrev pub Offers : Type 0
+Offers = List (List ℕ × Version)
+
+-- ---- entries alone decide
+
+entries_step : (s : State) (seat : ℕ) (key : List ℕ) (v : Version) → (accept_step s seat Partner key v).entries ≡ cond (knows s key v) s.entries (s.entries ++ entry_of s seat Partner key v ∷ [])
+entries_step s seat key v = elim (knows s key v) as (λ b. (cond b s (journaled s (entry_of s seat Partner key v))).entries ≡ cond b s.entries (s.entries ++ entry_of s seat Partner key v ∷ [])) [ true ↦ refl | false ↦ refl ]
+
+same_step : (s t : State) (seat : ℕ) (key : List ℕ) (v : Version) → s.entries ≡ t.entries → (accept_step s seat Partner key v).entries ≡ (accept_step t seat Partner key v).entries
+same_step s t seat key v e =
+    entries_step s seat key v
+    ∙ ap (λ (es : List Entry). cond (covered v (accepted es key)) es (es ++ (record { number = length es; seat = seat; source = Partner; key = key; version = v }) ∷ [])) e
+    ∙ sym (entries_step t seat key v)
+
+pub crowded_same : (s t : State) (seat : ℕ) (offers : Offers) → s.entries ≡ t.entries → crowded_in s seat offers ≡ crowded_in t seat offers
+crowded_same s t seat [] e = refl
+crowded_same s t seat (o ∷ offers) e =
+    let here = ap (λ (es : List Entry). offer_fault o.1 (held es o.0)) e in
+    let rest = crowded_same (accept_step s seat Partner o.0 o.1) (accept_step t seat Partner o.0 o.1) seat offers (same_step s t seat o.0 o.1 e) in
+    λ i. first_fault (here i) (rest i)
+
+pub taken_same : (s t : State) (seat : ℕ) (offers : Offers) → s.entries ≡ t.entries → (taken_in s seat offers).entries ≡ (taken_in t seat offers).entries
+taken_same s t seat [] e = e
+taken_same s t seat (o ∷ offers) e = taken_same (accept_step s seat Partner o.0 o.1) (accept_step t seat Partner o.0 o.1) seat offers (same_step s t seat o.0 o.1 e)
+
+-- ---- one after another
+
+pub taken-append : (s : State) (seat : ℕ) (xs ys : Offers) → taken_in s seat (xs ++ ys) ≡ taken_in (taken_in s seat xs) seat ys
+taken-append s seat [] ys = refl
+taken-append s seat (x ∷ xs) ys = taken-append (accept_step s seat Partner x.0 x.1) seat xs ys
+
+fault_assoc : (a b c : Option Refusal) → first_fault a (first_fault b c) ≡ first_fault (first_fault a b) c
+fault_assoc None b c = refl
+fault_assoc (Some e) b c = refl
+
+crowded-append : (s : State) (seat : ℕ) (xs ys : Offers) → crowded_in s seat (xs ++ ys) ≡ first_fault (crowded_in s seat xs) (crowded_in (taken_in s seat xs) seat ys)
+crowded-append s seat [] ys = refl
+crowded-append s seat (x ∷ xs) ys =
+    let next = accept_step s seat Partner x.0 x.1 in
+    ap (first_fault (offer_fault x.1 (held s.entries x.0))) (crowded-append next seat xs ys)
+    ∙ fault_assoc (offer_fault x.1 (held s.entries x.0)) (crowded_in next seat xs) (crowded_in (taken_in next seat xs) seat ys)
+
+-- ---- batches
+
+pub prepared_none : (s : State) (seat leaf : ℕ) (b : Batch) → IsBatch s leaf b → IsPrepared s seat leaf [] b b
+prepared_none s seat leaf b is = record { batch = is; entries = refl; count = omega arith }
+
+pub prepared_more : (s : State) (seat leaf : ℕ) (xs ys : Offers) (a b c : Batch) → IsPrepared s seat leaf xs a b → IsPrepared s seat leaf ys b c → IsPrepared s seat leaf (xs ++ ys) a c
+prepared_more s seat leaf xs ys a b c one two = record {
+  batch = two.batch;
+  entries = two.entries ∙ taken_same (ahead s b) (taken_in (ahead s a) seat xs) seat ys one.entries ∙ ap (λ (t : State). t.entries) (sym (taken-append (ahead s a) seat xs ys));
+  count = omega (arith, one.count, two.count, length-append xs ys);
+}
+
+-- the versions that come next
+next_crowded : (s : State) (seat leaf : ℕ) (xs ys : Offers) (a b : Batch) → IsPrepared s seat leaf xs a b → crowded_in (ahead s a) seat xs ≡ None → crowded_in (ahead s a) seat (xs ++ ys) ≡ crowded_in (ahead s b) seat ys
+next_crowded s seat leaf xs ys a b is none =
+    crowded-append (ahead s a) seat xs ys
+    ∙ ap (λ (o : Option Refusal). first_fault o (crowded_in (taken_in (ahead s a) seat xs) seat ys)) none
+    ∙ crowded_same (taken_in (ahead s a) seat xs) (ahead s b) seat ys (sym is.entries)
+
+-- Versions that were looked at, and none is refused.
+pub record IsGoing (s : State) (seat leaf : ℕ) (offers : Offers) (a b : Batch) : Type 0 where
+  pub prepared : IsPrepared s seat leaf offers a b
+  pub none : crowded_in (ahead s a) seat offers ≡ None
+
+pub going_none : (s : State) (seat leaf : ℕ) (b : Batch) → IsBatch s leaf b → IsGoing s seat leaf [] b b
+going_none s seat leaf b is = record { prepared = prepared_none s seat leaf b is; none = refl }
+
+pub going_more : (s : State) (seat leaf : ℕ) (xs ys all : Offers) (a b c : Batch) → IsGoing s seat leaf xs a b → all ≡ xs ++ ys → crowded_in (ahead s b) seat ys ≡ None → IsPrepared s seat leaf ys b c → IsGoing s seat leaf all a c
+going_more s seat leaf xs ys all a b c going is none next = subst (λ (os : Offers). IsGoing s seat leaf os a c) (sym is) (record {
+  prepared = prepared_more s seat leaf xs ys a b c going.prepared next;
+  none = next_crowded s seat leaf xs ys a b going.prepared going.none ∙ none;
+})
+
+pub going_stops : (s : State) (seat leaf : ℕ) (xs ys zs all : Offers) (a b : Batch) (e : Refusal) → IsGoing s seat leaf xs a b → all ≡ (xs ++ ys) ++ zs → crowded_in (ahead s b) seat ys ≡ Some e → crowded_in (ahead s a) seat all ≡ Some e
+going_stops s seat leaf xs ys zs all a b e going is crowd =
+    ap (crowded_in (ahead s a) seat) is ∙ crowded-append (ahead s a) seat (xs ++ ys) zs
+    ∙ ap (λ (o : Option Refusal). first_fault o (crowded_in (taken_in (ahead s a) seat (xs ++ ys)) seat zs)) (next_crowded s seat leaf xs ys a b going.prepared going.none ∙ crowd)
+
+-- a version that is not prepared
+pub going_err : (s : State) (seat leaf : ℕ) (xs ys zs all : Offers) (a b : Batch) (e : Refusal) → IsGoing s seat leaf xs a b → all ≡ (xs ++ ys) ++ zs → (e ≡ NoMemory) ⊎ (crowded_in (ahead s b) seat ys ≡ Some e) → (e ≡ NoMemory) ⊎ (crowded_in (ahead s a) seat all ≡ Some e)
+going_err s seat leaf xs ys zs all a b e going is (inl memory) = inl memory
+going_err s seat leaf xs ys zs all a b e going is (inr crowd) = inr (going_stops s seat leaf xs ys zs all a b e going is crowd)
+
+-- the same where no version was prepared at first
+pub from_none : (s : State) (seat : ℕ) (offers : Offers) (a : Batch) → a.entries.items ≡ [] → crowded_in (ahead s a) seat offers ≡ crowded_in s seat offers
+from_none s seat offers a none = crowded_same (ahead s a) s seat offers (ap (λ (es : List Entry). s.entries ++ es) none ∙ append-nil s.entries)
+
+-- ---- lists that a loop goes over
+
+pub map_next : {X Y : Type 0} (f : X → Y) (xs : List X) (i : ℕ) (x : X) → i < length xs → x ≡ get_or xs i x → map f (take (i + 1) xs) ≡ map f (take i xs) ++ f x ∷ []
+map_next f xs i x less is = ap (map f) (take_more xs i x less ∙ ap (λ y. take i xs ++ y ∷ []) (sym is)) ∙ map-append f (take i xs) (x ∷ [])
+
+pub map_split : {X Y : Type 0} (f : X → Y) (xs : List X) (i : ℕ) → map f xs ≡ map f (take i xs) ++ map f (drop i xs)
+map_split f xs i = ap (map f) (sym (take-append-drop i xs)) ∙ map-append f (take i xs) (drop i xs)
+
+pub offers_next : (rows : List Row) (i : ℕ) (r : Row) → i < length rows → r ≡ get_or rows i r → offers_of (take (i + 1) rows) ≡ offers_of (take i rows) ++ offers_in r
+offers_next rows i r less is = ap offers_of (take_more rows i r less ∙ ap (λ (y : Row). take i rows ++ y ∷ []) (sym is)) ∙ flat_map-append offers_in (take i rows) (r ∷ []) ∙ ap (λ (os : Offers). offers_of (take i rows) ++ os) (append-nil (offers_in r))
+
+pub offers_split : (rows : List Row) (i : ℕ) → offers_of rows ≡ offers_of (take i rows) ++ offers_of (drop i rows)
+offers_split rows i = ap offers_of (sym (take-append-drop i rows)) ∙ flat_map-append offers_in (take i rows) (drop i rows)
+
+-- ---- one version
+
+-- what the leaf of a batch has for a key
+pub set_ahead : (s : State) (leaf : ℕ) (b : Batch) (key : List ℕ) → IsBatch s leaf b → leaf ≡ leaf_in s.config key → versions_in key b.leaf.rows ≡ held (ahead s b).entries key
+set_ahead s leaf b key is at =
+    ap (λ (x : Bucket). versions_in key x.rows) is.leaf_is
+    ∙ ap (λ (n : ℕ). versions_in key (rows_at (leaf_in s.config) n (rows_of (ahead s b).entries))) at
+    ∙ leaf_holds (leaf_in s.config) (ahead s b).entries key
+
+alone : (s : State) (seat : ℕ) (key : List ℕ) (v : Version) → crowded_in s seat ((key, v) ∷ []) ≡ offer_fault v (held s.entries key)
+alone s seat key v = elim (offer_fault v (held s.entries key)) as (λ o. first_fault o None ≡ o) [ Some e ↦ refl | None ↦ refl ]
+
+-- one that is known
+pub known_next : (s : State) (seat leaf : ℕ) (key : List ℕ) (v : Version) (a b : Batch) → IsBatch s leaf a → leaf ≡ leaf_in s.config key → covered v (versions_in key a.leaf.rows) ≡ true
+    → b ≡ record { leaf = a.leaf; entries = a.entries; receipts = a.receipts; known = a.known + 1 }
+    → (crowded_in (ahead s a) seat ((key, v) ∷ []) ≡ None) × IsPrepared s seat leaf ((key, v) ∷ []) a b
+known_next s seat leaf key v a b is at known now =
+    let here : covered v (held (ahead s a).entries key) ≡ true = sym (ap (covered v) (set_ahead s leaf a key is at)) ∙ known in
+    let step : (accept_step (ahead s a) seat Partner key v).entries ≡ (ahead s a).entries = entries_step (ahead s a) seat key v ∙ rw (sym (knows_held (ahead s a) key v) ∙ here) refl in (
+      alone (ahead s a) seat key v ∙ rw here refl,
+      subst (IsPrepared s seat leaf ((key, v) ∷ []) a) (sym now) (record {
+        batch = record { leaf_is = is.leaf_is; numbered = is.numbered; receipts = is.receipts };
+        entries = sym step;
+        count = omega arith;
+      }),
+    )
+
+pub crowded_next : (s : State) (seat leaf : ℕ) (key : List ℕ) (v : Version) (a : Batch) (e : Refusal) → IsBatch s leaf a → leaf ≡ leaf_in s.config key → offer_fault v (versions_in key a.leaf.rows) ≡ Some e → crowded_in (ahead s a) seat ((key, v) ∷ []) ≡ Some e
+crowded_next s seat leaf key v a e is at full = alone (ahead s a) seat key v ∙ sym (ap (offer_fault v) (set_ahead s leaf a key is at)) ∙ full
+
+-- one that is news
+pub news_next : (s : State) (seat leaf : ℕ) (key : List ℕ) (v w : Version) (a b : Batch) (e x : Entry) → IsBatch s leaf a → leaf ≡ leaf_in s.config key → covered v (versions_in key a.leaf.rows) ≡ false → offer_fault v (versions_in key a.leaf.rows) ≡ None → w ≡ v
+    → e ≡ record { number = length s.entries + length a.entries.items; seat = seat; source = Partner; key = key; version = v } → x ≡ e
+    → b.leaf ≡ record { format = a.leaf.format; rows = with_offer key w a.leaf.rows } → b.entries.items ≡ a.entries.items ++ e ∷ [] → b.receipts.items ≡ a.receipts.items ++ x ∷ [] → b.known ≡ a.known
+    → (crowded_in (ahead s a) seat ((key, v) ∷ []) ≡ None) × IsPrepared s seat leaf ((key, v) ∷ []) a b
+news_next s seat leaf key v w a b e x is at fresh fits copy made same leaf_now entries receipts known =
+    let here : covered v (held (ahead s a).entries key) ≡ false = sym (ap (covered v) (set_ahead s leaf a key is at)) ∙ fresh in
+    let long : length (ahead s a).entries ≡ length s.entries + length a.entries.items = length-append s.entries a.entries.items in
+    let entry : entry_of (ahead s a) seat Partner key v ≡ e = ap (λ (n : ℕ). record { number = n; seat = seat; source = Partner; key = key; version = v }) long ∙ sym made in
+    let step : (accept_step (ahead s a) seat Partner key v).entries ≡ (ahead s a).entries ++ e ∷ [] =
+    entries_step (ahead s a) seat key v ∙ rw (sym (knows_held (ahead s a) key v) ∙ here) (ap (λ (y : Entry). (ahead s a).entries ++ y ∷ []) entry) in
+    let grown : (ahead s b).entries ≡ (ahead s a).entries ++ e ∷ [] = ap (λ (es : List Entry). s.entries ++ es) entries ∙ sym (append_assoc s.entries a.entries.items (e ∷ [])) in
+    let k : e.key ≡ key = ap (λ (y : Entry). y.key) made in
+    let ver : e.version ≡ v = ap (λ (y : Entry). y.version) made in (
+      alone (ahead s a) seat key v ∙ sym (ap (offer_fault v) (set_ahead s leaf a key is at)) ∙ fits,
+      record {
+        batch = record {
+          leaf_is = leaf_now ∙ bucket_next s.config (ahead s a).entries e leaf a.leaf key w is.leaf_is k (copy ∙ sym ver) at ∙ ap (λ (es : List Entry). bucket_of s.config es leaf) (sym grown);
+          numbered = subst (AreNumberedFrom (length s.entries)) (sym entries) (AreNumberedFrom-push (length s.entries) a.entries.items e is.numbered (ap (λ (y : Entry). y.number) made));
+          receipts = receipts ∙ (λ i. is.receipts i ++ same i ∷ []) ∙ sym entries;
+        };
+        entries = grown ∙ sym step;
+        count = omega (arith, ap length entries, length-append a.entries.items (e ∷ []), known);
+      },
+    )
+  where
+    eq_itself : (n : ℕ) → nat_eq n n ≡ true
+    eq_itself n = grind (arith, nat_tests)
+
+    bucket_next : (c : Config) (es : List Entry) (e : Entry) (leaf : ℕ) (old : Bucket) (key : List ℕ) (w : Version) → old ≡ bucket_of c es leaf → e.key ≡ key → w ≡ e.version → leaf ≡ leaf_in c key
+        → record { format = old.format; rows = with_offer key w old.rows } ≡ bucket_of c (es ++ e ∷ []) leaf
+    bucket_next c es e leaf old key w was k ver at =
+        let home : leaf_in c e.key ≡ leaf = ap (leaf_in c) k ∙ sym at in
+        let rows = leaf-push (leaf_in c) es e leaf ∙ rw (home, eq_itself leaf) refl in
+        (λ i. record { format = (was i).format; rows = with_offer (sym k i) (ver i) (was i).rows }) ∙ ap (λ (t : List Row). record { format = c.format; rows = t }) (sym rows)

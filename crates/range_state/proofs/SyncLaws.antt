@@ -1,0 +1,425 @@
+-- A whole session with a partner that answers truly.
+use Rattle.std.proofs.Common.{◌≡◌, ◌≢◌, ℕ, suc, ◌+◌, ◌^◌, ◌<◌, ◌≤◌, ◌⊎◌, true, false, not, Option, Some, None, List, [], ◌∷◌, ◌++◌, length, map, set, refl, sym, ap, subst, ◌∙◌, arith, inl, inr, append_assoc, append-nil, slice_get}
+use Rattle.std.specs.Prelude.{Ok, Err, MatchOption}
+use Rattle.std.specs.List.{filter, AllByRecursion}
+use Rattle.std.proofs.lemmas.Bool.{or_right, both_ways, cases_lt}
+use Rattle.std.proofs.lemmas.List.{length-append, map-append}
+use Rattle.std.proofs.lemmas.List.Folds.{list_any-append}
+use Rattle.vclock.specs.declared.format.Format.{Format}
+use Rattle.vclock.specs.declared.refusal.Refusal.{Refusal}
+use Rattle.vclock.specs.declared.refusal.Refusal.TheVariants as refusals
+use Rattle.range_journal.specs.Journal.{held}
+use Rattle.row_bytes.specs.declared.row.Row.{Row}
+use Rattle.hash_tree.specs.Nodes.{tree_depth}
+use Rattle.hash_tree.specs.declared.node.NodeAt.{NodeAt}
+use Rattle.snapshot.specs.RowMaps.{RowMap, IsRowMap, root_of}
+use Rattle.walk_messages.specs.declared.message.Offer.{Offer}
+use Rattle.sync_session.specs.TreeNodes.{Node, has_node, is_node, place_of, text_of}
+use Rattle.sync_session.specs.Walks.{TakenText, IsPartners, IsCanonical, asks}
+use Rattle.sync_session.specs.Steps.{started, after, state_by, IsDue}
+use Rattle.sync_session.specs.Differing.{nodes_of, differ, Ascends, IsHonest, IsNearlyDone}
+use Rattle.sync_session.specs.declared.state.SessionState.{SessionState}
+use Rattle.sync_session.specs.declared.state.SessionState.TheVariants.{Open, Finished, Failed, Cancelled}
+use Rattle.std.proofs.lemmas.Option.{get_or_from_slice_get}
+use Rattle.sync_session.proofs.StepLaws.{All-push, All-weaker}
+use Rattle.sync_session.proofs.DescentLaws.{entry}
+use Rattle.sync_session.proofs.OrderLaws.{asked_in_order}
+use Rattle.sync_session.proofs.HonestLaws.{asked_is_differ, differ_is_asked, true_text_due}
+use Rattle.range_state.specs.Config.{Config}
+use Rattle.range_state.specs.declared.«record».Record.{Record}
+use Rattle.range_state.specs.declared.event.AnswerTaken.{AnswerTaken}
+use Rattle.range_state.specs.declared.state.syncing.Synced.{Synced}
+use Rattle.range_state.specs.Records.{IsKept, IsKeptRight}
+use Rattle.range_state.specs.State.{State, IsRight, rows_now}
+use Rattle.range_state.specs.Sessions.{standings, offers_of, taken_in, leaf_fault, opened, walked_to, IsLeafRead, IsLeafFault, TakesInner, TakesLeaf, TakesText, TakesFor, Refuses}
+use Rattle.range_state.specs.Syncs.{IsOfRange, leaves_in, offers_at, known_in, Progress, taken_leaves, synced, ended, IsSyncedTo, IsPartWay, IsFirstOf}
+use Rattle.range_state.proofs.AnswerLaws.{in_place}
+use Rattle.range_state.proofs.SyncLists.{AreIn, member_of, has_head, all_has, same_nodes, fits, ascends_before, ascends_behind, without_first, differ_ascends, differ_inside, as_deep}
+use Rattle.range_state.proofs.SyncSteps.{beside, records_stay, config_stays, so_far, taken_more, leaf_came, leaf_refused, leaves-append, leaf_counts, inner_counts, no_leaves, nodes-push, got_last, set_last, all_last, true_rows}
+
+-- ---- how many texts a session took
+
+abbrev pub count_of : Option Record → ℕ
+count_of None = 0
+count_of (Some r) = length r.session.taken
+
+abbrev pub taken_count : List Record → ℕ → ℕ
+taken_count records id = count_of (slice_get records id)
+
+-- ---- a session on its way
+
+-- how far a session came that took the partner's own texts in the order in which it asked
+pub record IsUnderWay (s : State) (seat : ℕ) (other : RowMap) (known : ℕ) (now : State) : Type 0 where
+  pub r : Record
+  pub records : now.records ≡ s.records ++ r ∷ []
+  pub config : now.config ≡ s.config
+  pub own : r.session.own ≡ rows_now s
+  pub root : root_of other ≡ r.session.root
+  pub honest : IsHonest r.session other
+  pub turn : r.session.asked ≡ nodes_of r.session.taken ++ r.session.outstanding
+  pub stands : r.session.state ≡ state_by r.session.outstanding
+  pub grown : length s.entries ≤ length now.entries
+  pub progress : taken_leaves s seat other 0 (leaves_in s.config.format (nodes_of r.session.taken)) ≡ so_far (beside now s.records) known
+
+-- a session was opened
+pub record HasBegun (s : State) (seat partner : ℕ) (other : RowMap) (new : State) : Type 0 where
+  pub under : IsUnderWay s seat other 0 new
+  pub partner_is : under.r.partner ≡ partner
+
+pub begun : (s new : State) (seat partner : ℕ) (offer : Offer) (other : RowMap) → offer.root ≡ root_of other → new ≡ opened s partner offer → HasBegun s seat partner other new
+begun s new seat partner offer other root is = record {
+  under = record {
+    r = record { partner = partner; session = started (rows_now s) offer.root };
+    records = ap (λ (x : State). x.records) is;
+    config = ap (λ (x : State). x.config) is;
+    own = refl;
+    root = sym root;
+    honest = tt;
+    turn = refl;
+    stands = refl;
+    grown = omega (arith, ap (λ (x : State). length x.entries) is);
+    progress = ap (λ (x : State). so_far (beside x s.records) 0) (sym is);
+  };
+  partner_is = refl;
+}
+
+-- what is known of a session on its way
+pub record IsTrueWalk (s now : State) (other : RowMap) (r : Record) : Type 0 where
+  pub right : IsKeptRight now.config now.entries r.session
+  pub partner : IsPartners r.session other
+
+still_going : (nodes : List Node) → (state_by nodes ≡ Failed) ⊎ (state_by nodes ≡ Cancelled) → ⊥
+still_going [] (inl e) = let clash : Finished ≡ Failed = e in cc
+still_going [] (inr e) = let clash : Finished ≡ Cancelled = e in cc
+still_going (n ∷ nodes) (inl e) = let clash : Open ≡ Failed = e in cc
+still_going (n ∷ nodes) (inr e) = let clash : Open ≡ Cancelled = e in cc
+
+pub true_walk : (s now : State) (seat known : ℕ) (other : RowMap) (u : IsUnderWay s seat other known now) → IsRight now → IsOfRange s.config other → IsRowMap other → IsTrueWalk s now other u.r
+true_walk s now seat known other u ok here map = record {
+  right = elim (all_last (IsKept now.config now.entries) s.records u.r (subst (λ (rs : List Record). AllByRecursion (IsKept now.config now.entries) rs) u.records ok.records)) [
+    | inl over ↦ absurd (still_going u.r.session.outstanding (elim over.0 [
+      | inl failed ↦ inl (sym u.stands ∙ failed)
+      | inr cancelled ↦ inr (sym u.stands ∙ cancelled)
+    ]))
+    | inr right ↦ right
+  ];
+  partner = record {
+    format = here.format ∙ ap (λ (m : RowMap). m.format) (sym u.own);
+    bits = here.bits ∙ ap (λ (m : RowMap). m.bits) (sym u.own);
+    range = here.range ∙ ap (λ (m : RowMap). m.range) (sym u.own);
+    root = u.root;
+    map = map;
+  };
+}
+
+pub here_is : (s now : State) (seat known id : ℕ) (other : RowMap) (u : IsUnderWay s seat other known now) → id ≡ length s.records → slice_get now.records id ≡ Some u.r
+here_is s now seat known id other u at = ap (λ (rs : List Record). slice_get rs id) u.records ∙ ap (slice_get (s.records ++ u.r ∷ [])) at ∙ got_last s.records u.r
+
+first_has : (nodes : List Node) (n : Node) (rest : List Node) → nodes ≡ n ∷ rest → has_node n nodes ≡ true
+first_has nodes n rest is = ap (has_node n) is ∙ has_head n rest
+
+pub first_is : (s now : State) (seat known id : ℕ) (other : RowMap) (u : IsUnderWay s seat other known now) → id ≡ length s.records → (o : Option NodeAt) → MatchOption (slice_get now.records id) ⊥ (λ r. IsFirstOf r.session.outstanding o) → IsFirstOf u.r.session.outstanding o
+first_is s now seat known id other u at o h = subst (λ (x : Option Record). MatchOption x ⊥ (λ r. IsFirstOf r.session.outstanding o)) (here_is s now seat known id other u at) h
+
+-- the first outstanding node is due, and its true text is one that it can have
+pub first_due : (s now : State) (other : RowMap) (r : Record) (n : Node) (rest : List Node) → IsTrueWalk s now other r → IsHonest r.session other → r.session.outstanding ≡ n ∷ rest
+    → IsDue r.session (entry n (text_of other n)) × IsCanonical r.session.own n (text_of other n)
+first_due s now other r n rest is honest first = true_text_due (held now.entries) r.session other is.right.walked is.right.orderly is.partner honest n (first_has r.session.outstanding n rest first)
+
+pub shallow : (s now : State) (seat known : ℕ) (other : RowMap) (u : IsUnderWay s seat other known now) (n : Node) (rest : List Node) → IsTrueWalk s now other u.r → u.r.session.outstanding ≡ n ∷ rest → n.depth ≤ tree_depth other.format
+shallow s now seat known other u n rest is first = elim (first_due s now other u.r n rest is u.honest first).1 [
+  | inl inner ↦ omega (arith, inner.0, ap tree_depth is.partner.format)
+  | inr leaf ↦ omega (arith, leaf.0, ap tree_depth is.partner.format)
+]
+
+pub asked_ascend : (s now : State) (seat known : ℕ) (other : RowMap) (u : IsUnderWay s seat other known now) → IsTrueWalk s now other u.r → Ascends u.r.session.asked
+asked_ascend s now seat known other u is = asked_in_order (held now.entries) u.r.session is.right.walked (u.r.session.outstanding, u.turn)
+
+asked_in : (s now : State) (seat known : ℕ) (other : RowMap) (u : IsUnderWay s seat other known now) → IsTrueWalk s now other u.r → AreIn u.r.session.asked (differ (rows_now s) other)
+asked_in s now seat known other u is n h =
+    ap (λ (m : RowMap). has_node n (differ m other)) (sym u.own) ∙ asked_is_differ (held now.entries) u.r.session other is.right.walked is.right.orderly is.partner u.honest n h
+
+left_ascend : (s now : State) (seat known : ℕ) (other : RowMap) (u : IsUnderWay s seat other known now) (n : Node) (rest : List Node) → IsTrueWalk s now other u.r → u.r.session.outstanding ≡ n ∷ rest → Ascends (n ∷ rest)
+left_ascend s now seat known other u n rest is first =
+    ascends_behind (nodes_of u.r.session.taken) (n ∷ rest) (subst (λ (xs : List Node). Ascends xs) (u.turn ∙ ap (λ (xs : List Node). nodes_of u.r.session.taken ++ xs) first) (asked_ascend s now seat known other u is))
+
+-- ---- the session goes on
+
+has_left : (n : Node) (xs ys : List Node) → has_node n ys ≡ true → has_node n (xs ++ ys) ≡ true
+has_left n xs ys h = list_any-append (is_node n) xs ys ∙ or_right (has_node n xs) (has_node n ys) h
+
+turned : (done : List TakenText) (t : TakenText) (rest kids asked outstanding : List Node) → asked ≡ nodes_of done ++ outstanding → outstanding ≡ t.node ∷ rest → (left : List Node) → left ≡ rest → asked ++ kids ≡ nodes_of (done ++ t ∷ []) ++ (left ++ kids)
+turned done t rest kids asked outstanding turn first left is =
+    ap (λ (xs : List Node). xs ++ kids) (turn ∙ ap (λ (xs : List Node). nodes_of done ++ xs) first)
+    ∙ append_assoc (nodes_of done) (t.node ∷ rest) kids
+    ∙ sym (append_assoc (nodes_of done) (t.node ∷ []) (rest ++ kids))
+    ∙ ap (λ (xs : List Node). xs ++ (rest ++ kids)) (sym (nodes-push done t))
+    ∙ ap (λ (xs : List Node). nodes_of (done ++ t ∷ []) ++ (xs ++ kids)) (sym is)
+
+-- a session went on by one text more
+pub record HasMoved (s now new : State) (seat id count : ℕ) (other : RowMap) (r : Record) (n : Node) : Type 0 where
+  pub under : IsUnderWay s seat other count new
+  pub partner : under.r.partner ≡ r.partner
+  pub turn : nodes_of under.r.session.taken ≡ nodes_of r.session.taken ++ n ∷ []
+  pub more : taken_count new.records id ≡ length r.session.taken + 1
+
+-- one text more was taken, and this came of it
+moved : (s now new base : State) (seat id known count : ℕ) (other : RowMap) (u : IsUnderWay s seat other known now) (n : Node) (rest : List Node) → IsTrueWalk s now other u.r → id ≡ length s.records → u.r.session.outstanding ≡ n ∷ rest
+    → base.records ≡ now.records → base.config ≡ now.config → length now.entries ≤ length base.entries → new ≡ walked_to base id u.r (after u.r.session (entry n (text_of other n)))
+    → taken_leaves s seat other 0 (leaves_in s.config.format (nodes_of u.r.session.taken ++ n ∷ [])) ≡ so_far (beside base s.records) count
+    → HasMoved s now new seat id count other u.r n
+moved s now new base seat id known count other u n rest is at first same config grown new_is progress =
+    subst (λ (x : State). HasMoved s now x seat id count other u.r n) (sym new_is) (record {
+      under = record {
+        r = r;
+        records = records;
+        config = config ∙ u.config;
+        own = u.own;
+        root = u.root;
+        honest = All-push _ u.r.session.taken t u.honest refl;
+        turn = turned u.r.session.taken t rest (asks u.r.session.own t) u.r.session.asked u.r.session.outstanding u.turn first _ left;
+        stands = refl;
+        grown = omega (arith, u.grown, grown);
+        progress = ap (λ (xs : List Node). taken_leaves s seat other 0 (leaves_in s.config.format xs)) (nodes-push u.r.session.taken t) ∙ progress;
+      };
+      partner = refl;
+      turn = nodes-push u.r.session.taken t;
+      more = ap (λ (rs : List Record). taken_count rs id) records ∙ ap (taken_count (s.records ++ r ∷ [])) at ∙ ap count_of (got_last s.records r) ∙ length-append u.r.session.taken (t ∷ []);
+    })
+  where
+    t : TakenText
+    t = entry n (text_of other n)
+
+    r : Record
+    r = record { partner = u.r.partner; session = after u.r.session t }
+
+    records : set base.records id r ≡ s.records ++ r ∷ []
+    records =
+        ap (λ (rs : List Record). set rs id r) (same ∙ u.records)
+        ∙ ap (λ (k : ℕ). set (s.records ++ u.r ∷ []) k r) at
+        ∙ set_last s.records u.r r
+
+    left : filter (λ m. not (is_node m n)) u.r.session.outstanding ≡ rest
+    left = ap (filter (λ m. not (is_node m n))) first ∙ without_first n rest (left_ascend s now seat known other u n rest is first).0
+
+inner_on : (s now new : State) (seat id known : ℕ) (other : RowMap) (u : IsUnderWay s seat other known now) (n : Node) (rest : List Node) (a : AnswerTaken) (count : ℕ) → count ≡ known + a.known → IsTrueWalk s now other u.r → id ≡ length s.records → u.r.session.outstanding ≡ n ∷ rest
+    → TakesInner now id u.r (entry n (text_of other n)) a new → HasMoved s now new seat id count other u.r n
+inner_on s now new seat id known other u n rest a count sum is at first took =
+    let f : Format = s.config.format in
+    let done = nodes_of u.r.session.taken in
+    let less : n.depth < tree_depth f = omega (arith, took.read.inner, ap (λ (c : Config). tree_depth c.format) u.config) in
+    let none : leaves_in f (done ++ n ∷ []) ≡ leaves_in f done = leaves-append f done (n ∷ []) ∙ ap (λ (xs : List Node). leaves_in f done ++ xs) (inner_counts f n [] less) ∙ append-nil (leaves_in f done) in
+    let same : known ≡ count = omega (arith, took.known, sum) in
+    moved s now new now seat id known count other u n rest is at first refl refl (omega arith) took.new_is
+    (ap (taken_leaves s seat other 0) none ∙ u.progress ∙ ap (so_far (beside now s.records)) same)
+
+-- what a leaf's true text is read as
+offers_are : (s now : State) (seat known : ℕ) (other : RowMap) (u : IsUnderWay s seat other known now) (n : Node) (rows : List Row) → IsTrueWalk s now other u.r → IsLeafRead now u.r (entry n (text_of other n)) rows
+    → (n.depth ≡ tree_depth s.config.format) × (offers_of rows ≡ offers_at other n)
+offers_are s now seat known other u n rows is read =
+    let deep : n.depth ≡ tree_depth s.config.format = read.leaf ∙ ap (λ (c : Config). tree_depth c.format) u.config in
+    (deep, ap offers_of (true_rows u.r.session other is.partner n (deep ∙ ap (λ (m : RowMap). tree_depth m.format) (sym u.own)) rows read.spelled))
+
+leaf_on : (s now new : State) (seat id known : ℕ) (other : RowMap) (u : IsUnderWay s seat other known now) (n : Node) (rest : List Node) (a : AnswerTaken) (count : ℕ) → count ≡ known + a.known → IsTrueWalk s now other u.r → id ≡ length s.records → u.r.session.outstanding ≡ n ∷ rest
+    → TakesLeaf now seat id u.r (entry n (text_of other n)) a new → HasMoved s now new seat id count other u.r n
+leaf_on s now new seat id known other u n rest a count sum is at first took =
+    let f : Format = s.config.format in
+    let done = nodes_of u.r.session.taken in
+    let are = offers_are s now seat known other u n took.rows is took.read in
+    let base : State = taken_in now seat (offers_at other n) in
+    let fits : leaf_fault now seat (offers_at other n) ≡ None = ap (leaf_fault now seat) (sym are.1) ∙ took.fault in
+    let new_is : new ≡ walked_to base id u.r (after u.r.session (entry n (text_of other n))) =
+    took.new_is ∙ ap (λ (o : List _). walked_to (taken_in now seat o) id u.r (after u.r.session (entry n (text_of other n)))) are.1 in
+    let more : leaves_in f (done ++ n ∷ []) ≡ leaves_in f done ++ n ∷ [] = leaves-append f done (n ∷ []) ∙ ap (λ (xs : List Node). leaves_in f done ++ xs) (leaf_counts f n [] are.0) in
+    let entries : now.entries ++ a.receipts.items ≡ base.entries = took.receipts ∙ ap (λ (o : List _). (taken_in now seat o).entries) are.1 in
+    let known_is : known + known_in now seat (offers_at other n) ≡ count =
+    omega (arith, ap length entries, length-append now.entries a.receipts.items, took.known, sum, ap length are.1) in
+    moved s now new base seat id known count other u n rest is at first (records_stay now seat (offers_at other n)) (config_stays now seat (offers_at other n)) (omega (arith, ap length entries, length-append now.entries a.receipts.items)) new_is
+    (ap (taken_leaves s seat other 0) more
+    ∙ taken_more s (beside now s.records) seat other 0 known (leaves_in f done) (n ∷ []) u.progress
+    ∙ leaf_came now s.records seat other known n fits
+    ∙ ap (so_far (beside base s.records)) known_is)
+
+pub went_on : (s now new : State) (seat id known : ℕ) (other : RowMap) (u : IsUnderWay s seat other known now) (n : Node) (rest : List Node) (a : AnswerTaken) (count : ℕ) → count ≡ known + a.known → IsTrueWalk s now other u.r → id ≡ length s.records → u.r.session.outstanding ≡ n ∷ rest
+    → TakesFor now seat id (slice_get now.records id) (entry n (text_of other n)) (Ok a) new → HasMoved s now new seat id count other u.r n
+went_on s now new seat id known other u n rest a count sum is at first answer =
+    let took : TakesText now seat id u.r (entry n (text_of other n)) (Ok a) new = subst (λ (o : Option Record). TakesFor now seat id o (entry n (text_of other n)) (Ok a) new) (here_is s now seat known id other u at) answer in
+    elim took.1 [
+      | inl inner ↦ inner_on s now new seat id known other u n rest a count sum is at first inner
+      | inr leaf ↦ leaf_on s now new seat id known other u n rest a count sum is at first leaf
+    ]
+
+-- ---- a leaf is refused
+
+refusal_of : (s new : State) (seat id : ℕ) (r : Record) (t : TakenText) (e : Refusal) → e ≢ refusals.NoMemory → IsDue r.session t → IsCanonical r.session.own t.node t.text → Refuses s seat id r t e new → IsLeafFault s seat r t e × (new ≡ s)
+refusal_of s new seat id r t refusals.Crowded other due can h = h
+refusal_of s new seat id r t refusals.JournalFull other due can h = h
+refusal_of s new seat id r t refusals.NotAsked other due can h = absurd (both_ways _ h.0 due.asked)
+refusal_of s new seat id r t refusals.WrongDigest other due can h = absurd (h.0.1 due.digest)
+refusal_of s new seat id r t refusals.NotCanonical other due can h = absurd (h.0.1 can)
+refusal_of s new seat id r t refusals.NoMemory other due can h = absurd (other refl)
+refusal_of s new seat id r t e other due can h = absurd h.0
+
+pub stops : (s now new : State) (seat id known : ℕ) (other : RowMap) (u : IsUnderWay s seat other known now) (n : Node) (rest : List Node) (e : Refusal) → IsTrueWalk s now other u.r → id ≡ length s.records → u.r.session.outstanding ≡ n ∷ rest
+    → e ≢ refusals.NoMemory → TakesFor now seat id (slice_get now.records id) (entry n (text_of other n)) (Err e) new → IsLeafFault now seat u.r (entry n (text_of other n)) e × (new ≡ now)
+stops s now new seat id known other u n rest e is at first memory answer =
+    let took : Refuses now seat id u.r (entry n (text_of other n)) e new = subst (λ (o : Option Record). TakesFor now seat id o (entry n (text_of other n)) (Err e) new) (here_is s now seat known id other u at) answer in
+    let due = first_due s now other u.r n rest is u.honest first in
+    refusal_of now new seat id u.r (entry n (text_of other n)) e memory due.0 due.1 took
+
+-- where no memory is left, nothing changes
+pub no_memory : (s now new : State) (seat id known : ℕ) (other : RowMap) (u : IsUnderWay s seat other known now) (t : TakenText) → id ≡ length s.records
+    → TakesFor now seat id (slice_get now.records id) t (Err refusals.NoMemory) new → new ≡ now
+no_memory s now new seat id known other u t at answer =
+    let here = here_is s now seat known id other u at in
+    let took : Refuses now seat id u.r t refusals.NoMemory new = subst (λ (o : Option Record). TakesFor now seat id o t (Err refusals.NoMemory) new) here answer in
+    took.1 ∙ sym (in_place now id u.r (sym (get_or_from_slice_get now.records id u.r u.r here)))
+
+-- ---- the end
+
+none_left : (s now : State) (seat known : ℕ) (other : RowMap) (u : IsUnderWay s seat other known now) → u.r.session.outstanding ≡ [] → IsNearlyDone u.r.session
+none_left s now seat known other u done n h = let clash : false ≡ true = sym (ap (has_node n) done) ∙ h in cc
+
+leaves_left : (s now : State) (seat known : ℕ) (other : RowMap) (u : IsUnderWay s seat other known now) (n : Node) (rest : List Node) → IsTrueWalk s now other u.r → u.r.session.outstanding ≡ n ∷ rest → n.depth ≡ tree_depth s.config.format → IsNearlyDone u.r.session
+leaves_left s now seat known other u n rest is first deep m h =
+    let differs = asked_in s now seat known other u is m (ap (has_node m) u.turn ∙ has_left m (nodes_of u.r.session.taken) u.r.session.outstanding h) in
+    let inside = all_has _ (differ (rows_now s) other) (differ_inside (rows_now s) other) m differs in
+    let format = ap (λ (x : RowMap). tree_depth x.format) u.own in
+    elim (member_of m n rest (sym (ap (has_node m) first) ∙ h)) [
+      | inl same ↦ ap (λ (x : Node). x.depth) same ∙ deep ∙ sym format
+      | inr later ↦
+          let less : place_of n < place_of m = all_has (λ x. place_of n < place_of x) rest (left_ascend s now seat known other u n rest is first).0 m later in
+          omega (arith, as_deep n m less inside.1, inside.0, deep, format)
+    ]
+
+asked_all : (s now : State) (seat known : ℕ) (other : RowMap) (u : IsUnderWay s seat other known now) → IsTrueWalk s now other u.r → IsNearlyDone u.r.session → u.r.session.asked ≡ differ (rows_now s) other
+asked_all s now seat known other u is near =
+    same_nodes u.r.session.asked (differ (rows_now s) other) (asked_ascend s now seat known other u is) (differ_ascends (rows_now s) other) (asked_in s now seat known other u is)
+    (λ n h. differ_is_asked (held now.entries) u.r.session other is.right.walked is.right.orderly is.partner u.honest near n (ap (λ (m : RowMap). has_node n (differ m other)) u.own ∙ h))
+
+-- what is answered at the end
+pub record IsTold (s now : State) (id count : ℕ) (cause : Option Refusal) (a : Synced) : Type 0 where
+  pub accepted : length s.entries + a.accepted ≡ length now.entries
+  pub known : a.known ≡ count
+  pub asked : MatchOption (slice_get now.records id) ⊥ (λ r. a.asked ≡ length r.session.asked)
+  pub fault : a.fault ≡ cause
+
+ends : (s now : State) (seat id known : ℕ) (other : RowMap) (fault : Option Refusal) (a : Synced) (u : IsUnderWay s seat other known now) → IsTrueWalk s now other u.r → id ≡ length s.records → IsNearlyDone u.r.session
+    → taken_leaves s seat other 0 (leaves_in s.config.format u.r.session.asked) ≡ record { state = beside now s.records; known = known; fault = fault } → u.r.session.state ≡ ended fault → IsTold s now id known fault a
+    → IsSyncedTo s seat other now a
+ends s now seat id known other fault a u is at near progress state told =
+    let all = asked_all s now seat known other u is near in
+    let end : synced s seat other ≡ record { state = beside now s.records; known = known; fault = fault } = ap (λ (xs : List Node). taken_leaves s seat other 0 (leaves_in s.config.format xs)) (sym all) ∙ progress in
+    let asked : a.asked ≡ length u.r.session.asked = subst (λ (o : Option Record). MatchOption o ⊥ (λ r. a.asked ≡ length r.session.asked)) (here_is s now seat known id other u at) told.asked in
+    record {
+      config = sym (ap (λ (p : Progress). p.state.config) end);
+      entries = sym (ap (λ (p : Progress). p.state.entries) end);
+      marks = sym (ap (λ (p : Progress). p.state.marks) end);
+      sessions = ap standings u.records ∙ map-append (λ (r : Record). r.session.state) s.records (u.r ∷ []) ∙ ap (λ (x : SessionState). standings s.records ++ x ∷ []) (state ∙ ap (λ (p : Progress). ended p.fault) (sym end));
+      accepted = told.accepted;
+      known = told.known ∙ sym (ap (λ (p : Progress). p.known) end);
+      asked = asked ∙ ap length all;
+      fault = told.fault ∙ sym (ap (λ (p : Progress). p.fault) end);
+    }
+
+-- nothing is outstanding
+pub finished : (s now : State) (seat id known : ℕ) (other : RowMap) (a : Synced) (u : IsUnderWay s seat other known now) → IsTrueWalk s now other u.r → id ≡ length s.records → u.r.session.outstanding ≡ [] → IsTold s now id known None a → IsSyncedTo s seat other now a
+finished s now seat id known other a u is at done told =
+    let taken : u.r.session.asked ≡ nodes_of u.r.session.taken = u.turn ∙ ap (λ (xs : List Node). nodes_of u.r.session.taken ++ xs) done ∙ append-nil (nodes_of u.r.session.taken) in
+    ends s now seat id known other None a u is at (none_left s now seat known other u done)
+    (ap (λ (xs : List Node). taken_leaves s seat other 0 (leaves_in s.config.format xs)) taken ∙ u.progress)
+    (u.stands ∙ ap state_by done) told
+
+-- the leaf of a node is refused
+pub refused_at : (s now new : State) (seat id known : ℕ) (other : RowMap) (a : Synced) (u : IsUnderWay s seat other known now) (n : Node) (rest : List Node) (e : Refusal) → IsTrueWalk s now other u.r → id ≡ length s.records → u.r.session.outstanding ≡ n ∷ rest
+    → IsLeafFault now seat u.r (entry n (text_of other n)) e × (new ≡ now) → IsTold s new id known (Some e) a → IsSyncedTo s seat other new a
+refused_at s now new seat id known other a u n rest e is at first cause told =
+    let f : Format = s.config.format in
+    let done = nodes_of u.r.session.taken in
+    let are = offers_are s now seat known other u n cause.0.rows is cause.0.read in
+    let fault : leaf_fault now seat (offers_at other n) ≡ Some e = ap (leaf_fault now seat) (sym are.1) ∙ cause.0.fault in
+    let all : leaves_in f u.r.session.asked ≡ leaves_in f done ++ n ∷ leaves_in f rest =
+    ap (leaves_in f) (u.turn ∙ ap (λ (xs : List Node). done ++ xs) first) ∙ leaves-append f done (n ∷ rest) ∙ ap (λ (xs : List Node). leaves_in f done ++ xs) (leaf_counts f n rest are.0) in
+    subst (λ (x : State). IsSyncedTo s seat other x a) (sym cause.1)
+    (ends s now seat id known other (Some e) a u is at (leaves_left s now seat known other u n rest is first are.0)
+    (ap (taken_leaves s seat other 0) all
+    ∙ taken_more s (beside now s.records) seat other 0 known (leaves_in f done) (n ∷ leaves_in f rest) u.progress
+    ∙ leaf_refused now s.records seat other known n (leaves_in f rest) e fault)
+    (u.stands ∙ ap state_by first)
+    (subst (λ (x : State). IsTold s x id known (Some e) a) cause.1 told))
+
+length-nodes : (ts : List TakenText) → length (nodes_of ts) ≡ length ts
+length-nodes [] = refl
+length-nodes (t ∷ ts) = omega (arith, length-nodes ts)
+
+-- there are more nodes where the trees differ than texts were taken
+pub room_left : (s now : State) (seat known : ℕ) (other : RowMap) (u : IsUnderWay s seat other known now) (n : Node) (rest : List Node) → IsTrueWalk s now other u.r → u.r.session.outstanding ≡ n ∷ rest → length u.r.session.taken < length (differ (rows_now s) other)
+room_left s now seat known other u n rest is first =
+    let most = fits (differ (rows_now s) other) u.r.session.asked (asked_ascend s now seat known other u is) (differ_ascends (rows_now s) other) (asked_in s now seat known other u is) in
+    omega (arith, most, ap length u.turn, length-append (nodes_of u.r.session.taken) u.r.session.outstanding, length-nodes u.r.session.taken, ap length first)
+
+-- ---- a session that stopped on its way
+
+-- where a node lies above the leaves, so do the nodes before it
+all_above : (f : Format) (nodes : List Node) (n : Node) → n.depth < tree_depth f → n.index < 16 ^ n.depth → AllByRecursion (λ m. place_of m < place_of n) nodes → AllByRecursion (λ m. m.depth < tree_depth f) nodes
+all_above f nodes n less within before = All-weaker _ _ nodes (λ m h. omega (arith, as_deep m n h within, less)) before
+
+-- the leaves among some nodes are the first of those among all
+abbrev pub AreFirst : Format → List Node → List Node → Type 0
+AreFirst f nodes all = (rest : List Node) × (leaves_in f all ≡ leaves_in f nodes ++ rest)
+
+-- the leaves taken with the next node are the first ones, since a leaf is taken only once nothing but leaves is left
+up_to : (s now : State) (seat known : ℕ) (other : RowMap) (u : IsUnderWay s seat other known now) (n : Node) (rest : List Node) → IsTrueWalk s now other u.r → u.r.session.outstanding ≡ n ∷ rest → AreFirst s.config.format (nodes_of u.r.session.taken ++ n ∷ []) (differ (rows_now s) other)
+up_to s now seat known other u n rest is first = elim (cases_lt n.depth (tree_depth f)) [
+  | inl less ↦ (leaves_in f all, ap (λ (xs : List Node). xs ++ leaves_in f all) (sym (none less)))
+  | inr more ↦ (leaves_in f rest, ap (leaves_in f) (sym (asked_all s now seat known other u is (leaves_left s now seat known other u n rest is first (omega (arith, more, inside.0)))) ∙ turn ∙ sym (append_assoc done (n ∷ []) rest)) ∙ leaves-append f (done ++ n ∷ []) rest)
+]
+  where
+    f : Format
+    f = s.config.format
+
+    all : List Node
+    all = differ (rows_now s) other
+
+    done : List Node
+    done = nodes_of u.r.session.taken
+
+    turn : u.r.session.asked ≡ done ++ n ∷ rest
+    turn = u.turn ∙ ap (λ (xs : List Node). done ++ xs) first
+
+    inside : (n.depth < suc (tree_depth f)) × (n.index < 16 ^ n.depth)
+    inside = all_has (λ m. (m.depth < suc (tree_depth f)) × (m.index < 16 ^ m.depth)) all (differ_inside (rows_now s) other) n
+        (asked_in s now seat known other u is n (ap (has_node n) turn ∙ has_left n done (n ∷ rest) (has_head n rest)))
+
+    none : n.depth < tree_depth f → leaves_in f (done ++ n ∷ []) ≡ []
+    none less = leaves-append f done (n ∷ [])
+        ∙ ap (λ (xs : List Node). xs ++ leaves_in f (n ∷ [])) (no_leaves f done (all_above f done n less inside.1 (ascends_before done n rest (subst (λ (xs : List Node). Ascends xs) turn (asked_ascend s now seat known other u is)))))
+        ∙ inner_counts f n [] less
+
+pub taken_first : (s now : State) (seat known : ℕ) (other : RowMap) (u : IsUnderWay s seat other known now) (n : Node) (rest : List Node) → IsTrueWalk s now other u.r → u.r.session.outstanding ≡ n ∷ rest → AreFirst s.config.format (nodes_of u.r.session.taken) (differ (rows_now s) other)
+taken_first s now seat known other u n rest is first =
+    let f : Format = s.config.format in
+    let done = nodes_of u.r.session.taken in
+    let more = up_to s now seat known other u n rest is first in (
+      leaves_in f (n ∷ []) ++ more.0,
+      more.1 ∙ ap (λ (xs : List Node). xs ++ more.0) (leaves-append f done (n ∷ [])) ∙ append_assoc (leaves_in f done) (leaves_in f (n ∷ [])) more.0,
+    )
+
+pub moved_first : (s now new : State) (seat id known count : ℕ) (other : RowMap) (u : IsUnderWay s seat other known now) (n : Node) (rest : List Node) → IsTrueWalk s now other u.r → u.r.session.outstanding ≡ n ∷ rest → (moved : HasMoved s now new seat id count other u.r n) → AreFirst s.config.format (nodes_of moved.under.r.session.taken) (differ (rows_now s) other)
+moved_first s now new seat id known count other u n rest is first moved =
+    subst (λ (xs : List Node). AreFirst s.config.format xs (differ (rows_now s) other)) (sym moved.turn) (up_to s now seat known other u n rest is first)
+
+pub part_way : (s now : State) (seat partner known : ℕ) (other : RowMap) (u : IsUnderWay s seat other known now) → AreFirst s.config.format (nodes_of u.r.session.taken) (differ (rows_now s) other) → u.r.partner ≡ partner → IsPartWay s seat partner other now
+part_way s now seat partner known other u first with_whom = record {
+  leaves = leaves_in s.config.format (nodes_of u.r.session.taken);
+  rest = first.0;
+  first = first.1;
+  fits = ap (λ (p : Progress). p.fault) u.progress;
+  config = sym (ap (λ (p : Progress). p.state.config) u.progress);
+  entries = sym (ap (λ (p : Progress). p.state.entries) u.progress);
+  marks = sym (ap (λ (p : Progress). p.state.marks) u.progress);
+  session = (u.r, with_whom, u.records);
+}
+
+pub still_with : (s now new : State) (seat id count partner : ℕ) (other : RowMap) (r : Record) (n : Node) (moved : HasMoved s now new seat id count other r n) → r.partner ≡ partner → moved.under.r.partner ≡ partner
+still_with s now new seat id count partner other r n moved same = moved.partner ∙ same

@@ -1,0 +1,59 @@
+use Rattle.std.proofs.Common.{◌≡◌, ℕ, ◌+◌, None, Some, true, false, length, sym, ap, ◌∙◌, inr, arith}
+use Rattle.vclock.specs.declared.refusal.Refusal.TheVariants.{Crowded}
+use Rattle.version_set.specs.Version.{covered, offer_fault}
+use Rattle.range_journal.specs.declared.journal.Source.TheVariants.{Partner}
+use Rattle.hash_tree.specs.Leaves.{versions_in}
+use Rattle.range_state.specs.declared.state.preparing.Batch.{Batch}
+use Rattle.range_state.specs.State.{State}
+use Rattle.range_state.proofs.BatchLaws.{known_next, crowded_next, news_next}
+use Rattle.range_state.proofs.state.RangeState.prepare_version.Goals as goal
+
+pub returns-then-covers-clause-answers : goal.returns-then-covers-clause-answers
+returns-then-covers-clause-answers c =
+    let a = c.args.batch.now in
+    let known : covered c.args.version.now (versions_in c.args.key.now a.leaf.rows) ≡ true = cc (c.covers.ensures, c.if-covers.true, c.find-place.ensures.set) in
+    let b : Batch = record { leaf = a.leaf; entries = a.entries; receipts = a.receipts; known = a.known + 1 } in
+    ((known_next c.args.self.now c.args.seat c.args.leaf c.args.key.now c.args.version.now a b c.requires.batch c.requires.leaf known (λ i. b)).0, tt)
+
+pub returns-then-covers-clause-ok : goal.returns-then-covers-clause-ok
+returns-then-covers-clause-ok c =
+    let a = c.args.batch.now in
+    let known : covered c.args.version.now (versions_in c.args.key.now a.leaf.rows) ≡ true = cc (c.covers.ensures, c.if-covers.true, c.find-place.ensures.set) in
+    let b : Batch = record { leaf = a.leaf; entries = a.entries; receipts = a.receipts; known = a.known + 1 } in
+    (known_next c.args.self.now c.args.seat c.args.leaf c.args.key.now c.args.version.now a b c.requires.batch c.requires.leaf known (λ i. b)).1
+
+pub returns-then-crowds-clause-answers : goal.returns-then-crowds-clause-answers
+returns-then-crowds-clause-answers c =
+    let a = c.args.batch.now in
+    let full : offer_fault c.args.version.now (versions_in c.args.key.now a.leaf.rows) ≡ Some Crowded = rw (c.find-place.ensures.set, c.if-crowds.true) at c.crowds.ensures in
+    inr (crowded_next c.args.self.now c.args.seat c.args.leaf c.args.key.now c.args.version.now a Crowded c.requires.batch c.requires.leaf full)
+
+pub returns-clause-answers : goal.returns-clause-answers
+returns-clause-answers c =
+    let s = c.args.self.now in
+    let a = c.args.batch.now in
+    let b : Batch = record { leaf = c.offer.new.self; entries = c.push.new.self; receipts = c.push-2.new.self; known = a.known } in
+    let fresh : covered c.args.version.now (versions_in c.args.key.now a.leaf.rows) ≡ false = cc (c.covers.ensures, c.if-covers.false, c.find-place.ensures.set) in
+    let fits : offer_fault c.args.version.now (versions_in c.args.key.now a.leaf.rows) ≡ None = rw (c.find-place.ensures.set, c.if-crowds.false) at c.crowds.ensures in
+    let number : c.len.result + c.len-2.result ≡ length s.entries + length a.entries.items = omega (arith, c.len.ensures.count, c.len-2.ensures, ap (λ (t : State). length t.entries) c.self.view_is) in
+    let made : c.in_ok-entry.entry ≡ record { number = length s.entries + length a.entries.items; seat = c.args.seat; source = Partner; key = c.args.key.now; version = c.args.version.now } =
+    c.in_ok-entry.ensures.1 ∙ ap (λ (n : ℕ). record { number = n; seat = c.args.seat; source = Partner; key = c.args.key.now; version = c.args.version.now }) number in
+    let same : c.in_ok-receipt.receipt ≡ c.in_ok-entry.entry = c.in_ok-receipt.ensures.1 ∙ sym c.in_ok-entry.ensures.1 in (
+      (news_next s c.args.seat c.args.leaf c.args.key.now c.args.version.now c.in_ok-row_version.row_version a b c.in_ok-entry.entry c.in_ok-receipt.receipt c.requires.batch c.requires.leaf fresh fits c.in_ok-row_version.ensures.1
+          made same c.in_ok-offer.ensures.ok c.in_ok-push.ensures.items c.in_ok-push-2.ensures.items (λ i. a.known)).0,
+      tt,
+    )
+
+pub returns-clause-ok : goal.returns-clause-ok
+returns-clause-ok c =
+    let s = c.args.self.now in
+    let a = c.args.batch.now in
+    let b : Batch = record { leaf = c.offer.new.self; entries = c.push.new.self; receipts = c.push-2.new.self; known = a.known } in
+    let fresh : covered c.args.version.now (versions_in c.args.key.now a.leaf.rows) ≡ false = cc (c.covers.ensures, c.if-covers.false, c.find-place.ensures.set) in
+    let fits : offer_fault c.args.version.now (versions_in c.args.key.now a.leaf.rows) ≡ None = rw (c.find-place.ensures.set, c.if-crowds.false) at c.crowds.ensures in
+    let number : c.len.result + c.len-2.result ≡ length s.entries + length a.entries.items = omega (arith, c.len.ensures.count, c.len-2.ensures, ap (λ (t : State). length t.entries) c.self.view_is) in
+    let made : c.in_ok-entry.entry ≡ record { number = length s.entries + length a.entries.items; seat = c.args.seat; source = Partner; key = c.args.key.now; version = c.args.version.now } =
+    c.in_ok-entry.ensures.1 ∙ ap (λ (n : ℕ). record { number = n; seat = c.args.seat; source = Partner; key = c.args.key.now; version = c.args.version.now }) number in
+    let same : c.in_ok-receipt.receipt ≡ c.in_ok-entry.entry = c.in_ok-receipt.ensures.1 ∙ sym c.in_ok-entry.ensures.1 in
+    (news_next s c.args.seat c.args.leaf c.args.key.now c.args.version.now c.in_ok-row_version.row_version a b c.in_ok-entry.entry c.in_ok-receipt.receipt c.requires.batch c.requires.leaf fresh fits c.in_ok-row_version.ensures.1
+    made same c.in_ok-offer.ensures.ok c.in_ok-push.ensures.items c.in_ok-push-2.ensures.items (λ i. a.known)).1

@@ -1,0 +1,153 @@
+use Rattle.std.proofs.Common.{◌≡◌, ◌<◌, ◌+◌, ℕ, None, List, ◌++◌, length, cond, set, get_or, refl, sym, ap, subst, ◌∙◌, arith, slice_get, Ok, Err}
+use Rattle.std.specs.Prelude.{MatchOption, nat_eq}
+use Rattle.std.proofs.lemmas.Result.{err_from_is_err_and}
+use Rattle.std.proofs.lemmas.List.{length-append}
+use Rattle.range_journal.specs.declared.journal.Entry.{Entry}
+use Rattle.range_journal.specs.Journal.{reserve_fault}
+use Rattle.range_journal.specs.Log.{Log}
+use Rattle.hash_tree.specs.Nodes.{Tree, dirtied}
+use Rattle.sync_session.specs.Walks.{TakenText}
+use Rattle.sync_session.specs.Steps.{after_refusal}
+use Rattle.sync_session.specs.TreeNodes.{node_of}
+use Rattle.range_state.specs.declared.«record».Record.{Record}
+use Rattle.range_state.specs.declared.event.AnswerTaken.{AnswerTaken}
+use Rattle.range_state.specs.State.{State, IsRight, AreLeaves}
+use Rattle.range_state.specs.Sessions.{offers_of, walked_to, IsLeafRead, TakesFor, taken_in}
+use Rattle.range_state.proofs.AnswerLaws.{IsAccepted, rows_ready, not_prepared, no_room, has_record, got_record, the_record, refused_right, refused, accepted_right, accepted_leaves, leaf_taken, leaf_inside}
+use Rattle.range_state.proofs.state.RangeState.take_leaf.Goals as goal
+
+pub prepare_rows-requires-clause-here : goal.prepare_rows-requires-clause-here
+prepare_rows-requires-clause-here c =
+    let t : TakenText = record { node = node_of c.args.node; text = c.args.text } in
+    (rows_ready c.args.self.now c.args.id t c.args.rows.now (subst IsRight c.self.view_is c.self.invariant.0) c.requires).0
+
+pub prepare_rows-requires-clause-few : goal.prepare_rows-requires-clause-few
+prepare_rows-requires-clause-few c =
+    let t : TakenText = record { node = node_of c.args.node; text = c.args.text } in
+    let short = (rows_ready c.args.self.now c.args.id t c.args.rows.now (subst IsRight c.self.view_is c.self.invariant.0) c.requires).1 in
+    omega (arith, short, c.text-bytes.type_inv.0, ap length c.text-bytes.ensures)
+
+pub returns-in_err-batch : goal.returns-in_err-batch
+returns-in_err-batch c =
+    let t : TakenText = record { node = node_of c.args.node; text = c.args.text } in
+    let p = err_from_is_err_and c.from_residual.result c.from_residual.ensures.1 in
+    let told = not_prepared c.args.self.now c.args.seat c.args.id t c.args.rows.now c.in_err-batch.field-0.0 c.requires c.in_err-batch.ensures in
+    rw (p.1, p.2) told
+
+pub returns-in_err-reserve : goal.returns-in_err-reserve
+returns-in_err-reserve c =
+    let s : State = record { config = c.self.inside.config; entries = c.self.inside.journal.entries; marks = c.self.inside.marks.digests; records = c.self.inside.records.items } in
+    let now = c.args.self.now in
+    let b = c.in_ok-batch.batch in
+    let t : TakenText = record { node = node_of c.args.node; text = c.args.text } in
+    let p = err_from_is_err_and c.from_residual-in_err-reserve.result c.from_residual-in_err-reserve.ensures.1 in
+    let ready = c.in_ok-batch.ensures.1 in
+    let count : length (taken_in now c.args.seat (offers_of c.args.rows.now)).entries ≡ length now.entries + c.len.result = omega (arith, ap length ready.1, length-append now.entries b.entries.items, c.len.ensures) in
+    let es : c.self.inside.journal.entries ≡ now.entries = ap (λ (u : State). u.entries) c.self.view_is in
+    let limit : c.self.inside.journal.limit ≡ now.config.limit = c.self.invariant.2 ∙ ap (λ (u : State). u.config.limit) c.self.view_is in
+    let told = no_room now c.args.seat c.args.id t c.args.rows.now c.in_err-reserve.field-0.0 c.self.inside.journal c.len.result c.requires c.in_ok-batch.ensures.0 count es limit c.in_err-reserve.ensures.answers in
+    let same : now ≡ record { config = s.config; entries = c.reserve.new.self.entries; marks = s.marks; records = s.records } =
+    sym c.self.view_is ∙ ap (λ (l : Log). record { config = s.config; entries = l.entries; marks = s.marks; records = s.records }) (sym c.in_err-reserve.ensures.err) in
+    rw (p.1, p.2) (subst (λ (u : State). TakesFor now c.args.seat c.args.id (slice_get now.records c.args.id) t (Err c.in_err-reserve.field-0.0) u) same told)
+
+pub index_mut-requires : goal.index_mut-requires
+index_mut-requires c =
+    let t : TakenText = record { node = node_of c.args.node; text = c.args.text } in
+    let within = has_record c.args.self.now.records c.args.id (λ x. IsLeafRead c.args.self.now x t c.args.rows.now) c.requires in
+    omega (arith, within, ap (λ (u : State). length u.records) c.self.view_is, c.self.inside.records.ok)
+
+pub invariant_of-self-in_err-take : goal.invariant_of-self-in_err-take
+invariant_of-self-in_err-take c =
+    let s : State = record { config = c.self.inside.config; entries = c.self.inside.journal.entries; marks = c.self.inside.marks.digests; records = c.self.inside.records.items } in
+    let r : Record = c.index_mut.result.now in
+    let log = c.in_ok-reserve.ensures.ok in
+    let es : s.entries ≡ c.reserve.new.self.entries = ap (λ (l : Log). l.entries) (sym log) in
+    let right = refused_right s c.args.id r c.in_err-take.field-0.0 c.take.new.self c.self.invariant.0 c.index_mut.ensures.value c.in_err-take.ensures.1 in (
+      subst (λ (xs : List Entry). IsRight (record { config = s.config; entries = xs; marks = s.marks; records = set s.records c.args.id (record { partner = r.partner; session = c.take.new.self }) })) es right,
+      subst (λ (xs : List Entry). AreLeaves s.config xs c.self.inside.leaves.items) es c.self.invariant.1,
+      ap (λ (l : Log). l.limit) log ∙ c.self.invariant.2,
+      c.self.invariant.3,
+    )
+
+pub returns-in_err-take : goal.returns-in_err-take
+returns-in_err-take c =
+    let s : State = record { config = c.self.inside.config; entries = c.self.inside.journal.entries; marks = c.self.inside.marks.digests; records = c.self.inside.records.items } in
+    let r : Record = c.index_mut.result.now in
+    let t : TakenText = record { node = node_of c.args.node; text = c.args.text } in
+    let e = c.in_err-take.field-0.0 in
+    let p = err_from_is_err_and c.from_residual-in_err-take.result c.from_residual-in_err-take.ensures.1 in
+    let asked = subst (λ (u : State). MatchOption (slice_get u.records c.args.id) ⊥ (λ x. IsLeafRead u x t c.args.rows.now)) (sym c.self.view_is) c.requires in
+    let within = has_record s.records c.args.id (λ x. IsLeafRead s x t c.args.rows.now) asked in
+    let here = got_record s.records c.args.id r within c.index_mut.ensures.value in
+    let es : c.reserve.new.self.entries ≡ s.entries = ap (λ (l : Log). l.entries) c.in_ok-reserve.ensures.ok in
+    let new : State = record { config = s.config; entries = c.reserve.new.self.entries; marks = s.marks; records = set s.records c.args.id (record { partner = r.partner; session = c.take.new.self }) } in
+    let is : new ≡ walked_to s c.args.id r (after_refusal r.session e) = λ i. record { config = s.config; entries = es i; marks = s.marks; records = set s.records c.args.id (record { partner = r.partner; session = c.in_err-take.ensures.1 i }) } in
+    rw (p.1, p.2) (subst (λ (u : State). TakesFor u c.args.seat c.args.id (slice_get u.records c.args.id) t (Err e) new) c.self.view_is (refused s new c.args.seat c.args.id r t e here c.in_err-take.ensures.0 is))
+
+-- the record, which is at its place
+is_there : (c : goal.After-append_all) → (c.args.id < length c.args.self.now.records) × (c.index_mut.result.now ≡ get_or c.args.self.now.records c.args.id c.index_mut.result.now)
+is_there c =
+    let now = c.args.self.now in
+    let r : Record = c.index_mut.result.now in
+    let t : TakenText = record { node = node_of c.args.node; text = c.args.text } in
+    (has_record now.records c.args.id (λ x. IsLeafRead now x t c.args.rows.now) c.requires, c.index_mut.ensures.value ∙ ap (λ (u : State). get_or u.records c.args.id r) c.self.view_is)
+
+-- what was prepared is accepted
+is_accepted : (c : goal.After-append_all) → IsAccepted c.args.self.now c.args.seat c.args.id c.index_mut.result.now (record { node = node_of c.args.node; text = c.args.text }) c.args.rows.now c.in_ok-batch.batch c.append_all.new.journal.entries c.mark_news.new.marks.digests c.take.new.self
+is_accepted c =
+    let now = c.args.self.now in
+    let r : Record = c.index_mut.result.now in
+    let b = c.in_ok-batch.batch in
+    let t : TakenText = record { node = node_of c.args.node; text = c.args.text } in
+    let log = c.in_ok-reserve.ensures.ok in
+    let es : c.append_all.new.journal.entries ≡ now.entries ++ b.entries.items = c.append_all.ensures.entries ∙ (λ i. (log i).entries ++ b.entries.items) ∙ ap (λ (u : State). u.entries ++ b.entries.items) c.self.view_is in
+    let format : c.self.inside.marks.format ≡ now.config.format = c.self.invariant.3 ∙ ap (λ (u : State). u.config.format) c.self.view_is in
+    let marks : c.mark_news.new.marks.digests ≡ cond (nat_eq (length b.entries.items) 0) now.marks (dirtied now.config.format c.args.node.index now.marks) =
+    ap (λ (x : Tree). x.digests) c.mark_news.ensures ∙ (λ i. cond (nat_eq (length (c.deref.ensures.value i)) 0) (c.self.view_is i).marks (dirtied (format i) c.args.node.index (c.self.view_is i).marks)) in
+    let there = is_there c in
+    record {
+      within = there.0;
+      was = there.1;
+      read = the_record now.records c.args.id r (λ x. IsLeafRead now x t c.args.rows.now) there.0 there.1 c.requires;
+      fits = c.in_ok-batch.ensures.0;
+      batch = c.in_ok-batch.ensures.1.0;
+      taken = c.in_ok-batch.ensures.1.1;
+      seen = c.in_ok-batch.ensures.1.2;
+      entries_are = es;
+      marks_are = marks;
+      walk = c.in_ok-take.ensures.2;
+    }
+
+pub invariant_of-self-2 : goal.invariant_of-self-2
+invariant_of-self-2 c =
+    let now = c.args.self.now in
+    let r : Record = c.index_mut.result.now in
+    let b = c.in_ok-batch.batch in
+    let t : TakenText = record { node = node_of c.args.node; text = c.args.text } in
+    let is = is_accepted c in
+    let ok = subst IsRight c.self.view_is c.self.invariant.0 in
+    let are = subst (λ (u : State). AreLeaves u.config u.entries c.self.inside.leaves.items) c.self.view_is c.self.invariant.1 in
+    let inside = leaf_inside now.config c.args.node.depth c.args.node.index is.read.leaf c.args.node.within in
+    let right = accepted_right now c.args.seat c.args.id r t c.args.rows.now b c.append_all.new.journal.entries c.mark_news.new.marks.digests c.take.new.self ok is in
+    let leaves = accepted_leaves now c.args.seat c.args.id r t c.args.rows.now b c.append_all.new.journal.entries c.mark_news.new.marks.digests c.take.new.self c.self.inside.leaves.items ok are is inside in (
+      subst (λ (u : State). IsRight (record { config = u.config; entries = c.append_all.new.journal.entries; marks = c.mark_news.new.marks.digests; records = set u.records c.args.id (record { partner = r.partner; session = c.take.new.self }) })) (sym c.self.view_is) right,
+      subst (λ (u : State). AreLeaves u.config c.append_all.new.journal.entries (set c.self.inside.leaves.items c.from.result b.leaf)) (sym c.self.view_is)
+          (subst (λ (n : ℕ). AreLeaves now.config c.append_all.new.journal.entries (set c.self.inside.leaves.items n b.leaf)) (sym c.from.ensures) leaves),
+      c.append_all.ensures.limit ∙ ap (λ (l : Log). l.limit) c.in_ok-reserve.ensures.ok ∙ c.self.invariant.2,
+      ap (λ (x : Tree). x.format) c.mark_news.ensures ∙ c.self.invariant.3,
+    )
+
+pub returns : goal.returns
+returns c =
+    let now = c.args.self.now in
+    let r : Record = c.index_mut.result.now in
+    let b = c.in_ok-batch.batch in
+    let t : TakenText = record { node = node_of c.args.node; text = c.args.text } in
+    let ok = subst IsRight c.self.view_is c.self.invariant.0 in
+    let a : AnswerTaken = record { receipts = b.receipts; known = b.known; state = c.state-state.result } in
+    let held : c.self.inside.journal.entries ≡ now.entries = ap (λ (u : State). u.entries) c.self.view_is in
+    let limit : c.self.inside.journal.limit ≡ now.config.limit = c.self.invariant.2 ∙ ap (λ (u : State). u.config.limit) c.self.view_is in
+    let len : c.len.result ≡ length b.entries.items = omega (arith, c.len.ensures, b.entries.ok) in
+    let room = subst (λ (n : ℕ). reserve_fault c.self.inside.journal n ≡ None) len c.in_ok-reserve.ensures.answers.0 in
+    let took = leaf_taken now c.args.seat c.args.id r t c.args.rows.now b c.append_all.new.journal.entries c.mark_news.new.marks.digests c.take.new.self a c.self.inside.journal ok (is_accepted c) refl refl c.state-state.ensures held limit room in
+    subst (λ (u : State). TakesFor now c.args.seat c.args.id (slice_get now.records c.args.id) t (Ok a) (record { config = u.config; entries = c.append_all.new.journal.entries; marks = c.mark_news.new.marks.digests; records = set u.records c.args.id (record { partner = r.partner; session = c.take.new.self }) })) (sym c.self.view_is) took

@@ -1,0 +1,9 @@
+use Rattle.std.proofs.Common.{◌≡◌, ◌≤◌, take}
+use Rattle.range_state.specs.Sessions.{open_count}
+use Rattle.range_state.proofs.state.sessions.open_count.Given as goal
+
+abbrev pub invariant-loop-record : goal.invariant-loop-record
+invariant-loop-record l = record {
+  count : l.count ≡ open_count (take l.record-index l.records);
+  few : l.count ≤ l.record-index;
+}

@@ -1,0 +1,168 @@
+-- What the calls on sessions answer and change.
+use Rattle.std.specs.Prelude.{◌≡◌, ◌⊎◌, ℕ, ◌+◌, ◌<◌, nat_le, ◌==◌, ◌||◌, Bool, true, false, ◌++◌, List, [], ◌∷◌, length, slice_get, map, slice_set, Option, Some, None, Result, Ok, Err, if◌then◌else◌}
+use Rattle.std.specs.List.{filter, flat_map}
+use Rattle.vclock.specs.Answer.{first_fault}
+use Rattle.vclock.specs.declared.format.Format.{Format}
+use Rattle.vclock.specs.declared.format.Format.TheVariants.{One, Two}
+use Rattle.vclock.specs.declared.refusal.Refusal.{Refusal}
+use Rattle.vclock.specs.declared.refusal.Refusal.TheVariants as refusals
+use Rattle.version_set.specs.Version.{offer_fault}
+use Rattle.version_set.specs.declared.version.Version.{Version}
+use Rattle.range_journal.specs.declared.journal.Source.TheVariants.{Partner}
+use Rattle.range_journal.specs.Journal.{held}
+use Rattle.row_bytes.specs.declared.row.Row.{Row}
+use Rattle.hash_tree.specs.Nodes.{tree_depth}
+use Rattle.walk_messages.specs.declared.message.Offer.{Offer}
+use Rattle.sync_session.specs.Steps.{started, after, after_refusal, cancelled_by, IsDue, IsTakeFault}
+use Rattle.sync_session.specs.Walks.{TakenText, Walk, AreSpelled, IsInnerText}
+use Rattle.sync_session.specs.declared.state.SessionState.{SessionState}
+use Rattle.sync_session.specs.declared.state.SessionState.TheVariants.{Open, Finished, Failed, Cancelled}
+use Rattle.range_state.specs.Config.{Config}
+use Rattle.range_state.specs.declared.«record».Record.{Record}
+use Rattle.range_state.specs.declared.event.AnswerTaken.{AnswerTaken}
+use Rattle.range_state.specs.State.{State, rows_now, dirty_fault, accept_step}
+
+-- ---- opening
+
+-- the number of a format, as it stands in an offer
+abbrev pub number_of : Format → ℕ
+number_of One = 1
+number_of Two = 2
+
+-- whether a session can still take texts
+abbrev pub is_open_state : SessionState → Bool
+is_open_state Open = true
+is_open_state Finished = false
+is_open_state Failed = false
+is_open_state Cancelled = false
+
+unfoldable pub is_open : Record → Bool
+is_open r = is_open_state r.session.state
+
+-- how many sessions are open
+abbrev pub open_count : List Record → ℕ
+open_count records = length (filter is_open records)
+
+-- why an offer is none for this range
+abbrev pub foreign_fault : Config → Offer → Option Refusal
+foreign_fault c offer = if offer.format == number_of c.format then (if offer.range == c.range then None else Some refusals.OtherRange) else Some refusals.OtherFormat
+
+-- how each session stands
+abbrev pub standings : List Record → List SessionState
+standings records = map (λ (r : Record). r.session.state) records
+
+-- why no session can be opened beside those that stand so: 64 are open, or there are 1,024
+abbrev pub crowd_fault : List SessionState → Option Refusal
+crowd_fault states = if nat_le 64 (length (filter is_open_state states)) || nat_le 1024 (length states) then Some refusals.SessionsFull else None
+
+-- why a partner's offer is refused, in the order in which the causes are tested
+abbrev pub open_fault : State → Offer → Option Refusal
+open_fault s offer = first_fault (foreign_fault s.config offer) (first_fault (crowd_fault (standings s.records)) (dirty_fault s))
+
+-- the state with one more record: a session that compares the rows now with those of an offered root
+abbrev pub opened : State → ℕ → Offer → State
+opened s partner offer = record { config = s.config; entries = s.entries; marks = s.marks; records = s.records ++ (record { partner = partner; session = started (rows_now s) offer.root }) ∷ [] }
+
+-- ---- changing a record
+
+-- the state with the session of a record at another point
+abbrev pub walked_to : State → ℕ → Record → Walk → State
+walked_to s id r w = record { config = s.config; entries = s.entries; marks = s.marks; records = slice_set s.records id (record { partner = r.partner; session = w }) }
+
+-- the record of a session is cancelled, or there is none and nothing changes
+abbrev pub cancelled_for : State → ℕ → Option Record → State
+cancelled_for s id None = s
+cancelled_for s id (Some r) = walked_to s id r (cancelled_by r.session r.session.state)
+
+-- the state after a session of that number was cancelled, if there is one
+abbrev pub cancelled_at : State → ℕ → State
+cancelled_at s id = cancelled_for s id (slice_get s.records id)
+
+-- why a session that may have no record is refused
+abbrev pub unknown_for : Option Record → Option Refusal
+unknown_for None = Some refusals.UnknownSession
+unknown_for (Some r) = None
+
+-- why a session of that number is refused
+abbrev pub unknown_fault : State → ℕ → Option Refusal
+unknown_fault s id = unknown_for (slice_get s.records id)
+
+-- ---- accepting the versions of a leaf
+
+-- the versions of rows with their keys, in order
+abbrev pub offers_in : Row → List (List ℕ × Version)
+offers_in r = map (λ (v : Version). (r.key, v)) r.versions
+
+abbrev pub offers_of : List Row → List (List ℕ × Version)
+offers_of rows = flat_map offers_in rows
+
+-- the state after each was accepted in its turn, as from a partner
+abbrev pub taken_in : State → ℕ → List (List ℕ × Version) → State
+taken_in s seat [] = s
+taken_in s seat (o ∷ offers) = taken_in (accept_step s seat Partner o.0 o.1) seat offers
+
+-- why they are not all accepted, if the journal has room: in its turn one would be a version too many for its key
+abbrev pub crowded_in : State → ℕ → List (List ℕ × Version) → Option Refusal
+crowded_in s seat [] = None
+crowded_in s seat (o ∷ offers) = first_fault (offer_fault o.1 (held s.entries o.0)) (crowded_in (accept_step s seat Partner o.0 o.1) seat offers)
+
+-- why they are not all accepted
+abbrev pub leaf_fault : State → ℕ → List (List ℕ × Version) → Option Refusal
+leaf_fault s seat offers = first_fault (crowded_in s seat offers) (if nat_le (length (taken_in s seat offers).entries) s.config.limit then None else Some refusals.JournalFull)
+
+-- ---- taking a text
+
+-- a text that a session awaits, of a node with children
+pub record IsInnerRead (s : State) (r : Record) (t : TakenText) : Type 0 where
+  pub due : IsDue r.session t
+  pub inner : t.node.depth < tree_depth s.config.format
+  pub form : IsInnerText s.config.format t.text
+
+-- a text that a session awaits, of a leaf that has these rows
+pub record IsLeafRead (s : State) (r : Record) (t : TakenText) (rows : List Row) : Type 0 where
+  pub due : IsDue r.session t
+  pub leaf : t.node.depth ≡ tree_depth s.config.format
+  pub spelled : AreSpelled r.session.own t.node t.text rows
+
+-- nothing comes of a node with children, and the session alone goes on
+pub record TakesInner (s : State) (id : ℕ) (r : Record) (t : TakenText) (a : AnswerTaken) (new : State) : Type 0 where
+  pub read : IsInnerRead s r t
+  pub receipts : a.receipts.items ≡ []
+  pub known : a.known ≡ 0
+  pub new_is : new ≡ walked_to s id r (after r.session t)
+
+-- The versions of a leaf's rows are accepted, each in its turn, and the session goes on. The receipts are the entries that
+-- came, in order, and every other version was known.
+pub record TakesLeaf (s : State) (seat id : ℕ) (r : Record) (t : TakenText) (a : AnswerTaken) (new : State) : Type 0 where
+  pub rows : List Row
+  pub read : IsLeafRead s r t rows
+  pub fault : leaf_fault s seat (offers_of rows) ≡ None
+  pub receipts : s.entries ++ a.receipts.items ≡ (taken_in s seat (offers_of rows)).entries
+  pub known : length a.receipts.items + a.known ≡ length (offers_of rows)
+  pub new_is : new ≡ walked_to (taken_in s seat (offers_of rows)) id r (after r.session t)
+
+-- the versions of a leaf's rows are not all accepted
+pub record IsLeafFault (s : State) (seat : ℕ) (r : Record) (t : TakenText) (e : Refusal) : Type 0 where
+  pub rows : List Row
+  pub read : IsLeafRead s r t rows
+  pub fault : leaf_fault s seat (offers_of rows) ≡ Some e
+
+-- why a text is not taken, and the state afterwards
+abbrev pub Refuses : State → ℕ → ℕ → Record → TakenText → Refusal → State → Type 0
+Refuses s seat id r t refusals.Crowded new = IsLeafFault s seat r t refusals.Crowded × (new ≡ s)
+Refuses s seat id r t refusals.JournalFull new = IsLeafFault s seat r t refusals.JournalFull × (new ≡ s)
+Refuses s seat id r t e new = IsTakeFault r.session t e × (new ≡ walked_to s id r (after_refusal r.session e))
+
+-- what a text is answered for a session, and the state afterwards
+abbrev pub TakesText : State → ℕ → ℕ → Record → TakenText → Result AnswerTaken Refusal → State → Type 0
+TakesText s seat id r t (Ok a) new = (a.state ≡ (after r.session t).state) × (TakesInner s id r t a new ⊎ TakesLeaf s seat id r t a new)
+TakesText s seat id r t (Err e) new = Refuses s seat id r t e new
+
+-- the same where there may be no record: then nothing changes
+abbrev pub TakesFor : State → ℕ → ℕ → Option Record → TakenText → Result AnswerTaken Refusal → State → Type 0
+TakesFor s seat id (Some r) t result new = TakesText s seat id r t result new
+TakesFor s seat id None t result new = (result ≡ Err refusals.UnknownSession) × (new ≡ s)
+
+-- what a text for a session of that number is answered, and the state afterwards
+abbrev pub TakesAnswer : State → ℕ → ℕ → TakenText → Result AnswerTaken Refusal → State → Type 0
+TakesAnswer s seat id t result new = TakesFor s seat id (slice_get s.records id) t result new

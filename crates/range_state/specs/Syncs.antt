@@ -1,0 +1,101 @@
+-- A whole session with a partner that answers truly, as a fold over the leaves where the two trees differ.
+use Rattle.std.specs.Prelude.{◌≡◌, ℕ, ◌+◌, ◌-◌, nat_eq, List, [], ◌∷◌, ◌++◌, length, Option, Some, None}
+use Rattle.std.specs.List.{filter}
+use Rattle.vclock.specs.declared.refusal.Refusal.{Refusal}
+use Rattle.vclock.specs.declared.format.Format.{Format}
+use Rattle.version_set.specs.declared.version.Version.{Version}
+use Rattle.hash_tree.specs.Leaves.{rows_at}
+use Rattle.hash_tree.specs.Nodes.{tree_depth}
+use Rattle.snapshot.specs.RowMaps.{RowMap, leaf_in}
+use Rattle.hash_tree.specs.declared.node.NodeAt.{NodeAt}
+use Rattle.sync_session.specs.TreeNodes.{Node, node_of}
+use Rattle.sync_session.specs.Differing.{differ}
+use Rattle.sync_session.specs.declared.state.SessionState.{SessionState}
+use Rattle.sync_session.specs.declared.state.SessionState.TheVariants.{Open, Finished}
+use Rattle.range_state.specs.Config.{Config}
+use Rattle.range_state.specs.declared.«record».Record.{Record}
+use Rattle.range_state.specs.declared.state.syncing.Synced.{Synced}
+use Rattle.range_state.specs.State.{State, rows_now}
+use Rattle.range_state.specs.Sessions.{standings, offers_of, taken_in, leaf_fault}
+
+-- rows of a range: they have its format, the bits of its ring and its number
+pub record IsOfRange (c : Config) (m : RowMap) : Type 0 where
+  pub format : m.format ≡ c.format
+  pub bits : m.bits ≡ c.bits
+  pub range : m.range ≡ c.range
+
+-- the leaves among some nodes, in order
+abbrev pub leaves_in : Format → List Node → List Node
+leaves_in format nodes = filter (λ n. nat_eq n.depth (tree_depth format)) nodes
+
+-- the leaves where two trees differ, in order
+abbrev pub leaves_between : RowMap → RowMap → List Node
+leaves_between own other = leaves_in own.format (differ own other)
+
+-- the versions of the partner's rows in a leaf, with their keys
+abbrev pub offers_at : RowMap → Node → List (List ℕ × Version)
+offers_at other n = offers_of (rows_at (leaf_in other) n.index other.rows)
+
+-- how far a session came: the state then, how many versions were known already, and why a leaf was refused, if one was
+pub record Progress : Type 0 where
+  pub state : State
+  pub known : ℕ
+  pub fault : Option Refusal
+
+-- how many of these versions bring no entry
+abbrev pub known_in : State → ℕ → List (List ℕ × Version) → ℕ
+known_in s seat offers = (length s.entries + length offers) - length (taken_in s seat offers).entries
+
+-- a leaf that is refused is the end, else there is more
+abbrev pub unless_refused : Option Refusal → State → ℕ → Progress → Progress
+unless_refused None s known more = more
+unless_refused (Some e) s known more = record { state = s; known = known; fault = Some e }
+
+-- the partner's leaves are taken one by one, each all or none, until one is refused
+abbrev pub taken_leaves : State → ℕ → RowMap → ℕ → List Node → Progress
+taken_leaves s seat other known [] = record { state = s; known = known; fault = None }
+taken_leaves s seat other known (n ∷ leaves) =
+    unless_refused (leaf_fault s seat (offers_at other n)) s known
+    (taken_leaves (taken_in s seat (offers_at other n)) seat other (known + known_in s seat (offers_at other n)) leaves)
+
+-- a whole session: the partner's leaves are taken where the trees differ
+abbrev pub synced : State → ℕ → RowMap → Progress
+synced s seat other = taken_leaves s seat other 0 (leaves_between (rows_now s) other)
+
+-- a session is finished, unless a leaf was refused
+abbrev pub ended : Option Refusal → SessionState
+ended None = Finished
+ended (Some e) = Open
+
+-- one record more, of a session with this partner
+abbrev pub HasOneMore : List Record → ℕ → List Record → Type 0
+HasOneMore old partner new = (r : Record) × (r.partner ≡ partner) × (new ≡ old ++ r ∷ [])
+
+-- The state after a whole session, and what is answered: the partner's leaves were taken where the trees differ, there is
+-- one more session, and each node where the trees differ was asked.
+pub record IsSyncedTo (s : State) (seat : ℕ) (other : RowMap) (new : State) (a : Synced) : Type 0 where
+  pub config : new.config ≡ (synced s seat other).state.config
+  pub entries : new.entries ≡ (synced s seat other).state.entries
+  pub marks : new.marks ≡ (synced s seat other).state.marks
+  pub sessions : standings new.records ≡ standings s.records ++ ended (synced s seat other).fault ∷ []
+  pub accepted : length s.entries + a.accepted ≡ length new.entries
+  pub known : a.known ≡ (synced s seat other).known
+  pub asked : a.asked ≡ length (differ (rows_now s) other)
+  pub fault : a.fault ≡ (synced s seat other).fault
+
+-- The state of a session that stopped on its way, where no memory was left: of the leaves where the trees differ it has taken
+-- the first ones, each whole.
+pub record IsPartWay (s : State) (seat partner : ℕ) (other : RowMap) (new : State) : Type 0 where
+  pub leaves : List Node
+  pub rest : List Node
+  pub first : leaves_between (rows_now s) other ≡ leaves ++ rest
+  pub fits : (taken_leaves s seat other 0 leaves).fault ≡ None
+  pub config : new.config ≡ (taken_leaves s seat other 0 leaves).state.config
+  pub entries : new.entries ≡ (taken_leaves s seat other 0 leaves).state.entries
+  pub marks : new.marks ≡ (taken_leaves s seat other 0 leaves).state.marks
+  pub session : HasOneMore s.records partner new.records
+
+-- the first of some nodes, if there is one
+abbrev pub IsFirstOf : List Node → Option NodeAt → Type 0
+IsFirstOf nodes None = nodes ≡ []
+IsFirstOf nodes (Some n) = (rest : List Node) × (nodes ≡ node_of n ∷ rest)

@@ -1,0 +1,27 @@
+//! Records of sessions.
+ghost use Rattle.std.specs.Prelude.{◌≡◌};
+
+use sync_session::session::Session;
+
+/// A session of a range, and with whom. Its number is its place among the records, from 0.
+#[derive(Drop)]
+pub struct Record {
+    pub(crate) partner: u16,
+    pub(crate) session: Session,
+}
+
+impl Record {
+    /// The number of the partner.
+    pub fn partner(&self) -> u16
+        ensures { result ≡ self.now.partner }
+    {
+        self.partner
+    }
+
+    /// The session.
+    pub fn session(&self) -> &Session
+        ensures { result.now ≡ self.now.session }
+    {
+        &self.session
+    }
+}

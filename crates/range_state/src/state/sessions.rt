@@ -1,0 +1,124 @@
+//! Sessions of a range with its partners.
+ghost use Rattle.std.specs.Prelude.{◌≡◌, ⊤, length, OnOk, OnErr};
+ghost use Rattle.vclock.specs.Answer.{Answers, AnswersAtOnce};
+ghost use Rattle.range_state.specs.State.{IsRight};
+ghost use Rattle.range_state.specs.Sessions.{number_of, is_open, open_count, foreign_fault, standings, crowd_fault, open_fault, opened, unknown_fault, cancelled_at};
+
+use crate::record::Record;
+use crate::state::RangeState;
+use std::alloc::Global;
+use sync_session::session::Session;
+use sync_session::state::SessionState;
+use vclock::format::Format;
+use vclock::refusal::Refusal;
+use walk_messages::message::Offer;
+
+/// How many sessions of a range are open at the most.
+const MOST_OPEN: usize = 64;
+
+/// How many records of sessions a range has at the most.
+const MOST_RECORDS: usize = 1_024;
+
+impl RangeState {
+    /// The records of all sessions, in the order of their numbers. It takes no memory.
+    pub fn records(&self) -> &[Record]
+        ensures all { result.now ≡ self.now.records }
+        ensures valid { IsRight self.now }
+    {
+        &self.records
+    }
+
+    /// Opens a session with a partner's offer: the rows now are compared with those under the offered root. Answers its
+    /// number, from 0.
+    ///
+    /// Refused, in order: OtherFormat, OtherRange, SessionsFull (64 sessions are open, or there are 1,024 records), Dirty
+    /// (some node of the own tree has no digest), NoMemory. The state is then as it was.
+    pub fn open_session(
+        &mut self,
+        alloc: Global,
+        partner: u16,
+        offer: Offer,
+    ) -> Result<u64, Refusal>
+        ensures answers { Answers result (open_fault self.old offer) (λ id. id ≡ length self.old.records) }
+        ensures step { OnOk result (self.new ≡ opened self.old partner offer) }
+        ensures err { OnErr result (self.new ≡ self.old) }
+    {
+        self.check_offer(&offer)?;
+        check_crowd(&self.records)?;
+        let own = self.snapshot(alloc)?;
+        let session = Session::start(alloc, own, offer.root)?;
+        let id = self.records.len() as u64;
+        self.records.push(Record { partner, session })?;
+        Ok(id)
+    }
+
+    /// Ends a session that is open; another stays as it is. It takes no memory. Refused: UnknownSession (there is no
+    /// record of that number).
+    pub fn cancel_session(&mut self, id: u64) -> Result<(), Refusal>
+        ensures answers { AnswersAtOnce result (unknown_fault self.old id) (λ _. ⊤) }
+        ensures step { self.new ≡ cancelled_at self.old id }
+    {
+        if id >= self.records.len() as u64 {
+            return Err(Refusal::UnknownSession);
+        }
+        self.records[id as usize].session.cancel();
+        Ok(())
+    }
+
+    /// Whether an offer is of this range, in its format.
+    fn check_offer(&self, offer: &Offer) -> Result<(), Refusal>
+        ensures { AnswersAtOnce result (foreign_fault self.now.config offer.now) (λ _. ⊤) }
+    {
+        if offer.format != number_of(self.config.format()) {
+            return Err(Refusal::OtherFormat);
+        }
+        if u16::from(offer.range) != self.config.range() {
+            return Err(Refusal::OtherRange);
+        }
+        Ok(())
+    }
+}
+
+/// Whether a session can be opened beside those that there are.
+fn check_crowd(records: &[Record]) -> Result<(), Refusal>
+    ensures { AnswersAtOnce result (crowd_fault (standings records.now)) (λ _. ⊤) }
+{
+    if open_count(records) >= MOST_OPEN || records.len() >= MOST_RECORDS {
+        return Err(Refusal::SessionsFull);
+    }
+    Ok(())
+}
+
+/// How many sessions are open.
+fn open_count(records: &[Record]) -> usize
+    ensures { result ≡ open_count records.now }
+{
+    let mut count = 0;
+    for record in records {
+        if is_open(record) {
+            count += 1;
+        }
+    }
+    count
+}
+
+/// Whether a session can still take texts.
+#[tactic(auto, unfolding(crate::specs::Sessions::is_open))]
+fn is_open(record: &Record) -> bool
+    ensures { result ≡ is_open record.now }
+{
+    match record.session.state() {
+        SessionState::Open => true,
+        SessionState::Finished | SessionState::Failed | SessionState::Cancelled => false,
+    }
+}
+
+/// The number of a format, as it stands in an offer.
+pub(super) fn number_of(format: Format) -> u8
+    ensures { result ≡ number_of format }
+{
+    match format {
+        Format::One => 1,
+        Format::Two => 2,
+    }
+}

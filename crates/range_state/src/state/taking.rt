@@ -1,0 +1,155 @@
+//! Texts that partners send.
+ghost use Rattle.std.specs.Prelude.{ℕ, ◌≡◌, ◌<◌, ◌≤◌, ◌^◌, ◌++◌, nat_eq, length, slice_get, MatchOption, if◌then◌else◌};
+ghost use Rattle.range_journal.specs.Log.{AreNumberedFrom};
+ghost use Rattle.hash_tree.specs.Nodes.{dirtied, tree_depth};
+ghost use Rattle.sync_session.specs.TreeNodes.{node_of};
+ghost use Rattle.sync_session.specs.Steps.{IsDue};
+ghost use Rattle.sync_session.specs.Walks.{IsCanonical};
+ghost use Rattle.range_state.specs.Sessions.{IsInnerRead, IsLeafRead, TakesAnswer};
+
+use crate::event::AnswerTaken;
+use crate::state::RangeState;
+use crate::state::preparing::Batch;
+use hash_tree::hashed::Hashed;
+use hash_tree::marks::Marks;
+use hash_tree::node::{NodeAt, tree_depth};
+use range_journal::journal::{Entry, Journal};
+use row_bytes::row::Row;
+use std::alloc::Global;
+use vclock::refusal::Refusal;
+
+impl RangeState {
+    /// Takes a partner's text for a node of a session: the children that differ are asked; the versions of a leaf are
+    /// accepted, all or none.
+    ///
+    /// Refused, in order: UnknownSession (there is no record of that number), NotAsked, WrongDigest, NotCanonical (the
+    /// session has failed then), Crowded (in its turn one would be a version too many for its key), JournalFull, NoMemory,
+    /// which may stand in place of NotCanonical, Crowded and JournalFull. After any but NotCanonical the state is as it was.
+    pub fn take_answer(
+        &mut self,
+        alloc: Global,
+        seat: u16,
+        id: u64,
+        node: NodeAt,
+        text: Hashed,
+    ) -> Result<AnswerTaken, Refusal>
+        ensures { TakesAnswer self.old seat id
+            (record { node = node_of node; text = text }) result self.new }
+    {
+        let Some(record) = self.records.get(id as usize) else {
+            return Err(Refusal::UnknownSession);
+        };
+        match record.session.rows_of(alloc, node, &text) {
+            Ok(rows) => {
+                if node.depth == tree_depth(self.config.format()) {
+                    self.take_leaf(alloc, seat, id, node, text, rows.as_slice())
+                } else {
+                    self.take_inner(alloc, id, node, text)
+                }
+            }
+            Err(Refusal::NotCanonical) => self.fail_session(alloc, id, node, text),
+            Err(refusal) => Err(refusal),
+        }
+    }
+
+    /// Takes a text of a node with children.
+    fn take_inner(
+        &mut self,
+        alloc: Global,
+        id: u64,
+        node: NodeAt,
+        text: Hashed,
+    ) -> Result<AnswerTaken, Refusal>
+        requires { MatchOption (slice_get self.old.records id) ⊥
+            (λ r. IsInnerRead self.old r (record { node = node_of node; text = text })) }
+        ensures { (seat : ℕ) → TakesAnswer self.old seat id
+            (record { node = node_of node; text = text }) result self.new }
+    {
+        let session = &mut self.records[id as usize].session;
+        session.take(alloc, node, text)?;
+        Ok(AnswerTaken {
+            receipts: Vec::new(alloc),
+            known: 0,
+            state: session.state(),
+        })
+    }
+
+    /// Takes a text of a leaf that has these rows. Every growth is made before anything changes.
+    fn take_leaf(
+        &mut self,
+        alloc: Global,
+        seat: u16,
+        id: u64,
+        node: NodeAt,
+        text: Hashed,
+        rows: &[Row],
+    ) -> Result<AnswerTaken, Refusal>
+        requires { MatchOption (slice_get self.old.records id) ⊥
+            (λ r. IsLeafRead self.old r (record { node = node_of node; text = text }) rows.now) }
+        ensures { TakesAnswer self.old seat id
+            (record { node = node_of node; text = text }) result self.new }
+    {
+        let _bytes = text.text();
+        let batch = self.prepare_rows(alloc, seat, node.index, rows)?;
+        self.journal.reserve(batch.entries.len() as u64)?;
+        let session = &mut self.records[id as usize].session;
+        session.take(alloc, node, text)?;
+        let state = session.state();
+        let Batch {
+            leaf,
+            entries,
+            receipts,
+            known,
+        } = batch;
+        mark_news(&mut self.marks, node.index, &entries);
+        self.leaves[usize::from(node.index)] = leaf;
+        append_all(&mut self.journal, entries);
+        Ok(AnswerTaken {
+            receipts,
+            known,
+            state,
+        })
+    }
+
+    /// Has a session fail by a text that no node can have.
+    fn fail_session(
+        &mut self,
+        alloc: Global,
+        id: u64,
+        node: NodeAt,
+        text: Hashed,
+    ) -> Result<AnswerTaken, Refusal>
+        requires { MatchOption (slice_get self.old.records id) ⊥
+            (λ r. IsDue r.session (record { node = node_of node; text = text })
+            × (IsCanonical r.session.own (node_of node) text → ⊥)) }
+        ensures { (seat : ℕ) → TakesAnswer self.old seat id
+            (record { node = node_of node; text = text }) result self.new }
+    {
+        match self.records[id as usize].session.take(alloc, node, text) {
+            Ok(_) => unreachable!(),
+            Err(refusal) => Err(refusal),
+        }
+    }
+}
+
+/// Makes a leaf dirty, and every node above it, if any entry came to it.
+fn mark_news(marks: &mut Marks, leaf: u16, entries: &[Entry])
+    requires { leaf < 16 ^ tree_depth marks.old.format }
+    ensures { marks.new ≡ record marks.old { digests = (if nat_eq (length entries.now) 0 then marks.old.digests else dirtied marks.old.format leaf marks.old.digests) } }
+{
+    if !entries.is_empty() {
+        marks.dirty(leaf);
+    }
+}
+
+/// Adds entries at the end, which have the next numbers, where there is room for them.
+fn append_all(journal: &mut Journal, entries: Vec<Entry>)
+    requires numbered { AreNumberedFrom (length journal.old.entries) entries.items }
+    requires room { length entries.items ≤ journal.old.room }
+    ensures entries { journal.new.entries ≡ journal.old.entries ++ entries.items }
+    ensures limit { journal.new.limit ≡ journal.old.limit }
+{
+    for entry in entries {
+        journal.append_reserved(entry.seat, entry.source, entry.key, entry.version);
+    }
+}
