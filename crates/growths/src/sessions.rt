@@ -13,14 +13,16 @@ use std::thread::Threads;
 use sync_session::session::Session;
 use vclock::bytes::Bytes;
 use vclock::refusal::Refusal;
-use walk_messages::message::Ask;
+use walk_messages::message::{Ask, Offer};
 
 /// Shows the calls on snapshots and sessions.
 pub(crate) fn show_all<R: Print + AllocGlobal + Threads + Sync>(rt: &R) -> io::Result<()> {
     let alloc = rt.alloc();
     show(rt, "snapshot", snapshot(rt, alloc))?;
     show(rt, "answer", answer(rt, alloc))?;
-    show(rt, "a session", session(rt, alloc))
+    show(rt, "a session", session(rt, alloc))?;
+    show(rt, "open_session", open_session(rt, alloc))?;
+    show(rt, "take_answer", take_answer(rt, alloc))
 }
 
 /// The snapshot of a range with three rows.
@@ -30,12 +32,12 @@ fn partner(rt: &(impl Threads + Sync), alloc: Global) -> Result<Arc<Snapshot, Gl
     state.snapshot(alloc)
 }
 
-/// The snapshot of a range without rows.
-fn own(rt: &(impl Threads + Sync), alloc: Global) -> Result<Arc<Snapshot, Global>, Refusal> {
+/// A range without rows, whose nodes are all clean.
+fn clean_range(rt: &(impl Threads + Sync), alloc: Global) -> Result<RangeState, Refusal> {
     let config = RangeConfig::new(1, 0, 0, 100).ok_or(Refusal::BadRing)?;
     let mut state = RangeState::new(alloc, config)?;
     state.rehash(rt, alloc)?;
-    state.snapshot(alloc)
+    Ok(state)
 }
 
 /// How many bits the number of a range has.
@@ -64,9 +66,63 @@ fn answer_first(alloc: Global, session: &mut Session, partner: &Snapshot) -> Res
 /// How many nodes a session has asked when it is finished.
 fn session(rt: &(impl Threads + Sync), alloc: Global) -> Result<u64, Refusal> {
     let partner = partner(rt, alloc)?;
-    let mut session = Session::start(alloc, own(rt, alloc)?, partner.root())?;
+    let mut session = Session::start(
+        alloc,
+        clean_range(rt, alloc)?.snapshot(alloc)?,
+        partner.root(),
+    )?;
     for _ in 0..7 {
         answer_first(alloc, &mut session, &partner)?;
     }
     Ok(session.asked().len() as u64)
+}
+
+/// The offer of a snapshot.
+fn offer_of(partner: &Snapshot) -> Offer {
+    Offer {
+        offer: 1,
+        format: 1,
+        range: 0,
+        root: partner.root(),
+    }
+}
+
+/// Opens sessions of a range until its records have had to grow.
+fn open_session(rt: &(impl Threads + Sync), alloc: Global) -> Result<u64, Refusal> {
+    let partner = partner(rt, alloc)?;
+    let mut state = clean_range(rt, alloc)?;
+    for _ in 0..6 {
+        let records = state.records().len();
+        if let Err(refusal) = state.open_session(alloc, 2, offer_of(&partner)) {
+            return Err(unchanged(refusal, state.records().len() == records));
+        }
+    }
+    Ok(state.records().len() as u64)
+}
+
+/// Answers the first node that a range's first session awaits. After a refusal nothing was accepted.
+fn take_first(alloc: Global, state: &mut RangeState, partner: &Snapshot) -> Result<(), Refusal> {
+    let record = state.records().first().ok_or(Refusal::Stale)?;
+    let node = *record
+        .session()
+        .outstanding()
+        .first()
+        .ok_or(Refusal::Stale)?;
+    let entries = state.journal().len();
+    let text = partner.answer(alloc, Ask { offer: 1, node })?;
+    match state.take_answer(alloc, 1, 0, node, hash(Bytes::from(text))) {
+        Ok(_) => Ok(()),
+        Err(refusal) => Err(unchanged(refusal, state.journal().len() == entries)),
+    }
+}
+
+/// How many versions came in a session of a range when it is finished.
+fn take_answer(rt: &(impl Threads + Sync), alloc: Global) -> Result<u64, Refusal> {
+    let partner = partner(rt, alloc)?;
+    let mut state = clean_range(rt, alloc)?;
+    state.open_session(alloc, 2, offer_of(&partner))?;
+    for _ in 0..7 {
+        take_first(alloc, &mut state, &partner)?;
+    }
+    Ok(state.journal().len())
 }
