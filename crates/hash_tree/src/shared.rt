@@ -116,7 +116,7 @@ impl SharedLeaf {
     }
 
     /// What is held for a key, and the place of its row, for an offer that comes next. It takes no memory, and time in
-    /// proportion to the logarithm of the rows.
+    /// proportion to the chunks of 128 rows.
     pub fn find(&self, key: &[u8]) -> FoundRow<'_>
         ensures set { unwrap_or (option_map (λ s. s.now) result.set) [] ≡ versions_in key.now self.now.rows }
         ensures place { IsPlace key.now self.now.rows result.place }
