@@ -27,8 +27,7 @@ fn offer(alloc: Global, leaf: &mut SharedLeaf, key: &[u8]) -> Result<(), Fail> {
     version
         .kind
         .check_value(leaf.format(), version.value.as_slice())?;
-    let place = leaf.find(key).place;
-    leaf.offer(alloc, key, place, version)?;
+    leaf.offer(alloc, key, version)?;
     Ok(())
 }
 
@@ -40,7 +39,7 @@ fn a_leaf_of_many_rows_keeps_their_text(rt: HostRuntime) -> Result<(), Fail> {
         offer(alloc, &mut leaf, &(number * 77 % 300).to_be_bytes())?;
     }
     assert_eq!(rt; count(&leaf), 300);
-    assert!(rt; leaf.chunks().iter().all(|chunk| chunk.rows().len() <= 128));
+    assert!(rt; leaf.chunks().iter().all(|chunk| chunk.rows().len() <= 64));
     let mut text = Vec::new(alloc);
     leaf.put_text(&mut text)?;
     assert_eq!(rt; leaf.text_len(), text.len() as u128);

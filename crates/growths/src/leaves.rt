@@ -30,8 +30,7 @@ fn offer_to(alloc: Global, leaf: &mut SharedLeaf, key: &[u8]) -> Result<(), Refu
     version
         .kind
         .check_value(leaf.format(), version.value.as_slice())?;
-    let place = leaf.find(key).place;
-    leaf.offer(alloc, key, place, version)
+    leaf.offer(alloc, key, version)
 }
 
 /// Offers versions of several keys, until the leaf has had to grow.

@@ -1,11 +1,11 @@
 -- The rows of chunks one after another, and what is left of them where one chunk changes or is split.
-use Rattle.std.proofs.Common.{◌≡◌, ℕ, zero, suc, ◌+◌, ◌*◌, ◌-◌, ◌/◌, ◌<◌, ◌≤◌, ◌^◌, Result, Ok, Err, OnOk, OnErr, List, [], ◌∷◌, ◌++◌, length, get_or, set, take, drop, refl, sym, ap, subst, ◌∙◌, append_assoc, arith}
-use Rattle.std.specs.List.{AllByRecursion, insert, flat_map, sum_by}
+use Rattle.std.proofs.Common.{◌≡◌, ℕ, zero, suc, ◌+◌, ◌-◌, ◌<◌, ◌≤◌, ◌^◌, None, Result, Ok, Err, OnOk, OnErr, List, [], ◌∷◌, ◌++◌, length, get_or, set, take, drop, refl, sym, ap, subst, ◌∙◌, append_assoc, arith}
+use Rattle.std.specs.List.{AllByRecursion, insert, flat_map}
 use Rattle.std.proofs.lemmas.List.{length-append, append-nil, take-append-drop, length-set, length-take-le, length-drop}
-use Rattle.std.proofs.lemmas.List.Concat.{flat_map-append, length-flat_map}
+use Rattle.std.proofs.lemmas.List.Concat.{flat_map-append}
 use Rattle.std.proofs.lemmas.List.Edits.{insert-append_left, length-insert}
-use Rattle.std.proofs.lemmas.List.Sums.{sum_by-take-le}
 use Rattle.vclock.specs.declared.format.Format.{Format}
+use Rattle.version_set.specs.Kind.{value_fault}
 use Rattle.version_set.specs.declared.version.Version.{Version}
 use Rattle.row_bytes.specs.declared.row.Row.{Row}
 use Rattle.row_bytes.specs.Rows.{row_text}
@@ -32,11 +32,6 @@ text_of_chunks b format chunks same are =
     ap (λ (rest : List ℕ). leaf_byte format ∷ rest) (texts_of format chunks are.each)
     ∙ ap (λ (x : Bucket). leaf_byte x.format ∷ flat_map (row_text x.format) x.rows) same
 
--- how many rows chunks have at most
-pub rows_few : (format : Format) (chunks : List Bucket) → AllByRecursion (IsChunk format) chunks → length (all_rows chunks) ≤ 128 * length chunks
-rows_few format [] all = omega arith
-rows_few format (c ∷ chunks) all = omega (arith, length-append c.rows (all_rows chunks), all.0.few, rows_few format chunks all.1)
-
 -- the rows before a chunk, its own, and those after it
 pub three_parts : (chunks : List Bucket) (i : ℕ) → i < length chunks → all_rows chunks ≡ all_rows (take i chunks) ++ rows_of chunks i ++ all_rows (drop (i + 1) chunks)
 three_parts [] i h = absurd (omega arith)
@@ -48,11 +43,6 @@ three_parts (c ∷ chunks) (suc i) h =
     ∙ sym (append_assoc c.rows (all_rows (take i chunks) ++ rows_of chunks i) (all_rows (drop (i + 1) chunks)))
     ∙ ap (λ (front : List Row). front ++ all_rows (drop (i + 1) chunks)) (sym (append_assoc c.rows (all_rows (take i chunks)) (rows_of chunks i)))
     )
-
--- no more rows stand before a place of a chunk than there are rows
-pub spot_within : (chunks : List Bucket) (i : ℕ) → i < length chunks → length (all_rows (take i chunks)) + length (rows_of chunks i) ≤ length (all_rows chunks)
-spot_within chunks i h =
-    omega (arith, ap (λ (rows : List Row). length rows) (three_parts chunks i h), length-append (all_rows (take i chunks) ++ rows_of chunks i) (all_rows (drop (i + 1) chunks)), length-append (all_rows (take i chunks)) (rows_of chunks i))
 
 -- what a read of a chunk gives
 pub rows_read : (chunks : List Bucket) (i : ℕ) (c : Bucket) → i < length chunks → c ≡ get_or chunks i c → c.rows ≡ rows_of chunks i
@@ -111,21 +101,17 @@ insert-behind (x ∷ front) rows i (suc n) y e = ap (λ rest. x ∷ rest) (inser
 pub chunk_is : (format : Format) (chunks : List Bucket) (i : ℕ) (c : Bucket) → AllByRecursion (IsChunk format) chunks → i < length chunks → c ≡ get_or chunks i c → IsChunk format c
 chunk_is format chunks i c all h is = subst (IsChunk format) (sym is) (all_get (IsChunk format) chunks i c all h)
 
--- the rows of any chunks are counted by their lengths
-pub count_is : (chunks : List Bucket) → sum_by (λ (c : Bucket). length c.rows) chunks ≡ length (all_rows chunks)
-count_is chunks = sym (length-flat_map (λ (c : Bucket). c.rows) chunks)
+-- a value that the format admits is one for each chunk
+pub values_fit : (format : Format) (chunks : List Bucket) (v : Version) → AllByRecursion (IsChunk format) chunks → value_fault format v.kind v.value ≡ None → AllByRecursion (λ (c : Bucket). value_fault c.format v.kind v.value ≡ None) chunks
+values_fit format [] v all h = tt
+values_fit format (c ∷ chunks) v all h = (subst (λ (f : Format). value_fault f v.kind v.value ≡ None) (sym all.0.same) h, values_fit format chunks v all.1 h)
 
--- so many that their number fits its type
-pub count_within : (format : Format) (chunks : List Bucket) (i : ℕ) → AreChunks format chunks → sum_by (λ (c : Bucket). length c.rows) (take i chunks) ≤ 2 ^ 63
-count_within format chunks i are =
-    omega (arith, count_is chunks, sum_by-take-le (λ (c : Bucket). length c.rows) chunks i, rows_few format chunks are.each, are.few)
-
--- where a chunk is split at a gap behind its first half, the gap is in the second
-pub gap-behind : (chunks halves : List Bucket) (place i at : ℕ) → IsGapSpot chunks place i at → IsSplit chunks i halves → length (rows_of chunks i) ≡ 128 → 64 < at → IsGapSpot halves place (i + 1) (at - 64)
-gap-behind chunks halves place i at gap split full behind = record {
+-- where a chunk is parted before a gap, the gap is in the second part
+pub gap-behind : (chunks parts : List Bucket) (place i at cut : ℕ) → IsGapSpot chunks place i at → IsSplit chunks i cut parts → length (rows_of chunks i) ≡ 64 → cut < at → IsGapSpot parts place (i + 1) (at - cut)
+gap-behind chunks parts place i at cut gap split full behind = record {
   chunk = omega (arith, split.more, gap.chunk);
-  before = omega (arith, ap (λ (rows : List Row). length rows) split.first, length-append (all_rows (take i chunks)) (rows_of halves i), split.front, gap.before, behind);
-  within = omega (arith, split.back, gap.within, full);
+  before = omega (arith, ap (λ (rows : List Row). length rows) split.first, length-append (all_rows (take i chunks)) (rows_of parts i), split.front, gap.before, behind);
+  within = omega (arith, split.back, gap.within, full, behind);
 }
 
 -- ---- what holds where a call answers, and where it fails
@@ -193,7 +179,7 @@ chunks-offered format chunks i at v c old h is now are =
       few = omega (arith, length-set chunks i c, are.few);
     }
 
-pub chunks-inserted : (format : Format) (chunks : List Bucket) (i at : ℕ) (r : Row) (c old : Bucket) → i < length chunks → old ≡ get_or chunks i old → c ≡ record { format = old.format; rows = insert old.rows at r } → at ≤ length old.rows → length old.rows < 128
+pub chunks-inserted : (format : Format) (chunks : List Bucket) (i at : ℕ) (r : Row) (c old : Bucket) → i < length chunks → old ≡ get_or chunks i old → c ≡ record { format = old.format; rows = insert old.rows at r } → at ≤ length old.rows → length old.rows < 64
     → AreChunks format chunks → AreChunks format (set chunks i c)
 chunks-inserted format chunks i at r c old h is now within room are =
     let was : IsChunk format old = subst (IsChunk format) (sym is) (all_get (IsChunk format) chunks i old are.each h) in
@@ -233,39 +219,37 @@ split_back (c ∷ chunks) (suc i) a b h =
     let next : suc i + 1 ≡ suc (i + 1) = omega arith in
     rw next (split_back chunks i a b (omega arith))
 
-pub is_split : (chunks : List Bucket) (i : ℕ) (old a b : Bucket) → i < length chunks → length chunks < 2 ^ 56 → old ≡ get_or chunks i old → length old.rows ≡ 128
-    → a ≡ record { format = old.format; rows = take (length old.rows / 2) old.rows } → b ≡ record { format = old.format; rows = drop (length old.rows / 2) old.rows } → IsSplit chunks i (insert (set chunks i a) (i + 1) b)
-is_split chunks i old a b h few is full front back =
-    let halves = insert (set chunks i a) (i + 1) b in
-    let half : length old.rows / 2 ≡ 64 = omega (arith, full) in
-    let is_a = ap (λ (x : Bucket). x.rows) front ∙ ap (λ (n : ℕ). take n old.rows) half in
-    let is_b = ap (λ (x : Bucket). x.rows) back ∙ ap (λ (n : ℕ). drop n old.rows) half in
-    let whole : a.rows ++ b.rows ≡ old.rows = ap (λ (rows : List Row). rows ++ b.rows) is_a ∙ ap (λ (rows : List Row). take 64 old.rows ++ rows) is_b ∙ take-append-drop 64 old.rows in
-    let long_a : length a.rows ≡ 64 = ap (λ (rows : List Row). length rows) is_a ∙ length-take-le 64 old.rows (omega (arith, full)) in
-    let long_b : length b.rows ≡ 64 = omega (arith, ap (λ (rows : List Row). length rows) is_b, length-drop 64 old.rows, full) in
-    let many : length halves ≡ length chunks + 1 = omega (arith, length-insert (set chunks i a) (i + 1) b (omega (arith, h, length-set chunks i a)), length-set chunks i a) in
+pub is_split : (chunks : List Bucket) (i cut : ℕ) (old a b : Bucket) → i < length chunks → length chunks < 2 ^ 56 → 1 ≤ cut → cut < 64 → old ≡ get_or chunks i old → length old.rows ≡ 64
+    → a ≡ record { format = old.format; rows = take cut old.rows } → b ≡ record { format = old.format; rows = drop cut old.rows } → IsSplit chunks i cut (insert (set chunks i a) (i + 1) b)
+is_split chunks i cut old a b h few some less is full front back =
+    let parts = insert (set chunks i a) (i + 1) b in
+    let is_a = ap (λ (x : Bucket). x.rows) front in
+    let is_b = ap (λ (x : Bucket). x.rows) back in
+    let whole : a.rows ++ b.rows ≡ old.rows = ap (λ (rows : List Row). rows ++ b.rows) is_a ∙ ap (λ (rows : List Row). take cut old.rows ++ rows) is_b ∙ take-append-drop cut old.rows in
+    let long_a : length a.rows ≡ cut = ap (λ (rows : List Row). length rows) is_a ∙ length-take-le cut old.rows (omega (arith, full, less)) in
+    let long_b : length b.rows + cut ≡ 64 = omega (arith, ap (λ (rows : List Row). length rows) is_b, length-drop cut old.rows, full, less) in
+    let many : length parts ≡ length chunks + 1 = omega (arith, length-insert (set chunks i a) (i + 1) b (omega (arith, h, length-set chunks i a)), length-set chunks i a) in
     let at = split_front chunks i a b h in
     record {
       rows = split_rows chunks i a b h (whole ∙ rows_read chunks i old h is);
       more = many;
       before = split_before chunks i a b h;
       front = ap (λ (rows : List Row). length rows) at ∙ long_a;
-      first = rows_more halves i (omega (arith, many, h)) ∙ ap (λ (cs : List Bucket). all_rows cs ++ rows_of halves i) (split_before chunks i a b h);
-      back = ap (λ (rows : List Row). length rows) (split_back chunks i a b h) ∙ long_b;
+      first = rows_more parts i (omega (arith, many, h)) ∙ ap (λ (cs : List Bucket). all_rows cs ++ rows_of parts i) (split_before chunks i a b h);
+      back = omega (arith, ap (λ (rows : List Row). length rows) (split_back chunks i a b h), long_b);
       each = λ format are.
           let was : IsChunk format old = subst (IsChunk format) (sym is) (all_get (IsChunk format) chunks i old are.each h) in
           record {
-            each = all-insert (IsChunk format) (set chunks i a) (i + 1) b (record { same = ap (λ (x : Bucket). x.format) back ∙ was.same; some = omega (arith, long_b); few = omega (arith, long_b) })
-                (all-set (IsChunk format) chunks i a (record { same = ap (λ (x : Bucket). x.format) front ∙ was.same; some = omega (arith, long_a); few = omega (arith, long_a) }) are.each);
+            each = all-insert (IsChunk format) (set chunks i a) (i + 1) b (record { same = ap (λ (x : Bucket). x.format) back ∙ was.same; some = omega (arith, long_b, less); few = omega (arith, long_b) })
+                (all-set (IsChunk format) chunks i a (record { same = ap (λ (x : Bucket). x.format) front ∙ was.same; some = omega (arith, long_a, some); few = omega (arith, long_a, less) }) are.each);
             few = omega (arith, many, few);
           };
     }
 
 -- ---- what a leaf keeps of its chunks
 
-abbrev pub KeepsChunks : Format → List Bucket → ℕ → Type 0
-KeepsChunks format chunks n = IsBucket (record { format = format; rows = all_rows chunks }) × (n ≡ length (leaf_text format (all_rows chunks))) × AreChunks format chunks
+abbrev pub KeepsChunks : Format → List Bucket → Type 0
+KeepsChunks format chunks = IsBucket (record { format = format; rows = all_rows chunks }) × AreChunks format chunks
 
-pub keeps_no_chunks : (format : Format) → KeepsChunks format [] 1
-unfolding leaf_text
-keeps_no_chunks format = (record { ascending = tt; each = tt }, refl, record { each = tt; few = omega arith })
+pub keeps_no_chunks : (format : Format) → KeepsChunks format []
+keeps_no_chunks format = (record { ascending = tt; each = tt }, record { each = tt; few = omega arith })

@@ -10,7 +10,7 @@ use Rattle.version_set.specs.declared.version.Version.{Version}
 use Rattle.version_set.specs.Version.{place_by, offered}
 use Rattle.row_bytes.specs.declared.row.Row.{Row}
 use Rattle.hash_tree.specs.Leaves.{key_cmp, Bucket, AscendByKey, IsAt, IsBetween, with_offer, versions_in}
-use Rattle.hash_tree.specs.Chunks.{all_rows, rows_of, begin_by, versions_at, offered_at}
+use Rattle.hash_tree.specs.Chunks.{all_rows, rows_of, begin_by, place_in, IsRowSpot, IsGapSpot, versions_at, offered_at}
 use Rattle.hash_tree.proofs.KeyOrder.{key_exact, turned, less_trans}
 use Rattle.hash_tree.proofs.LeafLaws.{offer_first, in_first}
 use Rattle.hash_tree.proofs.ChunkLaws.{versions_at-get, offered_at-set}
@@ -205,13 +205,21 @@ pub versions_there : (k : List ℕ) (chunks : List Bucket) (i : ℕ) → IsChunk
 versions_there k chunks i h =
     sym (ap (versions_in k) (three_parts chunks i h.within) ∙ versions_among k (all_rows (take i chunks)) (rows_of chunks i) (all_rows (drop (i + 1) chunks)) h.before h.after)
 
-pub at_there : (k : List ℕ) (chunks : List Bucket) (i n at : ℕ) → IsChunkOf k chunks i → n ≡ length (all_rows (take i chunks)) → IsAt k (rows_of chunks i) at → IsAt k (all_rows chunks) (n + at)
-at_there k chunks i n at h is place =
-    subst (λ (rows : List Row). IsAt k rows (n + at)) (sym (three_parts chunks i h.within)) (at_among k (all_rows (take i chunks)) (rows_of chunks i) (all_rows (drop (i + 1) chunks)) at n h.before h.after is place)
+pub at_there : (k : List ℕ) (chunks : List Bucket) (i at : ℕ) → IsChunkOf k chunks i → IsAt k (rows_of chunks i) at → IsAt k (all_rows chunks) (place_in chunks i at)
+at_there k chunks i at h place =
+    let front = all_rows (take i chunks) in
+    subst (λ (rows : List Row). IsAt k rows (length front + at)) (sym (three_parts chunks i h.within)) (at_among k front (rows_of chunks i) (all_rows (drop (i + 1) chunks)) at (length front) h.before h.after refl place)
 
-pub between_there : (k : List ℕ) (chunks : List Bucket) (i n at : ℕ) → IsChunkOf k chunks i → n ≡ length (all_rows (take i chunks)) → IsBetween k (rows_of chunks i) at → IsBetween k (all_rows chunks) (n + at)
-between_there k chunks i n at h is place =
-    subst (λ (rows : List Row). IsBetween k rows (n + at)) (sym (three_parts chunks i h.within)) (between_among k (all_rows (take i chunks)) (rows_of chunks i) (all_rows (drop (i + 1) chunks)) at n h.before h.after is place)
+pub between_there : (k : List ℕ) (chunks : List Bucket) (i at : ℕ) → IsChunkOf k chunks i → IsBetween k (rows_of chunks i) at → IsBetween k (all_rows chunks) (place_in chunks i at)
+between_there k chunks i at h place =
+    let front = all_rows (take i chunks) in
+    subst (λ (rows : List Row). IsBetween k rows (length front + at)) (sym (three_parts chunks i h.within)) (between_among k front (rows_of chunks i) (all_rows (drop (i + 1) chunks)) at (length front) h.before h.after refl place)
+
+pub row_spot : (k : List ℕ) (chunks : List Bucket) (i at : ℕ) → IsChunkOf k chunks i → IsAt k (rows_of chunks i) at → IsRowSpot chunks (place_in chunks i at) i at
+row_spot k chunks i at h place = record { chunk = h.within; before = refl; within = place.within }
+
+pub gap_spot : (k : List ℕ) (chunks : List Bucket) (i at : ℕ) → IsChunkOf k chunks i → IsBetween k (rows_of chunks i) at → IsGapSpot chunks (place_in chunks i at) i at
+gap_spot k chunks i at h place = record { chunk = h.within; before = refl; within = place.within }
 
 -- ---- an offer to the row of a key is one to its place
 

@@ -23,16 +23,20 @@ rows_of (c ∷ chunks) (suc i) = rows_of chunks i
 abbrev pub chunk_text : Bucket → List ℕ
 chunk_text c = flat_map (row_text c.format) c.rows
 
--- a chunk of a leaf: 1 to 128 rows of the leaf's format
+-- a chunk of a leaf: 1 to 64 rows of the leaf's format
 pub record IsChunk (format : Format) (c : Bucket) : Type 0 where
   pub same : c.format ≡ format
   pub some : 1 ≤ length c.rows
-  pub few : length c.rows ≤ 128
+  pub few : length c.rows ≤ 64
 
 -- the chunks of a leaf: no more than 2^56, so that a number of rows fits its type
 pub record AreChunks (format : Format) (chunks : List Bucket) : Type 0 where
   pub each : AllByRecursion (IsChunk format) chunks
   pub few : length chunks ≤ 2 ^ 56
+
+-- the place among all rows of one that stands in chunk i, at a place among the rows of the chunk
+abbrev pub place_in : List Bucket → ℕ → ℕ → ℕ
+place_in chunks i at = length (all_rows (take i chunks)) + at
 
 -- the row of a place among all rows stands in chunk i, at a place among the rows of the chunk
 pub record IsRowSpot (chunks : List Bucket) (place i at : ℕ) : Type 0 where
@@ -45,6 +49,16 @@ pub record IsGapSpot (chunks : List Bucket) (place i at : ℕ) : Type 0 where
   pub chunk : i < length chunks
   pub before : length (all_rows (take i chunks)) + at ≡ place
   pub within : at ≤ length (rows_of chunks i)
+
+-- the key of the first row, or no byte
+abbrev pub first_key : List Row → List ℕ
+first_key [] = []
+first_key (r ∷ rows) = r.key
+
+-- the key of the first row, once a row of this key was put at place i
+abbrev pub first_with : ℕ → List ℕ → List ℕ → List ℕ
+first_with zero k first = k
+first_with (suc i) k first = first
 
 -- whether the first key of some rows is at most a key
 abbrev pub begin_by : List ℕ → List Row → Bool
@@ -63,12 +77,12 @@ offered_at [] i v = []
 offered_at (r ∷ rows) zero v = record { key = r.key; versions = offered v r.versions } ∷ rows
 offered_at (r ∷ rows) (suc i) v = r ∷ offered_at rows i v
 
--- chunks after chunk i, of 128 rows, was split into halves
-pub record IsSplit (chunks : List Bucket) (i : ℕ) (halves : List Bucket) : Type 0 where
-  pub rows : all_rows halves ≡ all_rows chunks
-  pub more : length halves ≡ length chunks + 1
-  pub before : take i halves ≡ take i chunks
-  pub front : length (rows_of halves i) ≡ 64
-  pub first : all_rows (take (i + 1) halves) ≡ all_rows (take i chunks) ++ rows_of halves i
-  pub back : length (rows_of halves (i + 1)) ≡ 64
-  pub each : (format : Format) → AreChunks format chunks → AreChunks format halves
+-- chunks after chunk i, of 64 rows, was parted into one of so many rows and one of the others
+pub record IsSplit (chunks : List Bucket) (i cut : ℕ) (parts : List Bucket) : Type 0 where
+  pub rows : all_rows parts ≡ all_rows chunks
+  pub more : length parts ≡ length chunks + 1
+  pub before : take i parts ≡ take i chunks
+  pub front : length (rows_of parts i) ≡ cut
+  pub first : all_rows (take (i + 1) parts) ≡ all_rows (take i chunks) ++ rows_of parts i
+  pub back : length (rows_of parts (i + 1)) + cut ≡ 64
+  pub each : (format : Format) → AreChunks format chunks → AreChunks format parts

@@ -1,24 +1,25 @@
 //! Consecutive rows of a leaf, with their texts.
-ghost use Rattle.std.specs.Prelude.{◌≡◌, ◌++◌, ◌+◌, ◌-◌, ◌/◌, ◌<◌, ◌≤◌, ◌^◌, [], ◌∷◌, ⊤, None, length, take, drop, IfOk, OnOk, OnErr};
+ghost use Rattle.std.specs.Prelude.{◌≡◌, ◌++◌, ◌+◌, ◌-◌, ◌<◌, ◌≤◌, ◌^◌, [], ◌∷◌, ⊤, None, length, take, drop, IfOk, OnOk, OnErr};
 ghost use Rattle.std.specs.List.{AllByRecursion, flat_map, insert, sum_by};
 ghost use Rattle.std.specs.Vec.{vec_capacity};
 ghost use Rattle.vclock.specs.Answer.{Answers};
 ghost use Rattle.version_set.specs.Kind.{value_fault};
 ghost use Rattle.version_set.specs.Version.{offer_fault};
 ghost use Rattle.row_bytes.specs.Rows.{row_text, FitsText};
-ghost use Rattle.hash_tree.specs.Chunks.{chunk_text, versions_at, offered_at};
+ghost use Rattle.hash_tree.specs.Chunks.{chunk_text, first_with, begin_by, versions_at, offered_at};
 
 use row_bytes::lengths::{row_len, version_len};
 use row_bytes::row::Row;
 use row_bytes::writing::put_row;
 use std::alloc::{AllocError, Global};
 use std::marker::Model;
+use vclock::bytes::Bytes;
 use vclock::format::Format;
 use vclock::refusal::Refusal;
 use version_set::version::Version;
 
 /// How many rows a chunk of a leaf has at most: a new row moves no more than these, and their texts.
-pub(crate) const MOST_ROWS: usize = 128;
+pub(crate) const MOST_ROWS: usize = 64;
 
 /// How many rows a small chunk gets room for, beside the one that needs it.
 const SPARE_ROWS: usize = 3;
@@ -27,10 +28,12 @@ const SPARE_ROWS: usize = 3;
 const SPARE_BYTES: usize = 64;
 
 /// Some consecutive rows of a leaf. Beside the rows stand their texts, one after another, and how long each is: a row's
-/// parts are scattered over the heap, and the text of the leaf is written again and again.
+/// parts are scattered over the heap, and the text of the leaf is written again and again. The first key is kept besides,
+/// so that a search among chunks looks at no row.
 #[derive(Debug, Drop)]
 pub struct Chunk {
     format: Format,
+    first: Bytes,
     rows: Vec<Row>,
     lens: Vec<u32>,
     text: Vec<u8>,
@@ -41,14 +44,16 @@ impl Model for Chunk {
     ghost use Rattle.std.specs.List.{AllByRecursion, flat_map};
     ghost use Rattle.row_bytes.specs.Rows.{row_text, FitsText};
     ghost use Rattle.hash_tree.specs.Leaves.{Bucket};
+    ghost use Rattle.hash_tree.specs.Chunks.{first_key};
 
     ghost Value = { Bucket };
 
     ghost view = { λ c. record { format = c.format; rows = c.rows.items } };
 
-    ghost invariant = { λ c. AllByRecursion (FitsText c.format) c.rows.items
+    ghost invariant = { λ c. (AllByRecursion (FitsText c.format) c.rows.items
         × (c.lens.items ≡ map (λ r. length (row_text c.format r)) c.rows.items)
-        × (c.text.items ≡ flat_map (row_text c.format) c.rows.items) };
+        × (c.text.items ≡ flat_map (row_text c.format) c.rows.items))
+        × (c.first ≡ first_key c.rows.items) };
 }
 
 impl Chunk {
@@ -59,6 +64,7 @@ impl Chunk {
     {
         let mut chunk = Chunk {
             format,
+            first: Bytes::from(Vec::new(alloc)),
             rows: Vec::new(alloc),
             lens: Vec::new(alloc),
             text: Vec::new(alloc),
@@ -74,6 +80,13 @@ impl Chunk {
         self.rows.as_slice()
     }
 
+    /// Whether the first key is at most a key. No row is looked at.
+    pub(crate) fn begins_by(&self, key: &[u8]) -> bool
+        ensures { result ≡ begin_by key.now self.now.rows }
+    {
+        !self.rows.is_empty() && self.first.as_slice().cmp(key).is_le()
+    }
+
     /// The texts of the rows, one after another.
     pub(crate) fn text(&self) -> &[u8]
         ensures { result.now ≡ chunk_text self.now }
@@ -87,6 +100,7 @@ impl Chunk {
     {
         Ok(Chunk {
             format: self.format,
+            first: self.first.try_clone()?,
             rows: clone_rows(alloc, &self.rows)?,
             lens: Vec::from_slice(alloc, &self.lens)?,
             text: Vec::from_slice(alloc, &self.text)?,
@@ -108,7 +122,8 @@ impl Chunk {
         }
         let more = version_len(self.format, &version) as usize;
         let old = self.lens[at] as usize;
-        make_room(&mut self.text, old + more, SPARE_BYTES)?;
+        let spare = self.spare_bytes();
+        make_room(&mut self.text, old + more, spare)?;
         let start = total(&self.lens[..at]);
         let row = &mut self.rows[at];
         row.versions.offer(version)?;
@@ -126,9 +141,11 @@ impl Chunk {
         ensures err { OnErr result (self.new ≡ self.old) }
     {
         let len = row_len(self.format, &row);
-        make_room(&mut self.rows, 1, SPARE_ROWS)?;
-        make_room(&mut self.lens, 1, SPARE_ROWS)?;
-        make_room(&mut self.text, len as usize, SPARE_BYTES)?;
+        let (spare_rows, spare_bytes) = (self.spare_rows(), self.spare_bytes());
+        make_room(&mut self.rows, 1, spare_rows)?;
+        make_room(&mut self.lens, 1, spare_rows)?;
+        make_room(&mut self.text, len as usize, spare_bytes)?;
+        keep_first(&mut self.first, at, &row)?;
         let start = total(&self.lens[..at]);
         put_between(&mut self.text, start, start, self.format, &row);
         self.rows.insert(at, row).unwrap();
@@ -136,25 +153,37 @@ impl Chunk {
         Ok(())
     }
 
-    /// Splits off the rows from the middle one on. Refused: NoMemory. The chunk is then as it was.
-    pub(crate) fn split(&mut self, alloc: Global) -> Result<Chunk, Refusal>
+    /// For how many rows room is made besides, where there is none: for as many as there are, up to a full chunk.
+    fn spare_rows(&self) -> usize {
+        let len = self.rows.len();
+        len.max(SPARE_ROWS).min(MOST_ROWS.saturating_sub(len))
+    }
+
+    /// For how many bytes of text room is made besides, where there is none: for a quarter of what there are, and some.
+    fn spare_bytes(&self) -> usize {
+        SPARE_BYTES.saturating_add(self.text.len() / 4)
+    }
+
+    /// Splits off the rows from a place on. Refused: NoMemory. The chunk is then as it was.
+    pub(crate) fn split(&mut self, alloc: Global, at: usize) -> Result<Chunk, Refusal>
+        requires some { 1 ≤ at }
+        requires within { at < length self.old.rows }
         ensures answers { Answers result None (λ _. ⊤) }
-        ensures front { OnOk result (self.new ≡ record self.old { rows = take (length self.old.rows / 2) self.old.rows }) }
-        ensures back { IfOk result (λ back. back ≡ record self.old { rows = drop (length self.old.rows / 2) self.old.rows }) }
+        ensures front { OnOk result (self.new ≡ record self.old { rows = take at self.old.rows }) }
+        ensures back { IfOk result (λ back. back ≡ record self.old { rows = drop at self.old.rows }) }
         ensures err { OnErr result (self.new ≡ self.old) }
     {
-        let middle = self.rows.len() / 2;
-        let cut = total(&self.lens[..middle]);
-        let lens = Vec::from_slice(alloc, &self.lens[middle..])?;
-        let text = Vec::from_slice(alloc, &self.text[cut..])?;
-        let rows = self.rows.split_off(middle)?;
-        self.lens.truncate(middle);
+        let cut = total(&self.lens[..at]);
+        let first = self.rows[at].key.try_clone()?;
+        let lens = Vec::from_slice(alloc, &self.lens[at..])?;
+        let mut text = Vec::with_capacity(alloc, self.text.len())?;
+        text.extend_from_slice(&self.text[cut..])?;
+        let rows = self.rows.split_off(at)?;
+        self.lens.truncate(at);
         self.text.truncate(cut);
-        self.rows.shrink_to_fit();
-        self.lens.shrink_to_fit();
-        self.text.shrink_to_fit();
         Ok(Chunk {
             format: self.format,
+            first,
             rows,
             lens,
             text,
@@ -184,8 +213,20 @@ fn total(lens: &[u32]) -> usize
     lens.iter().map(|len| *len as usize).sum()
 }
 
-/// Makes room for some more items, if there is none, and then for an eighth of what is there and some spare ones besides.
-/// The items are as they were. It fails only where memory is needed.
+/// Takes the key of a row for the first one, where the row is to stand first. Refused: NoMemory.
+fn keep_first(first: &mut Bytes, at: usize, row: &Row) -> Result<(), Refusal>
+    ensures answers { Answers result None (λ _. ⊤) }
+    ensures ok { OnOk result (first.new ≡ first_with at row.now.key first.old) }
+    ensures err { OnErr result (first.new ≡ first.old) }
+{
+    if at == 0 {
+        *first = row.key.try_clone()?;
+    }
+    Ok(())
+}
+
+/// Makes room for some more items, if there is none, and then for some spare ones besides. The items are as they were. It
+/// fails only where memory is needed.
 fn make_room<T>(items: &mut Vec<T>, more: usize, spare: usize) -> Result<(), AllocError>
     ensures items { items.new.items ≡ items.old.items }
     ensures room { OnOk result (length items.new.items + more ≤ vec_capacity items.new) }
@@ -193,7 +234,6 @@ fn make_room<T>(items: &mut Vec<T>, more: usize, spare: usize) -> Result<(), All
     if more <= items.capacity() - items.len() {
         return Ok(());
     }
-    let spare = spare.saturating_add(items.len() / 8);
     items.reserve_exact(more.saturating_add(spare))
 }
 

@@ -11,7 +11,7 @@ ghost use Rattle.hash_tree.specs.Chunks.{all_rows, AreChunks};
 ghost use Rattle.hash_tree.specs.Texts.{leaf_text};
 
 use crate::chunk::Chunk;
-use crate::chunked::{chunk_of, clone_chunks, count_rows, insert_at, offer_at, text_len};
+use crate::chunked::{Spot, chunk_of, clone_chunks, insert_at, offer_at, text_len};
 use crate::comparing::is_chunked_text;
 use crate::texts::put_chunks;
 use row_bytes::row::Row;
@@ -23,36 +23,22 @@ use vclock::refusal::Refusal;
 use version_set::set::VersionSet;
 use version_set::version::Version;
 
-/// What a leaf has for a key.
-#[derive(Clone, Copy)]
-pub struct FoundRow<'a> {
-    /// The versions that are held for the key, if it has a row.
-    pub set: Option<&'a VersionSet>,
-    /// Where the key's row stands, or else where it would stand.
-    pub place: Result<usize, usize>,
-}
-
 /// Rows in ascending order of key, each key once, in chunks: what is put into a leaf moves the rows of one chunk only.
 #[derive(Debug, Drop)]
 pub struct Leaf {
     format: Format,
     chunks: Vec<Chunk>,
-    text_len: u128,
 }
 
 impl Model for Leaf {
-    ghost use Rattle.std.specs.Prelude.{◌≡◌, length};
-    ghost use Rattle.std.specs.List.{flat_map};
     ghost use Rattle.hash_tree.specs.Leaves.{Bucket, IsBucket};
     ghost use Rattle.hash_tree.specs.Chunks.{all_rows, AreChunks};
-    ghost use Rattle.hash_tree.specs.Texts.{leaf_text};
 
     ghost Value = { Bucket };
 
     ghost view = { λ l. record { format = l.format; rows = all_rows l.chunks.items } };
 
     ghost invariant = { λ l. IsBucket (record { format = l.format; rows = all_rows l.chunks.items })
-        × (l.text_len ≡ length (leaf_text l.format (all_rows l.chunks.items)))
         × AreChunks l.format l.chunks.items };
 }
 
@@ -64,7 +50,6 @@ impl Leaf {
         Leaf {
             format,
             chunks: Vec::new(alloc),
-            text_len: 1,
         }
     }
 
@@ -75,11 +60,11 @@ impl Leaf {
         self.format
     }
 
-    /// How many bytes the text of the leaf has. It takes no time: the length is kept.
+    /// How many bytes the text of the leaf has. No row is looked at, but each chunk.
     pub fn text_len(&self) -> u128
         ensures { result ≡ length (leaf_text self.now.format self.now.rows) }
     {
-        self.text_len
+        text_len(&self.chunks)
     }
 
     /// The rows in chunks, in ascending order of key throughout.
@@ -113,61 +98,38 @@ impl Leaf {
         Ok(Leaf {
             format: self.format,
             chunks: clone_chunks(alloc, &self.chunks)?,
-            text_len: self.text_len,
         })
     }
 
-    /// What is held for a key, and the place of its row, for an offer that comes next. It takes no memory, and time in
-    /// proportion to the chunks of 128 rows.
-    pub fn find(&self, key: &[u8]) -> FoundRow<'_>
-        ensures set { unwrap_or (option_map (λ s. s.now) result.set) [] ≡ versions_in key.now self.now.rows }
-        ensures place { IsPlace key.now self.now.rows result.place }
+    /// What is held for a key, if it has a row. It takes no memory, and looks at as many rows as a search by halves does.
+    pub fn find(&self, key: &[u8]) -> Option<&VersionSet>
+        ensures { unwrap_or (option_map (λ s. s.now) result) [] ≡ versions_in key.now self.now.rows }
     {
         if self.chunks.is_empty() {
-            return FoundRow {
-                set: None,
-                place: Err(0),
-            };
+            return None;
         }
-        let number = chunk_of(&self.chunks, key);
-        let before = count_rows(&self.chunks[..number]);
-        let rows = self.chunks[number].rows();
+        let rows = self.chunks[chunk_of(&self.chunks, key)].rows();
         match find_place(rows, key) {
-            Ok(at) => FoundRow {
-                set: Some(&rows[at].versions),
-                place: Ok(before + at),
-            },
-            Err(at) => FoundRow {
-                set: None,
-                place: Err(before + at),
-            },
+            Ok(at) => Some(&rows[at].versions),
+            Err(_) => None,
         }
     }
 
-    /// Offers a version to the set of a key, whose place was found. The key has a row from then on.
+    /// Offers a version to the set of a key. The key has a row from then on.
     ///
     /// Refused, in order: Crowded (the set would have over 64 versions), NoMemory. The leaf is then as it was.
-    pub fn offer(
-        &mut self,
-        alloc: Global,
-        key: &[u8],
-        place: Result<usize, usize>,
-        version: Version,
-    ) -> Result<(), Refusal>
-        requires place { IsPlace key.now self.old.rows place }
+    pub fn offer(&mut self, alloc: Global, key: &[u8], version: Version) -> Result<(), Refusal>
         requires key { key_fault key.now ≡ None }
         requires value { value_fault self.old.format version.kind version.value ≡ None }
         ensures answers { Answers result (offer_fault version (versions_in key.now self.old.rows)) (λ _. ⊤) }
         ensures ok { OnOk result (self.new ≡ record self.old { rows = with_offer key.now version self.old.rows }) }
         ensures err { OnErr result (self.new ≡ self.old) }
     {
-        offer_to_key(alloc, self.format, &mut self.chunks, key, place, version)?;
-        self.text_len = text_len(&self.chunks);
-        Ok(())
+        offer_to_key(alloc, self.format, &mut self.chunks, key, version)
     }
 }
 
-/// Offers a version to the set of a key, whose place was found among the rows of chunks.
+/// Offers a version to the set of a key among the rows of chunks.
 ///
 /// Refused, in order: Crowded (the set would have over 64 versions), NoMemory. The rows are then as they were.
 fn offer_to_key(
@@ -175,10 +137,9 @@ fn offer_to_key(
     format: Format,
     chunks: &mut Vec<Chunk>,
     key: &[u8],
-    place: Result<usize, usize>,
     version: Version,
 ) -> Result<(), Refusal>
-    requires place { IsPlace key.now (all_rows chunks.old.items) place }
+    requires rows { AscendByKey (all_rows chunks.old.items) }
     requires key { key_fault key.now ≡ None }
     requires value { value_fault format version.kind version.value ≡ None }
     requires chunks { AreChunks format chunks.old.items }
@@ -187,11 +148,17 @@ fn offer_to_key(
     ensures chunks { AreChunks format chunks.new.items }
     ensures err { OnErr result (all_rows chunks.new.items ≡ all_rows chunks.old.items) }
 {
-    match place {
-        Ok(at) => offer_at(chunks, at, version),
+    if chunks.is_empty() {
+        let row = first_row(alloc, key, version)?;
+        chunks.push(Chunk::of_row(alloc, format, row)?)?;
+        return Ok(());
+    }
+    let chunk = chunk_of(chunks, key);
+    match find_place(chunks[chunk].rows(), key) {
+        Ok(at) => offer_at(chunks, Spot { chunk, at }, version),
         Err(at) => {
             let row = first_row(alloc, key, version)?;
-            insert_at(alloc, format, chunks, at, row)
+            insert_at(alloc, format, chunks, Spot { chunk, at }, row)
         }
     }
 }

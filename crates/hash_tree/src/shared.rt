@@ -7,18 +7,19 @@ ghost use Rattle.vclock.specs.Answer.{Answers};
 ghost use Rattle.vclock.specs.Keys.{key_fault};
 ghost use Rattle.version_set.specs.Kind.{value_fault};
 ghost use Rattle.version_set.specs.Version.{offer_fault};
-ghost use Rattle.hash_tree.specs.Leaves.{Bucket, IsBucket, IsPlace, versions_in, with_offer};
+ghost use Rattle.hash_tree.specs.Leaves.{Bucket, IsBucket, versions_in, with_offer};
 ghost use Rattle.hash_tree.specs.Texts.{leaf_text};
 
 use crate::chunk::Chunk;
 use crate::comparing::is_chunked_text;
-use crate::leaf::{FoundRow, Leaf};
+use crate::leaf::Leaf;
 use crate::texts::leaf_byte;
 use std::alloc::{AllocError, Global};
 use std::marker::Model;
 use std::sync::Arc;
 use vclock::format::Format;
 use vclock::refusal::Refusal;
+use version_set::set::VersionSet;
 use version_set::version::Version;
 
 /// A leaf that has any number of owners. A leaf without rows takes no memory.
@@ -55,7 +56,7 @@ impl SharedLeaf {
         self.format
     }
 
-    /// How many bytes the text of the leaf has. It takes no time: the length is kept.
+    /// How many bytes the text of the leaf has. No row is looked at, but each chunk.
     #[tactic(auto, unfolding(crate::specs::Texts::leaf_text))]
     pub fn text_len(&self) -> u128
         ensures { result ≡ length (leaf_text self.now.format self.now.rows) }
@@ -115,32 +116,20 @@ impl SharedLeaf {
         }
     }
 
-    /// What is held for a key, and the place of its row, for an offer that comes next. It takes no memory, and time in
-    /// proportion to the chunks of 128 rows.
-    pub fn find(&self, key: &[u8]) -> FoundRow<'_>
-        ensures set { unwrap_or (option_map (λ s. s.now) result.set) [] ≡ versions_in key.now self.now.rows }
-        ensures place { IsPlace key.now self.now.rows result.place }
+    /// What is held for a key, if it has a row. It takes no memory, and looks at as many rows as a search by halves does.
+    pub fn find(&self, key: &[u8]) -> Option<&VersionSet>
+        ensures { unwrap_or (option_map (λ s. s.now) result) [] ≡ versions_in key.now self.now.rows }
     {
         match &self.leaf {
             Some(leaf) => leaf.find(key),
-            None => FoundRow {
-                set: None,
-                place: Err(0),
-            },
+            None => None,
         }
     }
 
-    /// Offers a version to the set of a key, whose place was found, in a copy of the leaf where it has other owners.
+    /// Offers a version to the set of a key, in a copy of the leaf where it has other owners.
     ///
     /// Refused, in order: Crowded (the set would have over 64 versions), NoMemory. The leaf is then as it was.
-    pub fn offer(
-        &mut self,
-        alloc: Global,
-        key: &[u8],
-        place: Result<usize, usize>,
-        version: Version,
-    ) -> Result<(), Refusal>
-        requires place { IsPlace key.now self.old.rows place }
+    pub fn offer(&mut self, alloc: Global, key: &[u8], version: Version) -> Result<(), Refusal>
         requires key { key_fault key.now ≡ None }
         requires value { value_fault self.old.format version.kind version.value ≡ None }
         ensures answers { Answers result (offer_fault version (versions_in key.now self.old.rows)) (λ _. ⊤) }
@@ -148,10 +137,10 @@ impl SharedLeaf {
         ensures err { OnErr result (self.new ≡ self.old) }
     {
         match &mut self.leaf {
-            Some(leaf) => offer_to(alloc, leaf, key, place, version),
+            Some(leaf) => offer_to(alloc, leaf, key, version),
             None => {
                 let mut leaf = Leaf::empty(alloc, self.format);
-                leaf.offer(alloc, key, place, version)?;
+                leaf.offer(alloc, key, version)?;
                 self.leaf = Some(Arc::new(alloc, leaf)?);
                 Ok(())
             }
@@ -164,10 +153,8 @@ fn offer_to(
     alloc: Global,
     shared: &mut Arc<Leaf, Global>,
     key: &[u8],
-    place: Result<usize, usize>,
     version: Version,
 ) -> Result<(), Refusal>
-    requires place { IsPlace key.now (arc_value shared.old).rows place }
     requires key { key_fault key.now ≡ None }
     requires value { value_fault (arc_value shared.old).format version.kind version.value ≡ None }
     ensures answers { Answers result (offer_fault version (versions_in key.now (arc_value shared.old).rows)) (λ _. ⊤) }
@@ -176,15 +163,15 @@ fn offer_to(
     ensures err { OnErr result (arc_value shared.new ≡ arc_value shared.old) }
 {
     if let Some(leaf) = Arc::get_mut(shared) {
-        return leaf.offer(alloc, key, place, version);
+        return leaf.offer(alloc, key, version);
     }
-    if let Some(set) = shared.find(key).set
+    if let Some(set) = shared.find(key)
         && set.crowds(&version)
     {
         return Err(Refusal::Crowded);
     }
     let mut copy = shared.try_clone(alloc)?;
-    copy.offer(alloc, key, place, version)?;
+    copy.offer(alloc, key, version)?;
     *shared = Arc::new(alloc, copy)?;
     Ok(())
 }

@@ -8,7 +8,7 @@ ghost use Rattle.version_set.specs.Version.{covered, offer_fault};
 ghost use Rattle.range_journal.specs.Journal.{held};
 ghost use Rattle.range_journal.specs.declared.journal.Source.{Source};
 ghost use Rattle.key_ring.specs.Places.{leaf_bits};
-ghost use Rattle.hash_tree.specs.Leaves.{IsPlace, rows_at};
+ghost use Rattle.hash_tree.specs.Leaves.{rows_at};
 ghost use Rattle.range_state.specs.Sent.{is_sent};
 ghost use Rattle.range_state.specs.Rows.{rows_of};
 ghost use Rattle.range_state.specs.State.{IsRight, fresh, leaf_in, leaf_count, place_fault, ask_fault, stale_fault, full_fault, accept_fault, put_fault, entry_of, put_entry, put_version, journaled, knows, accept_step, accept_reply};
@@ -16,7 +16,6 @@ ghost use Rattle.range_state.specs.State.{IsRight, fresh, leaf_in, leaf_count, p
 use crate::config::RangeConfig;
 use crate::event::{Accepted, Receipt};
 use crate::record::Record;
-use hash_tree::leaf::FoundRow;
 use hash_tree::marks::Marks;
 use hash_tree::shared::SharedLeaf;
 use key_ring::places::place;
@@ -112,7 +111,7 @@ impl RangeState {
         ensures held { result.now ≡ held self.now.entries key.now }
         ensures fit { AllByRecursion (λ v. value_fault self.now.config.format v.kind v.value ≡ None) result.now }
     {
-        match self.find(self.leaf_of(key), key).set {
+        match self.find(self.leaf_of(key), key) {
             Some(set) => set.as_slice(),
             None => &[],
         }
@@ -123,7 +122,7 @@ impl RangeState {
         ensures held { Answers result None (λ set. set ≡ held self.now.entries key.now) }
         ensures fit { IfOk result (AllByRecursion (λ v. value_fault self.now.config.format v.kind v.value ≡ None)) }
     {
-        match self.find(self.leaf_of(key), key).set {
+        match self.find(self.leaf_of(key), key) {
             Some(set) => set.try_clone(alloc),
             None => Ok(VersionSet::empty(alloc)),
         }
@@ -151,14 +150,14 @@ impl RangeState {
         ensures err { OnErr result (self.new ≡ self.old) }
     {
         let leaf = self.home(key, version.kind, version.value.as_slice())?;
-        let FoundRow { set, place } = self.find(leaf, key);
+        let set = self.find(leaf, key);
         if covers(set, &version) {
             return Ok(Accepted::Known);
         }
         if crowds(set, &version) {
             return Err(Refusal::Crowded);
         }
-        let receipt = self.admit(alloc, leaf, place, seat, source, key, version)?;
+        let receipt = self.admit(alloc, leaf, seat, source, key, version)?;
         Ok(Accepted::Taken(receipt))
     }
 
@@ -191,13 +190,13 @@ impl RangeState {
     {
         let leaf = self.home(key, kind, value.as_slice())?;
         let clock = context.raise(alloc, at)?;
-        let FoundRow { set, place } = self.find(leaf, key);
+        let set = self.find(leaf, key);
         check_context(alloc, set, &clock)?;
         let version = Version { clock, kind, value };
         if crowds(set, &version) {
             return Err(Refusal::Crowded);
         }
-        self.admit(alloc, leaf, place, seat, Source::Client, key, version)
+        self.admit(alloc, leaf, seat, Source::Client, key, version)
     }
 
     /// The leaf of a key.
@@ -221,24 +220,22 @@ impl RangeState {
         Ok(at.leaf)
     }
 
-    /// What is held for a key, which is of that leaf, and the place of its row.
-    fn find(&self, leaf: u16, key: &[u8]) -> FoundRow<'_>
+    /// What is held for a key, which is of that leaf.
+    fn find(&self, leaf: u16, key: &[u8]) -> Option<&VersionSet>
         requires { leaf ≡ leaf_in self.now.config key.now }
-        ensures set { unwrap_or (option_map (λ s. s.now) result.set) [] ≡ held self.now.entries key.now }
+        ensures set { unwrap_or (option_map (λ s. s.now) result) [] ≡ held self.now.entries key.now }
         ensures fit { AllByRecursion (λ v. value_fault self.now.config.format v.kind v.value ≡ None)
             (held self.now.entries key.now) }
-        ensures place { IsPlace key.now (rows_at (leaf_in self.now.config) leaf (rows_of self.now.entries)) result.place }
     {
         self.leaves[usize::from(leaf)].find(key)
     }
 
-    /// Journals a version that is not known, where the row of its key is of that leaf and has that place. Every cause is
-    /// tested before any growth, and every growth is made before anything changes.
+    /// Journals a version that is not known, whose key is of that leaf. Every cause is tested before any growth, and every
+    /// growth is made before anything changes.
     fn admit(
         &mut self,
         alloc: Global,
         leaf: u16,
-        place: Result<usize, usize>,
         seat: u16,
         source: Source,
         key: &[u8],
@@ -246,7 +243,6 @@ impl RangeState {
     ) -> Result<Receipt, Refusal>
         requires own { ¬ (source ≡ Source.Partner) }
         requires leaf { leaf ≡ leaf_in self.old.config key.now }
-        requires place { IsPlace key.now (rows_at (leaf_in self.old.config) leaf (rows_of self.old.entries)) place }
         requires here { place_fault self.old.config key.now version.kind version.value ≡ None }
         requires news { knows self.old key.now version ≡ false }
         requires fits { offer_fault version (held self.old.entries key.now) ≡ None }
@@ -267,7 +263,7 @@ impl RangeState {
         };
         let entry_key = Bytes::copy_of(alloc, key)?;
         let row_version = version.try_clone()?;
-        self.leaves[usize::from(leaf)].offer(alloc, key, place, row_version)?;
+        self.leaves[usize::from(leaf)].offer(alloc, key, row_version)?;
         self.journal
             .append_reserved(seat, source, entry_key, version);
         self.marks.dirty(leaf);

@@ -4,13 +4,17 @@ ghost use Rattle.vclock.specs.Answer.{Answers};
 ghost use Rattle.std.specs.Prelude.{None};
 
 use crate::refusal::Refusal;
+use smallvec::SmallVec;
 use std::alloc::Global;
 use std::marker::Model;
+
+/// How many bytes are kept in place, where most keys find room: a search among rows then needs no look elsewhere.
+const SHORT_LEN: usize = 16;
 
 /// A list of bytes.
 #[derive(Debug, Drop)]
 pub struct Bytes {
-    bytes: Vec<u8>,
+    bytes: SmallVec<u8, SHORT_LEN>,
 }
 
 impl Model for Bytes {
@@ -27,7 +31,7 @@ impl Bytes {
         ensures { Answers result None (λ copy. copy ≡ bytes.now) }
     {
         Ok(Bytes {
-            bytes: Vec::from_slice(alloc, bytes)?,
+            bytes: SmallVec::from_slice(alloc, bytes)?,
         })
     }
 
@@ -44,7 +48,7 @@ impl Bytes {
     pub fn as_slice(&self) -> &[u8]
         ensures { result.now ≡ self.now }
     {
-        &self.bytes
+        self.bytes.as_slice()
     }
 }
 
@@ -53,8 +57,10 @@ impl From<Vec<u8>> for Bytes {
 
     ghost from_gives = { λ bytes kept. kept ≡ bytes.items };
 
-    /// The bytes of a vector, which is taken as it is.
+    /// The bytes of a vector, whose allocation is kept unless they find room in place.
     fn from(bytes: Vec<u8>) -> Bytes {
-        Bytes { bytes }
+        Bytes {
+            bytes: SmallVec::from_vec(bytes),
+        }
     }
 }

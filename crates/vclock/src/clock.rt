@@ -5,11 +5,15 @@ ghost use Rattle.std.specs.List.{list_any};
 ghost use Rattle.vclock.specs.Answer.{Answers};
 
 use crate::refusal::Refusal;
+use smallvec::SmallVec;
 use std::alloc::{AllocError, Global};
 use std::marker::Model;
 
 /// How many pairs a clock has at the most.
 const MOST_PAIRS: usize = 32;
+
+/// How many pairs are kept in place: the clock of what one node alone has put needs no allocation.
+const FEW_PAIRS: usize = 1;
 
 /// The greatest node number.
 const LAST_NODE: u64 = 65_535;
@@ -31,7 +35,7 @@ pub enum ClockOrder {
 /// An absent node has the counter 0. There are at most 32 pairs.
 #[derive(Debug, Drop)]
 pub struct Clock {
-    pairs: Vec<(u16, u64)>,
+    pairs: SmallVec<(u16, u64), FEW_PAIRS>,
 }
 
 impl Model for Clock {
@@ -64,7 +68,9 @@ impl Clock {
             let (node, counter) = pairs[i];
             put(&mut kept, node as u16, counter)?;
         }
-        Ok(Clock { pairs: kept })
+        Ok(Clock {
+            pairs: SmallVec::from_vec(kept),
+        })
     }
 
     /// The clock of pairs that are one already: by rising node, at most 32. It takes no memory.
@@ -72,7 +78,9 @@ impl Clock {
         requires { IsClock pairs.items }
         ensures { result ≡ pairs.items }
     {
-        Clock { pairs }
+        Clock {
+            pairs: SmallVec::from_vec(pairs),
+        }
     }
 
     /// The clock with the counter of a node, 1 to 65,535, raised by one.
@@ -91,9 +99,11 @@ impl Clock {
         if counter == u64::MAX {
             return Err(Refusal::CounterFull);
         }
-        let mut pairs = copy_with_room(alloc, &self.pairs)?;
-        put(&mut pairs, node, counter + 1)?;
-        Ok(Clock { pairs })
+        let mut raised = copy_with_room(alloc, self.pairs.as_slice())?;
+        put(&mut raised, node, counter + 1)?;
+        Ok(Clock {
+            pairs: SmallVec::from_vec(raised),
+        })
     }
 
     /// The pairs of node and counter, by rising node.
@@ -108,7 +118,7 @@ impl Clock {
     pub fn get(&self, node: u16) -> u64
         ensures { result ≡ counter self.now node }
     {
-        for &(n, counter) in &self.pairs {
+        for &(n, counter) in self.pairs.as_slice() {
             if n == node {
                 return counter;
             }
@@ -133,7 +143,7 @@ impl Clock {
         ensures at_least { IsTrue (at_most other.now self.now) ↔ IsAtMost other.now self.now }
         ensures equal { (result ≡ ClockOrder.Equal) ↔ (self.now ≡ other.now) }
     {
-        match walk(&self.pairs, &other.pairs) {
+        match walk(self.pairs.as_slice(), other.pairs.as_slice()) {
             (true, true) => ClockOrder::Equal,
             (true, false) => ClockOrder::Before,
             (false, true) => ClockOrder::After,

@@ -9,7 +9,6 @@ ghost use Rattle.range_state.specs.Batches.{IsRowFor, ahead, IsBatch, seen_count
 
 use crate::event::Receipt;
 use crate::state::{RangeState, covers, crowds};
-use hash_tree::leaf::FoundRow;
 use hash_tree::shared::SharedLeaf;
 use range_journal::journal::{Entry, Source};
 use row_bytes::row::Row;
@@ -101,7 +100,7 @@ impl RangeState {
         ensures ok { OnOk result
             (IsPrepared self.now seat leaf ((key.now, version.now) ∷ []) batch.old batch.new) }
     {
-        let FoundRow { set, place } = batch.leaf.find(key);
+        let set = batch.leaf.find(key);
         if covers(set, version) {
             batch.known += 1;
             return Ok(());
@@ -113,7 +112,7 @@ impl RangeState {
         let entry = partners_entry(alloc, number, seat, key, version)?;
         let receipt = partners_entry(alloc, number, seat, key, version)?;
         let row_version = version.try_clone()?;
-        batch.leaf.offer(alloc, key, place, row_version)?;
+        batch.leaf.offer(alloc, key, row_version)?;
         batch.entries.push(entry)?;
         batch.receipts.push(receipt)?;
         Ok(())

@@ -5,7 +5,7 @@ use Rattle.row_bytes.specs.declared.row.Row.{Row}
 use Rattle.row_bytes.specs.Rows.{FitsText}
 use Rattle.vclock.specs.declared.format.Format.{Format}
 use Rattle.hash_tree.specs.Leaves.{Bucket}
-use Rattle.hash_tree.specs.Chunks.{AreChunks}
+use Rattle.hash_tree.specs.Chunks.{place_in, AreChunks}
 use Rattle.hash_tree.proofs.ChunkPlaces.{rows_read, chunk_is, on_ok_map, either_way, inserted-in_chunk, chunks-inserted}
 use Rattle.hash_tree.proofs.chunked.insert_at.Goals as goal
 
@@ -35,9 +35,9 @@ returns-clause-ok c =
     let old = c.index_mut.result.now in
     let new = c.insert.new.self in
     on_ok_map c.insert.result (λ (now : new ≡ record { format = old.format; rows = insert old.rows spot.at c.args.row }).
-    inserted-in_chunk chunks spot.chunk spot.at c.args.place c.args.row new gap.chunk gap.within gap.before
+    inserted-in_chunk chunks spot.chunk spot.at (place_in c.args.chunks.now.items c.args.spot.chunk c.args.spot.at) c.args.row new gap.chunk gap.within gap.before
     (ap (λ (x : Bucket). x.rows) now ∙ ap (λ (rs : List Row). insert rs spot.at c.args.row) (rows_read chunks spot.chunk old gap.chunk c.index_mut.ensures.value))
-    ∙ ap (λ (rs : List Row). insert rs c.args.place c.args.row) c.roomy_gap.ensures.rows) c.insert.ensures.ok
+    ∙ ap (λ (rs : List Row). insert rs (place_in c.args.chunks.now.items c.args.spot.chunk c.args.spot.at) c.args.row) c.roomy_gap.ensures.rows) c.insert.ensures.ok
 
 pub returns-clause-chunks : goal.returns-clause-chunks
 returns-clause-chunks c =

@@ -1,26 +1,27 @@
-use Rattle.std.proofs.Common.{rules, ◌≡◌, ◌++◌, ◌∙◌, ℕ, List, length, take, drop, ap, arith}
+use Rattle.std.proofs.Common.{rules, ◌≡◌, ◌++◌, ◌∙◌, ℕ, List, length, take, drop, sym, ap, arith}
 use Rattle.std.specs.List.{insert, sum_by}
 use Rattle.row_bytes.specs.Rows.{row_text}
-use Rattle.hash_tree.proofs.ChunkLaws.{start_within, keeps-insert, fits-inside}
+use Rattle.hash_tree.specs.Chunks.{first_key, first_with}
+use Rattle.hash_tree.proofs.ChunkLaws.{start_within, keeps-insert, first-insert, fits-inside}
 use Rattle.hash_tree.proofs.chunk.Chunk.insert.Goals as goal
 
 pub total-start-requires : goal.total-start-requires
 total-start-requires c =
     let s = c.self.inside in
     let before = λ (ls : List ℕ). sum_by (λ (n : ℕ). n) (take c.args.at ls) in
-    omega (arith, start_within s.format s.rows.items s.lens.items s.text.items c.args.at c.self.invariant, ap before (c.deref.ensures.value ∙ c.make_room-2.ensures.items), s.text.ok.0, s.text.ok.1, s.text.small)
+    omega (arith, start_within s.format s.rows.items s.lens.items s.text.items c.args.at c.self.invariant.0, ap before (c.deref.ensures.value ∙ c.make_room-2.ensures.items), s.text.ok.0, s.text.ok.1, s.text.small)
 
 pub put_between-requires-clause-within : goal.put_between-requires-clause-within
 put_between-requires-clause-within c =
     let s = c.self.inside in
     let before = λ (ls : List ℕ). sum_by (λ (n : ℕ). n) (take c.args.at ls) in
-    omega (arith, start_within s.format s.rows.items s.lens.items s.text.items c.args.at c.self.invariant, c.total-start.ensures, ap before (c.deref.ensures.value ∙ c.make_room-2.ensures.items), ap length c.make_room-3.ensures.items)
+    omega (arith, start_within s.format s.rows.items s.lens.items s.text.items c.args.at c.self.invariant.0, c.total-start.ensures, ap before (c.deref.ensures.value ∙ c.make_room-2.ensures.items), ap length c.make_room-3.ensures.items)
 
 pub put_between-requires-clause-room : goal.put_between-requires-clause-room
 put_between-requires-clause-room c =
     let s = c.self.inside in
     let before = λ (ls : List ℕ). sum_by (λ (n : ℕ). n) (take c.args.at ls) in
-    omega (arith, start_within s.format s.rows.items s.lens.items s.text.items c.args.at c.self.invariant, c.total-start.ensures, ap before (c.deref.ensures.value ∙ c.make_room-2.ensures.items), ap length c.make_room-3.ensures.items, c.in_ok-make_room-3.ensures.room, c.row_len-len.ensures.exact)
+    omega (arith, start_within s.format s.rows.items s.lens.items s.text.items c.args.at c.self.invariant.0, c.total-start.ensures, ap before (c.deref.ensures.value ∙ c.make_room-2.ensures.items), ap length c.make_room-3.ensures.items, c.in_ok-make_room-3.ensures.room, c.row_len-len.ensures.exact)
 
 pub invariant_of-self-2 : goal.invariant_of-self-2
 invariant_of-self-2 c =
@@ -32,4 +33,9 @@ invariant_of-self-2 c =
     let lens : c.insert-2.new.self.items ≡ insert s.lens.items at c.row_len-len.result = search rules in
     let begins : start ≡ sum_by (λ (n : ℕ). n) (take at s.lens.items) = c.total-start.ensures ∙ ap (λ (ls : List ℕ). sum_by (λ (n : ℕ). n) (take at ls)) (c.deref.ensures.value ∙ c.make_room-2.ensures.items) in
     let now : c.put_between.new.text.items ≡ take start s.text.items ++ text ++ drop start s.text.items = c.put_between.ensures ∙ ap (λ (t : List ℕ). take start t ++ text ++ drop start t) c.make_room-3.ensures.items in
-    rw (rows, lens) (keeps-insert s.format s.rows.items s.lens.items s.text.items at c.row_len-len.result start c.args.row c.put_between.new.text.items c.self.invariant (fits-inside c.args.self.now s.format s.rows.items c.args.row c.self.view_is c.requires.fits) c.row_len-len.ensures.exact begins now)
+    let first : c.keep_first.new.first ≡ first_key (insert s.rows.items at c.args.row) =
+    c.in_ok-keep_first.ensures.ok ∙ ap (first_with at c.args.row.key) c.self.invariant.1 ∙ sym (first-insert s.rows.items at c.args.row (search rules)) in
+    rw (rows, lens) (
+      keeps-insert s.format s.rows.items s.lens.items s.text.items at c.row_len-len.result start c.args.row c.put_between.new.text.items c.self.invariant.0 (fits-inside c.args.self.now s.format s.rows.items c.args.row c.self.view_is c.requires.fits) c.row_len-len.ensures.exact begins now,
+      first,
+    )

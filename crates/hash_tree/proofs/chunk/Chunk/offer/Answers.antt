@@ -1,11 +1,11 @@
-use Rattle.std.proofs.Common.{rules, ◌≡◌, ◌++◌, ◌+◌, ◌∙◌, ℕ, List, length, take, drop, set, sym, ap, arith}
+use Rattle.std.proofs.Common.{rules, ◌≡◌, ◌++◌, ◌+◌, ◌∙◌, ℕ, List, length, take, drop, get_or, set, sym, ap, arith}
 use Rattle.std.specs.List.{sum_by}
 use Rattle.version_set.specs.Version.{offered}
 use Rattle.row_bytes.specs.declared.row.Row.{Row}
 use Rattle.row_bytes.specs.Rows.{row_text, FitsText}
 use Rattle.hash_tree.specs.Leaves.{Bucket}
 use Rattle.hash_tree.specs.Chunks.{offered_at}
-use Rattle.hash_tree.proofs.ChunkLaws.{start_within, end_is, keeps-set, within-inside, value-inside, versions-inside, fits-at, room-at, offered_at-set}
+use Rattle.hash_tree.proofs.ChunkLaws.{start_within, end_is, keeps-set, first-set, within-inside, value-inside, versions-inside, fits-at, room-at, offered_at-set}
 use Rattle.hash_tree.proofs.chunk.Chunk.offer.Goals as goal
 
 pub returns-then-crowds-clause-answers : goal.returns-then-crowds-clause-answers
@@ -24,7 +24,7 @@ pub total-start-requires : goal.total-start-requires
 total-start-requires c =
     let s = c.self.inside in
     let before = λ (ls : List ℕ). sum_by (λ (n : ℕ). n) (take c.args.at ls) in
-    omega (arith, start_within s.format s.rows.items s.lens.items s.text.items c.args.at c.self.invariant, ap before c.deref.ensures.value, s.text.ok.0, s.text.ok.1, s.text.small)
+    omega (arith, start_within s.format s.rows.items s.lens.items s.text.items c.args.at c.self.invariant.0, ap before c.deref.ensures.value, s.text.ok.0, s.text.ok.1, s.text.small)
 
 pub overflow_add-start : goal.overflow_add-start
 overflow_add-start c =
@@ -32,7 +32,7 @@ overflow_add-start c =
     let at = c.args.at in
     let within = within-inside c.args.self.now s.format s.rows.items at c.self.view_is c.requires.at in
     let begins : c.total-start.result ≡ sum_by (λ (n : ℕ). n) (take at s.lens.items) = c.total-start.ensures ∙ ap (λ (ls : List ℕ). sum_by (λ (n : ℕ). n) (take at ls)) c.deref.ensures.value in
-    omega (arith, end_is s.format s.rows.items s.lens.items s.text.items at c.total-start.result c.index-2.result.now c.self.invariant within begins c.index-2.ensures, start_within s.format s.rows.items s.lens.items s.text.items (at + 1) c.self.invariant, s.text.ok.0, s.text.ok.1, s.text.small)
+    omega (arith, end_is s.format s.rows.items s.lens.items s.text.items at c.total-start.result c.index-2.result.now c.self.invariant.0 within begins c.index-2.ensures, start_within s.format s.rows.items s.lens.items s.text.items (at + 1) c.self.invariant.0, s.text.ok.0, s.text.ok.1, s.text.small)
 
 pub returns-in_err-offer-clause-answers : goal.returns-in_err-offer-clause-answers
 returns-in_err-offer-clause-answers c =
@@ -46,14 +46,14 @@ put_between-requires-clause-within c =
     let at = c.args.at in
     let within = within-inside c.args.self.now s.format s.rows.items at c.self.view_is c.requires.at in
     let begins : c.total-start.result ≡ sum_by (λ (n : ℕ). n) (take at s.lens.items) = c.total-start.ensures ∙ ap (λ (ls : List ℕ). sum_by (λ (n : ℕ). n) (take at ls)) c.deref.ensures.value in
-    omega (arith, end_is s.format s.rows.items s.lens.items s.text.items at c.total-start.result c.index-2.result.now c.self.invariant within begins c.index-2.ensures, start_within s.format s.rows.items s.lens.items s.text.items (at + 1) c.self.invariant, ap length c.make_room.ensures.items)
+    omega (arith, end_is s.format s.rows.items s.lens.items s.text.items at c.total-start.result c.index-2.result.now c.self.invariant.0 within begins c.index-2.ensures, start_within s.format s.rows.items s.lens.items s.text.items (at + 1) c.self.invariant.0, ap length c.make_room.ensures.items)
 
 pub put_between-requires-clause-fits : goal.put_between-requires-clause-fits
 put_between-requires-clause-fits c =
     let s = c.self.inside in
     let within = within-inside c.args.self.now s.format s.rows.items c.args.at c.self.view_is c.requires.at in
     let value = value-inside c.args.self.now s.format s.rows.items c.args.version c.self.view_is c.requires.value in
-    rw c.in_ok-offer.ensures.set (fits-at s.format s.rows.items s.lens.items s.text.items c.args.at c.index_mut-row.result.now c.args.version c.self.invariant within c.index_mut-row.ensures.value value)
+    rw c.in_ok-offer.ensures.set (fits-at s.format s.rows.items s.lens.items s.text.items c.args.at c.index_mut-row.result.now c.args.version c.self.invariant.0 within c.index_mut-row.ensures.value value)
 
 pub put_between-requires-clause-room : goal.put_between-requires-clause-room
 put_between-requires-clause-room c =
@@ -61,14 +61,14 @@ put_between-requires-clause-room c =
     let at = c.args.at in
     let within = within-inside c.args.self.now s.format s.rows.items at c.self.view_is c.requires.at in
     rw c.in_ok-offer.ensures.set
-    (room-at s.format s.rows.items s.lens.items s.text.items at c.index-2.result.now c.version_len-more.result _ _ c.index_mut-row.result.now c.args.version c.self.invariant within c.index_mut-row.ensures.value c.index-2.ensures c.version_len-more.ensures.exact (ap length c.make_room.ensures.items) c.in_ok-make_room.ensures.room)
+    (room-at s.format s.rows.items s.lens.items s.text.items at c.index-2.result.now c.version_len-more.result _ _ c.index_mut-row.result.now c.args.version c.self.invariant.0 within c.index_mut-row.ensures.value c.index-2.ensures c.version_len-more.ensures.exact (ap length c.make_room.ensures.items) c.in_ok-make_room.ensures.room)
 
 pub row_len-requires : goal.row_len-requires
 row_len-requires c =
     let s = c.self.inside in
     let within = within-inside c.args.self.now s.format s.rows.items c.args.at c.self.view_is c.requires.at in
     let value = value-inside c.args.self.now s.format s.rows.items c.args.version c.self.view_is c.requires.value in
-    rw c.in_ok-offer.ensures.set (fits-at s.format s.rows.items s.lens.items s.text.items c.args.at c.index_mut-row.result.now c.args.version c.self.invariant within c.index_mut-row.ensures.value value)
+    rw c.in_ok-offer.ensures.set (fits-at s.format s.rows.items s.lens.items s.text.items c.args.at c.index_mut-row.result.now c.args.version c.self.invariant.0 within c.index_mut-row.ensures.value value)
 
 pub invariant_of-self-2 : goal.invariant_of-self-2
 invariant_of-self-2 c =
@@ -81,10 +81,13 @@ invariant_of-self-2 c =
     let within = within-inside c.args.self.now s.format s.rows.items at c.self.view_is c.requires.at in
     let value = value-inside c.args.self.now s.format s.rows.items c.args.version c.self.view_is c.requires.value in
     let begins : c.total-start.result ≡ sum_by (λ (n : ℕ). n) (take at s.lens.items) = c.total-start.ensures ∙ ap (λ (ls : List ℕ). sum_by (λ (n : ℕ). n) (take at ls)) c.deref.ensures.value in
-    let ends = end_is s.format s.rows.items s.lens.items s.text.items at start c.index-2.result.now c.self.invariant within begins c.index-2.ensures in
-    let fits : FitsText s.format new = rw c.in_ok-offer.ensures.set (fits-at s.format s.rows.items s.lens.items s.text.items at old c.args.version c.self.invariant within c.index_mut-row.ensures.value value) in
+    let ends = end_is s.format s.rows.items s.lens.items s.text.items at start c.index-2.result.now c.self.invariant.0 within begins c.index-2.ensures in
+    let fits : FitsText s.format new = rw c.in_ok-offer.ensures.set (fits-at s.format s.rows.items s.lens.items s.text.items at old c.args.version c.self.invariant.0 within c.index_mut-row.ensures.value value) in
     let now : c.put_between.new.text.items ≡ take start s.text.items ++ row_text s.format new ++ drop end s.text.items = c.put_between.ensures ∙ ap (λ (t : List ℕ). take start t ++ row_text s.format new ++ drop end t) c.make_room.ensures.items in
-    keeps-set s.format s.rows.items s.lens.items s.text.items at c.row_len.result start end new c.put_between.new.text.items c.self.invariant within fits c.row_len.ensures.exact begins ends now
+    let same : new.key ≡ (get_or s.rows.items at old).key = ap (λ (r : Row). r.key) c.index_mut-row.ensures.value in (
+      keeps-set s.format s.rows.items s.lens.items s.text.items at c.row_len.result start end new c.put_between.new.text.items c.self.invariant.0 within fits c.row_len.ensures.exact begins ends now,
+      c.self.invariant.1 ∙ sym (first-set s.rows.items at new old within same),
+    )
 
 pub returns-clause-answers : goal.returns-clause-answers
 returns-clause-answers c =

@@ -9,5 +9,5 @@ use Rattle.hash_tree.proofs.leaf.Leaf.is_text.Goals as goal
 pub returns : goal.returns
 returns c =
     let s = c.self.inside in
-    let text = ap (λ (cs : List Bucket). leaf_byte s.format ∷ flat_map chunk_text cs) c.deref.ensures.value ∙ text_of_chunks c.args.self.now s.format s.chunks.items c.self.view_is c.self.invariant.2 in
+    let text = ap (λ (cs : List Bucket). leaf_byte s.format ∷ flat_map chunk_text cs) c.deref.ensures.value ∙ text_of_chunks c.args.self.now s.format s.chunks.items c.self.view_is c.self.invariant.1 in
     rw (← text) c.is_chunked_text.ensures

@@ -6,9 +6,8 @@ use Rattle.vclock.specs.declared.format.Format.{Format}
 use Rattle.version_set.specs.Kind.{value_fault}
 use Rattle.version_set.specs.Version.{offer_fault}
 use Rattle.range_journal.specs.Journal.{held}
-use Rattle.hash_tree.specs.Leaves.{Bucket, IsPlace}
 use Rattle.hash_tree.specs.Nodes.{Tree, dirtied, tree_depth}
-use Rattle.range_state.specs.State.{State, AreLeaves, bucket_of, leaf_in, place_fault, full_fault, knows}
+use Rattle.range_state.specs.State.{State, AreLeaves, leaf_in, place_fault, full_fault, knows}
 use Rattle.range_state.proofs.StateLaws.{leaf_within, leaf_in_tree, rows_here, in_limits, in_vain, admitted, admit_err, room_left}
 use Rattle.range_state.proofs.state.RangeState.admit.Goals as goal
 
@@ -17,14 +16,6 @@ index_mut-requires c =
     let ok = subst (λ (s : State). AreLeaves s.config s.entries c.self.inside.leaves.items) c.self.view_is c.self.invariant.1 in
     let within = leaf_within c.args.self.now c.self.inside.leaves.items c.args.leaf c.args.key.now ok c.requires.leaf in
     omega (arith, within, c.from.ensures, c.self.inside.leaves.ok)
-
-pub offer-requires-clause-place : goal.offer-requires-clause-place
-offer-requires-clause-place c =
-    let s = c.args.self.now in
-    let ok = subst (λ (s : State). AreLeaves s.config s.entries c.self.inside.leaves.items) c.self.view_is c.self.invariant.1 in
-    let at = c.from.ensures ∙ c.requires.leaf in
-    let rows = rows_here s c.self.inside.leaves.items c.from.result c.args.key.now c.index_mut.result.now ok at c.index_mut.ensures.value in
-    subst (λ (b : Bucket). IsPlace c.args.key.now b.rows c.args.place) (sym (rows ∙ ap (bucket_of s.config s.entries) c.from.ensures)) c.requires.place
 
 pub offer-requires-clause-key : goal.offer-requires-clause-key
 offer-requires-clause-key c = (in_limits c.args.self.now.config c.args.key.now c.args.version.kind c.args.version.value c.requires.here).0

@@ -1,7 +1,6 @@
 use Rattle.std.proofs.Common.{subst, ap, ◌∙◌, arith}
-use Rattle.hash_tree.specs.Leaves.{Bucket, IsPlace}
-use Rattle.range_state.specs.State.{State, IsRight, AreLeaves, bucket_of}
-use Rattle.range_state.proofs.StateLaws.{set_here, rows_here, leaf_within, held_fit}
+use Rattle.range_state.specs.State.{State, IsRight, AreLeaves}
+use Rattle.range_state.proofs.StateLaws.{set_here, leaf_within, held_fit}
 use Rattle.range_state.proofs.state.RangeState.find.Goals as goal
 
 pub index-requires : goal.index-requires
@@ -13,16 +12,9 @@ index-requires c =
 pub returns-clause-set : goal.returns-clause-set
 returns-clause-set c =
     let ok = subst (λ (s : State). AreLeaves s.config s.entries c.self.inside.leaves.items) c.self.view_is c.self.invariant.1 in
-    c.find.ensures.set ∙ set_here c.args.self.now c.self.inside.leaves.items c.from.result c.args.key.now c.index.result.now ok (c.from.ensures ∙ c.requires) c.index.ensures
+    c.find.ensures ∙ set_here c.args.self.now c.self.inside.leaves.items c.from.result c.args.key.now c.index.result.now ok (c.from.ensures ∙ c.requires) c.index.ensures
 
 pub returns-clause-fit : goal.returns-clause-fit
 returns-clause-fit c =
     let right = subst (λ (s : State). IsRight s) c.self.view_is c.self.invariant.0 in
     held_fit c.args.self.now c.args.key.now right
-
-pub returns-clause-place : goal.returns-clause-place
-returns-clause-place c =
-    let s = c.args.self.now in
-    let ok = subst (λ (s : State). AreLeaves s.config s.entries c.self.inside.leaves.items) c.self.view_is c.self.invariant.1 in
-    let rows = rows_here s c.self.inside.leaves.items c.from.result c.args.key.now c.index.result.now ok (c.from.ensures ∙ c.requires) c.index.ensures in
-    subst (λ (b : Bucket). IsPlace c.args.key.now b.rows c.find.result.place) (rows ∙ ap (bucket_of s.config s.entries) c.from.ensures) c.find.ensures.place

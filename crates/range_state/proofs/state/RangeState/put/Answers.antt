@@ -9,4 +9,4 @@ pub admit-requires-clause-news : goal.admit-requires-clause-news
 admit-requires-clause-news c =
     news c.args.self.now c.args.key.now (record { clock = c.in_ok-clock.clock; kind = c.args.kind; value = c.args.value })
     (subst (λ (ps : Pairs). Rises 0 ps) c.clock.view_is c.clock.invariant.rising)
-    (subst (λ (S : List Version). stale_fault S c.in_ok-clock.clock ≡ None) c.find-place.ensures.set c.in_ok-check_context.ensures.0)
+    (subst (λ (S : List Version). stale_fault S c.in_ok-clock.clock ≡ None) c.find-set.ensures.set c.in_ok-check_context.ensures.0)
