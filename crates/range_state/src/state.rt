@@ -190,6 +190,7 @@ impl RangeState {
     {
         let leaf = self.home(key, kind, value.as_slice())?;
         let clock = context.raise(alloc, at)?;
+        let _valid = clock.pairs();
         let set = self.find(leaf, key);
         check_context(alloc, set, &clock)?;
         let version = Version { clock, kind, value };

@@ -12,7 +12,7 @@ use std::marker::Model;
 const SHORT_LEN: usize = 16;
 
 /// A list of bytes.
-#[derive(Debug, Drop)]
+#[derive(Debug)]
 pub struct Bytes {
     bytes: SmallVec<u8, SHORT_LEN>,
 }
@@ -49,6 +49,13 @@ impl Bytes {
         ensures { result.now ≡ self.now }
     {
         self.bytes.as_slice()
+    }
+}
+
+impl Drop for Bytes {
+    /// A drop is one call wherever bytes are dropped: in which way they are kept is seen here alone.
+    fn drop(self) {
+        let Bytes { bytes: _bytes } = self;
     }
 }
 

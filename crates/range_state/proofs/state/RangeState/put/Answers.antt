@@ -1,5 +1,4 @@
 use Rattle.std.proofs.Common.{◌≡◌, List, None, subst}
-use Rattle.vclock.specs.Clock.{Pairs, Rises}
 use Rattle.version_set.specs.declared.version.Version.{Version}
 use Rattle.range_state.specs.State.{stale_fault}
 use Rattle.range_state.proofs.StateLaws.{news}
@@ -8,5 +7,5 @@ use Rattle.range_state.proofs.state.RangeState.put.Goals as goal
 pub admit-requires-clause-news : goal.admit-requires-clause-news
 admit-requires-clause-news c =
     news c.args.self.now c.args.key.now (record { clock = c.in_ok-clock.clock; kind = c.args.kind; value = c.args.value })
-    (subst (λ (ps : Pairs). Rises 0 ps) c.clock.view_is c.clock.invariant.rising)
+    c.pairs-valid.ensures.valid.rising
     (subst (λ (S : List Version). stale_fault S c.in_ok-clock.clock ≡ None) c.find-set.ensures.set c.in_ok-check_context.ensures.0)
