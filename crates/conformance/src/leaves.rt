@@ -39,7 +39,7 @@ fn a_leaf_of_many_rows_keeps_their_text(rt: HostRuntime) -> Result<(), Fail> {
         offer(alloc, &mut leaf, &(number * 77 % 300).to_be_bytes())?;
     }
     assert_eq!(rt; count(&leaf), 300);
-    assert!(rt; leaf.chunks().iter().all(|chunk| chunk.rows().len() <= 64));
+    assert!(rt; leaf.chunks().iter().all(|chunk| chunk.rows().len() <= 15));
     let mut text = Vec::new(alloc);
     leaf.put_text(&mut text)?;
     assert_eq!(rt; leaf.text_len(), text.len() as u128);

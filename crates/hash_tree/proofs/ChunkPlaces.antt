@@ -107,7 +107,7 @@ values_fit format [] v all h = tt
 values_fit format (c ∷ chunks) v all h = (subst (λ (f : Format). value_fault f v.kind v.value ≡ None) (sym all.0.same) h, values_fit format chunks v all.1 h)
 
 -- where a chunk is parted before a gap, the gap is in the second part
-pub gap-behind : (chunks parts : List Bucket) (place i at cut : ℕ) → IsGapSpot chunks place i at → IsSplit chunks i cut parts → length (rows_of chunks i) ≡ 64 → cut < at → IsGapSpot parts place (i + 1) (at - cut)
+pub gap-behind : (chunks parts : List Bucket) (place i at cut : ℕ) → IsGapSpot chunks place i at → IsSplit chunks i cut parts → length (rows_of chunks i) ≡ 15 → cut < at → IsGapSpot parts place (i + 1) (at - cut)
 gap-behind chunks parts place i at cut gap split full behind = record {
   chunk = omega (arith, split.more, gap.chunk);
   before = omega (arith, ap (λ (rows : List Row). length rows) split.first, length-append (all_rows (take i chunks)) (rows_of parts i), split.front, gap.before, behind);
@@ -179,7 +179,7 @@ chunks-offered format chunks i at v c old h is now are =
       few = omega (arith, length-set chunks i c, are.few);
     }
 
-pub chunks-inserted : (format : Format) (chunks : List Bucket) (i at : ℕ) (r : Row) (c old : Bucket) → i < length chunks → old ≡ get_or chunks i old → c ≡ record { format = old.format; rows = insert old.rows at r } → at ≤ length old.rows → length old.rows < 64
+pub chunks-inserted : (format : Format) (chunks : List Bucket) (i at : ℕ) (r : Row) (c old : Bucket) → i < length chunks → old ≡ get_or chunks i old → c ≡ record { format = old.format; rows = insert old.rows at r } → at ≤ length old.rows → length old.rows < 15
     → AreChunks format chunks → AreChunks format (set chunks i c)
 chunks-inserted format chunks i at r c old h is now within room are =
     let was : IsChunk format old = subst (IsChunk format) (sym is) (all_get (IsChunk format) chunks i old are.each h) in
@@ -219,7 +219,7 @@ split_back (c ∷ chunks) (suc i) a b h =
     let next : suc i + 1 ≡ suc (i + 1) = omega arith in
     rw next (split_back chunks i a b (omega arith))
 
-pub is_split : (chunks : List Bucket) (i cut : ℕ) (old a b : Bucket) → i < length chunks → length chunks < 2 ^ 56 → 1 ≤ cut → cut < 64 → old ≡ get_or chunks i old → length old.rows ≡ 64
+pub is_split : (chunks : List Bucket) (i cut : ℕ) (old a b : Bucket) → i < length chunks → length chunks < 2 ^ 56 → 1 ≤ cut → cut < 15 → old ≡ get_or chunks i old → length old.rows ≡ 15
     → a ≡ record { format = old.format; rows = take cut old.rows } → b ≡ record { format = old.format; rows = drop cut old.rows } → IsSplit chunks i cut (insert (set chunks i a) (i + 1) b)
 is_split chunks i cut old a b h few some less is full front back =
     let parts = insert (set chunks i a) (i + 1) b in
@@ -227,7 +227,7 @@ is_split chunks i cut old a b h few some less is full front back =
     let is_b = ap (λ (x : Bucket). x.rows) back in
     let whole : a.rows ++ b.rows ≡ old.rows = ap (λ (rows : List Row). rows ++ b.rows) is_a ∙ ap (λ (rows : List Row). take cut old.rows ++ rows) is_b ∙ take-append-drop cut old.rows in
     let long_a : length a.rows ≡ cut = ap (λ (rows : List Row). length rows) is_a ∙ length-take-le cut old.rows (omega (arith, full, less)) in
-    let long_b : length b.rows + cut ≡ 64 = omega (arith, ap (λ (rows : List Row). length rows) is_b, length-drop cut old.rows, full, less) in
+    let long_b : length b.rows + cut ≡ 15 = omega (arith, ap (λ (rows : List Row). length rows) is_b, length-drop cut old.rows, full, less) in
     let many : length parts ≡ length chunks + 1 = omega (arith, length-insert (set chunks i a) (i + 1) b (omega (arith, h, length-set chunks i a)), length-set chunks i a) in
     let at = split_front chunks i a b h in
     record {

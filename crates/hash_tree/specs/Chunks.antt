@@ -23,11 +23,11 @@ rows_of (c ∷ chunks) (suc i) = rows_of chunks i
 abbrev pub chunk_text : Bucket → List ℕ
 chunk_text c = flat_map (row_text c.format) c.rows
 
--- a chunk of a leaf: 1 to 64 rows of the leaf's format
+-- a chunk of a leaf: 1 to 15 rows of the leaf's format
 pub record IsChunk (format : Format) (c : Bucket) : Type 0 where
   pub same : c.format ≡ format
   pub some : 1 ≤ length c.rows
-  pub few : length c.rows ≤ 64
+  pub few : length c.rows ≤ 15
 
 -- the chunks of a leaf: no more than 2^56, so that a number of rows fits its type
 pub record AreChunks (format : Format) (chunks : List Bucket) : Type 0 where
@@ -77,12 +77,12 @@ offered_at [] i v = []
 offered_at (r ∷ rows) zero v = record { key = r.key; versions = offered v r.versions } ∷ rows
 offered_at (r ∷ rows) (suc i) v = r ∷ offered_at rows i v
 
--- chunks after chunk i, of 64 rows, was parted into one of so many rows and one of the others
+-- chunks after chunk i, of 15 rows, was parted into one of so many rows and one of the others
 pub record IsSplit (chunks : List Bucket) (i cut : ℕ) (parts : List Bucket) : Type 0 where
   pub rows : all_rows parts ≡ all_rows chunks
   pub more : length parts ≡ length chunks + 1
   pub before : take i parts ≡ take i chunks
   pub front : length (rows_of parts i) ≡ cut
   pub first : all_rows (take (i + 1) parts) ≡ all_rows (take i chunks) ++ rows_of parts i
-  pub back : length (rows_of parts (i + 1)) + cut ≡ 64
+  pub back : length (rows_of parts (i + 1)) + cut ≡ 15
   pub each : (format : Format) → AreChunks format chunks → AreChunks format parts

@@ -19,13 +19,13 @@ use vclock::refusal::Refusal;
 use version_set::version::Version;
 
 /// How many rows a chunk of a leaf has at most: a new row moves no more than these, and their texts.
-pub(crate) const MOST_ROWS: usize = 64;
+pub(crate) const MOST_ROWS: usize = 15;
 
 /// How many rows a small chunk gets room for, beside the one that needs it.
 const SPARE_ROWS: usize = 3;
 
 /// How many bytes of text a small chunk gets room for, beside those that need it.
-const SPARE_BYTES: usize = 64;
+const SPARE_BYTES: usize = 32;
 
 /// Some consecutive rows of a leaf. Beside the rows stand their texts, one after another, and how long each is: a row's
 /// parts are scattered over the heap, and the text of the leaf is written again and again. The first key is kept besides,
@@ -176,7 +176,7 @@ impl Chunk {
         let cut = total(&self.lens[..at]);
         let first = self.rows[at].key.try_clone()?;
         let lens = Vec::from_slice(alloc, &self.lens[at..])?;
-        let mut text = Vec::with_capacity(alloc, self.text.len())?;
+        let mut text = Vec::with_capacity(alloc, self.text.len().saturating_add(SPARE_BYTES))?;
         text.extend_from_slice(&self.text[cut..])?;
         let rows = self.rows.split_off(at)?;
         self.lens.truncate(at);

@@ -109,10 +109,10 @@ pub(crate) fn insert_at(
 /// were.
 fn roomy_gap(alloc: Global, chunks: &mut Vec<Chunk>, gap: Spot) -> Result<Spot, Refusal>
     requires gap { IsGapSpot chunks.old.items (place_in chunks.old.items gap.chunk gap.at) gap.chunk gap.at }
-    requires each { AllByRecursion (λ (c : Bucket). length c.rows ≤ 64) chunks.old.items }
+    requires each { AllByRecursion (λ (c : Bucket). length c.rows ≤ 15) chunks.old.items }
     ensures answers { Answers result None (λ _. ⊤) }
     ensures gap { IfOk result (λ now. IsGapSpot chunks.new.items (place_in chunks.old.items gap.chunk gap.at) now.chunk now.at) }
-    ensures room { IfOk result (λ now. length (rows_of chunks.new.items now.chunk) < 64) }
+    ensures room { IfOk result (λ now. length (rows_of chunks.new.items now.chunk) < 15) }
     ensures rows { all_rows chunks.new.items ≡ all_rows chunks.old.items }
     ensures chunks { (format : Format) → AreChunks format chunks.old.items → AreChunks format chunks.new.items }
 {
@@ -134,7 +134,7 @@ fn roomy_gap(alloc: Global, chunks: &mut Vec<Chunk>, gap: Spot) -> Result<Spot, 
 /// come in order, it is the last one, so that most rows stand in chunks that are full; else it is the middle one.
 fn cut_for(at: usize) -> usize
     ensures some { 1 ≤ result }
-    ensures less { result < 64 }
+    ensures less { result < 15 }
 {
     if at < MOST_ROWS {
         MOST_ROWS / 2
@@ -152,8 +152,8 @@ fn split_at(
 ) -> Result<(), Refusal>
     requires within { number < length chunks.old.items }
     requires some { 1 ≤ cut }
-    requires less { cut < 64 }
-    requires full { length (rows_of chunks.old.items number) ≡ 64 }
+    requires less { cut < 15 }
+    requires full { length (rows_of chunks.old.items number) ≡ 15 }
     ensures answers { Answers result None (λ _. ⊤) }
     ensures ok { OnOk result (IsSplit chunks.old.items number cut chunks.new.items) }
     ensures err { OnErr result (chunks.new.items ≡ chunks.old.items) }

@@ -18,7 +18,7 @@ split_at-requires-clause-full c =
     let chunks = c.args.chunks.now.items in
     let spot = c.args.gap in
     let gap = c.requires.gap in
-    let few : length c.index.result.now.rows ≤ 64 = subst (λ (x : Bucket). length x.rows ≤ 64) (sym c.index.ensures) (all_get (λ (x : Bucket). length x.rows ≤ 64) chunks spot.chunk c.index.result.now c.requires.each gap.chunk) in
+    let few : length c.index.result.now.rows ≤ 15 = subst (λ (x : Bucket). length x.rows ≤ 15) (sym c.index.ensures) (all_get (λ (x : Bucket). length x.rows ≤ 15) chunks spot.chunk c.index.result.now c.requires.each gap.chunk) in
     omega (arith, few, c.if-rows-lt-MOST_ROWS.false, ap (λ (rs : List Row). length rs) c.rows.ensures, ap (λ (rs : List Row). length rs) (rows_read chunks spot.chunk c.index.result.now gap.chunk c.index.ensures))
 
 pub returns-clause-gap : goal.returns-clause-gap
@@ -26,7 +26,7 @@ returns-clause-gap c =
     let chunks = c.args.chunks.now.items in
     let spot = c.args.gap in
     let gap = c.requires.gap in
-    let few : length c.index.result.now.rows ≤ 64 = subst (λ (x : Bucket). length x.rows ≤ 64) (sym c.index.ensures) (all_get (λ (x : Bucket). length x.rows ≤ 64) chunks spot.chunk c.index.result.now c.requires.each gap.chunk) in
-    let full : length (rows_of chunks spot.chunk) ≡ 64 =
+    let few : length c.index.result.now.rows ≤ 15 = subst (λ (x : Bucket). length x.rows ≤ 15) (sym c.index.ensures) (all_get (λ (x : Bucket). length x.rows ≤ 15) chunks spot.chunk c.index.result.now c.requires.each gap.chunk) in
+    let full : length (rows_of chunks spot.chunk) ≡ 15 =
     omega (arith, few, c.if-rows-lt-MOST_ROWS.false, ap (λ (rs : List Row). length rs) c.rows.ensures, ap (λ (rs : List Row). length rs) (rows_read chunks spot.chunk c.index.result.now gap.chunk c.index.ensures)) in
     gap-behind chunks c.split_at.new.chunks.items (place_in chunks spot.chunk spot.at) spot.chunk spot.at c.cut_for-cut.result gap c.in_ok-split_at.ensures.ok full c.if-gap-cut.false
