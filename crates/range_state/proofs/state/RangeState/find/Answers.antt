@@ -1,4 +1,4 @@
-use Rattle.std.proofs.Common.{subst, ap, ◌∙◌, arith}
+use Rattle.std.proofs.Common.{subst, ◌∙◌, arith}
 use Rattle.range_state.specs.State.{State, IsRight, AreLeaves}
 use Rattle.range_state.proofs.StateLaws.{set_here, leaf_within, held_fit}
 use Rattle.range_state.proofs.state.RangeState.find.Goals as goal
