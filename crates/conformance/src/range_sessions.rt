@@ -6,6 +6,7 @@ use range_state::event::AnswerTaken;
 use range_state::state::RangeState;
 use snapshot::snapshot::Snapshot;
 use std::alloc::Global;
+use std::process::Abort;
 use std::test::Fail;
 use std::thread::Threads;
 use sync_session::state::SessionState;
@@ -73,6 +74,27 @@ fn answer_first(
     Ok(state.take_answer(alloc, 5, 0, node, text)?)
 }
 
+/// Answers the first node that the first session awaits truly. So many versions come, none is known, and the session
+/// stands so.
+fn expect_answer(
+    rt: &impl Abort,
+    alloc: Global,
+    state: &mut RangeState,
+    partner: &Snapshot,
+    count: usize,
+    stands: SessionState,
+) -> Result<(), Fail> {
+    let taken = answer_first(alloc, state, partner)?;
+    assert_eq!(rt; (taken.receipts.len(), taken.known), (count, 0));
+    assert_eq!(rt; taken.state, stands);
+    Ok(())
+}
+
+/// The digest of the root of a range whose nodes are all clean.
+fn root_of(alloc: Global, state: &RangeState) -> Result<Digest, Fail> {
+    Ok(state.snapshot(alloc)?.root())
+}
+
 #[test]
 fn a_range_has_64_open_sessions_at_the_most(rt: HostRuntime) -> Result<(), Fail> {
     let alloc = rt.alloc();
@@ -94,7 +116,7 @@ fn a_range_has_64_open_sessions_at_the_most(rt: HostRuntime) -> Result<(), Fail>
 fn a_range_keeps_1024_records_at_the_most(rt: HostRuntime) -> Result<(), Fail> {
     let alloc = rt.alloc();
     let mut state = range(&rt, alloc, false)?;
-    let root = state.snapshot(alloc)?.root();
+    let root = root_of(alloc, &state)?;
     for id in 0..1_024u64 {
         assert_eq!(rt; state.open_session(alloc, 7, offer(root))?, id);
     }
@@ -142,10 +164,7 @@ fn a_text_is_taken_once_and_only_if_it_is_true(rt: HostRuntime) -> Result<(), Fa
     let root = first(&state)?;
     let forged = state.take_answer(alloc, 5, 0, root, abc(alloc)?);
     assert!(rt; matches!(&forged, Err(Refusal::WrongDigest)));
-    assert_eq!(rt;
-        answer_first(alloc, &mut state, &partner)?.state,
-        SessionState::Open
-    );
+    expect_answer(&rt, alloc, &mut state, &partner, 0, SessionState::Open)?;
     let again = state.take_answer(alloc, 5, 0, root, text_of(alloc, &partner, root)?);
     assert!(rt; matches!(&again, Err(Refusal::NotAsked)));
     let none = state.take_answer(alloc, 5, 1, root, text_of(alloc, &partner, root)?);
@@ -171,21 +190,11 @@ fn a_session_ends_with_the_partners_version(rt: HostRuntime) -> Result<(), Fail>
     let partner = range(&rt, alloc, true)?.snapshot(alloc)?;
     let mut state = range(&rt, alloc, false)?;
     assert_eq!(rt; state.open_session(alloc, 7, offer(partner.root()))?, 0);
-    assert!(rt;
-        answer_first(alloc, &mut state, &partner)?
-            .receipts
-            .is_empty()
-    );
-    assert!(rt;
-        answer_first(alloc, &mut state, &partner)?
-            .receipts
-            .is_empty()
-    );
-    let taken = answer_first(alloc, &mut state, &partner)?;
-    assert_eq!(rt; (taken.receipts.len(), taken.known), (1, 0));
-    assert_eq!(rt; taken.state, SessionState::Finished);
+    expect_answer(&rt, alloc, &mut state, &partner, 0, SessionState::Open)?;
+    expect_answer(&rt, alloc, &mut state, &partner, 0, SessionState::Open)?;
+    expect_answer(&rt, alloc, &mut state, &partner, 1, SessionState::Finished)?;
     assert_eq!(rt; state.versions(b"a").len(), 1);
     state.rehash(&rt, alloc)?;
-    assert_eq!(rt; state.snapshot(alloc)?.root(), partner.root());
+    assert_eq!(rt; root_of(alloc, &state)?, partner.root());
     Ok(())
 }

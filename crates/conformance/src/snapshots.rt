@@ -3,8 +3,11 @@ use hash_tree::node::NodeAt;
 use range_state::config::RangeConfig;
 use range_state::event::{Event, Reply};
 use range_state::state::RangeState;
+use snapshot::snapshot::Snapshot;
 use std::alloc::Global;
+use std::process::Abort;
 use std::test::Fail;
+use std::thread::Threads;
 use vclock::bytes::Bytes;
 use vclock::clock::Clock;
 use vclock::refusal::Refusal;
@@ -31,6 +34,25 @@ fn put(alloc: Global, state: &mut RangeState) -> Result<(), Fail> {
     Ok(())
 }
 
+/// A range without rows whose nodes are all clean.
+fn clean_range(rt: &(impl Threads + Sync), alloc: Global) -> Result<RangeState, Fail> {
+    let mut state = range(alloc)?;
+    state.rehash(rt, alloc)?;
+    Ok(state)
+}
+
+/// The text of a node.
+fn text_at(alloc: Global, snapshot: &Snapshot, depth: u8, index: u16) -> Result<Vec<u8>, Fail> {
+    Ok(snapshot.answer(alloc, ask(depth, index)?)?)
+}
+
+/// Asks for the text of leaf 12, which has no row.
+fn expect_empty(rt: &impl Abort, alloc: Global, snapshot: &Snapshot) -> Result<(), Fail> {
+    let text = text_at(alloc, snapshot, 2, 12)?;
+    assert_eq!(rt; text.as_slice(), [0].as_slice());
+    Ok(())
+}
+
 #[test]
 fn a_dirty_range_offers_nothing(rt: HostRuntime) -> Result<(), Fail> {
     let alloc = rt.alloc();
@@ -43,13 +65,9 @@ fn a_dirty_range_offers_nothing(rt: HostRuntime) -> Result<(), Fail> {
 #[test]
 fn a_snapshot_answers_for_each_node_of_its_tree(rt: HostRuntime) -> Result<(), Fail> {
     let alloc = rt.alloc();
-    let mut state = range(alloc)?;
-    state.rehash(&rt, alloc)?;
-    let snapshot = state.snapshot(alloc)?;
-    let leaf = snapshot.answer(alloc, ask(2, 0)?)?;
-    assert_eq!(rt; leaf.as_slice(), [0].as_slice());
-    let inner = snapshot.answer(alloc, ask(1, 0)?)?;
-    assert_eq!(rt; inner.len(), 513);
+    let snapshot = clean_range(&rt, alloc)?.snapshot(alloc)?;
+    expect_empty(&rt, alloc, &snapshot)?;
+    assert_eq!(rt; text_at(alloc, &snapshot, 1, 0)?.len(), 513);
     let deeper = snapshot.answer(alloc, ask(3, 0)?);
     assert!(rt; matches!(&deeper, Err(Refusal::BadMessage)));
     Ok(())
@@ -58,24 +76,19 @@ fn a_snapshot_answers_for_each_node_of_its_tree(rt: HostRuntime) -> Result<(), F
 #[test]
 fn a_snapshot_stays_as_it_was_made(rt: HostRuntime) -> Result<(), Fail> {
     let alloc = rt.alloc();
-    let mut state = range(alloc)?;
-    state.rehash(&rt, alloc)?;
+    let mut state = clean_range(&rt, alloc)?;
     let snapshot = state.snapshot(alloc)?;
-    let before = snapshot.answer(alloc, ask(2, 12)?)?;
     put(alloc, &mut state)?;
-    let after = snapshot.answer(alloc, ask(2, 12)?)?;
-    assert_eq!(rt; before.as_slice(), after.as_slice());
+    expect_empty(&rt, alloc, &snapshot)?;
     state.rehash(&rt, alloc)?;
-    let later = state.snapshot(alloc)?.answer(alloc, ask(2, 12)?)?;
-    assert!(rt; later.len() > before.len());
+    assert!(rt; text_at(alloc, &*state.snapshot(alloc)?, 2, 12)?.len() > 1);
     Ok(())
 }
 
 #[test]
 fn a_snapshot_is_an_event(rt: HostRuntime) -> Result<(), Fail> {
     let alloc = rt.alloc();
-    let mut state = range(alloc)?;
-    state.rehash(&rt, alloc)?;
+    let mut state = clean_range(&rt, alloc)?;
     let mut events = Vec::new(alloc);
     events.push(Event::Snapshot)?;
     let replies = state.run_events(alloc, events)?;

@@ -100,6 +100,19 @@ fn job_at(
     Ok(job)
 }
 
+/// Takes the next job, of that node, and installs what comes of it.
+fn install_next(
+    rt: &impl Abort,
+    alloc: Global,
+    state: &mut RangeState,
+    depth: u8,
+    index: u16,
+) -> Result<(), Fail> {
+    let job = job_at(rt, alloc, state, depth, index)?;
+    let node = job.node();
+    Ok(state.install(node, &run_job(job))?)
+}
+
 #[test]
 fn a_late_digest_is_not_installed(rt: HostRuntime) -> Result<(), Fail> {
     let alloc = rt.alloc();
@@ -112,8 +125,7 @@ fn a_late_digest_is_not_installed(rt: HostRuntime) -> Result<(), Fail> {
     let late = state.install(node, &run_job(job));
     assert!(rt; matches!(&late, Err(Refusal::Stale)));
     for (depth, index) in [(2, 12), (1, 0), (0, 0)] {
-        let job = job_at(&rt, alloc, &state, depth, index)?;
-        state.install(job.node(), &run_job(job))?;
+        install_next(&rt, alloc, &mut state, depth, index)?;
     }
     assert!(rt; state.take_job(alloc, 0)?.is_none());
     Ok(())

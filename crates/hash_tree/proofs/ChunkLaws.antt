@@ -11,7 +11,7 @@ use Rattle.version_set.specs.Version.{offered, version_text}
 use Rattle.row_bytes.specs.declared.row.Row.{Row}
 use Rattle.row_bytes.specs.Rows.{row_text, FitsText}
 use Rattle.hash_tree.specs.Leaves.{Bucket}
-use Rattle.hash_tree.specs.Chunks.{first_key, first_with, versions_at, offered_at}
+use Rattle.hash_tree.specs.Chunks.{first_key, versions_at, offered_at}
 use Rattle.hash_tree.proofs.KeyOrder.{all_get}
 use Rattle.hash_tree.proofs.RowLengths.{fits-offered, row-grows}
 
@@ -168,29 +168,11 @@ keeps-drop format rows lens text i cut h at = (
 
 -- ---- the key of the first row
 
--- a row is put among the others
-pub first-insert : (rows : List Row) (i : ℕ) (r : Row) → i ≤ length rows → first_key (insert rows i r) ≡ first_with i r.key (first_key rows)
-first-insert rows zero r h = refl
-first-insert [] (suc i) r h = absurd (omega (arith, h))
-first-insert (x ∷ rows) (suc i) r h = refl
-
--- a row takes the place of one with the same key
-pub first-set : (rows : List Row) (i : ℕ) (r d : Row) → i < length rows → r.key ≡ (get_or rows i d).key → first_key (set rows i r) ≡ first_key rows
-first-set [] i r d h same = refl
-first-set (x ∷ rows) zero r d h same = same
-first-set (x ∷ rows) (suc i) r d h same = refl
-
 -- the rows before a place
 pub first-take : (rows : List Row) (i : ℕ) → 1 ≤ i → first_key (take i rows) ≡ first_key rows
 first-take rows zero h = absurd (omega (arith, h))
 first-take [] (suc i) h = refl
 first-take (x ∷ rows) (suc i) h = refl
-
--- the rows from a place on
-pub first-drop : (rows : List Row) (i : ℕ) (d : Row) → i < length rows → first_key (drop i rows) ≡ (get_or rows i d).key
-first-drop [] i d h = absurd (omega (arith, h))
-first-drop (x ∷ rows) zero d h = refl
-first-drop (x ∷ rows) (suc i) d h = first-drop rows i d (omega (arith, h))
 
 -- ---- what is known of a chunk's value is known of its fields
 
@@ -216,10 +198,10 @@ fits-at format rows lens text i r v h within is value =
     let fits : FitsText format r = subst (FitsText format) (sym is) (all_get (FitsText format) rows i r h.0 within) in
     fits-offered format r.key v r.versions fits.key value fits.each
 
--- its text has room behind all texts where its old text and that of the version have
-pub room-at : (format : Format) (rows : List Row) (lens text : List ℕ) (i len more behind capacity : ℕ) (r : Row) (v : Version) → Keeps format rows lens text → i < length rows → r ≡ get_or rows i r
-    → len ≡ get_or lens i len → more ≡ length (version_text format v) → behind ≡ length text → behind + (len + more) ≤ capacity
-    → behind + length (row_text format (record { key = r.key; versions = offered v r.versions })) ≤ capacity
-room-at format rows lens text i len more behind capacity r v h within is at long same room =
+-- its text has room in place of its old text, before the rest, where the text of the version has room besides
+pub room-at : (format : Format) (rows : List Row) (lens text : List ℕ) (i len more start rest capacity : ℕ) (r : Row) (v : Version) → Keeps format rows lens text → i < length rows → r ≡ get_or rows i r
+    → len ≡ get_or lens i len → more ≡ length (version_text format v) → start + len + rest + more ≤ capacity
+    → start + length (row_text format (record { key = r.key; versions = offered v r.versions })) + rest ≤ capacity
+room-at format rows lens text i len more start rest capacity r v h within is at long room =
     let was : len ≡ length (row_text format r) = len_is format rows lens text i len r h within at ∙ ap (λ (x : Row). length (row_text format x)) (sym is) in
     omega (arith, was, row-grows format r.key v r.versions, long, room)

@@ -1,7 +1,6 @@
 pub mod KeyOrder
 pub mod SearchLaws
 pub mod LeafLaws
-pub mod TextMoves
 pub mod ChunkLaws
 pub mod ChunkPlaces
 pub mod KeySpots

@@ -9,7 +9,8 @@ ghost use Rattle.row_bytes.specs.Rows.{FitsText};
 ghost use Rattle.hash_tree.specs.Leaves.{Bucket, key_cmp, AscendByKey};
 ghost use Rattle.hash_tree.specs.Chunks.{all_rows, rows_of, chunk_text, IsChunk, AreChunks, place_in, IsRowSpot, IsGapSpot, IsSplit, versions_at, offered_at};
 
-use crate::chunk::{Chunk, MOST_ROWS};
+use crate::chunk::Chunk;
+use crate::written::MOST_ROWS;
 use row_bytes::row::Row;
 use std::alloc::Global;
 use vclock::format::Format;
@@ -55,13 +56,13 @@ pub(crate) fn text_len(chunks: &[Chunk]) -> u128
     len
 }
 
-/// Equal chunks. Refused: NoMemory.
-pub(crate) fn clone_chunks(alloc: Global, chunks: &[Chunk]) -> Result<Vec<Chunk>, Refusal>
+/// One more owner of each chunk. Refused: NoMemory. No row is copied.
+pub(crate) fn share_chunks(alloc: Global, chunks: &[Chunk]) -> Result<Vec<Chunk>, Refusal>
     ensures { Answers result None (λ copy. copy.items ≡ chunks.now) }
 {
     let mut copy = Vec::with_capacity(alloc, chunks.len())?;
     for chunk in chunks {
-        copy.push(chunk.try_clone(alloc)?)?;
+        copy.push(chunk.share()?)?;
     }
     Ok(copy)
 }
@@ -69,7 +70,12 @@ pub(crate) fn clone_chunks(alloc: Global, chunks: &[Chunk]) -> Result<Vec<Chunk>
 /// Offers a version to the set of a row.
 ///
 /// Refused, in order: Crowded (the set would have over 64 versions), NoMemory. The chunks are then as they were.
-pub(crate) fn offer_at(chunks: &mut Vec<Chunk>, spot: Spot, version: Version) -> Result<(), Refusal>
+pub(crate) fn offer_at(
+    alloc: Global,
+    chunks: &mut Vec<Chunk>,
+    spot: Spot,
+    version: Version,
+) -> Result<(), Refusal>
     requires spot { IsRowSpot chunks.old.items (place_in chunks.old.items spot.chunk spot.at) spot.chunk spot.at }
     requires value { AllByRecursion (λ (c : Bucket). value_fault c.format version.kind version.value ≡ None) chunks.old.items }
     ensures answers { Answers result
@@ -79,7 +85,7 @@ pub(crate) fn offer_at(chunks: &mut Vec<Chunk>, spot: Spot, version: Version) ->
     ensures chunks { (format : Format) → AreChunks format chunks.old.items → AreChunks format chunks.new.items }
     ensures err { OnErr result (chunks.new.items ≡ chunks.old.items) }
 {
-    chunks[spot.chunk].offer(spot.at, version)
+    chunks[spot.chunk].offer(alloc, spot.at, version)
 }
 
 /// Puts a row among the others. A chunk that is full is split before.
@@ -102,7 +108,7 @@ pub(crate) fn insert_at(
     ensures err { OnErr result (all_rows chunks.new.items ≡ all_rows chunks.old.items) }
 {
     let gap = roomy_gap(alloc, chunks, spot)?;
-    chunks[gap.chunk].insert(gap.at, row)
+    chunks[gap.chunk].insert(alloc, gap.at, row)
 }
 
 /// The same gap, in a chunk that is not full, which may be a part of one that was. Refused: NoMemory. The rows are as they

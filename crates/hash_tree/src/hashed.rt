@@ -25,6 +25,14 @@ impl Model for Hashed {
 }
 
 impl Hashed {
+    /// A text whose digest is known. It takes no memory, and nothing is hashed.
+    pub fn known(text: Bytes, digest: Digest) -> Hashed
+        requires { digest ≡ sha256 text }
+        ensures { result ≡ text }
+    {
+        Hashed { text, digest }
+    }
+
     /// The text.
     pub fn text(&self) -> &[u8]
         ensures { result.now ≡ self.now }
@@ -45,5 +53,5 @@ pub fn hash(text: Bytes) -> Hashed
     ensures { result ≡ text }
 {
     let digest = Sha256::digest(text.as_slice());
-    Hashed { text, digest }
+    Hashed::known(text, digest)
 }

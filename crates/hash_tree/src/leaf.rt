@@ -11,7 +11,7 @@ ghost use Rattle.hash_tree.specs.Chunks.{all_rows, AreChunks};
 ghost use Rattle.hash_tree.specs.Texts.{leaf_text};
 
 use crate::chunk::Chunk;
-use crate::chunked::{Spot, chunk_of, clone_chunks, insert_at, offer_at, text_len};
+use crate::chunked::{Spot, chunk_of, insert_at, offer_at, share_chunks, text_len};
 use crate::comparing::is_chunked_text;
 use crate::texts::put_chunks;
 use row_bytes::row::Row;
@@ -91,13 +91,13 @@ impl Leaf {
         is_chunked_text(self.format, text, &self.chunks)
     }
 
-    /// An equal leaf. Refused: NoMemory. It takes time in proportion to what is held.
+    /// An equal leaf. Refused: NoMemory. No row is copied, until one of both changes it or one that stands near it.
     pub fn try_clone(&self, alloc: Global) -> Result<Leaf, Refusal>
         ensures { Answers result None (λ copy. copy ≡ self.now) }
     {
         Ok(Leaf {
             format: self.format,
-            chunks: clone_chunks(alloc, &self.chunks)?,
+            chunks: share_chunks(alloc, &self.chunks)?,
         })
     }
 
@@ -155,7 +155,7 @@ fn offer_to_key(
     }
     let chunk = chunk_of(chunks, key);
     match find_place(chunks[chunk].rows(), key) {
-        Ok(at) => offer_at(chunks, Spot { chunk, at }, version),
+        Ok(at) => offer_at(alloc, chunks, Spot { chunk, at }, version),
         Err(at) => {
             let row = first_row(alloc, key, version)?;
             insert_at(alloc, format, chunks, Spot { chunk, at }, row)

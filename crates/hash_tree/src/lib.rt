@@ -1,7 +1,7 @@
 //! The tree of a range (the paper of 2007, section 4.7): its rows in leaves, and a digest for each node.
 //!
 //! - [`leaf`]: the rows of one leaf, in order of key.
-//! - [`chunk`]: consecutive rows of a leaf, with their texts.
+//! - [`chunk`]: consecutive rows of a leaf, with their texts, which copies of a leaf share.
 //! - [`shared`]: a leaf that a range shares with whoever looked at it.
 //! - [`node`]: nodes by depth and index.
 //! - [`hashed`]: texts with their digests.
@@ -20,3 +20,4 @@ pub mod marks;
 pub mod node;
 pub mod shared;
 pub mod texts;
+mod written;

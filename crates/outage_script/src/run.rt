@@ -22,7 +22,8 @@ const SLOTS: u64 = 1_024;
 /// How many bytes a read wants.
 const READ_SIZE: usize = 65_536;
 
-/// Runs the script that the reader gives.
+/// Runs the script that the reader gives. It is meant to be the last thing that a process does: what the replicas hold at
+/// its end is not freed.
 pub fn run_script<T: Threads + Sync, R: Read, W: Write>(
     rt: &T,
     alloc: Global,

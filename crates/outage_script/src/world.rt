@@ -18,6 +18,7 @@ use range_state::config::RangeConfig;
 use serde_json::Value;
 use std::alloc::{AllocError, Global};
 use std::marker::Model;
+use std::mem::forget;
 use std::sync::ledger::{Blank, Ledger};
 use std::thread::Threads;
 use vclock::format::Format;
@@ -50,12 +51,11 @@ impl<L: Ledger> World<L> {
         }
     }
 
-    /// Gives all slots back at the end.
+    /// Gives all slots back at the end. What the replicas hold is left to the end of the process, where the system takes
+    /// all memory back at once: to free each row by itself would take a quarter of a run.
     pub(crate) fn close(self) {
-        let World {
-            slots,
-            cluster: _cluster,
-        } = self;
+        let World { slots, cluster } = self;
+        forget(cluster);
         slots.close();
     }
 

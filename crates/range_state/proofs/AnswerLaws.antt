@@ -21,7 +21,7 @@ use Rattle.key_ring.specs.Places.{leaf_bits}
 use Rattle.row_bytes.specs.declared.row.Row.{Row}
 use Rattle.hash_tree.specs.Leaves.{Bucket, rows_at}
 use Rattle.hash_tree.specs.Nodes.{tree_depth, dirtied}
-use Rattle.sync_session.specs.Walks.{Walk, TakenText, IsInnerText, AreSpelled}
+use Rattle.sync_session.specs.Walks.{Walk, TakenText, IsInnerText, AreSpelled, IsCanonical}
 use Rattle.sync_session.specs.Steps.{IsDue, after, after_refusal, IsTakeFault}
 use Rattle.sync_session.proofs.StepLaws.{All-weaker}
 use Rattle.range_state.specs.Config.{Config}
@@ -189,6 +189,17 @@ leaves_after c es more leaves leaf new ok within all is = record {
         ∙ ap (λ (rows : List Row). record { format = c.format; rows = rows }) (sym (leaf_off c i leaf es more other all))
   ];
 }
+
+-- it is a leaf of the session's own tree, and some rows spell the text
+pub leaf_due : (s : State) (id : ℕ) (r : Record) (t : TakenText) (rows : List Row) → IsRight s → id < length s.records → r ≡ get_or s.records id r → IsLeafRead s r t rows → (t.node.depth ≡ tree_depth r.session.own.format) × IsCanonical r.session.own t.node t.text
+leaf_due s id r t rows ok within was read =
+    let right = still_right s.config s.entries r t (record_kept s id r ok within was) read.due in
+    let deep : t.node.depth ≡ tree_depth r.session.own.format = read.leaf ∙ sym (ap tree_depth right.here.format) in
+    (deep, inr (deep, (rows, read.spelled)))
+
+-- want of memory refuses it, and leaves the session as it was
+pub leaf_refused : (r : Record) (t : TakenText) (e : Refusal) (w : Walk) → IsDue r.session t → e ≡ NoMemory → w ≡ r.session → IsTakeFault r.session t e × (w ≡ after_refusal r.session e)
+leaf_refused r t e w due is same = rw is (due, same)
 
 -- the facts of a leaf's text whose versions are prepared
 pub record IsAccepted (s : State) (seat id : ℕ) (r : Record) (t : TakenText) (rows : List Row) (b : Batch) (entries : List Entry) (marks : List (Option (List ℕ))) (w : Walk) : Type 0 where

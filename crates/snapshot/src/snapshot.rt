@@ -9,13 +9,14 @@ ghost use Rattle.hash_tree.specs.Texts.{inner_text, leaf_text};
 ghost use Rattle.snapshot.specs.RowMaps.{IsRowMap, leaf_in, text_at, digest_at, root_of};
 ghost use Rattle.snapshot.specs.Snapshots.{IsSnapshot, map_of, answer_fault};
 
-use hash_tree::hashed::Digest;
+use hash_tree::hashed::{Digest, Hashed};
 use hash_tree::node::{NodeAt, tree_depth};
 use hash_tree::shared::SharedLeaf;
 use hash_tree::texts::inner_text;
 use std::alloc::Global;
 use std::marker::Model;
 use std::sync::Arc;
+use vclock::bytes::Bytes;
 use vclock::format::Format;
 use vclock::refusal::Refusal;
 use walk_messages::message::Ask;
@@ -126,6 +127,16 @@ impl Snapshot {
             return text_of(alloc, self.rows(node.index));
         }
         inner_text(alloc, self.format, self.children(node))
+    }
+
+    /// The same text with its digest, which is not computed again. Refused as by `answer`.
+    pub fn hashed_answer(&self, alloc: Global, ask: Ask) -> Result<Hashed, Refusal>
+        ensures { Answers result (answer_fault self.now ask.node)
+            (λ text. text ≡ text_at self.now ask.node.depth ask.node.index) }
+    {
+        let at = ask.node;
+        let text = self.answer(alloc, ask)?;
+        Ok(Hashed::known(Bytes::from(text), self.digest_at(at)))
     }
 
     /// The digests of the children of a node that is no leaf, in order.

@@ -2,9 +2,10 @@
 ghost use Rattle.std.specs.Prelude.{◌≡◌, ⊤, None, OnOk, OnErr, map};
 ghost use Rattle.std.specs.Arc.{arc_value};
 ghost use Rattle.vclock.specs.Answer.{Answers};
+ghost use Rattle.hash_tree.specs.Nodes.{tree_depth};
 ghost use Rattle.sync_session.specs.TreeNodes.{node_of};
-ghost use Rattle.sync_session.specs.Walks.{asks};
-ghost use Rattle.sync_session.specs.Steps.{state_by, started, after, cancelled_by, Takes};
+ghost use Rattle.sync_session.specs.Walks.{asks, IsCanonical};
+ghost use Rattle.sync_session.specs.Steps.{state_by, started, after, cancelled_by, IsDue, Takes};
 ghost use Rattle.sync_session.specs.Readings.{Shows};
 
 use crate::state::SessionState;
@@ -178,6 +179,19 @@ impl Session {
             }
             Err(other) => Err(other),
         }
+    }
+
+    /// Takes the text of a leaf that `rows_of` has read, without reading it again. With nothing outstanding the session is
+    /// finished. Refused: NoMemory. The session is then as it was.
+    pub fn take_leaf(&mut self, node: NodeAt, text: Hashed) -> Result<(), Refusal>
+        requires due { IsDue self.old (record { node = node_of node; text = text }) }
+        requires leaf { node.depth ≡ tree_depth self.old.own.format }
+        requires canonical { IsCanonical self.old.own (node_of node) text }
+        ensures answers { Answers result None (λ _. ⊤) }
+        ensures ok { OnOk result (self.new ≡ after self.old (record { node = node_of node; text = text })) }
+        ensures err { OnErr result (self.new ≡ self.old) }
+    {
+        self.record(node, text, &[])
     }
 
     /// Keeps a text, and asks these nodes.

@@ -11,11 +11,9 @@ ghost use Rattle.range_state.specs.Syncs.{IsOfRange, HasOneMore, IsSyncedTo, IsP
 use crate::event::AnswerTaken;
 use crate::state::RangeState;
 use crate::state::sessions::number_of;
-use hash_tree::hashed::hash;
 use hash_tree::node::NodeAt;
 use snapshot::snapshot::Snapshot;
 use std::alloc::Global;
-use vclock::bytes::Bytes;
 use vclock::refusal::Refusal;
 use walk_messages::message::{Ask, Offer};
 
@@ -95,8 +93,8 @@ impl RangeState {
             ⊎ TakesFor self.old seat id (slice_get self.old.records id)
             (record { node = node_of node; text = text_of other.now (node_of node) }) result self.new }
     {
-        let text = other.answer(alloc, Ask { offer: 0, node })?;
-        self.take_answer(alloc, seat, id, node, hash(Bytes::from(text)))
+        let text = other.hashed_answer(alloc, Ask { offer: 0, node })?;
+        self.take_answer(alloc, seat, id, node, text)
     }
 
     /// What a session came to.

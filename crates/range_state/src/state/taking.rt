@@ -93,7 +93,7 @@ impl RangeState {
         let batch = self.prepare_rows(alloc, seat, node.index, rows)?;
         self.journal.reserve(batch.entries.len() as u64)?;
         let session = &mut self.records[id as usize].session;
-        session.take(alloc, node, text)?;
+        session.take_leaf(node, text)?;
         let state = session.state();
         let Batch {
             leaf,

@@ -1,108 +1,25 @@
-use Rattle.std.proofs.Common.{rules, ◌≡◌, ◌++◌, ◌+◌, ◌∙◌, ℕ, List, length, take, drop, get_or, set, sym, ap, arith}
-use Rattle.std.specs.List.{sum_by}
-use Rattle.version_set.specs.Version.{offered}
+use Rattle.std.proofs.Common.{rules, ◌≡◌, ◌∙◌, List, get_or, ap}
 use Rattle.row_bytes.specs.declared.row.Row.{Row}
-use Rattle.row_bytes.specs.Rows.{row_text, FitsText}
-use Rattle.hash_tree.specs.Leaves.{Bucket}
-use Rattle.hash_tree.specs.Chunks.{offered_at}
-use Rattle.hash_tree.proofs.ChunkLaws.{start_within, end_is, keeps-set, first-set, within-inside, value-inside, versions-inside, fits-at, room-at, offered_at-set}
+use Rattle.hash_tree.specs.Chunks.{versions_at}
+use Rattle.hash_tree.proofs.ChunkLaws.{versions_at-get}
 use Rattle.hash_tree.proofs.chunk.Chunk.offer.Goals as goal
 
 pub returns-then-crowds-clause-answers : goal.returns-then-crowds-clause-answers
 returns-then-crowds-clause-answers c =
-    let s = c.self.inside in
-    let versions = versions-inside c.args.self.now s.format s.rows.items c.args.at c.index.result.now c.self.view_is c.requires.at c.index.ensures in
-    rw (← versions) (search rules)
-
-pub returns-in_err-make_room-clause-answers : goal.returns-in_err-make_room-clause-answers
-returns-in_err-make_room-clause-answers c =
-    let s = c.self.inside in
-    let versions = versions-inside c.args.self.now s.format s.rows.items c.args.at c.index.result.now c.self.view_is c.requires.at c.index.ensures in
-    rw (← versions) (search rules)
-
-pub total-start-requires : goal.total-start-requires
-total-start-requires c =
-    let s = c.self.inside in
-    let before = λ (ls : List ℕ). sum_by (λ (n : ℕ). n) (take c.args.at ls) in
-    omega (arith, start_within s.format s.rows.items s.lens.items s.text.items c.args.at c.self.invariant.0, ap before c.deref.ensures.value, s.text.ok.0, s.text.ok.1, s.text.small)
-
-pub overflow_add-start : goal.overflow_add-start
-overflow_add-start c =
-    let s = c.self.inside in
     let at = c.args.at in
-    let within = within-inside c.args.self.now s.format s.rows.items at c.self.view_is c.requires.at in
-    let begins : c.total-start.result ≡ sum_by (λ (n : ℕ). n) (take at s.lens.items) = c.total-start.ensures ∙ ap (λ (ls : List ℕ). sum_by (λ (n : ℕ). n) (take at ls)) c.deref.ensures.value in
-    omega (arith, end_is s.format s.rows.items s.lens.items s.text.items at c.total-start.result c.index-2.result.now c.self.invariant.0 within begins c.index-2.ensures, start_within s.format s.rows.items s.lens.items s.text.items (at + 1) c.self.invariant.0, s.text.ok.0, s.text.ok.1, s.text.small)
+    let row = c.index-rows-at.result in
+    let all = c.args.self.now.rows in
+    let rows : all ≡ c.rows.result.now = search rules in
+    let versions : versions_at all at ≡ (get_or c.rows.result.now at row).versions =
+    versions_at-get all at row c.requires.at ∙ ap (λ (rs : List Row). (get_or rs at row).versions) rows in
+    rw versions (search rules)
 
-pub returns-in_err-offer-clause-answers : goal.returns-in_err-offer-clause-answers
-returns-in_err-offer-clause-answers c =
-    let s = c.self.inside in
-    let versions = versions-inside c.args.self.now s.format s.rows.items c.args.at c.index_mut-row.result.now c.self.view_is c.requires.at c.index_mut-row.ensures.value in
-    rw (← versions) (search rules)
-
-pub put_between-requires-clause-within : goal.put_between-requires-clause-within
-put_between-requires-clause-within c =
-    let s = c.self.inside in
+pub returns-in_err-make_mut-clause-answers : goal.returns-in_err-make_mut-clause-answers
+returns-in_err-make_mut-clause-answers c =
     let at = c.args.at in
-    let within = within-inside c.args.self.now s.format s.rows.items at c.self.view_is c.requires.at in
-    let begins : c.total-start.result ≡ sum_by (λ (n : ℕ). n) (take at s.lens.items) = c.total-start.ensures ∙ ap (λ (ls : List ℕ). sum_by (λ (n : ℕ). n) (take at ls)) c.deref.ensures.value in
-    omega (arith, end_is s.format s.rows.items s.lens.items s.text.items at c.total-start.result c.index-2.result.now c.self.invariant.0 within begins c.index-2.ensures, start_within s.format s.rows.items s.lens.items s.text.items (at + 1) c.self.invariant.0, ap length c.make_room.ensures.items)
-
-pub put_between-requires-clause-fits : goal.put_between-requires-clause-fits
-put_between-requires-clause-fits c =
-    let s = c.self.inside in
-    let within = within-inside c.args.self.now s.format s.rows.items c.args.at c.self.view_is c.requires.at in
-    let value = value-inside c.args.self.now s.format s.rows.items c.args.version c.self.view_is c.requires.value in
-    rw c.in_ok-offer.ensures.set (fits-at s.format s.rows.items s.lens.items s.text.items c.args.at c.index_mut-row.result.now c.args.version c.self.invariant.0 within c.index_mut-row.ensures.value value)
-
-pub put_between-requires-clause-room : goal.put_between-requires-clause-room
-put_between-requires-clause-room c =
-    let s = c.self.inside in
-    let at = c.args.at in
-    let within = within-inside c.args.self.now s.format s.rows.items at c.self.view_is c.requires.at in
-    rw c.in_ok-offer.ensures.set
-    (room-at s.format s.rows.items s.lens.items s.text.items at c.index-2.result.now c.version_len-more.result _ _ c.index_mut-row.result.now c.args.version c.self.invariant.0 within c.index_mut-row.ensures.value c.index-2.ensures c.version_len-more.ensures.exact (ap length c.make_room.ensures.items) c.in_ok-make_room.ensures.room)
-
-pub row_len-requires : goal.row_len-requires
-row_len-requires c =
-    let s = c.self.inside in
-    let within = within-inside c.args.self.now s.format s.rows.items c.args.at c.self.view_is c.requires.at in
-    let value = value-inside c.args.self.now s.format s.rows.items c.args.version c.self.view_is c.requires.value in
-    rw c.in_ok-offer.ensures.set (fits-at s.format s.rows.items s.lens.items s.text.items c.args.at c.index_mut-row.result.now c.args.version c.self.invariant.0 within c.index_mut-row.ensures.value value)
-
-pub invariant_of-self-2 : goal.invariant_of-self-2
-invariant_of-self-2 c =
-    let s = c.self.inside in
-    let at = c.args.at in
-    let old = c.index_mut-row.result.now in
-    let new : Row = record { key = old.key; versions = c.offer.new.self } in
-    let start = c.total-start.result in
-    let end = start + c.index-2.result.now in
-    let within = within-inside c.args.self.now s.format s.rows.items at c.self.view_is c.requires.at in
-    let value = value-inside c.args.self.now s.format s.rows.items c.args.version c.self.view_is c.requires.value in
-    let begins : c.total-start.result ≡ sum_by (λ (n : ℕ). n) (take at s.lens.items) = c.total-start.ensures ∙ ap (λ (ls : List ℕ). sum_by (λ (n : ℕ). n) (take at ls)) c.deref.ensures.value in
-    let ends = end_is s.format s.rows.items s.lens.items s.text.items at start c.index-2.result.now c.self.invariant.0 within begins c.index-2.ensures in
-    let fits : FitsText s.format new = rw c.in_ok-offer.ensures.set (fits-at s.format s.rows.items s.lens.items s.text.items at old c.args.version c.self.invariant.0 within c.index_mut-row.ensures.value value) in
-    let now : c.put_between.new.text.items ≡ take start s.text.items ++ row_text s.format new ++ drop end s.text.items = c.put_between.ensures ∙ ap (λ (t : List ℕ). take start t ++ row_text s.format new ++ drop end t) c.make_room.ensures.items in
-    let same : new.key ≡ (get_or s.rows.items at old).key = ap (λ (r : Row). r.key) c.index_mut-row.ensures.value in (
-      keeps-set s.format s.rows.items s.lens.items s.text.items at c.row_len.result start end new c.put_between.new.text.items c.self.invariant.0 within fits c.row_len.ensures.exact begins ends now,
-      c.self.invariant.1 ∙ sym (first-set s.rows.items at new old within same),
-    )
-
-pub returns-clause-answers : goal.returns-clause-answers
-returns-clause-answers c =
-    let s = c.self.inside in
-    let versions = versions-inside c.args.self.now s.format s.rows.items c.args.at c.index_mut-row.result.now c.self.view_is c.requires.at c.index_mut-row.ensures.value in
-    rw (← versions) (search rules)
-
-pub returns-clause-ok : goal.returns-clause-ok
-returns-clause-ok c =
-    let s = c.self.inside in
-    let at = c.args.at in
-    let old = c.index_mut-row.result.now in
-    let within = within-inside c.args.self.now s.format s.rows.items at c.self.view_is c.requires.at in
-    let rows : set s.rows.items at (record { key = old.key; versions = c.offer.new.self }) ≡ offered_at s.rows.items at c.args.version =
-    ap (λ (vs : _). set s.rows.items at (record { key = old.key; versions = vs })) c.in_ok-offer.ensures.set
-    ∙ ap (λ (x : Row). set s.rows.items at (record { key = x.key; versions = offered c.args.version x.versions })) c.index_mut-row.ensures.value
-    ∙ sym (offered_at-set s.rows.items at c.args.version old within) in
-    ap (λ (rs : List Row). record { format = s.format; rows = rs }) rows ∙ ap (λ (b : Bucket). record { format = b.format; rows = offered_at b.rows at c.args.version }) c.self.view_is
+    let row = c.index-rows-at.result in
+    let all = c.args.self.now.rows in
+    let rows : all ≡ c.rows.result.now = search rules in
+    let versions : versions_at all at ≡ (get_or c.rows.result.now at row).versions =
+    versions_at-get all at row c.requires.at ∙ ap (λ (rs : List Row). (get_or rs at row).versions) rows in
+    rw versions (search rules)

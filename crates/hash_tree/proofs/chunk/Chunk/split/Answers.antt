@@ -1,57 +1,16 @@
-use Rattle.std.proofs.Common.{rules, ◌≡◌, ◌-◌, ◌<◌, ◌∙◌, ℕ, List, length, take, drop, sym, ap, subst, arith}
-use Rattle.std.specs.List.{sum_by}
-use Rattle.std.proofs.lemmas.List.{take_rest}
-use Rattle.row_bytes.specs.declared.row.Row.{Row}
+use Rattle.std.proofs.Common.{rules, ◌≡◌, ◌∙◌, ◌≤◌, ◌<◌, length, take, sym, subst, arith}
+use Rattle.std.proofs.lemmas.List.{length-take-le}
+use Rattle.std.specs.Arc.{arc_value}
 use Rattle.hash_tree.specs.Leaves.{Bucket}
-use Rattle.hash_tree.specs.Chunks.{first_key}
-use Rattle.hash_tree.proofs.ChunkLaws.{start_within, keeps-take, keeps-drop, first-take, first-drop}
+use Rattle.hash_tree.proofs.ChunkLaws.{first-take}
 use Rattle.hash_tree.proofs.chunk.Chunk.split.Goals as goal
-
-pub total-cut-requires : goal.total-cut-requires
-total-cut-requires c =
-    let s = c.self.inside in
-    let middle = c.args.at in
-    let before = λ (ls : List ℕ). sum_by (λ (n : ℕ). n) (take middle ls) in
-    omega (arith, start_within s.format s.rows.items s.lens.items s.text.items middle c.self.invariant.0, ap before c.deref.ensures.value, s.text.ok.0, s.text.ok.1, s.text.small)
-
-pub slice_bounds-extend_from_slice-count : goal.slice_bounds-extend_from_slice-count
-slice_bounds-extend_from_slice-count c =
-    let s = c.self.inside in
-    let middle = c.args.at in
-    let before = λ (ls : List ℕ). sum_by (λ (n : ℕ). n) (take middle ls) in
-    omega (arith, start_within s.format s.rows.items s.lens.items s.text.items middle c.self.invariant.0, c.total-cut.ensures, ap before c.deref.ensures.value, ap length c.deref-3.ensures.value)
-
-pub slice_bounds-extend_from_slice-start : goal.slice_bounds-extend_from_slice-start
-slice_bounds-extend_from_slice-start c =
-    let s = c.self.inside in
-    let middle = c.args.at in
-    let before = λ (ls : List ℕ). sum_by (λ (n : ℕ). n) (take middle ls) in
-    omega (arith, start_within s.format s.rows.items s.lens.items s.text.items middle c.self.invariant.0, c.total-cut.ensures, ap before c.deref.ensures.value, ap length c.deref-3.ensures.value)
-
-pub invariant_of-result : goal.invariant_of-result
-invariant_of-result c =
-    let s = c.self.inside in
-    let middle = c.args.at in
-    let cut = c.total-cut.result in
-    let all : List ℕ = c.deref-3.result.now in
-    let at : cut ≡ sum_by (λ (n : ℕ). n) (take middle s.lens.items) = c.total-cut.ensures ∙ ap (λ (ls : List ℕ). sum_by (λ (n : ℕ). n) (take middle ls)) c.deref.ensures.value in
-    let within : middle < length s.rows.items = subst (λ (b : Bucket). c.args.at < length b.rows) (sym c.self.view_is) c.requires.within in
-    let rows : c.in_ok-rows.rows.items ≡ drop middle s.rows.items = search rules in
-    let lens : c.in_ok-lens.lens.items ≡ drop middle s.lens.items = c.in_ok-lens.ensures.items ∙ take_rest c.deref-2.result.now middle ∙ ap (drop middle) c.deref-2.ensures.value in
-    let rest : c.extend_from_slice.new.self.items ≡ take (length all - cut) (drop cut all) = search rules in
-    let text : c.extend_from_slice.new.self.items ≡ drop cut s.text.items = rest ∙ take_rest all cut ∙ ap (drop cut) c.deref-3.ensures.value in
-    let key : c.in_ok-first.first ≡ c.index.result.now.key = search rules in
-    let first : c.in_ok-first.first ≡ first_key (drop middle s.rows.items) = key ∙ ap (λ (r : Row). r.key) c.index.ensures ∙ sym (first-drop s.rows.items middle c.index.result.now within) in
-    rw (rows, lens, text) (keeps-drop s.format s.rows.items s.lens.items s.text.items middle cut c.self.invariant.0 at, first)
 
 pub invariant_of-self-2 : goal.invariant_of-self-2
 invariant_of-self-2 c =
     let s = c.self.inside in
-    let middle = c.args.at in
-    let cut = c.total-cut.result in
-    let at : cut ≡ sum_by (λ (n : ℕ). n) (take middle s.lens.items) = c.total-cut.ensures ∙ ap (λ (ls : List ℕ). sum_by (λ (n : ℕ). n) (take middle ls)) c.deref.ensures.value in
-    let rows : c.split_off.new.self.items ≡ take middle s.rows.items = search rules in
-    let lens : c.truncate.new.self.items ≡ take middle s.lens.items = search rules in
-    let text : c.truncate-2.new.self.items ≡ take cut s.text.items = search rules in
-    let first : s.first ≡ first_key (take middle s.rows.items) = c.self.invariant.1 ∙ sym (first-take s.rows.items middle c.requires.some) in
-    rw (rows, lens, text) (keeps-take s.format s.rows.items s.lens.items s.text.items middle cut c.self.invariant.0 at, first)
+    let at = c.args.at in
+    let old = (arc_value s.held).rows in
+    let rows : (arc_value (c.make_mut.follows.lender c.split.new.self)).rows ≡ take at old = search rules in
+    let within : at < length old = subst (λ (b : Bucket). c.args.at < length b.rows) (sym c.self.view_is) c.requires.within in
+    let some : 1 ≤ length (take at old) = omega (arith, length-take-le at old (omega (arith, within)), c.requires.some) in
+    rw rows (some, c.self.invariant.1 ∙ sym (first-take old at c.requires.some))

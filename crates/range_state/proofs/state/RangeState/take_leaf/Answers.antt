@@ -1,4 +1,4 @@
-use Rattle.std.proofs.Common.{◌≡◌, ◌<◌, ◌+◌, ℕ, None, List, ◌++◌, length, cond, set, get_or, refl, sym, ap, subst, ◌∙◌, arith, slice_get, Ok, Err}
+use Rattle.std.proofs.Common.{rules, ◌≡◌, ◌<◌, ◌+◌, ℕ, None, List, ◌++◌, length, cond, set, get_or, refl, sym, ap, subst, ◌∙◌, arith, slice_get, Ok, Err}
 use Rattle.std.specs.Prelude.{MatchOption, nat_eq}
 use Rattle.std.proofs.lemmas.Result.{err_from_is_err_and}
 use Rattle.std.proofs.lemmas.List.{length-append}
@@ -13,7 +13,7 @@ use Rattle.range_state.specs.declared.«record».Record.{Record}
 use Rattle.range_state.specs.declared.event.AnswerTaken.{AnswerTaken}
 use Rattle.range_state.specs.State.{State, IsRight, AreLeaves}
 use Rattle.range_state.specs.Sessions.{offers_of, walked_to, IsLeafRead, TakesFor, taken_in}
-use Rattle.range_state.proofs.AnswerLaws.{IsAccepted, rows_ready, not_prepared, no_room, has_record, got_record, the_record, refused_right, refused, accepted_right, accepted_leaves, leaf_taken, leaf_inside}
+use Rattle.range_state.proofs.AnswerLaws.{IsAccepted, rows_ready, not_prepared, no_room, has_record, got_record, the_record, refused_right, refused, accepted_right, accepted_leaves, leaf_taken, leaf_inside, leaf_due, leaf_refused}
 use Rattle.range_state.proofs.state.RangeState.take_leaf.Goals as goal
 
 pub prepare_rows-requires-clause-here : goal.prepare_rows-requires-clause-here
@@ -56,33 +56,71 @@ index_mut-requires c =
     let within = has_record c.args.self.now.records c.args.id (λ x. IsLeafRead c.args.self.now x t c.args.rows.now) c.requires in
     omega (arith, within, ap (λ (u : State). length u.records) c.self.view_is, c.self.inside.records.ok)
 
-pub invariant_of-self-in_err-take : goal.invariant_of-self-in_err-take
-invariant_of-self-in_err-take c =
+pub take_leaf-requires-clause-due : goal.take_leaf-requires-clause-due
+take_leaf-requires-clause-due c =
+    let s = c.args.self.now in
+    let r : Record = c.index_mut.result.now in
+    let t : TakenText = record { node = node_of c.args.node; text = c.args.text } in
+    let read = λ (x : Record). IsLeafRead s x t c.args.rows.now in
+    let was : r ≡ get_or s.records c.args.id r = c.index_mut.ensures.value ∙ ap (λ (u : State). get_or u.records c.args.id r) c.self.view_is in
+    (the_record s.records c.args.id r read (has_record s.records c.args.id read c.requires) was c.requires).due
+
+pub take_leaf-requires-clause-leaf : goal.take_leaf-requires-clause-leaf
+take_leaf-requires-clause-leaf c =
+    let s = c.args.self.now in
+    let r : Record = c.index_mut.result.now in
+    let t : TakenText = record { node = node_of c.args.node; text = c.args.text } in
+    let read = λ (x : Record). IsLeafRead s x t c.args.rows.now in
+    let within = has_record s.records c.args.id read c.requires in
+    let was : r ≡ get_or s.records c.args.id r = c.index_mut.ensures.value ∙ ap (λ (u : State). get_or u.records c.args.id r) c.self.view_is in
+    (leaf_due s c.args.id r t c.args.rows.now (subst IsRight c.self.view_is c.self.invariant.0) within was (the_record s.records c.args.id r read within was c.requires)).0
+
+pub take_leaf-requires-clause-canonical : goal.take_leaf-requires-clause-canonical
+take_leaf-requires-clause-canonical c =
+    let s = c.args.self.now in
+    let r : Record = c.index_mut.result.now in
+    let t : TakenText = record { node = node_of c.args.node; text = c.args.text } in
+    let read = λ (x : Record). IsLeafRead s x t c.args.rows.now in
+    let within = has_record s.records c.args.id read c.requires in
+    let was : r ≡ get_or s.records c.args.id r = c.index_mut.ensures.value ∙ ap (λ (u : State). get_or u.records c.args.id r) c.self.view_is in
+    (leaf_due s c.args.id r t c.args.rows.now (subst IsRight c.self.view_is c.self.invariant.0) within was (the_record s.records c.args.id r read within was c.requires)).1
+
+pub invariant_of-self-in_err-take_leaf : goal.invariant_of-self-in_err-take_leaf
+invariant_of-self-in_err-take_leaf c =
     let s : State = record { config = c.self.inside.config; entries = c.self.inside.journal.entries; marks = c.self.inside.marks.digests; records = c.self.inside.records.items } in
     let r : Record = c.index_mut.result.now in
+    let t : TakenText = record { node = node_of c.args.node; text = c.args.text } in
+    let read = λ (x : Record). IsLeafRead c.args.self.now x t c.args.rows.now in
+    let was : r ≡ get_or c.args.self.now.records c.args.id r = c.index_mut.ensures.value ∙ ap (λ (u : State). get_or u.records c.args.id r) c.self.view_is in
+    let due = (the_record c.args.self.now.records c.args.id r read (has_record c.args.self.now.records c.args.id read c.requires) was c.requires).due in
+    let told = leaf_refused r t c.in_err-take_leaf.field-0.0 c.take_leaf.new.self due (search rules) c.in_err-take_leaf.ensures.err in
     let log = c.in_ok-reserve.ensures.ok in
     let es : s.entries ≡ c.reserve.new.self.entries = ap (λ (l : Log). l.entries) (sym log) in
-    let right = refused_right s c.args.id r c.in_err-take.field-0.0 c.take.new.self c.self.invariant.0 c.index_mut.ensures.value c.in_err-take.ensures.1 in (
-      subst (λ (xs : List Entry). IsRight (record { config = s.config; entries = xs; marks = s.marks; records = set s.records c.args.id (record { partner = r.partner; session = c.take.new.self }) })) es right,
+    let right = refused_right s c.args.id r c.in_err-take_leaf.field-0.0 c.take_leaf.new.self c.self.invariant.0 c.index_mut.ensures.value told.1 in (
+      subst (λ (xs : List Entry). IsRight (record { config = s.config; entries = xs; marks = s.marks; records = set s.records c.args.id (record { partner = r.partner; session = c.take_leaf.new.self }) })) es right,
       subst (λ (xs : List Entry). AreLeaves s.config xs c.self.inside.leaves.items) es c.self.invariant.1,
       ap (λ (l : Log). l.limit) log ∙ c.self.invariant.2,
       c.self.invariant.3,
     )
 
-pub returns-in_err-take : goal.returns-in_err-take
-returns-in_err-take c =
+pub returns-in_err-take_leaf : goal.returns-in_err-take_leaf
+returns-in_err-take_leaf c =
     let s : State = record { config = c.self.inside.config; entries = c.self.inside.journal.entries; marks = c.self.inside.marks.digests; records = c.self.inside.records.items } in
     let r : Record = c.index_mut.result.now in
     let t : TakenText = record { node = node_of c.args.node; text = c.args.text } in
-    let e = c.in_err-take.field-0.0 in
-    let p = err_from_is_err_and c.from_residual-in_err-take.result c.from_residual-in_err-take.ensures.1 in
+    let read = λ (x : Record). IsLeafRead c.args.self.now x t c.args.rows.now in
+    let was : r ≡ get_or c.args.self.now.records c.args.id r = c.index_mut.ensures.value ∙ ap (λ (u : State). get_or u.records c.args.id r) c.self.view_is in
+    let due = (the_record c.args.self.now.records c.args.id r read (has_record c.args.self.now.records c.args.id read c.requires) was c.requires).due in
+    let told = leaf_refused r t c.in_err-take_leaf.field-0.0 c.take_leaf.new.self due (search rules) c.in_err-take_leaf.ensures.err in
+    let e = c.in_err-take_leaf.field-0.0 in
+    let p = err_from_is_err_and c.from_residual-in_err-take_leaf.result c.from_residual-in_err-take_leaf.ensures.1 in
     let asked = subst (λ (u : State). MatchOption (slice_get u.records c.args.id) ⊥ (λ x. IsLeafRead u x t c.args.rows.now)) (sym c.self.view_is) c.requires in
     let within = has_record s.records c.args.id (λ x. IsLeafRead s x t c.args.rows.now) asked in
     let here = got_record s.records c.args.id r within c.index_mut.ensures.value in
     let es : c.reserve.new.self.entries ≡ s.entries = ap (λ (l : Log). l.entries) c.in_ok-reserve.ensures.ok in
-    let new : State = record { config = s.config; entries = c.reserve.new.self.entries; marks = s.marks; records = set s.records c.args.id (record { partner = r.partner; session = c.take.new.self }) } in
-    let is : new ≡ walked_to s c.args.id r (after_refusal r.session e) = λ i. record { config = s.config; entries = es i; marks = s.marks; records = set s.records c.args.id (record { partner = r.partner; session = c.in_err-take.ensures.1 i }) } in
-    rw (p.1, p.2) (subst (λ (u : State). TakesFor u c.args.seat c.args.id (slice_get u.records c.args.id) t (Err e) new) c.self.view_is (refused s new c.args.seat c.args.id r t e here c.in_err-take.ensures.0 is))
+    let new : State = record { config = s.config; entries = c.reserve.new.self.entries; marks = s.marks; records = set s.records c.args.id (record { partner = r.partner; session = c.take_leaf.new.self }) } in
+    let is : new ≡ walked_to s c.args.id r (after_refusal r.session e) = λ i. record { config = s.config; entries = es i; marks = s.marks; records = set s.records c.args.id (record { partner = r.partner; session = told.1 i }) } in
+    rw (p.1, p.2) (subst (λ (u : State). TakesFor u c.args.seat c.args.id (slice_get u.records c.args.id) t (Err e) new) c.self.view_is (refused s new c.args.seat c.args.id r t e here told.0 is))
 
 -- the record, which is at its place
 is_there : (c : goal.After-append_all) → (c.args.id < length c.args.self.now.records) × (c.index_mut.result.now ≡ get_or c.args.self.now.records c.args.id c.index_mut.result.now)
@@ -93,7 +131,7 @@ is_there c =
     (has_record now.records c.args.id (λ x. IsLeafRead now x t c.args.rows.now) c.requires, c.index_mut.ensures.value ∙ ap (λ (u : State). get_or u.records c.args.id r) c.self.view_is)
 
 -- what was prepared is accepted
-is_accepted : (c : goal.After-append_all) → IsAccepted c.args.self.now c.args.seat c.args.id c.index_mut.result.now (record { node = node_of c.args.node; text = c.args.text }) c.args.rows.now c.in_ok-batch.batch c.append_all.new.journal.entries c.mark_news.new.marks.digests c.take.new.self
+is_accepted : (c : goal.After-append_all) → IsAccepted c.args.self.now c.args.seat c.args.id c.index_mut.result.now (record { node = node_of c.args.node; text = c.args.text }) c.args.rows.now c.in_ok-batch.batch c.append_all.new.journal.entries c.mark_news.new.marks.digests c.take_leaf.new.self
 is_accepted c =
     let now = c.args.self.now in
     let r : Record = c.index_mut.result.now in
@@ -115,7 +153,7 @@ is_accepted c =
       seen = c.in_ok-batch.ensures.1.2;
       entries_are = es;
       marks_are = marks;
-      walk = c.in_ok-take.ensures.2;
+      walk = c.in_ok-take_leaf.ensures.ok;
     }
 
 pub invariant_of-self-2 : goal.invariant_of-self-2
@@ -128,9 +166,9 @@ invariant_of-self-2 c =
     let ok = subst IsRight c.self.view_is c.self.invariant.0 in
     let are = subst (λ (u : State). AreLeaves u.config u.entries c.self.inside.leaves.items) c.self.view_is c.self.invariant.1 in
     let inside = leaf_inside now.config c.args.node.depth c.args.node.index is.read.leaf c.args.node.within in
-    let right = accepted_right now c.args.seat c.args.id r t c.args.rows.now b c.append_all.new.journal.entries c.mark_news.new.marks.digests c.take.new.self ok is in
-    let leaves = accepted_leaves now c.args.seat c.args.id r t c.args.rows.now b c.append_all.new.journal.entries c.mark_news.new.marks.digests c.take.new.self c.self.inside.leaves.items ok are is inside in (
-      subst (λ (u : State). IsRight (record { config = u.config; entries = c.append_all.new.journal.entries; marks = c.mark_news.new.marks.digests; records = set u.records c.args.id (record { partner = r.partner; session = c.take.new.self }) })) (sym c.self.view_is) right,
+    let right = accepted_right now c.args.seat c.args.id r t c.args.rows.now b c.append_all.new.journal.entries c.mark_news.new.marks.digests c.take_leaf.new.self ok is in
+    let leaves = accepted_leaves now c.args.seat c.args.id r t c.args.rows.now b c.append_all.new.journal.entries c.mark_news.new.marks.digests c.take_leaf.new.self c.self.inside.leaves.items ok are is inside in (
+      subst (λ (u : State). IsRight (record { config = u.config; entries = c.append_all.new.journal.entries; marks = c.mark_news.new.marks.digests; records = set u.records c.args.id (record { partner = r.partner; session = c.take_leaf.new.self }) })) (sym c.self.view_is) right,
       subst (λ (u : State). AreLeaves u.config c.append_all.new.journal.entries (set c.self.inside.leaves.items c.from.result b.leaf)) (sym c.self.view_is)
           (subst (λ (n : ℕ). AreLeaves now.config c.append_all.new.journal.entries (set c.self.inside.leaves.items n b.leaf)) (sym c.from.ensures) leaves),
       c.append_all.ensures.limit ∙ ap (λ (l : Log). l.limit) c.in_ok-reserve.ensures.ok ∙ c.self.invariant.2,
@@ -149,5 +187,5 @@ returns c =
     let limit : c.self.inside.journal.limit ≡ now.config.limit = c.self.invariant.2 ∙ ap (λ (u : State). u.config.limit) c.self.view_is in
     let len : c.len.result ≡ length b.entries.items = omega (arith, c.len.ensures, b.entries.ok) in
     let room = subst (λ (n : ℕ). reserve_fault c.self.inside.journal n ≡ None) len c.in_ok-reserve.ensures.answers.0 in
-    let took = leaf_taken now c.args.seat c.args.id r t c.args.rows.now b c.append_all.new.journal.entries c.mark_news.new.marks.digests c.take.new.self a c.self.inside.journal ok (is_accepted c) refl refl c.state-state.ensures held limit room in
-    subst (λ (u : State). TakesFor now c.args.seat c.args.id (slice_get now.records c.args.id) t (Ok a) (record { config = u.config; entries = c.append_all.new.journal.entries; marks = c.mark_news.new.marks.digests; records = set u.records c.args.id (record { partner = r.partner; session = c.take.new.self }) })) (sym c.self.view_is) took
+    let took = leaf_taken now c.args.seat c.args.id r t c.args.rows.now b c.append_all.new.journal.entries c.mark_news.new.marks.digests c.take_leaf.new.self a c.self.inside.journal ok (is_accepted c) refl refl c.state-state.ensures held limit room in
+    subst (λ (u : State). TakesFor now c.args.seat c.args.id (slice_get now.records c.args.id) t (Ok a) (record { config = u.config; entries = c.append_all.new.journal.entries; marks = c.mark_news.new.marks.digests; records = set u.records c.args.id (record { partner = r.partner; session = c.take_leaf.new.self }) })) (sym c.self.view_is) took

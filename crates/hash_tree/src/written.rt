@@ -1,0 +1,253 @@
+//! Consecutive rows of a leaf with their texts.
+ghost use Rattle.std.specs.Prelude.{◌≡◌, ◌++◌, ◌+◌, ◌-◌, ◌<◌, ◌≤◌, ◌^◌, [], ⊤, None, length, take, drop, IfOk, OnOk, OnErr};
+ghost use Rattle.std.specs.List.{AllByRecursion, flat_map, insert, sum_by};
+ghost use Rattle.std.specs.Vec.{vec_capacity};
+ghost use Rattle.vclock.specs.Answer.{Answers};
+ghost use Rattle.version_set.specs.Kind.{value_fault};
+ghost use Rattle.version_set.specs.Version.{offer_fault};
+ghost use Rattle.row_bytes.specs.Rows.{row_text, FitsText};
+ghost use Rattle.hash_tree.specs.Chunks.{chunk_text, versions_at, offered_at};
+
+use row_bytes::lengths::{row_len, version_len};
+use row_bytes::row::Row;
+use row_bytes::writing::put_row;
+use std::alloc::{AllocError, Global};
+use std::marker::Model;
+use vclock::format::Format;
+use vclock::refusal::Refusal;
+use version_set::version::Version;
+
+/// How many rows a chunk of a leaf has at most: a new row moves no more than these, and their texts.
+pub(crate) const MOST_ROWS: usize = 15;
+
+/// How many rows a small chunk gets room for, beside the one that needs it.
+const SPARE_ROWS: usize = 3;
+
+/// How many bytes of text a small chunk gets room for, beside those that need it.
+const SPARE_BYTES: usize = 32;
+
+/// Some consecutive rows of a leaf. Beside the rows stand their texts, one after another, and how long each is: a row's
+/// parts are scattered over the heap, and the text of the leaf is written again and again.
+#[derive(Debug, Drop)]
+pub(crate) struct WrittenRows {
+    format: Format,
+    rows: Vec<Row>,
+    lens: Vec<u32>,
+    text: Vec<u8>,
+}
+
+impl Model for WrittenRows {
+    ghost use Rattle.std.specs.Prelude.{◌≡◌, length, map};
+    ghost use Rattle.std.specs.List.{AllByRecursion, flat_map};
+    ghost use Rattle.row_bytes.specs.Rows.{row_text, FitsText};
+    ghost use Rattle.hash_tree.specs.Leaves.{Bucket};
+
+    ghost Value = { Bucket };
+
+    ghost view = { λ w. record { format = w.format; rows = w.rows.items } };
+
+    ghost invariant = { λ w. AllByRecursion (FitsText w.format) w.rows.items
+        × (w.lens.items ≡ map (λ r. length (row_text w.format r)) w.rows.items)
+        × (w.text.items ≡ flat_map (row_text w.format) w.rows.items) };
+}
+
+impl Clone for WrittenRows {
+    ghost use Rattle.std.specs.Prelude.{◌≡◌};
+
+    ghost is_clone = { λ rows copy. copy ≡ rows };
+
+    fn clone(&self) -> Result<WrittenRows, AllocError> {
+        match self.try_clone(*self.text.allocator()) {
+            Ok(copy) => Ok(copy),
+            Err(_) => Err(AllocError),
+        }
+    }
+}
+
+impl WrittenRows {
+    /// No rows. It takes no memory.
+    pub(crate) fn none(alloc: Global, format: Format) -> WrittenRows
+        ensures { result ≡ record { format = format; rows = [] } }
+    {
+        WrittenRows {
+            format,
+            rows: Vec::new(alloc),
+            lens: Vec::new(alloc),
+            text: Vec::new(alloc),
+        }
+    }
+
+    /// Equal rows. Refused: NoMemory.
+    fn try_clone(&self, alloc: Global) -> Result<WrittenRows, Refusal>
+        ensures { Answers result None (λ copy. copy ≡ self.now) }
+    {
+        Ok(WrittenRows {
+            format: self.format,
+            rows: clone_rows(alloc, &self.rows)?,
+            lens: Vec::from_slice(alloc, &self.lens)?,
+            text: Vec::from_slice(alloc, &self.text)?,
+        })
+    }
+
+    /// The format of the rows.
+    pub(crate) fn format(&self) -> Format
+        ensures { result ≡ self.now.format }
+    {
+        self.format
+    }
+
+    /// The rows, in ascending order of key.
+    pub(crate) fn rows(&self) -> &[Row]
+        ensures { result.now ≡ self.now.rows }
+    {
+        self.rows.as_slice()
+    }
+
+    /// The texts of the rows, one after another.
+    pub(crate) fn text(&self) -> &[u8]
+        ensures { result.now ≡ chunk_text self.now }
+    {
+        self.text.as_slice()
+    }
+
+    /// Offers a version to the set of the row at a place.
+    ///
+    /// Refused, in order: Crowded (the set would have over 64 versions), NoMemory. The rows are then as they were.
+    pub(crate) fn offer(
+        &mut self,
+        alloc: Global,
+        at: usize,
+        version: Version,
+    ) -> Result<(), Refusal>
+        requires at { at < length self.old.rows }
+        requires value { value_fault self.old.format version.kind version.value ≡ None }
+        ensures answers { Answers result (offer_fault version (versions_at self.old.rows at)) (λ _. ⊤) }
+        ensures ok { OnOk result (self.new ≡ record self.old { rows = offered_at self.old.rows at version }) }
+        ensures err { OnErr result (self.new ≡ self.old) }
+    {
+        if self.rows[at].versions.crowds(&version) {
+            return Err(Refusal::Crowded);
+        }
+        let more = version_len(self.format, &version) as usize;
+        let start = total(&self.lens[..at]);
+        let end = start + self.lens[at] as usize;
+        let rest = rest_of(alloc, &self.text, end)?;
+        let spare = self.spare_bytes();
+        make_room(&mut self.text, more, spare)?;
+        let row = &mut self.rows[at];
+        row.versions.offer(version)?;
+        put_before(&mut self.text, start, self.format, row, &rest);
+        self.lens[at] = row_len(self.format, row) as u32;
+        Ok(())
+    }
+
+    /// Puts a row at a place among the rows. Refused: NoMemory. The rows are then as they were.
+    pub(crate) fn insert(&mut self, alloc: Global, at: usize, row: Row) -> Result<(), Refusal>
+        requires at { at ≤ length self.old.rows }
+        requires fits { FitsText self.old.format row }
+        ensures answers { Answers result None (λ _. ⊤) }
+        ensures ok { OnOk result (self.new ≡ record self.old { rows = insert self.old.rows at row }) }
+        ensures err { OnErr result (self.new ≡ self.old) }
+    {
+        let len = row_len(self.format, &row);
+        let (spare_rows, spare_bytes) = (self.spare_rows(), self.spare_bytes());
+        make_room(&mut self.rows, 1, spare_rows)?;
+        make_room(&mut self.lens, 1, spare_rows)?;
+        make_room(&mut self.text, len as usize, spare_bytes)?;
+        let start = total(&self.lens[..at]);
+        let rest = rest_of(alloc, &self.text, start)?;
+        put_before(&mut self.text, start, self.format, &row, &rest);
+        self.rows.insert(at, row).unwrap();
+        self.lens.insert(at, len as u32).unwrap();
+        Ok(())
+    }
+
+    /// For how many rows room is made besides, where there is none: for as many as there are, up to a full chunk.
+    fn spare_rows(&self) -> usize {
+        let len = self.rows.len();
+        len.max(SPARE_ROWS)
+            .min(MOST_ROWS.saturating_sub(len.saturating_add(1)))
+    }
+
+    /// For how many bytes of text room is made besides, where there is none: for a quarter of what there are, and some.
+    fn spare_bytes(&self) -> usize {
+        SPARE_BYTES.saturating_add(self.text.len() / 4)
+    }
+
+    /// Splits off the rows from a place on. Refused: NoMemory. The rows are then as they were.
+    pub(crate) fn split(&mut self, alloc: Global, at: usize) -> Result<WrittenRows, Refusal>
+        requires within { at < length self.old.rows }
+        ensures answers { Answers result None (λ _. ⊤) }
+        ensures front { OnOk result (self.new ≡ record self.old { rows = take at self.old.rows }) }
+        ensures back { IfOk result (λ back. back ≡ record self.old { rows = drop at self.old.rows }) }
+        ensures err { OnErr result (self.new ≡ self.old) }
+    {
+        let cut = total(&self.lens[..at]);
+        let lens = Vec::from_slice(alloc, &self.lens[at..])?;
+        let mut text = Vec::with_capacity(alloc, self.text.len().saturating_add(SPARE_BYTES))?;
+        text.extend_from_slice(&self.text[cut..])?;
+        let rows = self.rows.split_off(at)?;
+        self.lens.truncate(at);
+        self.text.truncate(cut);
+        Ok(WrittenRows {
+            format: self.format,
+            rows,
+            lens,
+            text,
+        })
+    }
+}
+
+/// Equal rows. Refused: NoMemory.
+fn clone_rows(alloc: Global, rows: &[Row]) -> Result<Vec<Row>, Refusal>
+    ensures { Answers result None (λ copy. copy.items ≡ rows.now) }
+{
+    let mut copy = Vec::with_capacity(alloc, rows.len())?;
+    for row in rows {
+        copy.push(Row {
+            key: row.key.try_clone()?,
+            versions: row.versions.try_clone(alloc)?,
+        })?;
+    }
+    Ok(copy)
+}
+
+/// How many bytes texts of these lengths have together.
+fn total(lens: &[u32]) -> usize
+    requires { sum_by (λ len. len) lens.now < 2 ^ 64 }
+    ensures { result ≡ sum_by (λ len. len) lens.now }
+{
+    lens.iter().map(|len| *len as usize).sum()
+}
+
+/// Makes room for some more items, if there is none, and then for some spare ones besides. The items are as they were. It
+/// fails only where memory is needed.
+fn make_room<T>(items: &mut Vec<T>, more: usize, spare: usize) -> Result<(), AllocError>
+    ensures items { items.new.items ≡ items.old.items }
+    ensures room { OnOk result (length items.new.items + more ≤ vec_capacity items.new) }
+{
+    if more <= items.capacity() - items.len() {
+        return Ok(());
+    }
+    items.reserve_exact(more.saturating_add(spare))
+}
+
+/// What a text has from a place on. Refused: NoMemory.
+fn rest_of(alloc: Global, text: &[u8], from: usize) -> Result<Vec<u8>, Refusal>
+    requires { from ≤ length text.now }
+    ensures { Answers result None (λ rest. rest.items ≡ drop from text.now) }
+{
+    Ok(Vec::from_slice(alloc, &text[from..])?)
+}
+
+/// Writes the text of a row, and then the rest, in place of what stands from `start` on. There is room for both.
+fn put_before(text: &mut Vec<u8>, start: usize, format: Format, row: &Row, rest: &[u8])
+    requires within { start ≤ length text.old.items }
+    requires fits { FitsText format row.now }
+    requires room { start + length (row_text format row.now) + length rest.now ≤ vec_capacity text.old }
+    ensures { text.new.items ≡ take start text.old.items ++ row_text format row.now ++ rest.now }
+{
+    text.truncate(start);
+    put_row(text, format, row).unwrap();
+    text.extend_from_slice(rest).unwrap();
+}
