@@ -1,5 +1,5 @@
 //! The rows of one leaf.
-ghost use Rattle.std.specs.Prelude.{◌≡◌, ◌↔◌, ◌++◌, ◌+◌, ◌<◌, [], ⊤, None, IsTrue, length, unwrap_or, option_map, OnOk, OnErr};
+ghost use Rattle.std.specs.Prelude.{◌≡◌, ◌↔◌, ◌++◌, ◌+◌, ◌<◌, ◌≤◌, [], ⊤, None, IsTrue, length, unwrap_or, option_map, OnOk, OnErr};
 ghost use Rattle.std.specs.List.{flat_map};
 ghost use Rattle.std.specs.Vec.{vec_capacity};
 ghost use Rattle.vclock.specs.Answer.{Answers};
@@ -81,6 +81,8 @@ impl Leaf {
         ensures ok { OnOk result (out.new.items ≡ out.old.items ++ leaf_text self.now.format self.now.rows) }
         ensures room { OnErr result (vec_capacity out.old < length out.old.items + length (leaf_text self.now.format self.now.rows)) }
     {
+        // (to count the bytes is to look at all chunks in a row: between two copies, each would be waited for by itself)
+        reserve(out, self.text_len())?;
         put_chunks(out, self.format, &self.chunks)
     }
 
@@ -179,4 +181,16 @@ fn find_place(rows: &[Row], key: &[u8]) -> Result<usize, usize>
     ensures { IsPlace key.now rows.now result }
 {
     rows.binary_search_by(|row| row.key.as_slice().cmp(key))
+}
+
+/// Makes room for so many more bytes. It fails only where memory is needed.
+fn reserve(out: &mut Vec<u8>, len: u128) -> Result<(), AllocError>
+    ensures items { out.new.items ≡ out.old.items }
+    ensures capacity { vec_capacity out.old ≤ vec_capacity out.new }
+    ensures err { OnErr result (vec_capacity out.old < length out.old.items + len) }
+{
+    match usize::try_from(len) {
+        Ok(len) => out.reserve(len),
+        Err(_) => Err(AllocError),
+    }
 }

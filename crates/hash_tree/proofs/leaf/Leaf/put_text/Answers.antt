@@ -12,11 +12,13 @@ returns-clause-ok c =
     let s = c.self.inside in
     let out = c.args.out.now.items in
     let text = ap (λ (cs : List Bucket). leaf_byte s.format ∷ flat_map chunk_text cs) c.deref.ensures.value ∙ text_of_chunks c.args.self.now s.format s.chunks.items c.self.view_is c.self.invariant.1 in
-    on_ok_map c.put_chunks.result (λ (put : c.put_chunks.new.out.items ≡ out ++ leaf_byte s.format ∷ flat_map chunk_text c.deref.result.now). put ∙ ap (λ (t : List ℕ). out ++ t) text) c.put_chunks.ensures.ok
+    on_ok_map c.put_chunks.result (λ (put : c.put_chunks.new.out.items ≡ c.reserve.new.out.items ++ leaf_byte s.format ∷ flat_map chunk_text c.deref.result.now).
+    put ∙ ap (λ (o : List ℕ). o ++ leaf_byte s.format ∷ flat_map chunk_text c.deref.result.now) c.reserve.ensures.items ∙ ap (λ (t : List ℕ). out ++ t) text) c.put_chunks.ensures.ok
 
 pub returns-clause-room : goal.returns-clause-room
 returns-clause-room c =
     let s = c.self.inside in
     let out = c.args.out.now.items in
     let text = ap (λ (cs : List Bucket). leaf_byte s.format ∷ flat_map chunk_text cs) c.deref.ensures.value ∙ text_of_chunks c.args.self.now s.format s.chunks.items c.self.view_is c.self.invariant.1 in
-    on_err_map c.put_chunks.result (λ (full : vec_capacity c.args.out.now < length out + length (flat_map chunk_text c.deref.result.now) + 1). omega (arith, full, ap (λ (t : List ℕ). length t) text)) c.put_chunks.ensures.room
+    on_err_map c.put_chunks.result (λ (full : vec_capacity c.reserve.new.out < length c.reserve.new.out.items + length (flat_map chunk_text c.deref.result.now) + 1).
+    omega (arith, full, c.reserve.ensures.capacity, ap (λ (t : List ℕ). length t) c.reserve.ensures.items, ap (λ (t : List ℕ). length t) text)) c.put_chunks.ensures.room
