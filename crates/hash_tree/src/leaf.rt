@@ -187,6 +187,7 @@ fn find_place(rows: &[Row], key: &[u8]) -> Result<usize, usize>
 fn reserve(out: &mut Vec<u8>, len: u128) -> Result<(), AllocError>
     ensures items { out.new.items ≡ out.old.items }
     ensures capacity { vec_capacity out.old ≤ vec_capacity out.new }
+    ensures room { OnOk result (length out.new.items + len ≤ vec_capacity out.new) }
     ensures err { OnErr result (vec_capacity out.old < length out.old.items + len) }
 {
     match usize::try_from(len) {
