@@ -7,7 +7,7 @@ mod words;
 
 use clap::Error;
 use fault::Fault;
-use outage_script::run_script;
+use outage_script::run_last_script;
 use status::{code_of, code_of_refusal, fault_code, usage_code};
 use std::env::Env;
 use std::io;
@@ -45,7 +45,7 @@ fn run<R: Input + Print + AllocGlobal + Threads + Sync>(rt: &R) -> Result<ExitCo
     let alloc = rt.alloc();
     let mut reader = rt.reader();
     let mut writer = BufWriter::new(alloc, io::writer(rt)).map_err(|_| Fault::NoMemory)?;
-    code_of(run_script(rt, alloc, &mut reader, &mut writer))
+    code_of(run_last_script(rt, alloc, &mut reader, &mut writer))
 }
 
 /// Shows the help or the version, or what is wrong with the words.

@@ -1,4 +1,4 @@
-// The status that the program ends with.
+// Which status belongs to which end of the program.
 ghost use Rattle.std.specs.Prelude.{◌≡◌, ◌≢◌, ℕ, Err, IsOkAnd, ◌⊎◌};
 ghost use Rattle.std.specs.Process.{exit_status};
 ghost use Rattle.clap.specs.Values.{kind_of};
@@ -21,7 +21,7 @@ const USAGE: u8 = 2;
 /// A device failed, or memory ran out.
 const FAULT: u8 = 3;
 
-/// The status of a script's end, or the fault that ended it.
+/// The status that belongs to a script's end, or the fault that ended it.
 pub(crate) fn code_of(end: ScriptEnd) -> Result<ExitCode, Fault>
     ensures done { end ≡ ScriptEnd.Done → IsOkAnd result (λ code. exit_status code ≡ 0) }
     ensures bad_line { (number : ℕ) → end ≡ ScriptEnd.BadLine number
@@ -37,7 +37,7 @@ pub(crate) fn code_of(end: ScriptEnd) -> Result<ExitCode, Fault>
     }
 }
 
-/// The status where the words were not taken: they ask for help or the version, or they are wrong.
+/// The status that belongs to words that clap did not take: 0 if they ask for help or the version, else 2.
 pub(crate) fn code_of_refusal(refusal: &Error) -> Result<ExitCode, Fault>
     ensures no_memory { kind_of refusal.now ≡ ErrorKind.OutOfMemory
         → result ≡ Err Fault.NoMemory }
@@ -56,14 +56,14 @@ pub(crate) fn code_of_refusal(refusal: &Error) -> Result<ExitCode, Fault>
     }
 }
 
-/// The status where the words are wrong.
+/// The status that belongs to wrong words.
 pub(crate) fn usage_code() -> ExitCode
     ensures { exit_status result ≡ 2 }
 {
     ExitCode::from(USAGE)
 }
 
-/// The status of every fault.
+/// The status that belongs to every fault.
 pub(crate) fn fault_code() -> ExitCode
     ensures { exit_status result ≡ 3 }
 {

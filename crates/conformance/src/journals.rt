@@ -14,12 +14,23 @@ fn append(alloc: Global, journal: &mut Journal, count: u64) -> Result<u64, Refus
     journal.append(0, Source::Client, key, put)
 }
 
+/// Appends a version of `a` from a partner, for which there is room.
+fn append_reserved(alloc: Global, journal: &mut Journal, count: u64) -> Result<u64, Fail> {
+    let key = Bytes::copy_of(alloc, b"a")?;
+    let copy = version(alloc, (2, count), Kind::Live, b"x")?;
+    if journal.room() == 0 {
+        return Err("no room".into());
+    }
+    Ok(journal.append_reserved(7, Source::Partner, key, copy))
+}
+
 #[test]
 fn a_journal_keeps_its_limit(rt: HostRuntime) -> Result<(), Fail> {
     let alloc = rt.alloc();
     let mut journal = Journal::new(alloc, 2);
     assert_eq!(rt; append(alloc, &mut journal, 1)?, 0);
-    assert_eq!(rt; append(alloc, &mut journal, 2)?, 1);
+    journal.reserve(1)?;
+    assert_eq!(rt; append_reserved(alloc, &mut journal, 1)?, 1);
     let third = append(alloc, &mut journal, 3);
     assert!(rt; matches!(&third, Err(Refusal::JournalFull)));
     assert!(rt; matches!(&journal.reserve(1), Err(Refusal::JournalFull)));
@@ -29,14 +40,11 @@ fn a_journal_keeps_its_limit(rt: HostRuntime) -> Result<(), Fail> {
 }
 
 #[test]
-fn reserved_room_takes_an_entry(rt: HostRuntime) -> Result<(), Fail> {
+fn an_entry_keeps_what_was_appended(rt: HostRuntime) -> Result<(), Fail> {
     let alloc = rt.alloc();
     let mut journal = Journal::new(alloc, 1);
-    let key = Bytes::copy_of(alloc, b"a")?;
-    let copy = version(alloc, (1, 2), Kind::Live, b"x")?;
     journal.reserve(1)?;
-    assert!(rt; journal.room() >= 1);
-    assert_eq!(rt; journal.append_reserved(7, Source::Partner, key, copy), 0);
+    append_reserved(alloc, &mut journal, 1)?;
     let entry = journal.get(0).ok_or("no entry 0")?;
     assert_eq!(rt;
         (entry.number, entry.seat, entry.source),

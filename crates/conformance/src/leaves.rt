@@ -13,13 +13,6 @@ use version_set::kind::Kind;
 /// the value `x` with node 1 counted once.
 const DIGEST: &str = "3d4b43aee8c45e9539c33cf37739c0af4a68f2c75518213933079d15d55106bd";
 
-/// How many rows a leaf has.
-pub(crate) fn count(leaf: &SharedLeaf) -> usize {
-    leaf.chunks().iter().fold(0, |rows: usize, chunk| {
-        rows.saturating_add(chunk.rows().len())
-    })
-}
-
 /// Offers the value `x` to the set of a key.
 fn offer(alloc: Global, leaf: &mut SharedLeaf, key: &[u8]) -> Result<(), Fail> {
     let version = version(alloc, (1, 1), Kind::Live, b"x")?;
@@ -38,8 +31,10 @@ fn a_leaf_of_many_rows_keeps_their_text(rt: HostRuntime) -> Result<(), Fail> {
     for number in 0..300u16 {
         offer(alloc, &mut leaf, &(number * 77 % 300).to_be_bytes())?;
     }
-    assert_eq!(rt; count(&leaf), 300);
-    assert!(rt; leaf.chunks().iter().all(|chunk| chunk.rows().len() <= 15));
+    for number in 0..300u16 {
+        assert!(rt; leaf.find(&number.to_be_bytes()).is_some());
+    }
+    assert!(rt; leaf.find(&300u16.to_be_bytes()).is_none());
     let mut text = Vec::new(alloc);
     leaf.put_text(&mut text)?;
     assert_eq!(rt; leaf.text_len(), text.len() as u128);

@@ -4,11 +4,17 @@
 #[cfg(test)]
 mod clocks;
 #[cfg(test)]
+mod digests;
+#[cfg(test)]
+mod events;
+#[cfg(test)]
 mod hints;
 #[cfg(test)]
 mod journals;
 #[cfg(test)]
 mod leaves;
+#[cfg(test)]
+mod limits;
 #[cfg(test)]
 mod messages;
 #[cfg(test)]

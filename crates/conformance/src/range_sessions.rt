@@ -63,6 +63,15 @@ fn text_of(alloc: Global, partner: &Snapshot, node: NodeAt) -> Result<Hashed, Re
     Ok(hash(Bytes::from(text)))
 }
 
+/// The partner's text of the root with its last byte turned.
+fn forged_root(alloc: Global, partner: &Snapshot) -> Result<Hashed, Fail> {
+    let node = NodeAt::new(0, 0).ok_or("no root")?;
+    let mut text = partner.answer(alloc, Ask { offer: 1, node })?;
+    let last = text.pop().ok_or("no text")?;
+    text.push(!last)?;
+    Ok(hash(Bytes::from(text)))
+}
+
 /// Answers the first node that the first session awaits truly, at seat 5.
 fn answer_first(
     alloc: Global,
@@ -142,6 +151,9 @@ fn an_offer_is_of_the_ranges_format_and_range(rt: HostRuntime) -> Result<(), Fai
     let refused = state.open_session(alloc, 7, other_range);
     assert!(rt; matches!(&refused, Err(Refusal::OtherRange)));
     assert!(rt; state.records().is_empty());
+    let config = RangeConfig::new(2, 0, 0, 1_000).ok_or("no such range")?;
+    let refused = RangeState::new(alloc, config)?.open_session(alloc, 7, good);
+    assert!(rt; matches!(&refused, Err(Refusal::OtherFormat)));
     Ok(())
 }
 
@@ -162,9 +174,11 @@ fn a_text_is_taken_once_and_only_if_it_is_true(rt: HostRuntime) -> Result<(), Fa
     let mut state = range(&rt, alloc, false)?;
     state.open_session(alloc, 7, offer(partner.root()))?;
     let root = first(&state)?;
-    let forged = state.take_answer(alloc, 5, 0, root, abc(alloc)?);
+    let forged = state.take_answer(alloc, 5, 0, root, forged_root(alloc, &partner)?);
     assert!(rt; matches!(&forged, Err(Refusal::WrongDigest)));
     expect_answer(&rt, alloc, &mut state, &partner, 0, SessionState::Open)?;
+    let child = first(&state)?;
+    assert_eq!(rt; (child.depth, child.index), (1, 0));
     let again = state.take_answer(alloc, 5, 0, root, text_of(alloc, &partner, root)?);
     assert!(rt; matches!(&again, Err(Refusal::NotAsked)));
     let none = state.take_answer(alloc, 5, 1, root, text_of(alloc, &partner, root)?);
@@ -181,6 +195,8 @@ fn a_text_of_no_node_fails_the_session(rt: HostRuntime) -> Result<(), Fail> {
     let broken = state.take_answer(alloc, 5, 0, root, abc(alloc)?);
     assert!(rt; matches!(&broken, Err(Refusal::NotCanonical)));
     assert_eq!(rt; state_of(&state, 0)?, SessionState::Failed);
+    let again = state.take_answer(alloc, 5, 0, root, abc(alloc)?);
+    assert!(rt; matches!(&again, Err(Refusal::NotAsked)));
     Ok(())
 }
 
@@ -196,5 +212,39 @@ fn a_session_ends_with_the_partners_version(rt: HostRuntime) -> Result<(), Fail>
     assert_eq!(rt; state.versions(b"a").len(), 1);
     state.rehash(&rt, alloc)?;
     assert_eq!(rt; root_of(alloc, &state)?, partner.root());
+    Ok(())
+}
+
+/// Puts `abc`, which lies in leaf 144, at node 2.
+fn put_abc(alloc: Global, state: &mut RangeState) -> Result<(), Refusal> {
+    let context = Clock::from_pairs(alloc, &[])?;
+    let value = Bytes::copy_of(alloc, b"y")?;
+    state.put(alloc, 0, 2, b"abc", &context, Kind::Live, value)?;
+    Ok(())
+}
+
+/// Asserts that the first session asked exactly these nodes, in order.
+fn expect_asked(rt: &impl Abort, state: &RangeState, nodes: &[(u8, u16)]) -> Result<(), Fail> {
+    let record = state.records().get(0).ok_or("no record")?;
+    let asked = record.session().asked();
+    assert_eq!(rt; asked.len(), nodes.len());
+    for (one, &other) in asked.iter().zip(nodes) {
+        assert_eq!(rt; (one.depth, one.index), other);
+    }
+    Ok(())
+}
+
+#[test]
+fn a_session_asks_the_nodes_that_differ(rt: HostRuntime) -> Result<(), Fail> {
+    let alloc = rt.alloc();
+    let mut partner = range(&rt, alloc, true)?;
+    let mut one = range(&rt, alloc, false)?;
+    one.sync_with(alloc, 5, 7, &*partner.snapshot(alloc)?)?;
+    expect_asked(&rt, &one, &[(0, 0), (1, 0), (2, 12)])?;
+    put_abc(alloc, &mut partner)?;
+    partner.rehash(&rt, alloc)?;
+    let mut two = range(&rt, alloc, false)?;
+    two.sync_with(alloc, 5, 7, &*partner.snapshot(alloc)?)?;
+    expect_asked(&rt, &two, &[(0, 0), (1, 0), (1, 9), (2, 12), (2, 144)])?;
     Ok(())
 }

@@ -1,7 +1,6 @@
 // Range states.
 ghost use Rattle.std.specs.Prelude.{◌<◌};
 
-use crate::leaves::count;
 use crate::sets::{members, version};
 use range_journal::journal::Source;
 use range_state::config::RangeConfig;
@@ -111,13 +110,13 @@ fn events_are_answered_in_order(rt: HostRuntime) -> Result<(), Fail> {
     Ok(())
 }
 
-/// How many rows a leaf has: each format has 256 leaves at least.
-fn rows_in(state: &RangeState, leaf: u16) -> usize
+/// Whether a leaf has a row of `a`: each format has 256 leaves at least.
+fn has_a(state: &RangeState, leaf: u16) -> bool
     requires { leaf < 256 }
 {
     match state.config().format() {
-        Format::One => count(state.rows(leaf)),
-        Format::Two => count(state.rows(leaf)),
+        Format::One => state.rows(leaf).find(b"a").is_some(),
+        Format::Two => state.rows(leaf).find(b"a").is_some(),
     }
 }
 
@@ -131,8 +130,8 @@ fn accept_key(alloc: Global, state: &mut RangeState, key: &[u8]) -> Result<Accep
 fn expect_a_in(rt: &impl Abort, state: &RangeState, leaf: u16)
     requires { leaf < 256 }
 {
-    assert_eq!(rt; rows_in(state, leaf), 1);
-    assert_eq!(rt; rows_in(state, 0), 0);
+    assert!(rt; has_a(state, leaf));
+    assert!(rt; !has_a(state, 0));
     assert_eq!(rt; state.versions(b"a").len(), 1);
     assert_eq!(rt; state.versions(b"b").len(), 0);
 }

@@ -5,6 +5,7 @@ use range_state::config::RangeConfig;
 use range_state::state::RangeState;
 use snapshot::snapshot::Snapshot;
 use std::alloc::Global;
+use std::process::Abort;
 use std::sync::Arc;
 use std::test::Fail;
 use std::thread::Threads;
@@ -74,11 +75,25 @@ fn answer_first(
     }
 }
 
+/// Asserts that the partner's text of the first outstanding node would give no rows.
+fn expect_no_rows(
+    rt: &impl Abort,
+    alloc: Global,
+    session: &Session,
+    partner: &Snapshot,
+) -> Result<(), Fail> {
+    let node = first(session)?;
+    let rows = session.rows_of(alloc, node, &text_of(alloc, partner, node)?)?;
+    assert!(rt; rows.is_empty());
+    Ok(())
+}
+
 #[test]
 fn a_session_ends_with_the_partners_rows(rt: HostRuntime) -> Result<(), Fail> {
     let alloc = rt.alloc();
     let partner = snapshot(&rt, alloc, true)?;
     let mut session = session(&rt, alloc, partner.root())?;
+    expect_no_rows(&rt, alloc, &session, &partner)?;
     assert_eq!(rt; answer_first(alloc, &mut session, &partner)?, None);
     assert_eq!(rt; answer_first(alloc, &mut session, &partner)?, None);
     assert_eq!(rt; answer_first(alloc, &mut session, &partner)?, Some(1));
@@ -95,57 +110,6 @@ fn equal_roots_ask_nothing(rt: HostRuntime) -> Result<(), Fail> {
     let session = session(&rt, alloc, root)?;
     assert_eq!(rt; session.state(), SessionState::Finished);
     assert!(rt; session.asked().is_empty());
-    Ok(())
-}
-
-/// The partner's text of the root with its last byte turned.
-fn forged_root(alloc: Global, partner: &Snapshot) -> Result<Hashed, Fail> {
-    let node = NodeAt::new(0, 0).ok_or("no root")?;
-    let mut text = partner.answer(alloc, Ask { offer: 1, node })?;
-    let last = text.pop().ok_or("no text")?;
-    text.push(!last)?;
-    Ok(hash(Bytes::from(text)))
-}
-
-#[test]
-fn a_forged_text_is_not_taken(rt: HostRuntime) -> Result<(), Fail> {
-    let alloc = rt.alloc();
-    let partner = snapshot(&rt, alloc, true)?;
-    let mut session = session(&rt, alloc, partner.root())?;
-    let root = first(&session)?;
-    let forged = session.take(alloc, root, forged_root(alloc, &partner)?);
-    assert!(rt; matches!(&forged, Err(Refusal::WrongDigest)));
-    assert_eq!(rt; first(&session)?, root);
-    Ok(())
-}
-
-#[test]
-fn a_text_is_taken_once(rt: HostRuntime) -> Result<(), Fail> {
-    let alloc = rt.alloc();
-    let partner = snapshot(&rt, alloc, true)?;
-    let mut session = session(&rt, alloc, partner.root())?;
-    let root = first(&session)?;
-    assert!(rt;
-        session
-            .rows_of(alloc, root, &text_of(alloc, &partner, root)?)?
-            .is_empty()
-    );
-    assert_eq!(rt; answer_first(alloc, &mut session, &partner)?, None);
-    let again = session.take(alloc, root, text_of(alloc, &partner, root)?);
-    assert!(rt; matches!(&again, Err(Refusal::NotAsked)));
-    Ok(())
-}
-
-#[test]
-fn a_text_of_no_node_fails_the_session(rt: HostRuntime) -> Result<(), Fail> {
-    let alloc = rt.alloc();
-    let text = hash(Bytes::copy_of(alloc, b"abc")?);
-    let mut session = session(&rt, alloc, text.digest())?;
-    let root = first(&session)?;
-    let answer = session.take(alloc, root, text);
-    assert!(rt; matches!(&answer, Err(Refusal::NotCanonical)));
-    assert_eq!(rt; session.state(), SessionState::Failed);
-    assert!(rt; session.outstanding().is_empty());
     Ok(())
 }
 

@@ -96,7 +96,7 @@ fn a_set_has_at_most_64_members(rt: HostRuntime) -> Result<(), Fail> {
     assert_eq!(rt; set.len(), 64);
     let later = version(alloc, (100, 2), Kind::Live, b"y")?;
     assert!(rt; !set.crowds(&later));
-    let set = set.with_room()?.offer(later);
+    set.offer(later)?;
     assert_eq!(rt; set.len(), 64);
     assert!(rt; set.covers(&version(alloc, (100, 2), Kind::Live, b"y")?));
     Ok(())

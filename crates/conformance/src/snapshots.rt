@@ -3,6 +3,7 @@ use hash_tree::node::NodeAt;
 use range_state::config::RangeConfig;
 use range_state::event::{Event, Reply};
 use range_state::state::RangeState;
+use rehash::job::run_job;
 use snapshot::snapshot::Snapshot;
 use std::alloc::Global;
 use std::process::Abort;
@@ -12,7 +13,7 @@ use vclock::bytes::Bytes;
 use vclock::clock::Clock;
 use vclock::refusal::Refusal;
 use version_set::kind::Kind;
-use walk_messages::message::Ask;
+use walk_messages::message::{Ask, Offer};
 
 /// A range of a ring with one range, in format 1.
 fn range(alloc: Global) -> Result<RangeState, Fail> {
@@ -26,9 +27,9 @@ fn ask(depth: u8, index: u16) -> Result<Ask, Fail> {
     Ok(Ask { offer: 1, node })
 }
 
-/// Puts a value under `a`, which lies in leaf 12.
-fn put(alloc: Global, state: &mut RangeState) -> Result<(), Fail> {
-    let context = Clock::from_pairs(alloc, &[])?;
+/// Puts a value under `a`, which lies in leaf 12, with a context.
+fn put(alloc: Global, state: &mut RangeState, context: &[(u64, u64)]) -> Result<(), Fail> {
+    let context = Clock::from_pairs(alloc, context)?;
     let value = Bytes::copy_of(alloc, b"x")?;
     state.put(alloc, 0, 1, b"a", &context, Kind::Live, value)?;
     Ok(())
@@ -46,13 +47,6 @@ fn text_at(alloc: Global, snapshot: &Snapshot, depth: u8, index: u16) -> Result<
     Ok(snapshot.answer(alloc, ask(depth, index)?)?)
 }
 
-/// Asks for the text of leaf 12, which has no row.
-fn expect_empty(rt: &impl Abort, alloc: Global, snapshot: &Snapshot) -> Result<(), Fail> {
-    let text = text_at(alloc, snapshot, 2, 12)?;
-    assert_eq!(rt; text.as_slice(), [0].as_slice());
-    Ok(())
-}
-
 #[test]
 fn a_dirty_range_offers_nothing(rt: HostRuntime) -> Result<(), Fail> {
     let alloc = rt.alloc();
@@ -66,22 +60,58 @@ fn a_dirty_range_offers_nothing(rt: HostRuntime) -> Result<(), Fail> {
 fn a_snapshot_answers_for_each_node_of_its_tree(rt: HostRuntime) -> Result<(), Fail> {
     let alloc = rt.alloc();
     let snapshot = clean_range(&rt, alloc)?.snapshot(alloc)?;
-    expect_empty(&rt, alloc, &snapshot)?;
+    assert_eq!(rt; text_at(alloc, &snapshot, 2, 0)?.as_slice(), [0].as_slice());
     assert_eq!(rt; text_at(alloc, &snapshot, 1, 0)?.len(), 513);
     let deeper = snapshot.answer(alloc, ask(3, 0)?);
     assert!(rt; matches!(&deeper, Err(Refusal::BadMessage)));
     Ok(())
 }
 
+/// Asserts that a snapshot has this text of leaf 12.
+fn expect_leaf(
+    rt: &impl Abort,
+    alloc: Global,
+    snapshot: &Snapshot,
+    text: &[u8],
+) -> Result<(), Fail> {
+    assert_eq!(rt; text_at(alloc, snapshot, 2, 12)?.as_slice(), text);
+    Ok(())
+}
+
 #[test]
-fn a_snapshot_stays_as_it_was_made(rt: HostRuntime) -> Result<(), Fail> {
+fn what_was_taken_before_a_put_has_the_old_text(rt: HostRuntime) -> Result<(), Fail> {
+    let alloc = rt.alloc();
+    let mut state = range(alloc)?;
+    put(alloc, &mut state, &[])?;
+    state.rehash(&rt, alloc)?;
+    let snapshot = state.snapshot(alloc)?;
+    let old = text_at(alloc, &snapshot, 2, 12)?;
+    assert_eq!(rt; old.len(), 22);
+    let offer = Offer {
+        offer: 1,
+        format: 1,
+        range: 0,
+        root: [7; 32],
+    };
+    state.open_session(alloc, 7, offer)?;
+    put(alloc, &mut state, &[(1, 1)])?;
+    expect_leaf(&rt, alloc, &snapshot, &old)?;
+    let record = state.records().get(0).ok_or("no record")?;
+    expect_leaf(&rt, alloc, &**record.session().own(), &old)?;
+    state.rehash(&rt, alloc)?;
+    assert!(rt; text_at(alloc, &*state.snapshot(alloc)?, 2, 12)?.as_slice() != old.as_slice());
+    Ok(())
+}
+
+#[test]
+fn a_job_has_the_text_of_its_leaf_as_it_was_taken(rt: HostRuntime) -> Result<(), Fail> {
     let alloc = rt.alloc();
     let mut state = clean_range(&rt, alloc)?;
-    let snapshot = state.snapshot(alloc)?;
-    put(alloc, &mut state)?;
-    expect_empty(&rt, alloc, &snapshot)?;
-    state.rehash(&rt, alloc)?;
-    assert!(rt; text_at(alloc, &*state.snapshot(alloc)?, 2, 12)?.len() > 1);
+    put(alloc, &mut state, &[])?;
+    let old = run_job(state.take_job(alloc, 0)?.ok_or("no job")?);
+    let job = state.take_job(alloc, 0)?.ok_or("no job")?;
+    put(alloc, &mut state, &[(1, 1)])?;
+    assert_eq!(rt; run_job(job).text(), old.text());
     Ok(())
 }
 

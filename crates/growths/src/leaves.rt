@@ -16,11 +16,11 @@ pub(crate) fn show_all<R: Print + AllocGlobal>(rt: &R) -> io::Result<()> {
     show(rt, "offer to a full chunk", offer_to_a_full_chunk(alloc))
 }
 
-/// How many rows a leaf has.
+/// How many keys of one byte have a row.
 fn count(leaf: &SharedLeaf) -> u64 {
-    leaf.chunks().iter().fold(0, |rows: u64, chunk| {
-        rows.saturating_add(chunk.rows().len() as u64)
-    })
+    (0..=255u8)
+        .filter(|key| leaf.find(&[*key]).is_some())
+        .count() as u64
 }
 
 /// Offers a version to the set of a key.
@@ -59,7 +59,7 @@ fn offer_to_a_copy(alloc: Global) -> Result<u64, Refusal> {
     }
 }
 
-/// The chunk of 128 rows is split for one more.
+/// Each chunk of 15 rows is split for one more.
 fn offer_to_a_full_chunk(alloc: Global) -> Result<u64, Refusal> {
     let mut leaf = SharedLeaf::empty(Format::One);
     for key in 0..129u8 {

@@ -14,7 +14,6 @@ pub(crate) fn show_all<R: Print + AllocGlobal>(rt: &R) -> io::Result<()> {
     let alloc = rt.alloc();
     show(rt, "clone of a version", clone_of_version(alloc))?;
     show(rt, "offer", offer(alloc))?;
-    show(rt, "with_room", with_room(alloc))?;
     show(rt, "clocks", clocks(alloc))?;
     show(rt, "clone of a set", clone_of_set(alloc))
 }
@@ -49,13 +48,6 @@ fn offer(alloc: Global) -> Result<u64, Refusal> {
         }
     }
     Ok(set.len() as u64)
-}
-
-fn with_room(alloc: Global) -> Result<u64, Refusal> {
-    match VersionSet::empty(alloc).with_room() {
-        Ok(_) => Ok(0),
-        Err(failed) => Err(unchanged(Refusal::NoMemory, failed.set.is_empty())),
-    }
 }
 
 fn clocks(alloc: Global) -> Result<u64, Refusal> {

@@ -8,6 +8,7 @@ use Rattle.std.specs.FinMap.{slice_cmp-IsAntisymmetric, nat_cmp-IsAntisymmetric}
 use Rattle.std.proofs.lemmas.Cmp.{nat_list_cmp_total}
 use Rattle.version_set.specs.declared.version.Version.{Version}
 use Rattle.version_set.specs.Version.{place_by, offered}
+use Rattle.version_set.proofs.Lists.{all-filter}
 use Rattle.row_bytes.specs.declared.row.Row.{Row}
 use Rattle.hash_tree.specs.Leaves.{key_cmp, AscendByKey, with_offer}
 
@@ -26,10 +27,6 @@ all_get P [] i d all h = absurd (omega arith)
 all_get P (x ∷ xs) zero d all h = all.0
 all_get P (x ∷ xs) (suc i) d all h = all_get P xs i d all.1 (omega arith)
 
-pub all_filter : {X : Type 0} (P : X → Type 0) (p : X → Bool) (xs : List X) → AllByRecursion P xs → AllByRecursion P (filter p xs)
-all_filter P p [] h = tt
-all_filter P p (x ∷ xs) h = elim (p x) as (λ b. AllByRecursion P (cond b (x ∷ filter p xs) (filter p xs))) [ true ↦ (h.0, all_filter P p xs h.1) | false ↦ all_filter P p xs h.1 ]
-
 -- what is greater than b is greater than what is less than b
 pub less_rows : (k x : List ℕ) (rows : List Row) → key_cmp k x ≡ Less → AllByRecursion (λ (y : Row). key_cmp x y.key ≡ Less) rows → AllByRecursion (λ (y : Row). key_cmp k y.key ≡ Less) rows
 less_rows k x [] h all = tt
@@ -45,7 +42,7 @@ ascend_pair (r ∷ rows) (suc i) (suc j) d a less within = ascend_pair rows i j 
 pub AscendByKey-filter : (p : Row → Bool) (rows : List Row) → AscendByKey rows → AscendByKey (filter p rows)
 AscendByKey-filter p [] a = tt
 AscendByKey-filter p (r ∷ rows) a = elim (p r) as (λ b. AscendByKey (cond b (r ∷ filter p rows) (filter p rows))) [
-  | true ↦ (all_filter (λ (x : Row). key_cmp r.key x.key ≡ Less) p rows a.0, AscendByKey-filter p rows a.1)
+  | true ↦ (all-filter (λ (x : Row). key_cmp r.key x.key ≡ Less) p rows a.0, AscendByKey-filter p rows a.1)
   | false ↦ AscendByKey-filter p rows a.1
 ]
 

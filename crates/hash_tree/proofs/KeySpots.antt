@@ -8,6 +8,7 @@ use Rattle.std.proofs.lemmas.List.{length-append, set-append_left, set-append_ri
 use Rattle.std.proofs.lemmas.List.Edits.{insert-append_left, insert-append_right}
 use Rattle.version_set.specs.declared.version.Version.{Version}
 use Rattle.version_set.specs.Version.{place_by, offered}
+use Rattle.version_set.proofs.Lists.{all-append}
 use Rattle.row_bytes.specs.declared.row.Row.{Row}
 use Rattle.hash_tree.specs.Leaves.{key_cmp, Bucket, AscendByKey, IsAt, IsBetween, with_offer, versions_in}
 use Rattle.hash_tree.specs.Chunks.{all_rows, rows_of, begin_by, place_in, IsRowSpot, IsGapSpot, versions_at, offered_at}
@@ -25,10 +26,6 @@ all_front P (x ∷ xs) ys all = (all.0, all_front P xs ys all.1)
 all_back : {X : Type 0} (P : X → Type 0) (xs ys : List X) → AllByRecursion P (xs ++ ys) → AllByRecursion P ys
 all_back P [] ys all = all
 all_back P (x ∷ xs) ys all = all_back P xs ys all.1
-
-all_both : {X : Type 0} (P : X → Type 0) (xs ys : List X) → AllByRecursion P xs → AllByRecursion P ys → AllByRecursion P (xs ++ ys)
-all_both P [] ys front back = back
-all_both P (x ∷ xs) ys front back = (front.0, all_both P xs ys front.1 back)
 
 ascend_front : (xs ys : List Row) → AscendByKey (xs ++ ys) → AscendByKey xs
 ascend_front [] ys a = tt
@@ -76,7 +73,7 @@ before_less : (k : List ℕ) (chunks : List Bucket) (n : ℕ) (d : Bucket) → A
 before_less k [] n d a h begins = absurd (omega arith)
 before_less k (c ∷ chunks) zero d a h begins = tt
 before_less k (c ∷ chunks) (suc n) d a h begins =
-    all_both (λ (y : Row). key_cmp k y.key ≡ Greater) c.rows (all_rows (take n chunks)) (less_rows_first k c.rows chunks n d a (omega arith) begins)
+    all-append (λ (y : Row). key_cmp k y.key ≡ Greater) c.rows (all_rows (take n chunks)) (less_rows_first k c.rows chunks n d a (omega arith) begins)
     (before_less k chunks n d (ascend_back c.rows (all_rows chunks) a) (omega arith) begins)
 
 -- ascending rows that don't begin by a key are greater than it
@@ -98,7 +95,7 @@ after_greater : (k : List ℕ) (chunks : List Bucket) (n : ℕ) → AscendByKey 
 after_greater k [] zero a some begins = tt
 after_greater k [] (suc n) a some begins = tt
 after_greater k (c ∷ chunks) zero a some begins =
-    all_both (λ (y : Row). key_cmp k y.key ≡ Less) c.rows (all_rows chunks) (greater_rows k c.rows (ascend_front c.rows (all_rows chunks) a) some.0 (begins 0 c (omega arith) (omega arith)))
+    all-append (λ (y : Row). key_cmp k y.key ≡ Less) c.rows (all_rows chunks) (greater_rows k c.rows (ascend_front c.rows (all_rows chunks) a) some.0 (begins 0 c (omega arith) (omega arith)))
     (after_greater k chunks zero (ascend_back c.rows (all_rows chunks) a) some.1 (λ i d from within. begins (suc i) d (omega arith) (omega arith)))
 after_greater k (c ∷ chunks) (suc n) a some begins =
     after_greater k chunks n (ascend_back c.rows (all_rows chunks) a) some.1 (λ i d from within. begins (suc i) d (omega arith) (omega arith))

@@ -6,9 +6,10 @@ use Rattle.std.specs.List.{AllByRecursion}
 use Rattle.std.specs.declared.cmp.Ordering.TheVariants.{Less, Equal, Greater}
 use Rattle.version_set.specs.declared.version.Version.{Version}
 use Rattle.version_set.specs.Version.{place_by, offered}
+use Rattle.version_set.proofs.Lists.{all-filter}
 use Rattle.row_bytes.specs.declared.row.Row.{Row}
 use Rattle.hash_tree.specs.Leaves.{key_cmp, AscendByKey, rows_at, with_offer, versions_in}
-use Rattle.hash_tree.proofs.KeyOrder.{key_exact, all_filter, less_rows}
+use Rattle.hash_tree.proofs.KeyOrder.{key_exact, less_rows}
 
 pub offer_first : (k : List ℕ) (v : Version) (rows : List Row) → AllByRecursion (λ (y : Row). key_cmp k y.key ≡ Less) rows → with_offer k v rows ≡ record { key = k; versions = offered v [] } ∷ rows
 offer_first k v [] h = refl
@@ -25,7 +26,7 @@ rows_at-with_offer leaf i k v [] a = refl
 rows_at-with_offer leaf i k v (r ∷ rows) a =
     elim (key_cmp k r.key) as (λ o. key_cmp k r.key ≡ o → rows_at leaf i (place_by o (record { key = k; versions = offered v [] } ∷ r ∷ rows) (record { key = r.key; versions = offered v r.versions } ∷ rows) (r ∷ with_offer k v rows)) ≡ cond (nat_eq (leaf k) i) (with_offer k v (rows_at leaf i (r ∷ rows))) (rows_at leaf i (r ∷ rows))) [
       | Less ↦ λ o.
-          let all = all_filter (λ (x : Row). key_cmp k x.key ≡ Less) (λ (x : Row). nat_eq (leaf x.key) i) (r ∷ rows) (o, less_rows k r.key rows o a.0) in
+          let all = all-filter (λ (x : Row). key_cmp k x.key ≡ Less) (λ (x : Row). nat_eq (leaf x.key) i) (r ∷ rows) (o, less_rows k r.key rows o a.0) in
           ap (λ (t : List Row). cond (nat_eq (leaf k) i) t (rows_at leaf i (r ∷ rows))) (sym (offer_first k v (rows_at leaf i (r ∷ rows)) all))
       | Equal ↦ λ o.
           let there : nat_eq (leaf k) i ≡ nat_eq (leaf r.key) i = ap (λ (x : List ℕ). nat_eq (leaf x) i) (key_exact k r.key o) in
@@ -43,7 +44,7 @@ pub versions_in-rows_at : (leaf : List ℕ → ℕ) (k : List ℕ) (rows : List 
 versions_in-rows_at leaf k [] a = refl
 versions_in-rows_at leaf k (r ∷ rows) a =
     elim (key_cmp k r.key) as (λ o. key_cmp k r.key ≡ o → versions_in k (rows_at leaf (leaf k) (r ∷ rows)) ≡ place_by o [] r.versions (versions_in k rows)) [
-      | Less ↦ λ o. in_first k (rows_at leaf (leaf k) (r ∷ rows)) (all_filter (λ (x : Row). key_cmp k x.key ≡ Less) (λ (x : Row). nat_eq (leaf x.key) (leaf k)) (r ∷ rows) (o, less_rows k r.key rows o a.0))
+      | Less ↦ λ o. in_first k (rows_at leaf (leaf k) (r ∷ rows)) (all-filter (λ (x : Row). key_cmp k x.key ≡ Less) (λ (x : Row). nat_eq (leaf x.key) (leaf k)) (r ∷ rows) (o, less_rows k r.key rows o a.0))
       | Equal ↦ λ o.
           let there : nat_eq (leaf r.key) (leaf k) ≡ true = ap (λ (x : List ℕ). nat_eq (leaf x) (leaf k)) (sym (key_exact k r.key o)) ∙ eq_itself (leaf k) in
           rw (there, o) refl

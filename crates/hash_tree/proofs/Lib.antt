@@ -7,6 +7,7 @@ pub mod KeySpots
 pub mod RowLengths
 pub mod PlaceLaws
 pub mod PathLaws
+pub mod Strips
 pub mod TextLaws
 pub mod TreeLaws
 pub mod ReadyLaws

@@ -11,7 +11,8 @@ use Rattle.vclock.specs.declared.format.Format.{Format}
 use Rattle.version_set.specs.Kind.{value_fault}
 use Rattle.version_set.specs.declared.version.Version.{Version}
 use Rattle.version_set.specs.Version.{version_cmp, place_by, is_below, covered, maximal, with_version, offered, version_text}
-use Rattle.version_set.proofs.SetLaws.{version_total, covered-maximal, all-with_version, all-filter}
+use Rattle.version_set.proofs.SetLaws.{version_total, covered-maximal, all-with_version}
+use Rattle.version_set.proofs.Lists.{all-filter}
 use Rattle.row_bytes.specs.declared.row.Row.{Row}
 use Rattle.row_bytes.specs.Rows.{row_text, FitsText}
 use Rattle.row_bytes.proofs.TextLengths.{row_text_len}

@@ -12,10 +12,10 @@ use Rattle.version_set.specs.declared.version.Version.{Version}
 use Rattle.row_bytes.specs.declared.row.Row.{Row}
 use Rattle.row_bytes.specs.Rows.{row_text, IsRow}
 use Rattle.row_bytes.proofs.RowLaws.{one_row}
-use Rattle.row_bytes.proofs.Strips.{flat_map-at}
+use Rattle.hash_tree.proofs.Strips.{flat_map-at}
 use Rattle.hash_tree.specs.Leaves.{AscendByKey, rows_at, with_offer}
 use Rattle.hash_tree.specs.Nodes.{ancestor_of}
-use Rattle.hash_tree.specs.Texts.{leaf_byte, leaf_text, inner_text, per_child, node_text, node_digest}
+use Rattle.hash_tree.specs.Texts.{leaf_text, inner_text, per_child, node_text, node_digest}
 use Rattle.hash_tree.proofs.LeafLaws.{rows_at-with_offer}
 
 -- ---- per child
@@ -76,13 +76,6 @@ part_within f xs i x within is =
     let split : flat_map f xs ≡ flat_map f (take i xs) ++ (f x ++ rest) =
     ap (flat_map f) (sym (take-append-drop i xs)) ∙ flat_map-append f (take i xs) (drop i xs) ∙ ap (λ (t : List ℕ). flat_map f (take i xs) ++ t) first in
     omega (arith, ap (λ (t : List ℕ). length t) split, length-append (flat_map f (take i xs)) (f x ++ rest), length-append (f x) rest)
-
--- Where a row doesn't fit, the leaf's text doesn't.
-pub no_room : (format : Format) (rows : List Row) (i : ℕ) (row : Row) (old out : List ℕ) (before now : ℕ) → i < length rows → row ≡ get_or rows i row → out ≡ old ++ leaf_byte format ∷ flat_map (row_text format) (take i rows)
-    → before ≤ now → now < length out + length (row_text format row) → before < length old + length (leaf_text format rows)
-unfolding leaf_text
-no_room format rows i row old out before now within is so_far grown full =
-    omega (arith, part_within (row_text format) rows i row within is, ap (λ (t : List ℕ). length t) so_far, length-append old (leaf_byte format ∷ flat_map (row_text format) (take i rows)), grown, full)
 
 -- ---- what a leaf's text says
 

@@ -55,11 +55,6 @@ abbrev pub first_key : List Row → List ℕ
 first_key [] = []
 first_key (r ∷ rows) = r.key
 
--- the key of the first row, once a row of this key was put at place i
-abbrev pub first_with : ℕ → List ℕ → List ℕ → List ℕ
-first_with zero k first = k
-first_with (suc i) k first = first
-
 -- whether the first key of some rows is at most a key
 abbrev pub begin_by : List ℕ → List Row → Bool
 begin_by k [] = false

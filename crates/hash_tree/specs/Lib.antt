@@ -1,4 +1,5 @@
 pub mod Leaves
 pub mod Nodes
 pub mod Texts
+pub mod Strip
 pub mod Chunks

@@ -5,7 +5,7 @@ ghost use Rattle.vclock.specs.Answer.{Answers};
 ghost use Rattle.version_set.specs.Kind.{value_fault};
 ghost use Rattle.version_set.specs.Version.{offer_fault};
 ghost use Rattle.row_bytes.specs.Rows.{FitsText};
-ghost use Rattle.hash_tree.specs.Chunks.{chunk_text, first_with, begin_by, versions_at, offered_at};
+ghost use Rattle.hash_tree.specs.Chunks.{chunk_text, begin_by, versions_at, offered_at};
 
 use crate::written::WrittenRows;
 use row_bytes::row::Row;
@@ -20,7 +20,7 @@ use version_set::version::Version;
 /// Some consecutive rows of a leaf, at least one. A copy of the leaf shares them, until one of both changes them. The first
 /// key is kept besides, so that a search among chunks looks at no row.
 #[derive(Debug, Drop)]
-pub struct Chunk {
+pub(crate) struct Chunk {
     first: Bytes,
     held: Arc<WrittenRows, Global>,
 }
@@ -54,7 +54,7 @@ impl Chunk {
     }
 
     /// The rows, in ascending order of key.
-    pub fn rows(&self) -> &[Row]
+    pub(crate) fn rows(&self) -> &[Row]
         ensures { result.now ≡ self.now.rows }
     {
         self.held.rows()
@@ -84,9 +84,8 @@ impl Chunk {
         })
     }
 
-    /// Offers a version to the set of the row at a place, in a copy of the rows where they have other owners.
-    ///
-    /// Refused, in order: Crowded (the set would have over 64 versions), NoMemory. The chunk is then as it was.
+    /// Offers a version to the set of the row at a place, in a copy of the rows where they have other owners. Refused:
+    /// NoMemory. The chunk is then as it was.
     pub(crate) fn offer(
         &mut self,
         alloc: Global,
@@ -95,13 +94,11 @@ impl Chunk {
     ) -> Result<(), Refusal>
         requires at { at < length self.old.rows }
         requires value { value_fault self.old.format version.kind version.value ≡ None }
-        ensures answers { Answers result (offer_fault version (versions_at self.old.rows at)) (λ _. ⊤) }
+        requires room { offer_fault version (versions_at self.old.rows at) ≡ None }
+        ensures answers { Answers result None (λ _. ⊤) }
         ensures ok { OnOk result (self.new ≡ record self.old { rows = offered_at self.old.rows at version }) }
         ensures err { OnErr result (self.new ≡ self.old) }
     {
-        if self.held.rows()[at].versions.crowds(&version) {
-            return Err(Refusal::Crowded);
-        }
         Arc::make_mut(&mut self.held)?.offer(alloc, at, version)
     }
 
@@ -114,9 +111,15 @@ impl Chunk {
         ensures ok { OnOk result (self.new ≡ record self.old { rows = insert self.old.rows at row }) }
         ensures err { OnErr result (self.new ≡ self.old) }
     {
-        let first = first_key_with(&self.first, at, &row)?;
+        let first = if at == 0 {
+            Some(row.key.try_clone()?)
+        } else {
+            None
+        };
         Arc::make_mut(&mut self.held)?.insert(alloc, at, row)?;
-        self.first = first;
+        if let Some(first) = first {
+            self.first = first;
+        }
         Ok(())
     }
 
@@ -131,18 +134,12 @@ impl Chunk {
     {
         let first = self.held.rows()[at].key.try_clone()?;
         let mut held = Arc::new(alloc, WrittenRows::none(alloc, self.held.format()))?;
+        // This always succeeds, since `held` has no other owner. The contract of `get_mut` doesn't say so: to a contract, an
+        // `Arc` is its value, and how many owners it has is no part of that.
         let Some(back) = Arc::get_mut(&mut held) else {
             return Err(Refusal::NoMemory);
         };
         *back = Arc::make_mut(&mut self.held)?.split(alloc, at)?;
         Ok(Chunk { first, held })
     }
-}
-
-/// The first key, once a row is put at a place. Refused: NoMemory.
-fn first_key_with(first: &Bytes, at: usize, row: &Row) -> Result<Bytes, Refusal>
-    ensures { Answers result None (λ key. key ≡ first_with at row.now.key first.now) }
-{
-    let key = if at == 0 { &row.key } else { first };
-    Ok(key.try_clone()?)
 }

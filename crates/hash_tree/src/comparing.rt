@@ -1,28 +1,14 @@
 //! Comparing a text with that of a node in place, with no memory taken.
 ghost use Rattle.std.specs.Prelude.{◌≡◌, ◌↔◌, ◌∷◌, IsTrue};
-ghost use Rattle.std.specs.List.{AllByRecursion, flat_map};
-ghost use Rattle.row_bytes.specs.Rows.{FitsText};
-ghost use Rattle.row_bytes.specs.Strip.{Strips};
+ghost use Rattle.std.specs.List.{flat_map};
 ghost use Rattle.hash_tree.specs.Chunks.{chunk_text};
-ghost use Rattle.hash_tree.specs.Texts.{leaf_byte, leaf_text, inner_text};
+ghost use Rattle.hash_tree.specs.Strip.{Strips};
+ghost use Rattle.hash_tree.specs.Texts.{leaf_byte, inner_text};
 
 use crate::chunk::Chunk;
 use crate::hashed::Digest;
 use crate::texts::{inner_byte, leaf_byte};
-use row_bytes::row::Row;
-use row_bytes::stripping::{strip, strip_rows};
 use vclock::format::Format;
-
-/// Whether a text is that of a leaf with these rows.
-pub fn is_leaf_text(format: Format, text: &[u8], rows: &[Row]) -> bool
-    requires { AllByRecursion (FitsText format) rows.now }
-    ensures { IsTrue result ↔ (text.now ≡ leaf_text format rows.now) }
-{
-    match strip_leaf(format, text, rows) {
-        Some(rest) => rest.is_empty(),
-        None => false,
-    }
-}
 
 /// Whether a text is that of a leaf with these chunks.
 pub(crate) fn is_chunked_text(format: Format, text: &[u8], chunks: &[Chunk]) -> bool
@@ -42,15 +28,6 @@ pub fn is_inner_text(format: Format, text: &[u8], digests: &[Digest; 16]) -> boo
         Some(rest) => rest.is_empty(),
         None => false,
     }
-}
-
-/// What follows the text of a leaf with these rows.
-fn strip_leaf<'a>(format: Format, text: &'a [u8], rows: &[Row]) -> Option<&'a [u8]>
-    requires { AllByRecursion (FitsText format) rows.now }
-    ensures { Strips (λ x. x.now) (leaf_text format rows.now) text.now result }
-{
-    let rest = strip(text, &[leaf_byte(format)])?;
-    strip_rows(format, rest, rows)
 }
 
 /// What follows the text of a leaf with these chunks.
@@ -89,4 +66,11 @@ fn strip_all<'a>(text: &'a [u8], digests: &[Digest]) -> Option<&'a [u8]>
         rest = strip(rest, digest)?;
     }
     Some(rest)
+}
+
+/// What follows the front, or `None` if the text doesn't begin with it.
+fn strip<'a>(text: &'a [u8], front: &[u8]) -> Option<&'a [u8]>
+    ensures { Strips (λ x. x.now) front.now text.now result }
+{
+    text.strip_prefix(front)
 }

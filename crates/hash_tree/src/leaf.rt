@@ -1,12 +1,11 @@
 //! The rows of one leaf.
 ghost use Rattle.std.specs.Prelude.{◌≡◌, ◌↔◌, ◌++◌, ◌+◌, ◌<◌, ◌≤◌, [], ⊤, None, IsTrue, length, unwrap_or, option_map, OnOk, OnErr};
-ghost use Rattle.std.specs.List.{flat_map};
 ghost use Rattle.std.specs.Vec.{vec_capacity};
 ghost use Rattle.vclock.specs.Answer.{Answers};
 ghost use Rattle.vclock.specs.Keys.{key_fault};
 ghost use Rattle.version_set.specs.Kind.{value_fault};
 ghost use Rattle.version_set.specs.Version.{offer_fault, offered};
-ghost use Rattle.hash_tree.specs.Leaves.{Bucket, AscendByKey, IsBucket, IsPlace, versions_in, with_offer};
+ghost use Rattle.hash_tree.specs.Leaves.{AscendByKey, IsPlace, versions_in, with_offer};
 ghost use Rattle.hash_tree.specs.Chunks.{all_rows, AreChunks};
 ghost use Rattle.hash_tree.specs.Texts.{leaf_text};
 
@@ -25,7 +24,7 @@ use version_set::version::Version;
 
 /// Rows in ascending order of key, each key once, in chunks: what is put into a leaf moves the rows of one chunk only.
 #[derive(Debug, Drop)]
-pub struct Leaf {
+pub(crate) struct Leaf {
     format: Format,
     chunks: Vec<Chunk>,
 }
@@ -44,7 +43,7 @@ impl Model for Leaf {
 
 impl Leaf {
     /// A leaf without rows. It takes no memory.
-    pub fn empty(alloc: Global, format: Format) -> Leaf
+    pub(crate) fn empty(alloc: Global, format: Format) -> Leaf
         ensures { result ≡ record { format = format; rows = [] } }
     {
         Leaf {
@@ -53,48 +52,34 @@ impl Leaf {
         }
     }
 
-    /// The format of the rows.
-    pub fn format(&self) -> Format
-        ensures { result ≡ self.now.format }
-    {
-        self.format
-    }
-
     /// How many bytes the text of the leaf has. No row is looked at, but each chunk.
-    pub fn text_len(&self) -> u128
+    pub(crate) fn text_len(&self) -> u128
         ensures { result ≡ length (leaf_text self.now.format self.now.rows) }
     {
         text_len(&self.chunks)
     }
 
-    /// The rows in chunks, in ascending order of key throughout.
-    pub fn chunks(&self) -> &[Chunk]
-        ensures all { flat_map (λ (c : Bucket). c.rows) result.now ≡ self.now.rows }
-        ensures valid { IsBucket self.now }
-    {
-        self.chunks.as_slice()
-    }
-
-    /// Appends the text of the leaf, without a look at its rows. It fails only where memory is needed beyond the room of
-    /// `out`, and then some of the text stands at the end.
-    pub fn put_text(&self, out: &mut Vec<u8>) -> Result<(), AllocError>
+    /// Appends the text of the leaf, without a look at its rows. It fails only if memory is needed beyond the room of
+    /// `out`, which is then as it was.
+    pub(crate) fn put_text(&self, out: &mut Vec<u8>) -> Result<(), AllocError>
         ensures ok { OnOk result (out.new.items ≡ out.old.items ++ leaf_text self.now.format self.now.rows) }
         ensures room { OnErr result (vec_capacity out.old < length out.old.items + length (leaf_text self.now.format self.now.rows)) }
+        ensures err { OnErr result (out.new.items ≡ out.old.items) }
     {
-        // (to count the bytes is to look at all chunks in a row: between two copies, each would be waited for by itself)
+        // Summing the lengths first touches every chunk in one pass, so their cache misses overlap.
         reserve(out, self.text_len())?;
         put_chunks(out, self.format, &self.chunks)
     }
 
     /// Whether a text is that of the leaf. It takes no memory.
-    pub fn is_text(&self, text: &[u8]) -> bool
+    pub(crate) fn is_text(&self, text: &[u8]) -> bool
         ensures { IsTrue result ↔ (text.now ≡ leaf_text self.now.format self.now.rows) }
     {
         is_chunked_text(self.format, text, &self.chunks)
     }
 
     /// An equal leaf. Refused: NoMemory. No row is copied, until one of both changes it or one that stands near it.
-    pub fn try_clone(&self, alloc: Global) -> Result<Leaf, Refusal>
+    pub(crate) fn try_clone(&self, alloc: Global) -> Result<Leaf, Refusal>
         ensures { Answers result None (λ copy. copy ≡ self.now) }
     {
         Ok(Leaf {
@@ -104,7 +89,7 @@ impl Leaf {
     }
 
     /// What is held for a key, if it has a row. It takes no memory, and looks at as many rows as a search by halves does.
-    pub fn find(&self, key: &[u8]) -> Option<&VersionSet>
+    pub(crate) fn find(&self, key: &[u8]) -> Option<&VersionSet>
         ensures { unwrap_or (option_map (λ s. s.now) result) [] ≡ versions_in key.now self.now.rows }
     {
         if self.chunks.is_empty() {
@@ -117,13 +102,17 @@ impl Leaf {
         }
     }
 
-    /// Offers a version to the set of a key. The key has a row from then on.
-    ///
-    /// Refused, in order: Crowded (the set would have over 64 versions), NoMemory. The leaf is then as it was.
-    pub fn offer(&mut self, alloc: Global, key: &[u8], version: Version) -> Result<(), Refusal>
+    /// Offers a version to the set of a key. The key has a row from then on. Refused: NoMemory. The leaf is then as it was.
+    pub(crate) fn offer(
+        &mut self,
+        alloc: Global,
+        key: &[u8],
+        version: Version,
+    ) -> Result<(), Refusal>
         requires key { key_fault key.now ≡ None }
         requires value { value_fault self.old.format version.kind version.value ≡ None }
-        ensures answers { Answers result (offer_fault version (versions_in key.now self.old.rows)) (λ _. ⊤) }
+        requires room { offer_fault version (versions_in key.now self.old.rows) ≡ None }
+        ensures answers { Answers result None (λ _. ⊤) }
         ensures ok { OnOk result (self.new ≡ record self.old { rows = with_offer key.now version self.old.rows }) }
         ensures err { OnErr result (self.new ≡ self.old) }
     {
@@ -131,9 +120,7 @@ impl Leaf {
     }
 }
 
-/// Offers a version to the set of a key among the rows of chunks.
-///
-/// Refused, in order: Crowded (the set would have over 64 versions), NoMemory. The rows are then as they were.
+/// Offers a version to the set of a key among the rows of chunks. Refused: NoMemory. The rows are then as they were.
 fn offer_to_key(
     alloc: Global,
     format: Format,
@@ -144,14 +131,15 @@ fn offer_to_key(
     requires rows { AscendByKey (all_rows chunks.old.items) }
     requires key { key_fault key.now ≡ None }
     requires value { value_fault format version.kind version.value ≡ None }
+    requires room { offer_fault version (versions_in key.now (all_rows chunks.old.items)) ≡ None }
     requires chunks { AreChunks format chunks.old.items }
-    ensures answers { Answers result (offer_fault version (versions_in key.now (all_rows chunks.old.items))) (λ _. ⊤) }
+    ensures answers { Answers result None (λ _. ⊤) }
     ensures ok { OnOk result (all_rows chunks.new.items ≡ with_offer key.now version (all_rows chunks.old.items)) }
     ensures chunks { AreChunks format chunks.new.items }
     ensures err { OnErr result (all_rows chunks.new.items ≡ all_rows chunks.old.items) }
 {
     if chunks.is_empty() {
-        let row = first_row(alloc, key, version)?;
+        let row = row_of_one(alloc, key, version)?;
         chunks.push(Chunk::of_row(alloc, format, row)?)?;
         return Ok(());
     }
@@ -159,14 +147,14 @@ fn offer_to_key(
     match find_place(chunks[chunk].rows(), key) {
         Ok(at) => offer_at(alloc, chunks, Spot { chunk, at }, version),
         Err(at) => {
-            let row = first_row(alloc, key, version)?;
+            let row = row_of_one(alloc, key, version)?;
             insert_at(alloc, format, chunks, Spot { chunk, at }, row)
         }
     }
 }
 
 /// The row of a key that has no other version.
-fn first_row(alloc: Global, key: &[u8], version: Version) -> Result<Row, Refusal>
+fn row_of_one(alloc: Global, key: &[u8], version: Version) -> Result<Row, Refusal>
     ensures { Answers result None (λ row. row ≡ record { key = key.now; versions = offered version [] }) }
 {
     let key = Bytes::copy_of(alloc, key)?;

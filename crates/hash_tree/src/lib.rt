@@ -1,8 +1,7 @@
 //! The tree of a range (the paper of 2007, section 4.7): its rows in leaves, and a digest for each node.
 //!
-//! - [`leaf`]: the rows of one leaf, in order of key.
-//! - [`chunk`]: consecutive rows of a leaf, with their texts, which copies of a leaf share.
-//! - [`shared`]: a leaf that a range shares with whoever looked at it.
+//! - [`shared`]: the rows of one leaf, in order of key, which a range shares with whoever looked at it. They stand in chunks,
+//!   which copies of a leaf share.
 //! - [`node`]: nodes by depth and index.
 //! - [`hashed`]: texts with their digests.
 //! - [`texts`], [`comparing`]: the texts of nodes, written, and compared in place.
@@ -10,12 +9,12 @@
 //! - [`laws`]: what the definitions say.
 #![tactic(auto)]
 
-pub mod chunk;
+mod chunk;
 mod chunked;
 pub mod comparing;
 pub mod hashed;
 pub mod laws;
-pub mod leaf;
+mod leaf;
 pub mod marks;
 pub mod node;
 pub mod shared;

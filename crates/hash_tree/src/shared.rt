@@ -1,16 +1,14 @@
 //! Leaves that have several owners: a range, and the jobs that look at it.
-ghost use Rattle.std.specs.Prelude.{◌≡◌, ◌↔◌, ◌++◌, ◌+◌, ◌<◌, [], ⊤, None, IsTrue, length, unwrap_or, option_map, OnOk, OnErr};
-ghost use Rattle.std.specs.List.{flat_map};
+ghost use Rattle.std.specs.Prelude.{◌≡◌, ◌↔◌, ◌++◌, ◌+◌, ◌<◌, [], ⊤, None, Some, IsTrue, if◌then◌else◌, length, unwrap_or, option_map, OnOk, OnErr};
 ghost use Rattle.std.specs.Vec.{vec_capacity};
 ghost use Rattle.std.specs.Arc.{arc_value};
 ghost use Rattle.vclock.specs.Answer.{Answers};
 ghost use Rattle.vclock.specs.Keys.{key_fault};
 ghost use Rattle.version_set.specs.Kind.{value_fault};
 ghost use Rattle.version_set.specs.Version.{offer_fault};
-ghost use Rattle.hash_tree.specs.Leaves.{Bucket, IsBucket, versions_in, with_offer};
+ghost use Rattle.hash_tree.specs.Leaves.{versions_in, with_offer};
 ghost use Rattle.hash_tree.specs.Texts.{leaf_text};
 
-use crate::chunk::Chunk;
 use crate::comparing::is_chunked_text;
 use crate::leaf::Leaf;
 use crate::texts::leaf_byte;
@@ -81,23 +79,13 @@ impl SharedLeaf {
         })
     }
 
-    /// The rows in chunks, in ascending order of key throughout.
-    pub fn chunks(&self) -> &[Chunk]
-        ensures all { flat_map (λ (c : Bucket). c.rows) result.now ≡ self.now.rows }
-        ensures valid { IsBucket self.now }
-    {
-        match &self.leaf {
-            Some(leaf) => leaf.chunks(),
-            None => &[],
-        }
-    }
-
-    /// Appends the text of the leaf, without a look at its rows. It fails only where memory is needed beyond the room of
-    /// `out`, and then some of the text stands at the end.
+    /// Appends the text of the leaf, without a look at its rows. It fails only if memory is needed beyond the room of
+    /// `out`, which is then as it was.
     #[tactic(auto, unfolding(crate::specs::Texts::leaf_text))]
     pub fn put_text(&self, out: &mut Vec<u8>) -> Result<(), AllocError>
         ensures ok { OnOk result (out.new.items ≡ out.old.items ++ leaf_text self.now.format self.now.rows) }
         ensures room { OnErr result (vec_capacity out.old < length out.old.items + length (leaf_text self.now.format self.now.rows)) }
+        ensures err { OnErr result (out.new.items ≡ out.old.items) }
     {
         match &self.leaf {
             Some(leaf) => leaf.put_text(out),
@@ -126,6 +114,17 @@ impl SharedLeaf {
         }
     }
 
+    /// Whether an offer of the version to the set of a key is refused as Crowded.
+    fn crowds(&self, key: &[u8], version: &Version) -> bool
+        ensures { offer_fault version.now (versions_in key.now self.now.rows)
+            ≡ (if result then Some Refusal.Crowded else None) }
+    {
+        match self.find(key) {
+            Some(set) => set.crowds(version),
+            None => false,
+        }
+    }
+
     /// Offers a version to the set of a key, in a copy of the leaf where it has other owners.
     ///
     /// Refused, in order: Crowded (the set would have over 64 versions), NoMemory. The leaf is then as it was.
@@ -136,6 +135,9 @@ impl SharedLeaf {
         ensures ok { OnOk result (self.new ≡ record self.old { rows = with_offer key.now version self.old.rows }) }
         ensures err { OnErr result (self.new ≡ self.old) }
     {
+        if self.crowds(key, &version) {
+            return Err(Refusal::Crowded);
+        }
         match &mut self.leaf {
             Some(leaf) => offer_to(alloc, leaf, key, version),
             None => {
@@ -148,7 +150,8 @@ impl SharedLeaf {
     }
 }
 
-/// Offers a version to the set of a key of a leaf, or of a copy that takes its place where it has other owners.
+/// Offers a version to the set of a key of a leaf, or of a copy that takes its place where it has other owners. Refused:
+/// NoMemory. The leaf is then as it was.
 fn offer_to(
     alloc: Global,
     shared: &mut Arc<Leaf, Global>,
@@ -157,18 +160,14 @@ fn offer_to(
 ) -> Result<(), Refusal>
     requires key { key_fault key.now ≡ None }
     requires value { value_fault (arc_value shared.old).format version.kind version.value ≡ None }
-    ensures answers { Answers result (offer_fault version (versions_in key.now (arc_value shared.old).rows)) (λ _. ⊤) }
+    requires room { offer_fault version (versions_in key.now (arc_value shared.old).rows) ≡ None }
+    ensures answers { Answers result None (λ _. ⊤) }
     ensures ok { OnOk result (arc_value shared.new ≡ record (arc_value shared.old)
         { rows = with_offer key.now version (arc_value shared.old).rows }) }
     ensures err { OnErr result (arc_value shared.new ≡ arc_value shared.old) }
 {
     if let Some(leaf) = Arc::get_mut(shared) {
         return leaf.offer(alloc, key, version);
-    }
-    if let Some(set) = shared.find(key)
-        && set.crowds(&version)
-    {
-        return Err(Refusal::Crowded);
     }
     let mut copy = shared.try_clone(alloc)?;
     copy.offer(alloc, key, version)?;

@@ -38,22 +38,7 @@ pub fn inner_byte(format: Format) -> u8
     }
 }
 
-/// Appends the text of a leaf with these rows. It fails only where memory is needed beyond the room of `out`, and then
-/// some of the text stands at the end.
-#[tactic(auto, unfolding(crate::specs::Texts::leaf_text))]
-pub fn put_leaf_text(out: &mut Vec<u8>, format: Format, rows: &[Row]) -> Result<(), AllocError>
-    requires { AllByRecursion (FitsText format) rows.now }
-    ensures ok { OnOk result (out.new.items ≡ out.old.items ++ leaf_text format rows.now) }
-    ensures room { OnErr result (vec_capacity out.old < length out.old.items + length (leaf_text format rows.now)) }
-{
-    out.push(leaf_byte(format))?;
-    for row in rows {
-        put_row(out, format, row)?;
-    }
-    Ok(())
-}
-
-/// Appends the text of a leaf with these chunks. It fails only where memory is needed beyond the room of `out`, and then
+/// Appends the text of a leaf with these chunks. It fails only if memory is needed beyond the room of `out`, and then
 /// some of the text stands at the end.
 pub(crate) fn put_chunks(
     out: &mut Vec<u8>,
@@ -70,8 +55,8 @@ pub(crate) fn put_chunks(
     Ok(())
 }
 
-/// Appends the text of a node whose children have these digests. It fails only where memory is needed beyond the room
-/// of `out`, and then some of the text stands at the end.
+/// Appends the text of a node whose children have these digests. It fails only if memory is needed beyond the room of
+/// `out`, which is then as it was.
 #[tactic(auto, unfolding(crate::specs::Texts::inner_text))]
 pub fn put_inner_text(
     out: &mut Vec<u8>,
@@ -80,7 +65,9 @@ pub fn put_inner_text(
 ) -> Result<(), AllocError>
     ensures ok { OnOk result (out.new.items ≡ out.old.items ++ inner_text format digests.now) }
     ensures room { OnErr result (vec_capacity out.old < length out.old.items + 513) }
+    ensures err { OnErr result (out.new.items ≡ out.old.items) }
 {
+    out.reserve(INNER_LEN)?;
     out.push(inner_byte(format))?;
     for digest in digests {
         put_digest(out, digest)?;
@@ -100,12 +87,16 @@ fn put_digest(out: &mut Vec<u8>, digest: &Digest) -> Result<(), AllocError>
 }
 
 /// The text of a leaf with these rows. Refused: NoMemory.
+#[tactic(auto, unfolding(crate::specs::Texts::leaf_text))]
 pub fn leaf_text(alloc: Global, format: Format, rows: &[Row]) -> Result<Vec<u8>, Refusal>
     requires { AllByRecursion (FitsText format) rows.now }
     ensures { Answers result None (λ text. text.items ≡ leaf_text format rows.now) }
 {
     let mut text = Vec::new(alloc);
-    put_leaf_text(&mut text, format, rows)?;
+    text.push(leaf_byte(format))?;
+    for row in rows {
+        put_row(&mut text, format, row)?;
+    }
     Ok(text)
 }
 

@@ -110,9 +110,7 @@ impl WrittenRows {
         self.text.as_slice()
     }
 
-    /// Offers a version to the set of the row at a place.
-    ///
-    /// Refused, in order: Crowded (the set would have over 64 versions), NoMemory. The rows are then as they were.
+    /// Offers a version to the set of the row at a place. Refused: NoMemory. The rows are then as they were.
     pub(crate) fn offer(
         &mut self,
         alloc: Global,
@@ -121,13 +119,11 @@ impl WrittenRows {
     ) -> Result<(), Refusal>
         requires at { at < length self.old.rows }
         requires value { value_fault self.old.format version.kind version.value ≡ None }
-        ensures answers { Answers result (offer_fault version (versions_at self.old.rows at)) (λ _. ⊤) }
+        requires room { offer_fault version (versions_at self.old.rows at) ≡ None }
+        ensures answers { Answers result None (λ _. ⊤) }
         ensures ok { OnOk result (self.new ≡ record self.old { rows = offered_at self.old.rows at version }) }
         ensures err { OnErr result (self.new ≡ self.old) }
     {
-        if self.rows[at].versions.crowds(&version) {
-            return Err(Refusal::Crowded);
-        }
         let more = version_len(self.format, &version) as usize;
         let start = total(&self.lens[..at]);
         let end = start + self.lens[at] as usize;

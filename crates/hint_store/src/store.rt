@@ -127,6 +127,7 @@ impl HintStore {
     pub fn next(&self, alloc: Global, owner: u16, after: u32) -> Result<Option<Hint>, Refusal>
         ensures { Answers result None (λ found. found ≡ next_hint (owner ∷ []) after self.now) }
     {
+        // Called for its clause `valid` alone: the ids count from 1.
         let _valid = self.pending();
         self.copy_of(alloc, self.first_of(owner, after))
     }
@@ -143,6 +144,7 @@ impl HintStore {
     ) -> Result<Option<Hint>, Refusal>
         ensures { Answers result None (λ found. found ≡ next_hint owners.now after self.now) }
     {
+        // Called for its clause `valid` alone: the ids count from 1.
         let _valid = self.pending();
         let mut least = None;
         for owner in owners {
@@ -192,6 +194,7 @@ impl HintStore {
     fn awaits(&self, id: u32, delivery: &Delivery) -> bool
         ensures { result ≡ list_any (is_answered id delivery.now) self.now }
     {
+        // Called for its clause `valid` alone: the ids count from 1.
         let _valid = self.pending();
         match self.get(id) {
             Some(kept) => is_open(kept.fate) && is_delivery_of(delivery, &kept.hint),

@@ -1,5 +1,5 @@
 -- A replica as the script's definition has it: without the records of its sessions.
-use Rattle.vclock.specs.Answer.{AnswersOrNoMemory}
+use Rattle.vclock.specs.Answer.{Answers, AnswersOrNoMemory}
 use Rattle.std.specs.Prelude.{⊤, Result, Ok, Err, IfOk, OnOk, OnErr}
 use Rattle.std.proofs.Common.{◌≡◌, ◌⊎◌, inl, inr, ℕ, ◌+◌, ◌-◌, false, cond, Option, Some, None, List, [], ◌∷◌, length, refl, sym, ap, ◌∙◌}
 use Rattle.hash_tree.specs.Nodes.{are_clean}
@@ -103,6 +103,6 @@ sync_ok n s new other (Ok a) is = synced_replica n s new other a is
 sync_ok n s new other (Err e) is = tt
 
 -- what is answered
-pub sync_answers : (n : ℕ) (s new : range.State) (other : RowMap) (fault : Option Refusal) (r : Result Synced Refusal) → AnswersOrNoMemory r fault (λ _. ⊤) → IfOk r (λ a. IsSyncedTo s 0 other new a) → AnswersOrNoMemory r fault (IsCounted (replica_of n s) other)
+pub sync_answers : (n : ℕ) (s new : range.State) (other : RowMap) (fault : Option Refusal) (r : Result Synced Refusal) → Answers r fault (λ _. ⊤) → IfOk r (λ a. IsSyncedTo s 0 other new a) → AnswersOrNoMemory r fault (IsCounted (replica_of n s) other)
 sync_answers n s new other fault (Ok a) answers is = (answers.0, counted n s new other a is)
-sync_answers n s new other fault (Err e) answers is = answers
+sync_answers n s new other fault (Err e) answers is = elim answers [ inl memory ↦ inl memory.1 | inr cause ↦ inr cause ]

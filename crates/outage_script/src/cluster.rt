@@ -19,7 +19,7 @@ use crate::answer::{
 use crate::command::{Get, Put, Rehash, ShowNode, SyncFrom};
 use crate::handoff::{deliver_all, keep_all};
 use crate::replica::Replica;
-use crate::replicas::{Replicas, push_if};
+use crate::replicas::Replicas;
 use hash_tree::node::{NodeAt, tree_depth};
 use hint_store::store::HintStore;
 use key_ring::ring::Ring;
@@ -102,17 +102,6 @@ impl Cluster {
         self.format
     }
 
-    /// How many nodes the ring has, and how many ranges.
-    pub(crate) fn size(&self) -> (u64, u64)
-        ensures nodes { result.0 ≡ length self.now.ring.nodes }
-        ensures ranges { result.1 ≡ 2 ^ self.now.ring.bits }
-    {
-        (
-            self.ring.nodes().len() as u64,
-            u64::from(self.ring.ranges()),
-        )
-    }
-
     /// Puts a value at a node, sends the copies and keeps the hints, and answers with the clock and the number.
     pub(crate) fn put(&mut self, alloc: Global, put: Put) -> Result<Value, Refusal>
         ensures answers { AnswersOrNoMemory result (put_fault (put_ask put) self.old) (λ v. view v
@@ -189,7 +178,7 @@ impl Cluster {
     {
         self.check_ring_nodes(node, &[])?;
         let answer = up_answer(alloc, node, true)?;
-        self.down = without(alloc, &self.down, node)?;
+        self.down.retain(|member| *member != node);
         Ok(answer)
     }
 
@@ -201,16 +190,15 @@ impl Cluster {
     }
 
     /// The nodes that are up, in the order of the ring.
-    #[tactic(auto, using(crate::proofs::ListSteps::filtered_next, crate::proofs::ListSteps::filtered_all))]
     fn up_nodes(&self, alloc: Global) -> Result<Vec<u16>, AllocError>
         ensures { IfOk result (λ nodes. nodes.items ≡ up_nodes self.now) }
     {
-        let nodes = self.ring.nodes();
-        let mut up = Vec::with_capacity(alloc, nodes.len())?;
-        for i in 0..nodes.len() {
-            push_if(&mut up, nodes[i], !self.is_down(u64::from(nodes[i])))?;
-        }
-        Ok(up)
+        self.ring
+            .nodes()
+            .iter()
+            .copied()
+            .filter(|node| !self.is_down(u64::from(*node)))
+            .collect(alloc)
     }
 
     /// Whether a node is on the ring and up, so that its hints can be delivered.
@@ -408,18 +396,6 @@ impl Cluster {
     {
         nodes.iter().all(|node| self.ring.contains(*node))
     }
-}
-
-/// The nodes but for one.
-#[tactic(auto, using(crate::proofs::ListSteps::filtered_next, crate::proofs::ListSteps::filtered_all))]
-fn without(alloc: Global, nodes: &[u64], node: u64) -> Result<Vec<u64>, AllocError>
-    ensures { IfOk result (λ others. others.items ≡ filter (λ m. not (m == node)) nodes.now) }
-{
-    let mut others = Vec::with_capacity(alloc, nodes.len())?;
-    for i in 0..nodes.len() {
-        push_if(&mut others, nodes[i], nodes[i] != node)?;
-    }
-    Ok(others)
 }
 
 /// Stores without hints, so many of them.

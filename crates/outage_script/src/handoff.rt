@@ -102,6 +102,7 @@ fn next(
     ensures found { IfOk result (λ found. found ≡ next_hint up.now after hints.now) }
     ensures valid { AreHints hints.now }
 {
+    // Called for its clause `valid` alone: the ids count from 1.
     let _valid = hints.pending();
     match hints.next_of(alloc, up, after) {
         Ok(found) => Ok(found),

@@ -29,4 +29,4 @@ mod world;
 mod write;
 
 pub use memory::{line_law, run_bytes};
-pub use run::run_script;
+pub use run::{run_last_script, run_script};

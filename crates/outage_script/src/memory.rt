@@ -8,7 +8,7 @@ use crate::{ScriptEnd, run_script};
 use std::alloc::Global;
 use std::thread::Threads;
 
-/// Runs the script of these bytes, and answers how it ended and what it wrote.
+/// Runs the script of these bytes, and returns how it ended and what it wrote. All else that the run held is freed.
 #[tactic(auto, using(crate::proofs::RunLemmas::runs_memory))]
 pub fn run_bytes(rt: &(impl Threads + Sync), alloc: Global, input: &[u8]) -> (ScriptEnd, Vec<u8>)
     ensures { IsAnswer result.0 input.now result.1.items }

@@ -247,14 +247,13 @@ impl Replica {
         self.state = Some(state);
         Ok(accepted)
     }
+}
 
-    /// Whether the replica is another node than that of a put and not one that is to get nothing, and is down, so that
-    /// it is to have a hint.
-    pub(crate) fn gets_hint(&self, down: &[u64], node: u64, lose: &[u64]) -> bool
-        ensures { result ≡ gets_hint down.now node lose.now self.now.node }
-    {
-        is_sent_to(node, lose, self.node) && down.contains(&u64::from(self.node))
-    }
+/// Whether a replica is to have a hint of a put: it is to have the put, and is down.
+pub(crate) fn gets_hint(down: &[u64], node: u64, lose: &[u64], other: u16) -> bool
+    ensures { result ≡ gets_hint down.now node lose.now other }
+{
+    is_sent_to(node, lose, other) && down.contains(&u64::from(other))
 }
 
 /// Whether a replica is to have a put: it is another node, and not one that is to get nothing.

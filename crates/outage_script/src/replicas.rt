@@ -15,7 +15,7 @@ ghost use Rattle.range_state.specs.State.{dirty_fault, rows_now, accept_fault, a
 ghost use Rattle.range_state.specs.Trees.{rehashed};
 
 use crate::command::Put;
-use crate::replica::Replica;
+use crate::replica::{Replica, gets_hint};
 use key_ring::ring::Ring;
 use range_journal::journal::Source;
 use range_state::config::RangeConfig;
@@ -71,6 +71,7 @@ impl Replicas {
         ensures { IfOk result (λ replicas. replicas ≡ replicas_made ring.now config config.range) }
     {
         let mut replicas = Vec::with_capacity(alloc, ring.copies())?;
+        // Called for its clause `valid` alone: each node is at least 1.
         let _valid = ring.nodes();
         for place in 0..ring.copies() {
             let node = ring.preference(config.range(), place);
@@ -125,17 +126,14 @@ impl Replicas {
     }
 
     /// The nodes that are to have a hint of a put, for they are down, in the order of the preference list.
-    #[tactic(auto, using(crate::proofs::ListSteps::mapped_at, crate::proofs::ListSteps::filtered_next, crate::proofs::ListSteps::filtered_all))]
     fn owners(&self, alloc: Global, down: &[u64], put: &Put) -> Result<Vec<u16>, AllocError>
         ensures { IfOk result (λ owners. owners.items ≡ owners_of (gets_hint down.now put.now.node put.now.lose.items) self.now) }
     {
-        let mut owners = Vec::new(alloc);
-        for i in 0..self.replicas.len() {
-            let replica = &self.replicas[i];
-            let wanted = replica.gets_hint(down, put.node, &put.lose);
-            push_if(&mut owners, replica.node(), wanted)?;
-        }
-        Ok(owners)
+        self.replicas
+            .iter()
+            .map(|replica| replica.node())
+            .filter(|other| gets_hint(down, put.node, &put.lose, *other))
+            .collect(alloc)
     }
 
     /// Offers a node a version that another node kept for it as a hint.
@@ -197,20 +195,6 @@ impl Replicas {
             owners,
         })
     }
-}
-
-/// Adds a node where it is wanted.
-pub(crate) fn push_if<T: Copy + Drop>(
-    nodes: &mut Vec<T>,
-    node: T,
-    wanted: bool,
-) -> Result<(), AllocError>
-    ensures { OnOk result (nodes.new.items ≡ (if wanted then nodes.old.items ++ node ∷ [] else nodes.old.items)) }
-{
-    if wanted {
-        nodes.push(node)?;
-    }
-    Ok(())
 }
 
 /// Sends the replicas a copy of an entry, and answers how many took it or knew it.

@@ -7,6 +7,7 @@ ghost use Rattle.outage_script.specs.State.{start};
 
 use crate::ScriptEnd;
 use crate::session::Session;
+use crate::world::AtEnd;
 use std::alloc::{AllocError, Global};
 use std::io::{Read, Write};
 use std::marker::Brand;
@@ -22,8 +23,7 @@ const SLOTS: u64 = 1_024;
 /// How many bytes a read wants.
 const READ_SIZE: usize = 65_536;
 
-/// Runs the script that the reader gives. It is meant to be the last thing that a process does: what the replicas hold at
-/// its end is not freed.
+/// Runs the script that the reader gives. All that the run held is freed at its end.
 pub fn run_script<T: Threads + Sync, R: Read, W: Write>(
     rt: &T,
     alloc: Global,
@@ -33,16 +33,33 @@ pub fn run_script<T: Threads + Sync, R: Read, W: Write>(
     ensures { Runs result (R.remaining reader.old) (R.remaining reader.new)
         (W.contents writer.old) (W.contents writer.new) }
 {
-    run_with::<Brand, T, R, W>(Blank::new(SLOTS), rt, alloc, reader, writer)
+    let blank = Blank::new(SLOTS);
+    run_with::<Brand, T, R, W>(blank, rt, alloc, reader, writer, AtEnd::Free)
 }
 
-/// Runs the script that the reader gives, whose slots are of that ledger.
+/// Runs the script that the reader gives, as the last thing that a process does: what the replicas hold is left to the
+/// system, which takes back all memory of a process at once when it ends. To free it here would take a quarter of a run.
+pub fn run_last_script<T: Threads + Sync, R: Read, W: Write>(
+    rt: &T,
+    alloc: Global,
+    reader: &mut R,
+    writer: &mut W,
+) -> ScriptEnd
+    ensures { Runs result (R.remaining reader.old) (R.remaining reader.new)
+        (W.contents writer.old) (W.contents writer.new) }
+{
+    let blank = Blank::new(SLOTS);
+    run_with::<Brand, T, R, W>(blank, rt, alloc, reader, writer, AtEnd::Leave)
+}
+
+/// Runs the script that the reader gives, with slots that are parts of that ledger.
 fn run_with<L: Ledger, T: Threads + Sync, R: Read, W: Write>(
     blank: Blank,
     rt: &T,
     alloc: Global,
     reader: &mut R,
     writer: &mut W,
+    at_end: AtEnd,
 ) -> ScriptEnd
     requires ledger { (blank.name ≡ L.name) × (blank.parts ≡ L.parts) × (blank.parts ≡ 1024) }
     ensures { Runs result (R.remaining reader.old) (R.remaining reader.new)
@@ -55,7 +72,7 @@ fn run_with<L: Ledger, T: Threads + Sync, R: Read, W: Write>(
         return ScriptEnd::NoMemory;
     };
     let end = drive(rt, alloc, &mut session, buffer, reader, writer);
-    session.close();
+    session.close(at_end);
     end
 }
 

@@ -11,7 +11,7 @@ ghost use Rattle.outage_script.specs.State.{start};
 use crate::ScriptEnd;
 use crate::answer::{answer_line, bad_line_answer};
 use crate::command::command_in;
-use crate::world::World;
+use crate::world::{AtEnd, World};
 use crate::write::write_whole;
 use memchr::memchr;
 use std::alloc::{AllocError, Global};
@@ -45,14 +45,14 @@ impl<L: Ledger> Session<L> {
         })
     }
 
-    /// Gives back what is lent at the end of the run.
-    pub(crate) fn close(self) {
+    /// Ends the run: gives all slots back, and frees what the replicas hold or leaves it.
+    pub(crate) fn close(self, at_end: AtEnd) {
         let Session {
             world,
             line: _line,
             number: _number,
         } = self;
-        world.close();
+        world.close(at_end);
     }
 
     /// Takes the next bytes, up to the end of the run.

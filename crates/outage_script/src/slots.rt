@@ -61,6 +61,7 @@ impl<L: Ledger> Slots<L> {
     pub(crate) fn is_target(&self, command: &SlotCommand) -> bool
         ensures { result ≡ is_target self.now (slot_ask command.now) }
     {
+        // Read for the proof alone: the controller has this floor and this ceiling.
         let _bounds = &self.controller;
         match command {
             SlotCommand::Target(n) => u64::from(FLOOR) <= *n && *n <= u64::from(CEILING),

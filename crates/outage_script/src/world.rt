@@ -24,6 +24,15 @@ use std::thread::Threads;
 use vclock::format::Format;
 use vclock::refusal::Refusal;
 
+/// What becomes of the memory that the replicas hold, at the end of a run.
+#[derive(Clone, Copy, Debug, PartialEq, Eq)]
+pub(crate) enum AtEnd {
+    /// It is freed.
+    Free,
+    /// It is left to the system, which takes back all memory of a process when the process ends.
+    Leave,
+}
+
 /// What the commands change.
 pub(crate) struct World<L: Ledger> {
     cluster: Cluster,
@@ -51,12 +60,14 @@ impl<L: Ledger> World<L> {
         }
     }
 
-    /// Gives all slots back at the end. What the replicas hold is left to the end of the process, where the system takes
-    /// all memory back at once: to free each row by itself would take a quarter of a run.
-    pub(crate) fn close(self) {
+    /// Gives all slots back, and frees what the replicas hold or leaves it.
+    pub(crate) fn close(self, at_end: AtEnd) {
         let World { slots, cluster } = self;
-        forget(cluster);
         slots.close();
+        match at_end {
+            AtEnd::Free => drop(cluster),
+            AtEnd::Leave => forget(cluster),
+        }
     }
 
     /// Whether the ring in force has such a command: in format 1 no value is null, the tree has the node, and the

@@ -1,5 +1,5 @@
 //! A journal of accepted versions.
-ghost use Rattle.std.specs.Prelude.{◌≡◌, ◌≤◌, [], length, max, ⊤, None, OnOk, OnErr, IfOk, slice_get};
+ghost use Rattle.std.specs.Prelude.{◌≡◌, ◌≤◌, ◌⊎◌, [], length, max, ⊤, None, OnOk, OnErr, IfOk, IfErr, slice_get};
 ghost use Rattle.std.specs.Option.{option_copied};
 ghost use Rattle.vclock.specs.Answer.{Answers};
 ghost use Rattle.range_journal.specs.Log.{IsLog};
@@ -99,6 +99,7 @@ impl Journal {
     /// Refused, in order: JournalFull (they would pass the limit), NoMemory. The journal is then as it was.
     pub fn reserve(&mut self, entries: u64) -> Result<(), Refusal>
         ensures answers { Answers result (reserve_fault self.old entries) (λ _. ⊤) }
+        ensures roomy { entries ≤ self.old.room → IfErr result (λ e. ¬ (e ≡ Refusal.NoMemory)) }
         ensures ok { OnOk result (self.new ≡ record self.old { room = max self.old.room entries }) }
         ensures err { OnErr result (self.new ≡ self.old) }
     {
@@ -123,6 +124,7 @@ impl Journal {
         version: Version,
     ) -> Result<u64, Refusal>
         ensures answers { Answers result (append_fault self.old) (λ number. number ≡ length self.old.entries) }
+        ensures roomy { 1 ≤ self.old.room → IfErr result (λ e. ¬ (e ≡ Refusal.NoMemory)) }
         ensures added { OnOk result (self.new ≡ with_entry self.old (record { number = length self.old.entries; seat = seat; source = source; key = key; version = version })) }
         ensures err { OnErr result (self.new ≡ self.old) }
     {
@@ -163,6 +165,7 @@ impl Journal {
         ensures held { IfOk result (λ set. set ≡ held self.now.entries key.now) }
         ensures answers { NeverCrowded self.now.entries key.now
             → Answers result None (λ set. set ≡ held self.now.entries key.now) }
+        ensures refused { IfErr result (λ e. (e ≡ Refusal.NoMemory) ⊎ (e ≡ Refusal.Crowded)) }
     {
         let mut set = VersionSet::empty(alloc);
         for entry in &self.entries {

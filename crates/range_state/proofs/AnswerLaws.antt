@@ -22,7 +22,7 @@ use Rattle.row_bytes.specs.declared.row.Row.{Row}
 use Rattle.hash_tree.specs.Leaves.{Bucket, rows_at}
 use Rattle.hash_tree.specs.Nodes.{tree_depth, dirtied}
 use Rattle.sync_session.specs.Walks.{Walk, TakenText, IsInnerText, AreSpelled, IsCanonical}
-use Rattle.sync_session.specs.Steps.{IsDue, after, after_refusal, IsTakeFault}
+use Rattle.sync_session.specs.Steps.{IsDue, after, failed, after_refusal, IsTakeFault}
 use Rattle.sync_session.proofs.StepLaws.{All-weaker}
 use Rattle.range_state.specs.Config.{Config}
 use Rattle.range_state.specs.declared.«record».Record.{Record}
@@ -35,7 +35,7 @@ use Rattle.range_state.specs.Sessions.{offers_of, taken_in, crowded_in, walked_t
 use Rattle.range_state.specs.Batches.{IsRowFor, IsBatch, seen_count}
 use Rattle.range_state.proofs.RowLaws.{leaf-push}
 use Rattle.range_state.proofs.BatchLaws.{Offers}
-use Rattle.range_state.proofs.TakenLaws.{Reached, reached, taken_grown, still_right, record_kept, spelled_offers, spelled_rows, spelled_short, leaf_right, failed_right}
+use Rattle.range_state.proofs.TakenLaws.{Reached, reached, taken_grown, record_kept, spelled_offers, spelled_rows, spelled_short, inner_canonical, leaf_right}
 
 -- ---- the record of a number
 
@@ -68,30 +68,30 @@ in_place s id r was =
 
 -- ---- a text that is refused
 
-pub refused_right : (s : State) (id : ℕ) (r : Record) (e : Refusal) (w : Walk) → IsRight s → r ≡ get_or s.records id r → w ≡ after_refusal r.session e → IsRight (walked_to s id r w)
-refused_right s id r e w ok was is = subst (λ (v : Walk). IsRight (walked_to s id r v)) (sym is) (by_cause e)
-  where
-    by_cause : (x : Refusal) → IsRight (walked_to s id r (after_refusal r.session x))
-    by_cause NotCanonical = failed_right s id r ok was
-    by_cause x = subst IsRight (in_place s id r was) ok
+-- a session that stayed as it was
+pub stayed : (s : State) (id : ℕ) (r : Record) (w : Walk) → r ≡ get_or s.records id r → w ≡ r.session → s ≡ walked_to s id r w
+stayed s id r w was is = in_place s id r was ∙ ap (walked_to s id r) (sym is)
 
-refuses : (s new : State) (seat id : ℕ) (r : Record) (t : TakenText) (e : Refusal) → IsTakeFault r.session t e → new ≡ walked_to s id r (after_refusal r.session e) → Refuses s seat id r t e new
-refuses s new seat id r t Crowded fault is = absurd fault
-refuses s new seat id r t JournalFull fault is = absurd fault
-refuses s new seat id r t e fault is = (fault, is)
+refuses : (s : State) (seat id : ℕ) (r : Record) (t : TakenText) (e : Refusal) → IsTakeFault r.session t e → e ≢ NotCanonical → Refuses s seat id r t e s
+refuses s seat id r t Crowded fault other = absurd fault
+refuses s seat id r t JournalFull fault other = absurd fault
+refuses s seat id r t NotCanonical fault other = absurd (other refl)
+refuses s seat id r t e fault other = (fault, refl)
 
-pub refused : (s new : State) (seat id : ℕ) (r : Record) (t : TakenText) (e : Refusal) → slice_get s.records id ≡ Some r → IsTakeFault r.session t e → new ≡ walked_to s id r (after_refusal r.session e) → TakesFor s seat id (slice_get s.records id) t (Err e) new
-refused s new seat id r t e here fault is = subst (λ (o : Option Record). TakesFor s seat id o t (Err e) new) (sym here) (refuses s new seat id r t e fault is)
+-- nothing changes
+pub refused : (s : State) (seat id : ℕ) (r : Record) (t : TakenText) (e : Refusal) → slice_get s.records id ≡ Some r → IsTakeFault r.session t e → e ≢ NotCanonical → TakesFor s seat id (slice_get s.records id) t (Err e) s
+refused s seat id r t e here fault other = subst (λ (o : Option Record). TakesFor s seat id o t (Err e) s) (sym here) (refuses s seat id r t e fault other)
 
--- nothing changes but where a session fails
-pub refused_early : (s : State) (id : ℕ) (r : Record) (e : Refusal) → r ≡ get_or s.records id r → e ≢ NotCanonical → s ≡ walked_to s id r (after_refusal r.session e)
-refused_early s id r e was other = by_cause e other
-  where
-    by_cause : (x : Refusal) → x ≢ NotCanonical → s ≡ walked_to s id r (after_refusal r.session x)
-    by_cause NotCanonical no_way = absurd (no_way refl)
-    by_cause x no_way = in_place s id r was
+-- but where a session fails
+pub refused_for_good : (s new : State) (seat id : ℕ) (r : Record) (t : TakenText) → slice_get s.records id ≡ Some r → IsTakeFault r.session t NotCanonical → new ≡ walked_to s id r (failed r.session) → TakesFor s seat id (slice_get s.records id) t (Err NotCanonical) new
+refused_for_good s new seat id r t here fault is = subst (λ (o : Option Record). TakesFor s seat id o t (Err NotCanonical) new) (sym here) (fault, is)
 
 -- ---- a text of a node with children
+
+-- which can have it, so the session stays as it was
+pub inner_refused : (s : State) (id : ℕ) (r : Record) (t : TakenText) (e : Refusal) (w : Walk) → IsRight s → id < length s.records → r ≡ get_or s.records id r → IsInnerRead s r t → IsTakeFault r.session t e → w ≡ after_refusal r.session e → (e ≢ NotCanonical) × (w ≡ r.session)
+inner_refused s id r t NotCanonical w ok within was read fault is = absurd (fault.1 (inner_canonical s r t (record_kept s id r ok within was) read))
+inner_refused s id r t e w ok within was read fault is = (λ same. cc, is)
 
 pub inner_taken : (s : State) (seat id : ℕ) (r : Record) (t : TakenText) (a : AnswerTaken) (w : Walk) → slice_get s.records id ≡ Some r → IsInnerRead s r t → a.receipts.items ≡ [] → a.known ≡ 0 → a.state ≡ w.state → w ≡ after r.session t
     → TakesFor s seat id (slice_get s.records id) t (Ok a) (walked_to s id r w)
@@ -101,10 +101,16 @@ inner_taken s seat id r t a w here read receipts known state is =
 
 -- ---- a text of a leaf, before anything changes
 
+-- it is a leaf of the session's own tree, and some rows spell the text
+pub leaf_due : (s : State) (id : ℕ) (r : Record) (t : TakenText) (rows : List Row) → IsRight s → id < length s.records → r ≡ get_or s.records id r → IsLeafRead s r t rows → (t.node.depth ≡ tree_depth r.session.own.format) × IsCanonical r.session.own t.node t.text
+leaf_due s id r t rows ok within was read =
+    let deep : t.node.depth ≡ tree_depth r.session.own.format = read.leaf ∙ sym (ap tree_depth (record_kept s id r ok within was).here.format) in
+    (deep, inr (deep, (rows, read.spelled)))
+
 pub rows_ready : (s : State) (id : ℕ) (t : TakenText) (rows : List Row) → IsRight s → MatchOption (slice_get s.records id) ⊥ (λ r. IsLeafRead s r t rows) → AllByRecursion (IsRowFor s.config t.node.index) rows × (length (offers_of rows) ≤ length t.text)
 rows_ready s id t rows ok h = with_record s.records id (λ r. IsLeafRead s r t rows) _ (λ r within was read.
-    let right = still_right s.config s.entries r t (record_kept s id r ok within was) read.due in
-    (spelled_rows s.config r.session t.node t.text rows right.here read.spelled, spelled_short r.session.own t.node t.text rows read.spelled)) h
+    let kept = record_kept s id r ok within was in
+    (spelled_rows s.config r.session t.node t.text rows kept.here read.spelled, spelled_short r.session.own t.node t.text rows read.spelled)) h
 
 crowded_cause : (v : Version) (S : List Version) (e : Refusal) → offer_fault v S ≡ Some e → e ≡ Crowded
 crowded_cause v S e h = by_case (covered v S) (nat_lt 64 (length (maximal (with_version v S)))) h
@@ -122,13 +128,21 @@ crowded_is : (s : State) (seat : ℕ) (offers : Offers) (e : Refusal) → crowde
 crowded_is s seat [] e h = absurd (let clash : None ≡ Some e = h in cc)
 crowded_is s seat (o ∷ offers) e h = first_cause (offer_fault o.1 (held s.entries o.0)) _ e (crowded_cause o.1 (held s.entries o.0) e) (crowded_is (accept_step s seat Partner o.0 o.1) seat offers e) h
 
+-- no memory
+pub no_memory : (s : State) (seat id : ℕ) (t : TakenText) (rows : List Row) (e : Refusal) → IsRight s → MatchOption (slice_get s.records id) ⊥ (λ r. IsLeafRead s r t rows) → e ≡ NoMemory → TakesFor s seat id (slice_get s.records id) t (Err e) s
+no_memory s seat id t rows e ok h memory = with_record s.records id (λ r. IsLeafRead s r t rows) _ (λ r within was read.
+    let here = got_record s.records id r within was in
+    let deep = (leaf_due s id r t rows ok within was read).0 in
+    let fault : IsTakeFault r.session t NoMemory = (read.due, λ less. absurd (omega (arith, less, deep))) in
+    subst (λ (x : Refusal). TakesFor s seat id (slice_get s.records id) t (Err x) s) (sym memory) (refused s seat id r t NoMemory here fault (λ same. cc))) h
+
 -- a version too many, or no memory
-pub not_prepared : (s : State) (seat id : ℕ) (t : TakenText) (rows : List Row) (e : Refusal) → MatchOption (slice_get s.records id) ⊥ (λ r. IsLeafRead s r t rows) → (e ≡ NoMemory) ⊎ (crowded_in s seat (offers_of rows) ≡ Some e)
+pub not_prepared : (s : State) (seat id : ℕ) (t : TakenText) (rows : List Row) (e : Refusal) → IsRight s → MatchOption (slice_get s.records id) ⊥ (λ r. IsLeafRead s r t rows) → (e ≡ NoMemory) ⊎ (crowded_in s seat (offers_of rows) ≡ Some e)
     → TakesFor s seat id (slice_get s.records id) t (Err e) s
-not_prepared s seat id t rows e h cause = with_record s.records id (λ r. IsLeafRead s r t rows) _ (λ r within was read.
+not_prepared s seat id t rows e ok h cause = with_record s.records id (λ r. IsLeafRead s r t rows) _ (λ r within was read.
     let here = got_record s.records id r within was in
     elim cause [
-      | inl memory ↦ subst (λ (x : Refusal). TakesFor s seat id (slice_get s.records id) t (Err x) s) (sym memory) (refused s s seat id r t NoMemory here read.due (in_place s id r was))
+      | inl memory ↦ no_memory s seat id t rows e ok h memory
       | inr crowd ↦
           let is = crowded_is s seat (offers_of rows) e crowd in
           let full : crowded_in s seat (offers_of rows) ≡ Some Crowded = crowd ∙ ap (λ (x : Refusal). Some x) is in
@@ -138,13 +152,13 @@ not_prepared s seat id t rows e h cause = with_record s.records id (λ r. IsLeaf
     ]) h
 
 -- the journal has no room for the entries, or there is no memory
-pub no_room : (s : State) (seat id : ℕ) (t : TakenText) (rows : List Row) (e : Refusal) (log : Log) (n : ℕ) → MatchOption (slice_get s.records id) ⊥ (λ r. IsLeafRead s r t rows) → crowded_in s seat (offers_of rows) ≡ None
+pub no_room : (s : State) (seat id : ℕ) (t : TakenText) (rows : List Row) (e : Refusal) (log : Log) (n : ℕ) → IsRight s → MatchOption (slice_get s.records id) ⊥ (λ r. IsLeafRead s r t rows) → crowded_in s seat (offers_of rows) ≡ None
     → length (taken_in s seat (offers_of rows)).entries ≡ length s.entries + n → log.entries ≡ s.entries → log.limit ≡ s.config.limit
     → ((reserve_fault log n ≡ None) × (e ≡ NoMemory)) ⊎ (reserve_fault log n ≡ Some e) → TakesFor s seat id (slice_get s.records id) t (Err e) s
-no_room s seat id t rows e log n h fits count entries limit cause = with_record s.records id (λ r. IsLeafRead s r t rows) _ (λ r within was read.
+no_room s seat id t rows e log n ok h fits count entries limit cause = with_record s.records id (λ r. IsLeafRead s r t rows) _ (λ r within was read.
     let here = got_record s.records id r within was in
     elim cause [
-      | inl memory ↦ subst (λ (x : Refusal). TakesFor s seat id (slice_get s.records id) t (Err x) s) (sym memory.1) (refused s s seat id r t NoMemory here read.due (in_place s id r was))
+      | inl memory ↦ no_memory s seat id t rows e ok h memory.1
       | inr full ↦
           let both = over log.limit (length log.entries + n) e full in
           let past : nat_le (length (taken_in s seat (offers_of rows)).entries) s.config.limit ≡ false = not_within _ _ (omega (arith, both.1, count, limit, ap length entries)) in
@@ -190,17 +204,6 @@ leaves_after c es more leaves leaf new ok within all is = record {
   ];
 }
 
--- it is a leaf of the session's own tree, and some rows spell the text
-pub leaf_due : (s : State) (id : ℕ) (r : Record) (t : TakenText) (rows : List Row) → IsRight s → id < length s.records → r ≡ get_or s.records id r → IsLeafRead s r t rows → (t.node.depth ≡ tree_depth r.session.own.format) × IsCanonical r.session.own t.node t.text
-leaf_due s id r t rows ok within was read =
-    let right = still_right s.config s.entries r t (record_kept s id r ok within was) read.due in
-    let deep : t.node.depth ≡ tree_depth r.session.own.format = read.leaf ∙ sym (ap tree_depth right.here.format) in
-    (deep, inr (deep, (rows, read.spelled)))
-
--- want of memory refuses it, and leaves the session as it was
-pub leaf_refused : (r : Record) (t : TakenText) (e : Refusal) (w : Walk) → IsDue r.session t → e ≡ NoMemory → w ≡ r.session → IsTakeFault r.session t e × (w ≡ after_refusal r.session e)
-leaf_refused r t e w due is same = rw is (due, same)
-
 -- the facts of a leaf's text whose versions are prepared
 pub record IsAccepted (s : State) (seat id : ℕ) (r : Record) (t : TakenText) (rows : List Row) (b : Batch) (entries : List Entry) (marks : List (Option (List ℕ))) (w : Walk) : Type 0 where
   pub within : id < length s.records
@@ -216,8 +219,8 @@ pub record IsAccepted (s : State) (seat id : ℕ) (r : Record) (t : TakenText) (
 
 homes : (s : State) (seat id : ℕ) (r : Record) (t : TakenText) (rows : List Row) (b : Batch) (entries : List Entry) (marks : List (Option (List ℕ))) (w : Walk) → IsRight s → IsAccepted s seat id r t rows b entries marks w → AllByRecursion (λ o. t.node.index ≡ leaf_in s.config o.0) (offers_of rows)
 homes s seat id r t rows b entries marks w ok is =
-    let right = still_right s.config s.entries r t (record_kept s id r ok is.within is.was) is.read.due in
-    All-weaker _ _ (offers_of rows) (λ o x. x.leaf_is) (spelled_offers s.config r.session t.node t.text rows right.here is.read.spelled)
+    let kept = record_kept s id r ok is.within is.was in
+    All-weaker _ _ (offers_of rows) (λ o x. x.leaf_is) (spelled_offers s.config r.session t.node t.text rows kept.here is.read.spelled)
 
 -- the state then
 pub accepted_is : (s : State) (seat id : ℕ) (r : Record) (t : TakenText) (rows : List Row) (b : Batch) (entries : List Entry) (marks : List (Option (List ℕ))) (w : Walk) → IsRight s → IsAccepted s seat id r t rows b entries marks w
@@ -304,8 +307,8 @@ Reads r t rows = ((t.node.depth < tree_depth r.session.own.format) × IsInnerTex
 
 pub leaf_read : (s : State) (id : ℕ) (r : Record) (t : TakenText) (rows : List Row) → IsRight s → slice_get s.records id ≡ Some r → IsDue r.session t → Reads r t rows → t.node.depth ≡ tree_depth s.config.format → IsLeafRead s r t rows
 leaf_read s id r t rows ok here due reads deep =
-    let right = still_right s.config s.entries r t (kept_at s id r ok here) due in
-    let depth : tree_depth r.session.own.format ≡ tree_depth s.config.format = ap tree_depth right.here.format in
+    let kept = kept_at s id r ok here in
+    let depth : tree_depth r.session.own.format ≡ tree_depth s.config.format = ap tree_depth kept.here.format in
     elim reads [
       | inl inner ↦ absurd (omega (arith, inner.0, depth, deep))
       | inr leaf ↦ record { due = due; leaf = deep; spelled = leaf.1 }
@@ -313,9 +316,9 @@ leaf_read s id r t rows ok here due reads deep =
 
 pub inner_read : (s : State) (id : ℕ) (r : Record) (t : TakenText) (rows : List Row) → IsRight s → slice_get s.records id ≡ Some r → IsDue r.session t → Reads r t rows → t.node.depth ≢ tree_depth s.config.format → IsInnerRead s r t
 inner_read s id r t rows ok here due reads other =
-    let right = still_right s.config s.entries r t (kept_at s id r ok here) due in
-    let depth : tree_depth r.session.own.format ≡ tree_depth s.config.format = ap tree_depth right.here.format in
+    let kept = kept_at s id r ok here in
+    let depth : tree_depth r.session.own.format ≡ tree_depth s.config.format = ap tree_depth kept.here.format in
     elim reads [
-      | inl inner ↦ record { due = due; inner = omega (arith, inner.0, depth); form = subst (λ (f : Format). IsInnerText f t.text) right.here.format inner.1 }
+      | inl inner ↦ record { due = due; inner = omega (arith, inner.0, depth); form = subst (λ (f : Format). IsInnerText f t.text) kept.here.format inner.1 }
       | inr leaf ↦ absurd (other (leaf.0 ∙ depth))
     ]

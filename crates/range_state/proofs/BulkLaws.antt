@@ -84,11 +84,20 @@ pub record IsCleaning (start : State) (nodes : List NodeAt) (texts : List (List 
   pub none : done ≡ 0 → s ≡ start
   pub fewer : 0 < done → dirty_count s.marks < dirty_count start.marks
 
+-- a clean node is another one than a dirty one
+elsewhere : (marks : Marks) (dirty clean : ℕ) (d : List ℕ) → digest_at marks dirty ≡ None → digest_at marks clean ≡ Some d → clean ≡ dirty → ⊥
+elsewhere marks dirty clean d none some same = let clash : no_digest ≡ Some d = sym none ∙ ap (digest_at marks) (sym same) ∙ some in cc
+
 pub cleaning_next : (start : State) (nodes : List NodeAt) (texts : List (List ℕ)) (done : ℕ) (s t : State) (node : NodeAt) (text : List ℕ) → IsCleaning start nodes texts done s
     → place_of node < length start.marks → digest_at start.marks (place_of node) ≡ None → t ≡ installed s node text → IsCleaning start nodes texts (done + 1) t
 cleaning_next start nodes texts done s t node text was within dirty is =
     subst (λ (u : State). IsCleaning start nodes texts (done + 1) u) (sym is) (record {
-      same = record { config = was.same.config; entries = was.same.entries; records = was.same.records };
+      same = record {
+        config = was.same.config;
+        entries = was.same.entries;
+        records = was.same.records;
+        kept = λ place d h. get_or-set_other s.marks (place_of node) place (Some (sha256 text)) None (elsewhere start.marks (place_of node) place d dirty h) ∙ was.same.kept place d h;
+      };
       long = length-set s.marks (place_of node) (Some (sha256 text)) ∙ was.long;
       current = λ i n u less. still_current s (get_or nodes i n) node (get_or texts i u) text (was.current i n u less);
       none = λ e. absurd (omega arith);
@@ -185,4 +194,9 @@ all_rehashed s t same right clean =
     moved ∙ ap (λ (m : Marks). record { config = s.config; entries = s.entries; marks = m; records = s.records }) marks
 
 pub same_trans : (s t u : State) → IsSameRange s t → IsSameRange t u → IsSameRange s u
-same_trans s t u a b = record { config = b.config ∙ a.config; entries = b.entries ∙ a.entries; records = b.records ∙ a.records }
+same_trans s t u a b = record {
+  config = b.config ∙ a.config;
+  entries = b.entries ∙ a.entries;
+  records = b.records ∙ a.records;
+  kept = λ place d h. b.kept place d (a.kept place d h);
+}

@@ -36,8 +36,15 @@ grows es fs v key h =
 -- ---- records
 
 kept_grows : (c : Config) (es fs : List Entry) (r : Record) → IsKept c es r → IsKept c (es ++ fs) r
-kept_grows c es fs r (inl over) = inl over
-kept_grows c es fs r (inr right) = inr (record { here = right.here; walked = walked_grows (held es) (held (es ++ fs)) r.session (grows es fs) right.walked; orderly = right.orderly })
+kept_grows c es fs r kept = record {
+  here = kept.here;
+  traced = kept.traced;
+  ended = kept.ended;
+  going = elim kept.going [
+    | inl over ↦ inl over
+    | inr on ↦ inr (record { walked = walked_grows (held es) (held (es ++ fs)) r.session (grows es fs) on.walked; orderly = on.orderly })
+  ];
+}
 
 pub all_kept : (c : Config) (es fs : List Entry) (rs : List Record) → AllByRecursion (IsKept c es) rs → AllByRecursion (IsKept c (es ++ fs)) rs
 all_kept c es fs rs kept = All-weaker (IsKept c es) (IsKept c (es ++ fs)) rs (kept_grows c es fs) kept

@@ -1,5 +1,5 @@
 -- Sessions that are opened, go on and end.
-use Rattle.std.proofs.Common.{◌≡◌, ℕ, suc, ◌<◌, Bool, true, false, if◌then◌else◌, Option, Some, None, List, [], ◌∷◌, ◌++◌, length, map, set, get_or, refl, sym, ap, subst, ◌∙◌, inl, inr, arith, Any}
+use Rattle.std.proofs.Common.{◌≡◌, ◌≢◌, ℕ, zero, suc, ◌+◌, ◌<◌, ◌≤◌, Bool, true, false, if◌then◌else◌, Option, Some, None, List, [], ◌∷◌, ◌++◌, length, map, set, get_or, refl, sym, ap, subst, ◌∙◌, inl, inr, arith, Any}
 use Rattle.std.specs.Prelude.{nat_le, ◌||◌}
 use Rattle.std.specs.List.{AllByRecursion, filter}
 use Rattle.std.specs.Ordering.{is_eq}
@@ -11,31 +11,30 @@ use Rattle.vclock.specs.declared.refusal.Refusal.TheVariants.{SessionsFull}
 use Rattle.version_set.specs.declared.version.Version.{Version}
 use Rattle.version_set.specs.Version.{covered, is_same}
 use Rattle.version_set.proofs.SetLaws.{version_total}
+use Rattle.version_set.proofs.Lists.{all-append, all-push}
 use Rattle.range_journal.specs.declared.journal.Entry.{Entry}
 use Rattle.range_journal.specs.Journal.{held}
 use Rattle.hash_tree.proofs.ChunkLaws.{all-set}
 use Rattle.hash_tree.proofs.KeyOrder.{all_get}
-use Rattle.sync_session.specs.Walks.{Walk, Held}
-use Rattle.sync_session.specs.Steps.{started, cancelled_by}
+use Rattle.sync_session.specs.TreeNodes.{Node}
+use Rattle.sync_session.specs.Walks.{Walk, Held, first_asked}
+use Rattle.sync_session.specs.Steps.{state_by, started, cancelled_by}
 use Rattle.sync_session.specs.declared.state.SessionState.{SessionState}
 use Rattle.sync_session.specs.declared.state.SessionState.TheVariants.{Open, Finished, Failed, Cancelled}
-use Rattle.sync_session.proofs.StepLaws.{All-weaker, All-push, walked_started}
+use Rattle.sync_session.proofs.StepLaws.{All-weaker, walked_started}
 use Rattle.sync_session.proofs.CountLaws.{orderly_started}
+use Rattle.sync_session.proofs.TraceLaws.{traced, traced_cancelled}
 use Rattle.range_state.specs.declared.«record».Record.{Record}
 use Rattle.range_state.specs.Config.{Config}
 use Rattle.range_state.specs.Rows.{rows_of, keys_from}
-use Rattle.range_state.specs.Records.{IsKept}
+use Rattle.range_state.specs.Records.{IsKept, is_open_state, is_open, open_count}
 use Rattle.range_state.specs.State.{State, IsRight, IsLeafWith, rows_now}
-use Rattle.range_state.specs.Sessions.{is_open_state, is_open, open_count, standings, crowd_fault}
+use Rattle.range_state.specs.Sessions.{standings, crowd_fault}
 use Rattle.range_state.proofs.StateLaws.{IsSound, passed}
 use Rattle.range_state.proofs.RecordLaws.{all_kept}
 use Rattle.range_state.proofs.OfferLaws.{row_map_now}
 
 -- ---- lists
-
-pub all-append : {X : Type 0} (P : X → Type 0) (xs ys : List X) → AllByRecursion P xs → AllByRecursion P ys → AllByRecursion P (xs ++ ys)
-all-append P [] ys all more = more
-all-append P (x ∷ xs) ys all more = (all.0, all-append P xs ys all.1 more)
 
 pub any-append : {X : Type 0} (P : X → Type 0) (xs ys : List X) → Any P xs → Any P (xs ++ ys)
 any-append P xs ys a = (a.0, a.1, omega (arith, a.2, length-append xs ys), get_or_append_left xs ys a.1 a.0 a.2 ∙ a.3, a.4)
@@ -81,6 +80,37 @@ pub rows_held : (es : List Entry) → Held (rows_of es) (held es)
 unfolding rows_of
 rows_held es = held_rows es (keys_from [] es)
 
+-- ---- how many sessions are open
+
+abbrev one_if : Bool → ℕ
+one_if b = if b then 1 else 0
+
+counts : (b : Bool) (r : Record) (rs : List Record) → length (if b then r ∷ rs else rs) ≡ one_if b + length rs
+counts true r rs = omega arith
+counts false r rs = omega arith
+
+one_at_most : (b : Bool) → one_if b ≤ 1
+one_at_most true = omega arith
+one_at_most false = omega arith
+
+no_more : (b c : Bool) → (b ≡ true → c ≡ true) → one_if b ≤ one_if c
+no_more true true h = omega arith
+no_more true false h = absurd (let clash : false ≡ true = h refl in cc)
+no_more false c h = omega arith
+
+-- one more at the most, with a record at the end
+open_push : (rs : List Record) (r : Record) → open_count (rs ++ r ∷ []) ≤ open_count rs + 1
+open_push [] r = omega (arith, counts (is_open r) r [], one_at_most (is_open r))
+open_push (x ∷ rs) r = omega (arith, counts (is_open x) x (filter is_open rs), counts (is_open x) x (filter is_open (rs ++ r ∷ [])), open_push rs r)
+
+-- no more, with a record in the place of another that was open if it is
+open_set : (rs : List Record) (id : ℕ) (r new : Record) → r ≡ get_or rs id r → (is_open new ≡ true → is_open r ≡ true) → open_count (set rs id new) ≤ open_count rs
+open_set [] id r new was stays = omega arith
+open_set (x ∷ rs) zero r new was stays =
+    omega (arith, counts (is_open new) new (filter is_open rs), counts (is_open x) x (filter is_open rs), no_more (is_open new) (is_open x) (λ e. ap is_open (sym was) ∙ stays e))
+open_set (x ∷ rs) (suc id) r new was stays =
+    omega (arith, counts (is_open x) x (filter is_open rs), counts (is_open x) x (filter is_open (set rs id new)), open_set rs id r new was stays)
+
 -- ---- a state with other records
 
 -- each entry that is in a text of a session is in one of another
@@ -88,23 +118,24 @@ abbrev pub Keeps : Format → Walk → Walk → Type 0
 Keeps f old new = (e : Entry) → Any (IsLeafWith f e) old.taken → Any (IsLeafWith f e) new.taken
 
 -- one record more
-recorded_right : (s : State) (r : Record) → IsRight s → length s.records < 1024 → IsKept s.config s.entries r → IsRight (record { config = s.config; entries = s.entries; marks = s.marks; records = s.records ++ r ∷ [] })
-recorded_right s r ok room kept = record {
+recorded_right : (s : State) (r : Record) → IsRight s → length s.records < 1024 → open_count s.records < 64 → IsKept s.config s.entries r → IsRight (record { config = s.config; entries = s.entries; marks = s.marks; records = s.records ++ r ∷ [] })
+recorded_right s r ok room beside kept = record {
   config = ok.config;
   own = ok.own;
   news = ok.news;
   rows = ok.rows;
   marks = ok.marks;
-  records = All-push (IsKept s.config s.entries) s.records r ok.records kept;
+  records = all-push (IsKept s.config s.entries) s.records r ok.records kept;
   few = omega (arith, room, length-append s.records (r ∷ []));
+  few_open = omega (arith, beside, open_push s.records r);
   partners = All-weaker _ _ s.entries (λ e from source. any-append (λ (x : Record). Any (IsLeafWith s.config.format e) x.session.taken) s.records (r ∷ []) (from source)) ok.partners;
 }
 
 -- entries more, and a record in the place of another
 pub stepped_right : (s : State) (more : List Entry) (marks : List (Option (List ℕ))) (id : ℕ) (r new : Record) → IsRight s → IsSound (record { config = s.config; entries = s.entries ++ more; marks = marks; records = s.records })
-    → r ≡ get_or s.records id r → IsKept s.config (s.entries ++ more) new → Keeps s.config.format r.session new.session → AllByRecursion (λ (e : Entry). Any (λ (x : Record). Any (IsLeafWith s.config.format e) x.session.taken) (set s.records id new)) more
+    → r ≡ get_or s.records id r → (is_open new ≡ true → is_open r ≡ true) → IsKept s.config (s.entries ++ more) new → Keeps s.config.format r.session new.session → AllByRecursion (λ (e : Entry). Any (λ (x : Record). Any (IsLeafWith s.config.format e) x.session.taken) (set s.records id new)) more
     → IsRight (record { config = s.config; entries = s.entries ++ more; marks = marks; records = set s.records id new })
-stepped_right s more marks id r new ok sound was kept keeps come = record {
+stepped_right s more marks id r new ok sound was stays kept keeps come = record {
   config = ok.config;
   own = sound.own;
   news = sound.news;
@@ -112,14 +143,15 @@ stepped_right s more marks id r new ok sound was kept keeps come = record {
   marks = sound.marks;
   records = all-set (IsKept s.config (s.entries ++ more)) s.records id new kept (all_kept s.config s.entries more s.records ok.records);
   few = omega (arith, ok.few, length-set s.records id new);
+  few_open = omega (arith, ok.few_open, open_set s.records id r new was stays);
   partners = all-append _ s.entries more
       (All-weaker _ _ s.entries (λ e from source. any-set (λ (x : Record). Any (IsLeafWith s.config.format e) x.session.taken) s.records id r new was (keeps e) (from source)) ok.partners)
       (All-weaker _ _ more (λ e is source. is) come);
 }
 
 -- a record in the place of another
-pub replaced_right : (s : State) (id : ℕ) (r new : Record) → IsRight s → r ≡ get_or s.records id r → IsKept s.config s.entries new → Keeps s.config.format r.session new.session → IsRight (record { config = s.config; entries = s.entries; marks = s.marks; records = set s.records id new })
-replaced_right s id r new ok was kept keeps = record {
+pub replaced_right : (s : State) (id : ℕ) (r new : Record) → IsRight s → r ≡ get_or s.records id r → (is_open new ≡ true → is_open r ≡ true) → IsKept s.config s.entries new → Keeps s.config.format r.session new.session → IsRight (record { config = s.config; entries = s.entries; marks = s.marks; records = set s.records id new })
+replaced_right s id r new ok was stays kept keeps = record {
   config = ok.config;
   own = ok.own;
   news = ok.news;
@@ -127,6 +159,7 @@ replaced_right s id r new ok was kept keeps = record {
   marks = ok.marks;
   records = all-set (IsKept s.config s.entries) s.records id new kept ok.records;
   few = omega (arith, ok.few, length-set s.records id new);
+  few_open = omega (arith, ok.few_open, open_set s.records id r new was stays);
   partners = All-weaker _ _ s.entries (λ e from source. any-set (λ (x : Record). Any (IsLeafWith s.config.format e) x.session.taken) s.records id r new was (keeps e) (from source)) ok.partners;
 }
 
@@ -150,28 +183,45 @@ as_many rs = length-map rs (λ (r : Record). r.session.state)
 pub crowd_by : (rs : List Record) → crowd_fault (standings rs) ≡ (if nat_le 64 (open_count rs) || nat_le 1024 (length rs) then Some SessionsFull else None)
 crowd_by rs = λ i. if nat_le 64 (open_states rs i) || nat_le 1024 (as_many rs i) then Some SessionsFull else None
 
--- where a session can be opened, there is room for a record
-pub room_of : (rs : List Record) → crowd_fault (standings rs) ≡ None → length rs < 1024
+-- where a session can be opened, there is room for a record, and for an open session
+pub room_of : (rs : List Record) → crowd_fault (standings rs) ≡ None → (length rs < 1024) × (open_count rs < 64)
 room_of rs h =
     let tests = or_parts (nat_le 64 (length (filter is_open_state (standings rs)))) (nat_le 1024 (length (standings rs))) (passed _ SessionsFull h) in
-    elim (cases_lt (length rs) 1024) [
+    (below 1024 (length (standings rs)) (length rs) (as_many rs) tests.1, below 64 (length (filter is_open_state (standings rs))) (open_count rs) (open_states rs) tests.0)
+  where
+    below : (most n m : ℕ) → n ≡ m → nat_le most n ≡ false → m < most
+    below most n m same off = elim (cases_lt m most) [
       | inl room ↦ room
-      | inr full ↦ absurd (both_ways (nat_le 1024 (length (standings rs))) tests.1 (le-leb 1024 (length (standings rs)) (omega (arith, full, as_many rs))))
+      | inr full ↦ absurd (both_ways (nat_le most n) off (le-leb most n (omega (arith, full, same))))
     ]
 
+-- a session that is not open has nothing left
+pub none_left : (nodes : List Node) → state_by nodes ≢ Open → nodes ≡ []
+none_left [] off = refl
+none_left (n ∷ nodes) off = absurd (off refl)
+
 -- a session with the rows now
-pub opened_right : (s : State) (partner : ℕ) (root : List ℕ) (r : Record) → IsRight s → length s.records < 1024 → r ≡ record { partner = partner; session = started (rows_now s) root } → IsRight (record { config = s.config; entries = s.entries; marks = s.marks; records = s.records ++ r ∷ [] })
+pub opened_right : (s : State) (partner : ℕ) (root : List ℕ) (r : Record) → IsRight s → (length s.records < 1024) × (open_count s.records < 64) → r ≡ record { partner = partner; session = started (rows_now s) root } → IsRight (record { config = s.config; entries = s.entries; marks = s.marks; records = s.records ++ r ∷ [] })
 opened_right s partner root r ok room is =
-    recorded_right s r ok room (subst (IsKept s.config s.entries) (sym is) (inr (record {
+    let walked = walked_started (held s.entries) (rows_now s) root (row_map_now s ok) (rows_held s.entries) in
+    let orderly = orderly_started (rows_now s) root in
+    let kept : IsKept s.config s.entries (record { partner = partner; session = started (rows_now s) root }) = record {
       here = record { format = refl; bits = refl; range = refl };
-      walked = walked_started (held s.entries) (rows_now s) root (row_map_now s ok) (rows_held s.entries);
-      orderly = orderly_started (rows_now s) root;
-    })))
+      traced = traced (held s.entries) (started (rows_now s) root) walked orderly;
+      ended = none_left (first_asked (rows_now s) root);
+      going = inr (record { walked = walked; orderly = orderly });
+    } in
+    recorded_right s r ok room.0 room.1 (subst (IsKept s.config s.entries) (sym is) kept)
 
 -- ---- ending
 
 kept_cancelled : (c : Config) (es : List Entry) (r : Record) (w : Walk) (st : SessionState) → w.state ≡ st → IsKept c es (record { partner = r.partner; session = w }) → IsKept c es (record { partner = r.partner; session = cancelled_by w st })
-kept_cancelled c es r w Open is kept = inl (inr refl, refl)
+kept_cancelled c es r w Open is kept = record {
+  here = record { format = kept.here.format; bits = kept.here.bits; range = kept.here.range };
+  traced = traced_cancelled w Open kept.traced;
+  ended = λ off. refl;
+  going = inl (inr refl);
+}
 kept_cancelled c es r w Finished is kept = kept
 kept_cancelled c es r w Failed is kept = kept
 kept_cancelled c es r w Cancelled is kept = kept
@@ -182,9 +232,17 @@ keeps_cancelled f w Finished = λ e a. a
 keeps_cancelled f w Failed = λ e a. a
 keeps_cancelled f w Cancelled = λ e a. a
 
+-- a session that is open after it was cancelled was open before
+still_open : (r : Record) (w : Walk) (st : SessionState) → is_open (record { partner = r.partner; session = cancelled_by w st }) ≡ true → is_open (record { partner = r.partner; session = w }) ≡ true
+unfolding is_open
+still_open r w Open e = absurd (let clash : false ≡ true = e in cc)
+still_open r w Finished e = e
+still_open r w Failed e = e
+still_open r w Cancelled e = e
+
 pub cancelled_right : (s : State) (id : ℕ) (r new : Record) → IsRight s → id < length s.records → r ≡ get_or s.records id r → new ≡ record { partner = r.partner; session = cancelled_by r.session r.session.state } → IsRight (record { config = s.config; entries = s.entries; marks = s.marks; records = set s.records id new })
 cancelled_right s id r new ok within was is =
     let kept = subst (IsKept s.config s.entries) (sym was) (all_get (IsKept s.config s.entries) s.records id r ok.records within) in
     let over = kept_cancelled s.config s.entries r r.session r.session.state refl kept in
     subst (λ (x : Record). IsRight (record { config = s.config; entries = s.entries; marks = s.marks; records = set s.records id x })) (sym is)
-    (replaced_right s id r (record { partner = r.partner; session = cancelled_by r.session r.session.state }) ok was over (keeps_cancelled s.config.format r.session r.session.state))
+    (replaced_right s id r (record { partner = r.partner; session = cancelled_by r.session r.session.state }) ok was (still_open r r.session r.session.state) over (keeps_cancelled s.config.format r.session r.session.state))

@@ -18,7 +18,8 @@ use Rattle.version_set.specs.Kind.{value_fault}
 use Rattle.version_set.specs.declared.kind.Kind.{Kind}
 use Rattle.version_set.specs.declared.version.Version.{Version}
 use Rattle.version_set.specs.Version.{covered, offer_fault, is_below, is_same, with_version, set_from}
-use Rattle.version_set.proofs.SetLaws.{covered-maximal, is_same-exact, all-with_version, all-filter}
+use Rattle.version_set.proofs.SetLaws.{covered-maximal, is_same-exact, all-with_version}
+use Rattle.version_set.proofs.Lists.{all-filter, all-push}
 use Rattle.range_journal.specs.declared.journal.Entry.{Entry}
 use Rattle.range_journal.specs.Log.{Log}
 use Rattle.range_journal.specs.declared.journal.Source.TheVariants.{Partner}
@@ -67,10 +68,6 @@ set_here s leaves leaf key b ok at is =
 
 -- ---- what holds of the entries
 
-all-push : {X : Type 0} (P : X → Type 0) (xs : List X) (x : X) → AllByRecursion P xs → P x → AllByRecursion P (xs ++ x ∷ [])
-all-push P [] x all p = (p, tt)
-all-push P (y ∷ ys) x all p = (all.0, all-push P ys x all.1 p)
-
 all-versions_of : (P : Version → Type 0) (es : List Entry) (key : List ℕ) → AllByRecursion (λ e. P e.version) es → AllByRecursion P (versions_of es key)
 all-versions_of P [] key all = tt
 all-versions_of P (e ∷ es) key all = elim (pointwise nat_eq e.key key) as (λ b. AllByRecursion P (cond b (e.version ∷ versions_of es key) (versions_of es key))) [ true ↦ (all.0, all-versions_of P es key all.1) | false ↦ all-versions_of P es key all.1 ]
@@ -113,6 +110,7 @@ fresh_right c h = record {
   marks = record { tree = tree_fresh c.format; digests = true_fresh c.format (leaf_in c) (rows_of []) (node_count c.format) };
   records = tt;
   few = omega arith;
+  few_open = omega arith;
   partners = tt;
 }
 
@@ -246,6 +244,7 @@ grown-right s e ok other here unknown clock fits =
       marks = sound.marks;
       records = all_kept s.config s.entries (e ∷ []) s.records ok.records;
       few = ok.few;
+      few_open = ok.few_open;
       partners = all-push (λ (x : Entry). x.source ≡ Partner → IsFromPartner s x) s.entries e ok.partners (λ from. absurd (other from));
     }
 

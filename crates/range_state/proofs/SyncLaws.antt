@@ -8,6 +8,7 @@ use Rattle.std.proofs.lemmas.List.Folds.{list_any-append}
 use Rattle.vclock.specs.declared.format.Format.{Format}
 use Rattle.vclock.specs.declared.refusal.Refusal.{Refusal}
 use Rattle.vclock.specs.declared.refusal.Refusal.TheVariants as refusals
+use Rattle.version_set.proofs.Lists.{all-push}
 use Rattle.range_journal.specs.Journal.{held}
 use Rattle.row_bytes.specs.declared.row.Row.{Row}
 use Rattle.hash_tree.specs.Nodes.{tree_depth}
@@ -17,11 +18,10 @@ use Rattle.walk_messages.specs.declared.message.Offer.{Offer}
 use Rattle.sync_session.specs.TreeNodes.{Node, has_node, is_node, place_of, text_of}
 use Rattle.sync_session.specs.Walks.{TakenText, IsPartners, IsCanonical, asks}
 use Rattle.sync_session.specs.Steps.{started, after, state_by, IsDue}
-use Rattle.sync_session.specs.Differing.{nodes_of, differ, Ascends, IsHonest, IsNearlyDone}
+use Rattle.sync_session.specs.Differing.{nodes_of, differ, Ascends, IsTraced, IsHonest, IsNearlyDone}
 use Rattle.sync_session.specs.declared.state.SessionState.{SessionState}
 use Rattle.sync_session.specs.declared.state.SessionState.TheVariants.{Open, Finished, Failed, Cancelled}
-use Rattle.std.proofs.lemmas.Option.{get_or_from_slice_get}
-use Rattle.sync_session.proofs.StepLaws.{All-push, All-weaker}
+use Rattle.sync_session.proofs.StepLaws.{All-weaker}
 use Rattle.sync_session.proofs.DescentLaws.{entry}
 use Rattle.sync_session.proofs.OrderLaws.{asked_in_order}
 use Rattle.sync_session.proofs.HonestLaws.{asked_is_differ, differ_is_asked, true_text_due}
@@ -29,11 +29,10 @@ use Rattle.range_state.specs.Config.{Config}
 use Rattle.range_state.specs.declared.«record».Record.{Record}
 use Rattle.range_state.specs.declared.event.AnswerTaken.{AnswerTaken}
 use Rattle.range_state.specs.declared.state.syncing.Synced.{Synced}
-use Rattle.range_state.specs.Records.{IsKept, IsKeptRight}
+use Rattle.range_state.specs.Records.{IsKept, IsGoing}
 use Rattle.range_state.specs.State.{State, IsRight, rows_now}
 use Rattle.range_state.specs.Sessions.{standings, offers_of, taken_in, leaf_fault, opened, walked_to, IsLeafRead, IsLeafFault, TakesInner, TakesLeaf, TakesText, TakesFor, Refuses}
-use Rattle.range_state.specs.Syncs.{IsOfRange, leaves_in, offers_at, known_in, Progress, taken_leaves, synced, ended, IsSyncedTo, IsPartWay, IsFirstOf}
-use Rattle.range_state.proofs.AnswerLaws.{in_place}
+use Rattle.range_state.specs.Syncs.{IsOfRange, leaves_in, offers_at, known_in, Progress, taken_leaves, synced, ended, HasOneMore, HasAskedAll, IsSyncedTo, IsPartWay, IsFirstOf}
 use Rattle.range_state.proofs.SyncLists.{AreIn, member_of, has_head, all_has, same_nodes, fits, ascends_before, ascends_behind, without_first, differ_ascends, differ_inside, as_deep}
 use Rattle.range_state.proofs.SyncSteps.{beside, records_stay, config_stays, so_far, taken_more, leaf_came, leaf_refused, leaves-append, leaf_counts, inner_counts, no_leaves, nodes-push, got_last, set_last, all_last, true_rows}
 
@@ -85,7 +84,8 @@ begun s new seat partner offer other root is = record {
 
 -- what is known of a session on its way
 pub record IsTrueWalk (s now : State) (other : RowMap) (r : Record) : Type 0 where
-  pub right : IsKeptRight now.config now.entries r.session
+  pub right : IsGoing now.entries r.session
+  pub traced : IsTraced r.session
   pub partner : IsPartners r.session other
 
 still_going : (nodes : List Node) → (state_by nodes ≡ Failed) ⊎ (state_by nodes ≡ Cancelled) → ⊥
@@ -95,22 +95,25 @@ still_going (n ∷ nodes) (inl e) = let clash : Open ≡ Failed = e in cc
 still_going (n ∷ nodes) (inr e) = let clash : Open ≡ Cancelled = e in cc
 
 pub true_walk : (s now : State) (seat known : ℕ) (other : RowMap) (u : IsUnderWay s seat other known now) → IsRight now → IsOfRange s.config other → IsRowMap other → IsTrueWalk s now other u.r
-true_walk s now seat known other u ok here map = record {
-  right = elim (all_last (IsKept now.config now.entries) s.records u.r (subst (λ (rs : List Record). AllByRecursion (IsKept now.config now.entries) rs) u.records ok.records)) [
-    | inl over ↦ absurd (still_going u.r.session.outstanding (elim over.0 [
-      | inl failed ↦ inl (sym u.stands ∙ failed)
-      | inr cancelled ↦ inr (sym u.stands ∙ cancelled)
-    ]))
-    | inr right ↦ right
-  ];
-  partner = record {
-    format = here.format ∙ ap (λ (m : RowMap). m.format) (sym u.own);
-    bits = here.bits ∙ ap (λ (m : RowMap). m.bits) (sym u.own);
-    range = here.range ∙ ap (λ (m : RowMap). m.range) (sym u.own);
-    root = u.root;
-    map = map;
-  };
-}
+true_walk s now seat known other u ok here map =
+    let kept = all_last (IsKept now.config now.entries) s.records u.r (subst (λ (rs : List Record). AllByRecursion (IsKept now.config now.entries) rs) u.records ok.records) in
+    record {
+      right = elim kept.going [
+        | inl over ↦ absurd (still_going u.r.session.outstanding (elim over [
+          | inl failed ↦ inl (sym u.stands ∙ failed)
+          | inr cancelled ↦ inr (sym u.stands ∙ cancelled)
+        ]))
+        | inr right ↦ right
+      ];
+      traced = kept.traced;
+      partner = record {
+        format = here.format ∙ ap (λ (m : RowMap). m.format) (sym u.own);
+        bits = here.bits ∙ ap (λ (m : RowMap). m.bits) (sym u.own);
+        range = here.range ∙ ap (λ (m : RowMap). m.range) (sym u.own);
+        root = u.root;
+        map = map;
+      };
+    }
 
 pub here_is : (s now : State) (seat known id : ℕ) (other : RowMap) (u : IsUnderWay s seat other known now) → id ≡ length s.records → slice_get now.records id ≡ Some u.r
 here_is s now seat known id other u at = ap (λ (rs : List Record). slice_get rs id) u.records ∙ ap (slice_get (s.records ++ u.r ∷ [])) at ∙ got_last s.records u.r
@@ -133,11 +136,11 @@ shallow s now seat known other u n rest is first = elim (first_due s now other u
 ]
 
 pub asked_ascend : (s now : State) (seat known : ℕ) (other : RowMap) (u : IsUnderWay s seat other known now) → IsTrueWalk s now other u.r → Ascends u.r.session.asked
-asked_ascend s now seat known other u is = asked_in_order (held now.entries) u.r.session is.right.walked (u.r.session.outstanding, u.turn)
+asked_ascend s now seat known other u is = asked_in_order u.r.session is.traced (u.r.session.outstanding, u.turn)
 
 asked_in : (s now : State) (seat known : ℕ) (other : RowMap) (u : IsUnderWay s seat other known now) → IsTrueWalk s now other u.r → AreIn u.r.session.asked (differ (rows_now s) other)
 asked_in s now seat known other u is n h =
-    ap (λ (m : RowMap). has_node n (differ m other)) (sym u.own) ∙ asked_is_differ (held now.entries) u.r.session other is.right.walked is.right.orderly is.partner u.honest n h
+    ap (λ (m : RowMap). has_node n (differ m other)) (sym u.own) ∙ asked_is_differ u.r.session other is.traced is.partner u.honest n h
 
 left_ascend : (s now : State) (seat known : ℕ) (other : RowMap) (u : IsUnderWay s seat other known now) (n : Node) (rest : List Node) → IsTrueWalk s now other u.r → u.r.session.outstanding ≡ n ∷ rest → Ascends (n ∷ rest)
 left_ascend s now seat known other u n rest is first =
@@ -176,7 +179,7 @@ moved s now new base seat id known count other u n rest is at first same config 
         config = config ∙ u.config;
         own = u.own;
         root = u.root;
-        honest = All-push _ u.r.session.taken t u.honest refl;
+        honest = all-push _ u.r.session.taken t u.honest refl;
         turn = turned u.r.session.taken t rest (asks u.r.session.own t) u.r.session.asked u.r.session.outstanding u.turn first _ left;
         stands = refl;
         grown = omega (arith, u.grown, grown);
@@ -273,7 +276,7 @@ pub no_memory : (s now new : State) (seat id known : ℕ) (other : RowMap) (u : 
 no_memory s now new seat id known other u t at answer =
     let here = here_is s now seat known id other u at in
     let took : Refuses now seat id u.r t refusals.NoMemory new = subst (λ (o : Option Record). TakesFor now seat id o t (Err refusals.NoMemory) new) here answer in
-    took.1 ∙ sym (in_place now id u.r (sym (get_or_from_slice_get now.records id u.r u.r here)))
+    took.1
 
 -- ---- the end
 
@@ -292,7 +295,7 @@ leaves_left s now seat known other u n rest is first deep m h =
           omega (arith, as_deep n m less inside.1, inside.0, deep, format)
     ]
 
-asked_all : (s now : State) (seat known : ℕ) (other : RowMap) (u : IsUnderWay s seat other known now) → IsTrueWalk s now other u.r → IsNearlyDone u.r.session → u.r.session.asked ≡ differ (rows_now s) other
+pub asked_all : (s now : State) (seat known : ℕ) (other : RowMap) (u : IsUnderWay s seat other known now) → IsTrueWalk s now other u.r → IsNearlyDone u.r.session → u.r.session.asked ≡ differ (rows_now s) other
 asked_all s now seat known other u is near =
     same_nodes u.r.session.asked (differ (rows_now s) other) (asked_ascend s now seat known other u is) (differ_ascends (rows_now s) other) (asked_in s now seat known other u is)
     (λ n h. differ_is_asked (held now.entries) u.r.session other is.right.walked is.right.orderly is.partner u.honest near n (ap (λ (m : RowMap). has_node n (differ m other)) u.own ∙ h))
@@ -409,6 +412,33 @@ pub moved_first : (s now new : State) (seat id known count : ℕ) (other : RowMa
 moved_first s now new seat id known count other u n rest is first moved =
     subst (λ (xs : List Node). AreFirst s.config.format xs (differ (rows_now s) other)) (sym moved.turn) (up_to s now seat known other u n rest is first)
 
+-- the record of a session on its way
+pub one_more : (s now : State) (seat partner known : ℕ) (other : RowMap) (u : IsUnderWay s seat other known now) → u.r.partner ≡ partner → HasOneMore s partner other now.records
+one_more s now seat partner known other u with_whom = record {
+  r = u.r;
+  records = u.records;
+  partner_is = with_whom;
+  own = u.own;
+  root = sym u.root;
+  texts = u.honest;
+  turn = u.turn;
+  stands = u.stands;
+}
+
+-- a session that ended has asked all
+pub all_asked : (s now : State) (seat partner known : ℕ) (other : RowMap) (u : IsUnderWay s seat other known now) → IsTrueWalk s now other u.r → u.r.session.outstanding ≡ [] → u.r.partner ≡ partner → HasAskedAll s partner other now.records
+unfolding one_more
+all_asked s now seat partner known other u is done with_whom = (one_more s now seat partner known other u with_whom, asked_all s now seat known other u is (none_left s now seat known other u done))
+
+-- and so has one of which a leaf was refused
+pub all_asked_at : (s now new : State) (seat partner known : ℕ) (other : RowMap) (u : IsUnderWay s seat other known now) (n : Node) (rest : List Node) (e : Refusal) → IsTrueWalk s now other u.r → u.r.session.outstanding ≡ n ∷ rest
+    → IsLeafFault now seat u.r (entry n (text_of other n)) e × (new ≡ now) → u.r.partner ≡ partner → HasAskedAll s partner other new.records
+unfolding one_more
+all_asked_at s now new seat partner known other u n rest e is first cause with_whom =
+    let deep = (offers_are s now seat known other u n cause.0.rows is cause.0.read).0 in
+    subst (λ (x : State). HasAskedAll s partner other x.records) (sym cause.1)
+    (one_more s now seat partner known other u with_whom, asked_all s now seat known other u is (leaves_left s now seat known other u n rest is first deep))
+
 pub part_way : (s now : State) (seat partner known : ℕ) (other : RowMap) (u : IsUnderWay s seat other known now) → AreFirst s.config.format (nodes_of u.r.session.taken) (differ (rows_now s) other) → u.r.partner ≡ partner → IsPartWay s seat partner other now
 part_way s now seat partner known other u first with_whom = record {
   leaves = leaves_in s.config.format (nodes_of u.r.session.taken);
@@ -418,7 +448,7 @@ part_way s now seat partner known other u first with_whom = record {
   config = sym (ap (λ (p : Progress). p.state.config) u.progress);
   entries = sym (ap (λ (p : Progress). p.state.entries) u.progress);
   marks = sym (ap (λ (p : Progress). p.state.marks) u.progress);
-  session = (u.r, with_whom, u.records);
+  session = one_more s now seat partner known other u with_whom;
 }
 
 pub still_with : (s now new : State) (seat id count partner : ℕ) (other : RowMap) (r : Record) (n : Node) (moved : HasMoved s now new seat id count other r n) → r.partner ≡ partner → moved.under.r.partner ≡ partner

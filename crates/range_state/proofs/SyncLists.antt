@@ -2,15 +2,14 @@
 use Rattle.std.proofs.Common.{◌≡◌, ℕ, zero, suc, ◌+◌, ◌^◌, ◌<◌, ◌≤◌, ◌⊎◌, Bool, true, false, not, cond, List, [], ◌∷◌, ◌++◌, length, refl, sym, ap, subst, ◌∙◌, arith, inl, inr}
 use Rattle.std.specs.List.{filter, AllByRecursion}
 use Rattle.std.proofs.lemmas.Bool.{cases_lt, or_cases, or_left, or_right, false_from_ne_true}
+use Rattle.version_set.proofs.Lists.{all-append, all-filter}
 use Rattle.hash_tree.specs.Nodes.{tree_depth, nodes_above}
 use Rattle.hash_tree.proofs.PlaceLaws.{above_below}
-use Rattle.hash_tree.proofs.KeyOrder.{all_filter}
 use Rattle.snapshot.specs.RowMaps.{RowMap}
 use Rattle.sync_session.specs.TreeNodes.{Node, is_node, has_node, place_of}
 use Rattle.sync_session.specs.Differing.{first_of_level, nodes_above_depth, all_nodes, differ, Ascends}
 use Rattle.sync_session.proofs.StepLaws.{All-weaker}
 use Rattle.sync_session.proofs.DescentLaws.{is_node-true, is_node-same}
-use Rattle.range_state.proofs.SessionLaws.{all-append}
 
 -- ---- nodes of a list
 
@@ -94,7 +93,7 @@ ascends_before (x ∷ xs) n ys p = (all_has (λ m. place_of x < place_of m) (xs 
 
 ascends_filter : (p : Node → Bool) (xs : List Node) → Ascends xs → Ascends (filter p xs)
 ascends_filter p [] up = tt
-ascends_filter p (x ∷ xs) up = by_case (p x) (all_filter (λ n. place_of x < place_of n) p xs up.0) (ascends_filter p xs up.1)
+ascends_filter p (x ∷ xs) up = by_case (p x) (all-filter (λ n. place_of x < place_of n) p xs up.0) (ascends_filter p xs up.1)
   where
     by_case : (b : Bool) → AllByRecursion (λ n. place_of x < place_of n) (filter p xs) → Ascends (filter p xs) → Ascends (cond b (x ∷ filter p xs) (filter p xs))
     by_case true above rest = (above, rest)
@@ -145,7 +144,7 @@ pub differ_ascends : (own other : RowMap) → Ascends (differ own other)
 differ_ascends own other = ascends_filter _ (all_nodes own.format) (levels_ascend (suc (tree_depth own.format)))
 
 pub differ_inside : (own other : RowMap) → AllByRecursion (λ n. (n.depth < suc (tree_depth own.format)) × (n.index < 16 ^ n.depth)) (differ own other)
-differ_inside own other = all_filter _ _ (all_nodes own.format) (levels_at (suc (tree_depth own.format)))
+differ_inside own other = all-filter _ _ (all_nodes own.format) (levels_at (suc (tree_depth own.format)))
 
 -- a node that comes later lies as deep at least
 pub as_deep : (n m : Node) → place_of n < place_of m → m.index < 16 ^ m.depth → n.depth ≤ m.depth

@@ -1,5 +1,5 @@
 -- What becomes of a range when the versions of a leaf are accepted.
-use Rattle.std.proofs.Common.{◌≡◌, ℕ, ◌<◌, ◌≤◌, ◌⊎◌, Bool, true, false, cond, Option, None, List, [], ◌∷◌, ◌++◌, length, map, set, get_or, refl, sym, ap, subst, ◌∙◌, inl, inr, arith, append_assoc, append-nil, Any, Contains, ◌||◌}
+use Rattle.std.proofs.Common.{◌≡◌, ◌≢◌, ℕ, ◌<◌, ◌≤◌, ◌⊎◌, Bool, true, false, cond, Option, None, List, [], ◌∷◌, ◌++◌, length, map, set, get_or, refl, sym, ap, subst, ◌∙◌, inl, inr, arith, append_assoc, append-nil, Any, Contains, ◌||◌}
 use Rattle.std.specs.Prelude.{nat_eq}
 use Rattle.std.specs.List.{AllByRecursion, flat_map}
 use Rattle.std.proofs.lemmas.Bool.{or_left, or_right, both_ways}
@@ -17,6 +17,7 @@ use Rattle.vclock.specs.declared.format.Format.TheVariants.{One, Two}
 use Rattle.version_set.specs.Kind.{value_fault}
 use Rattle.version_set.specs.declared.version.Version.{Version}
 use Rattle.version_set.specs.Version.{covered, offer_fault, is_same, is_below, version_text}
+use Rattle.version_set.proofs.Lists.{all-append}
 use Rattle.range_journal.specs.declared.journal.Entry.{Entry}
 use Rattle.range_journal.specs.declared.journal.Source.TheVariants.{Partner}
 use Rattle.range_journal.specs.Journal.{held, versions_of}
@@ -32,18 +33,21 @@ use Rattle.snapshot.specs.RowMaps.{RowMap}
 use Rattle.snapshot.specs.RowMaps as maps
 use Rattle.sync_session.specs.TreeNodes.{Node, has_node}
 use Rattle.sync_session.specs.Walks.{Walk, TakenText, AreSpelled, IsCanonical, IsInnerText, IsLeafHeld}
-use Rattle.sync_session.specs.Steps.{IsDue, after, failed}
+use Rattle.sync_session.specs.Steps.{IsDue, left_after, after, failed}
+use Rattle.sync_session.specs.declared.state.SessionState.{SessionState}
+use Rattle.sync_session.specs.declared.state.SessionState.TheVariants.{Open, Finished, Failed, Cancelled}
 use Rattle.sync_session.proofs.StepLaws.{All-weaker, walked_grows, walked_after, spelled_held}
 use Rattle.sync_session.proofs.CountLaws.{orderly_after}
+use Rattle.sync_session.proofs.TraceLaws.{traced, traced_failed}
 use Rattle.range_state.specs.Config.{Config}
 use Rattle.range_state.specs.declared.«record».Record.{Record}
-use Rattle.range_state.specs.Records.{IsHere, IsKeptRight, IsKept}
+use Rattle.range_state.specs.Records.{IsOver, IsHere, IsGoing, IsKept, is_open_state, is_open}
 use Rattle.range_state.specs.State.{State, IsRight, IsLeafWith, leaf_in, place_fault, knows, entry_of, journaled, accept_step}
 use Rattle.range_state.specs.Sessions.{offers_in, offers_of, taken_in, crowded_in, walked_to, IsInnerRead, IsLeafRead}
 use Rattle.range_state.specs.Batches.{IsRowFor}
 use Rattle.range_state.proofs.StateLaws.{IsSound, sound_of, grown_sound, knows_held, first_none, later_none}
 use Rattle.range_state.proofs.RecordLaws.{grows}
-use Rattle.range_state.proofs.SessionLaws.{Keeps, covered-itself, any-append, replaced_right, stepped_right}
+use Rattle.range_state.proofs.SessionLaws.{Keeps, covered-itself, any-append, replaced_right, stepped_right, none_left}
 use Rattle.range_state.proofs.BatchLaws.{Offers}
 
 -- ---- the path of a leaf is dirty once
@@ -132,10 +136,6 @@ step_grown P t seat key v p = elim (knows t key v) as (λ b. IsGrown P t (cond b
   | true ↦ record { more = []; entries = sym (append-nil t.entries); all = tt }
   | false ↦ record { more = entry_of t seat Partner key v ∷ []; entries = refl; all = (p, tt) }
 ]
-
-all-append : (P : Entry → Type 0) (xs ys : List Entry) → AllByRecursion P xs → AllByRecursion P ys → AllByRecursion P (xs ++ ys)
-all-append P [] ys all more = more
-all-append P (x ∷ xs) ys all more = (all.0, all-append P xs ys all.1 more)
 
 pub taken_grown : (P : List ℕ → Version → Type 0) (t : State) (seat : ℕ) (offers : Offers) → AllByRecursion (λ o. P o.0 o.1) offers → IsGrown P t (taken_in t seat offers)
 taken_grown P t seat [] all = record { more = []; entries = sym (append-nil t.entries); all = tt }
@@ -284,39 +284,65 @@ spelled_rows c w n text rows here spelled =
 
 -- ---- the records afterwards
 
--- a session that awaits a text is not over
-pub still_right : (c : Config) (es : List Entry) (r : Record) (t : TakenText) → IsKept c es r → IsDue r.session t → IsKeptRight c es r.session
-still_right c es r t (inl over) due = absurd (both_ways (has_node t.node []) refl (ap (has_node t.node) (sym over.1) ∙ due.asked))
-still_right c es r t (inr right) due = right
+-- a session that awaits a text is open
+awaits : (c : Config) (es : List Entry) (r : Record) (t : TakenText) → IsKept c es r → IsDue r.session t → (r.session.state ≢ Open) → ⊥
+awaits c es r t kept due off = both_ways (has_node t.node []) refl (ap (has_node t.node) (sym (kept.ended off)) ∙ due.asked)
+
+open_state : (state : SessionState) → ((state ≢ Open) → ⊥) → is_open_state state ≡ true
+open_state Open h = refl
+open_state Finished h = absurd (h (λ e. let clash : Finished ≡ Open = e in cc))
+open_state Failed h = absurd (h (λ e. let clash : Failed ≡ Open = e in cc))
+open_state Cancelled h = absurd (h (λ e. let clash : Cancelled ≡ Open = e in cc))
+
+is_awaiting : (c : Config) (es : List Entry) (r : Record) (t : TakenText) → IsKept c es r → IsDue r.session t → is_open r ≡ true
+unfolding is_open
+is_awaiting c es r t kept due = open_state r.session.state (awaits c es r t kept due)
+
+-- and it goes on
+pub not_open : (w : Walk) → IsOver w → w.state ≢ Open
+not_open w (inl failed) open_is = let clash : Failed ≡ Open = sym failed ∙ open_is in cc
+not_open w (inr cancelled) open_is = let clash : Cancelled ≡ Open = sym cancelled ∙ open_is in cc
+
+goes_on : (c : Config) (es : List Entry) (r : Record) (t : TakenText) → IsKept c es r → IsDue r.session t → IsGoing es r.session
+goes_on c es r t kept due = elim kept.going [
+  | inl over ↦ absurd (awaits c es r t kept due (not_open r.session over))
+  | inr on ↦ on
+]
 
 -- the record of a number is right
 pub record_kept : (s : State) (id : ℕ) (r : Record) → IsRight s → id < length s.records → r ≡ get_or s.records id r → IsKept s.config s.entries r
 record_kept s id r ok within was = subst (IsKept s.config s.entries) (sym was) (all_get (IsKept s.config s.entries) s.records id r ok.records within)
 
-kept_after : (c : Config) (es more : List Entry) (r : Record) (t : TakenText) → IsKeptRight c es r.session → IsDue r.session t → IsCanonical r.session.own t.node t.text → IsLeafHeld r.session.own (held (es ++ more)) t
+kept_after : (c : Config) (es more : List Entry) (r : Record) (t : TakenText) → IsKept c es r → IsDue r.session t → IsCanonical r.session.own t.node t.text → IsLeafHeld r.session.own (held (es ++ more)) t
     → IsKept c (es ++ more) (record { partner = r.partner; session = after r.session t })
-kept_after c es more r t right due canonical leaf =
-    let grown = walked_grows (held es) (held (es ++ more)) r.session (grows es more) right.walked in
-    inr (record {
-      here = record { format = right.here.format; bits = right.here.bits; range = right.here.range };
-      walked = walked_after (held (es ++ more)) r.session t grown due canonical leaf;
-      orderly = orderly_after (held (es ++ more)) r.session t grown right.orderly due;
-    })
+kept_after c es more r t kept due canonical leaf =
+    let on = goes_on c es r t kept due in
+    let grown = walked_grows (held es) (held (es ++ more)) r.session (grows es more) on.walked in
+    let walked = walked_after (held (es ++ more)) r.session t grown due canonical leaf in
+    let orderly = orderly_after (held (es ++ more)) r.session t grown on.orderly due in
+    record {
+      here = record { format = kept.here.format; bits = kept.here.bits; range = kept.here.range };
+      traced = traced (held (es ++ more)) (after r.session t) walked orderly;
+      ended = none_left (left_after r.session t);
+      going = inr (record { walked = walked; orderly = orderly });
+    }
 
 keeps_after : (f : Format) (w : Walk) (t : TakenText) → Keeps f w (after w t)
 keeps_after f w t = λ e a. any-append (IsLeafWith f e) w.taken (t ∷ []) a
 
 -- ---- a text is taken
 
--- of a node with children
+-- of a node with children, which can have it
+pub inner_canonical : (s : State) (r : Record) (t : TakenText) → IsKept s.config s.entries r → IsInnerRead s r t → IsCanonical r.session.own t.node t.text
+inner_canonical s r t kept read = inl (omega (arith, ap tree_depth kept.here.format, read.inner), subst (λ (f : Format). IsInnerText f t.text) (sym kept.here.format) read.form)
+
 pub inner_right : (s : State) (id : ℕ) (r : Record) (t : TakenText) → IsRight s → id < length s.records → r ≡ get_or s.records id r → IsInnerRead s r t → IsRight (walked_to s id r (after r.session t))
 inner_right s id r t ok within was read =
-    let right = still_right s.config s.entries r t (record_kept s id r ok within was) read.due in
-    let depth : tree_depth r.session.own.format ≡ tree_depth s.config.format = ap tree_depth right.here.format in
-    let canonical : IsCanonical r.session.own t.node t.text = inl (omega (arith, depth, read.inner), subst (λ (f : Format). IsInnerText f t.text) (sym right.here.format) read.form) in
-    let kept = kept_after s.config s.entries [] r t right read.due canonical (λ leaf. absurd (omega (arith, leaf, depth, read.inner))) in
+    let old = record_kept s id r ok within was in
+    let depth : tree_depth r.session.own.format ≡ tree_depth s.config.format = ap tree_depth old.here.format in
+    let kept = kept_after s.config s.entries [] r t old read.due (inner_canonical s r t old read) (λ leaf. absurd (omega (arith, leaf, depth, read.inner))) in
     let same : IsKept s.config s.entries (record { partner = r.partner; session = after r.session t }) = subst (λ (es : List Entry). IsKept s.config es (record { partner = r.partner; session = after r.session t })) (append-nil s.entries) kept in
-    replaced_right s id r (record { partner = r.partner; session = after r.session t }) ok was same (keeps_after s.config.format r.session t)
+    replaced_right s id r (record { partner = r.partner; session = after r.session t }) ok was (λ e. is_awaiting s.config s.entries r t old read.due) same (keeps_after s.config.format r.session t)
 
 -- of a leaf, whose versions are accepted
 pub leaf_right : (s : State) (seat id : ℕ) (r : Record) (t : TakenText) (rows : List Row) → IsRight s → id < length s.records → r ≡ get_or s.records id r → IsLeafRead s r t rows → crowded_in s seat (offers_of rows) ≡ None
@@ -324,31 +350,31 @@ pub leaf_right : (s : State) (seat id : ℕ) (r : Record) (t : TakenText) (rows 
 leaf_right s seat id r t rows ok within was read none =
     let end = taken_in s seat (offers_of rows) in
     let new : Record = record { partner = r.partner; session = after r.session t } in
-    let right = still_right s.config s.entries r t (record_kept s id r ok within was) read.due in
-    let offers = spelled_offers s.config r.session t.node t.text rows right.here read.spelled in
+    let old = record_kept s id r ok within was in
+    let offers = spelled_offers s.config r.session t.node t.text rows old.here read.spelled in
     let moved = reached s s t.node.index seat (offers_of rows) (All-weaker _ _ (offers_of rows) (λ o is. is.leaf_is) offers) (inl refl) in
     let same = same_range s t.node.index end moved in
     let grown = taken_grown (IsAmong rows) s seat (offers_of rows) (offers_among rows) in
     let more = grown.more in
     let sound = taken_sound s.config s t.node.index seat (offers_of rows) refl (sound_of s ok) offers none in
     let here : end ≡ record { config = s.config; entries = s.entries ++ more; marks = end.marks; records = s.records } = λ i. record { config = same.0 i; entries = grown.entries i; marks = end.marks; records = same.1 i } in
-    let depth : tree_depth r.session.own.format ≡ tree_depth s.config.format = ap tree_depth right.here.format in
+    let depth : tree_depth r.session.own.format ≡ tree_depth s.config.format = ap tree_depth old.here.format in
     let canonical : IsCanonical r.session.own t.node t.text = inr (omega (arith, depth, read.leaf), (rows, read.spelled)) in
     let covers = all_offers (λ key v. covered v (held (s.entries ++ more) key) ≡ true) rows (subst (λ (es : List Entry). AllByRecursion (λ o. covered o.1 (held es o.0) ≡ true) (offers_of rows)) grown.entries (taken_held s seat (offers_of rows))) in
     let leaf = spelled_held (held (s.entries ++ more)) r.session.own t rows read.spelled covers in
-    let kept = kept_after s.config s.entries more r t right read.due canonical leaf in
-    let come = come_of s id r t rows more within right read.leaf read.spelled grown.all in
-    let made = stepped_right s more end.marks id r new ok (subst IsSound here sound) was kept (keeps_after s.config.format r.session t) come in
+    let kept = kept_after s.config s.entries more r t old read.due canonical leaf in
+    let come = come_of s id r t rows more within old.here read.leaf read.spelled grown.all in
+    let made = stepped_right s more end.marks id r new ok (subst IsSound here sound) was (λ e. is_awaiting s.config s.entries r t old read.due) kept (keeps_after s.config.format r.session t) come in
     subst IsRight (λ i. record { config = sym same.0 i; entries = sym grown.entries i; marks = end.marks; records = set (sym same.1 i) id new }) made
   where
     same_range : (u : State) (n : ℕ) (v : State) → Reached u n v → (v.config ≡ u.config) × (v.records ≡ u.records)
     same_range u n v (inl e) = (ap (λ (x : State). x.config) e, ap (λ (x : State). x.records) e)
     same_range u n v (inr news) = (news.config, news.records)
 
-    come_of : (s : State) (id : ℕ) (r : Record) (t : TakenText) (rows : List Row) (more : List Entry) → id < length s.records → IsKeptRight s.config s.entries r.session → t.node.depth ≡ tree_depth s.config.format → AreSpelled r.session.own t.node t.text rows
+    come_of : (s : State) (id : ℕ) (r : Record) (t : TakenText) (rows : List Row) (more : List Entry) → id < length s.records → IsHere s.config r.session → t.node.depth ≡ tree_depth s.config.format → AreSpelled r.session.own t.node t.text rows
         → AllByRecursion (λ (e : Entry). IsAmong rows e.key e.version) more
         → AllByRecursion (λ (e : Entry). Any (λ (x : Record). Any (IsLeafWith s.config.format e) x.session.taken) (set s.records id (record { partner = r.partner; session = after r.session t }))) more
-    come_of s id r t rows more within right deep spelled all =
+    come_of s id r t rows more within here deep spelled all =
         let new : Record = record { partner = r.partner; session = after r.session t } in
         All-weaker _ _ more (λ e among. (
           id,
@@ -363,16 +389,31 @@ leaf_right s seat id r t rows ok within was read none =
             record {
               leaf = deep;
               rows = rows;
-              are = subst (λ (f : Format). AreRows f rows) right.here.format spelled.are;
-              text = spelled.text_is ∙ ap (λ (f : Format). leaf_text f rows) right.here.format;
+              are = subst (λ (f : Format). AreRows f rows) here.format spelled.are;
+              text = spelled.text_is ∙ ap (λ (f : Format). leaf_text f rows) here.format;
               has = among;
             },
           ),
         )) all
 
--- of which no node can be
-pub failed_right : (s : State) (id : ℕ) (r : Record) → IsRight s → r ≡ get_or s.records id r → IsRight (walked_to s id r (failed r.session))
-failed_right s id r ok was = replaced_right s id r (record { partner = r.partner; session = failed r.session }) ok was (inl (inl refl, refl)) (keeps_failed s.config.format r.session)
+-- that no node can have
+kept_failed : (c : Config) (es : List Entry) (r : Record) → IsKept c es r → IsKept c es (record { partner = r.partner; session = failed r.session })
+kept_failed c es r kept = record {
+  here = record { format = kept.here.format; bits = kept.here.bits; range = kept.here.range };
+  traced = traced_failed r.session kept.traced;
+  ended = λ off. refl;
+  going = inl (inl refl);
+}
+
+-- a session that failed is not open
+is_closed : (r : Record) → is_open (record { partner = r.partner; session = failed r.session }) ≡ true → is_open r ≡ true
+unfolding is_open
+is_closed r e = absurd (let clash : false ≡ true = e in cc)
+
+pub failed_right : (s : State) (id : ℕ) (r : Record) → IsRight s → id < length s.records → r ≡ get_or s.records id r → IsRight (walked_to s id r (failed r.session))
+failed_right s id r ok within was =
+    let kept = kept_failed s.config s.entries r (record_kept s id r ok within was) in
+    replaced_right s id r (record { partner = r.partner; session = failed r.session }) ok was (is_closed r) kept (keeps_failed s.config.format r.session)
   where
     keeps_failed : (f : Format) (w : Walk) → Keeps f w (failed w)
     keeps_failed f w = λ e a. a

@@ -117,6 +117,7 @@ cleaned_right s node text tree ok current is valid =
       marks = record { tree = subst IsTree is valid; digests = right };
       records = ok.records;
       few = ok.few;
+      few_open = ok.few_open;
       partners = ok.partners;
     } in
     subst (λ (t : Tree). IsRight (record { config = s.config; entries = s.entries; marks = t.digests; records = s.records })) (sym is) made

@@ -1,16 +1,32 @@
 -- Records of sessions, and when they are right.
-use Rattle.std.specs.Prelude.{◌≡◌, ◌⊎◌, List, []}
+use Rattle.std.specs.Prelude.{◌≡◌, ◌≢◌, ◌⊎◌, ℕ, Bool, true, false, length, List, []}
+use Rattle.std.specs.List.{filter}
 use Rattle.range_journal.specs.declared.journal.Entry.{Entry}
 use Rattle.range_journal.specs.Journal.{held}
-use Rattle.sync_session.specs.Differing.{IsOrderly}
+use Rattle.sync_session.specs.Differing.{IsOrderly, IsTraced}
 use Rattle.sync_session.specs.Walks.{Walk, Walked}
-use Rattle.sync_session.specs.declared.state.SessionState.TheVariants.{Failed, Cancelled}
+use Rattle.sync_session.specs.declared.state.SessionState.{SessionState}
+use Rattle.sync_session.specs.declared.state.SessionState.TheVariants.{Open, Finished, Failed, Cancelled}
 use Rattle.range_state.specs.Config.{Config}
 use Rattle.range_state.specs.declared.«record».Record.{Record}
 
--- a session that failed or was cancelled asks nothing any more
+-- whether a session can still take texts
+abbrev pub is_open_state : SessionState → Bool
+is_open_state Open = true
+is_open_state Finished = false
+is_open_state Failed = false
+is_open_state Cancelled = false
+
+unfoldable pub is_open : Record → Bool
+is_open r = is_open_state r.session.state
+
+-- how many sessions are open
+abbrev pub open_count : List Record → ℕ
+open_count records = length (filter is_open records)
+
+-- a session that was ended early: it failed or was cancelled
 abbrev pub IsOver : Walk → Type 0
-IsOver w = ((w.state ≡ Failed) ⊎ (w.state ≡ Cancelled)) × (w.outstanding ≡ [])
+IsOver w = (w.state ≡ Failed) ⊎ (w.state ≡ Cancelled)
 
 -- the own rows of a session are of this range, in its format
 pub record IsHere (c : Config) (w : Walk) : Type 0 where
@@ -18,12 +34,16 @@ pub record IsHere (c : Config) (w : Walk) : Type 0 where
   pub bits : w.own.bits ≡ c.bits
   pub range : w.own.range ≡ c.range
 
--- A session that may go on: its own rows are of this range, all that it has seen is held, and no node is asked twice.
-pub record IsKeptRight (c : Config) (entries : List Entry) (w : Walk) : Type 0 where
-  pub here : IsHere c w
+-- a session that was not ended early: all that it has seen is held, and each node that was asked is taken or outstanding, and not
+-- both
+pub record IsGoing (entries : List Entry) (w : Walk) : Type 0 where
   pub walked : Walked (held entries) w
   pub orderly : IsOrderly w
 
--- a record of a session that is over, or that is right for the entries
-abbrev pub IsKept : Config → List Entry → Record → Type 0
-IsKept c entries r = IsOver r.session ⊎ IsKeptRight c entries r.session
+-- A record that is right for the entries: its own rows are of this range; what it asked and took agree; if it is not open, nothing
+-- is outstanding; and it was ended early, or all that it has seen is held.
+pub record IsKept (c : Config) (entries : List Entry) (r : Record) : Type 0 where
+  pub here : IsHere c r.session
+  pub traced : IsTraced r.session
+  pub ended : r.session.state ≢ Open → r.session.outstanding ≡ []
+  pub going : IsOver r.session ⊎ IsGoing entries r.session

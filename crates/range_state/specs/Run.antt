@@ -5,7 +5,8 @@ use Rattle.std.specs.declared.alloc.Global.{Global}
 use Rattle.std.specs.declared.sync.Arc.{Arc}
 use Rattle.vclock.specs.Answer.{Answers, AnswersAtOnce, AnswersOrNoMemory}
 use Rattle.vclock.specs.declared.refusal.Refusal.{Refusal}
-use Rattle.std.specs.Prelude.{None, OnOk, OnErr}
+use Rattle.vclock.specs.declared.refusal.Refusal.TheVariants.{NoMemory}
+use Rattle.std.specs.Prelude.{None, IfErr, OnOk, OnErr}
 use Rattle.version_set.specs.declared.version.Version.{Version}
 use Rattle.range_journal.specs.declared.journal.Entry.{Entry}
 use Rattle.range_journal.specs.Journal.{held}
@@ -20,15 +21,16 @@ use Rattle.range_state.specs.declared.event.AnswerEvent.{AnswerEvent}
 use Rattle.range_state.specs.declared.event.AnswerTaken.{AnswerTaken}
 use Rattle.range_state.specs.declared.event.Reply.{Reply}
 use Rattle.range_state.specs.declared.event.Reply.TheVariants as replies
-use Rattle.range_state.specs.State.{State, IsRight, GivesJob, journaled, put_fault, put_entry, accept_fault, accept_step, accept_reply, install_fault, installed, rows_now, dirty_fault}
+use Rattle.range_state.specs.State.{State, IsRight, GivesJob, journaled, ask_fault, put_fault, put_entry, accept_fault, accept_step, accept_reply, install_fault, installed, rows_now, dirty_fault}
 use Rattle.range_state.specs.Sessions.{open_fault, opened, unknown_fault, cancelled_at, TakesAnswer}
 use Rattle.sync_session.specs.TreeNodes.{node_of}
 use Rattle.rehash.specs.Jobs.{NodeText}
 use Rattle.snapshot.specs.RowMaps.{RowMap}
 
--- a put answered its entry, which the journal has from then on; or it was refused, and nothing changed
+-- a put answered its entry, which the journal has from then on; or it was refused, and nothing changed: NoMemory stands in
+-- place of no cause that is tested before the clock is raised
 abbrev pub PutStep : State → PutEvent → Result Entry Refusal → State → Type 0
-PutStep s p r t = AnswersOrNoMemory r (put_fault s p.at p.key p.context p.kind p.value) (λ e. e ≡ put_entry s p.seat p.at p.key p.context p.kind p.value) × OnOk r (t ≡ journaled s (put_entry s p.seat p.at p.key p.context p.kind p.value)) × OnErr r (t ≡ s)
+PutStep s p r t = IfErr r (λ e. e ≡ NoMemory → ask_fault s.config p.at p.key p.context p.kind p.value ≡ None) × AnswersOrNoMemory r (put_fault s p.at p.key p.context p.kind p.value) (λ e. e ≡ put_entry s p.seat p.at p.key p.context p.kind p.value) × OnOk r (t ≡ journaled s (put_entry s p.seat p.at p.key p.context p.kind p.value)) × OnErr r (t ≡ s)
 
 -- a version was taken or known; or it was refused, and nothing changed
 abbrev pub AcceptStep : State → AcceptEvent → Result Accepted Refusal → State → Type 0

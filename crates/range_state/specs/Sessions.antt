@@ -1,5 +1,5 @@
 -- What the calls on sessions answer and change.
-use Rattle.std.specs.Prelude.{◌≡◌, ◌⊎◌, ℕ, ◌+◌, ◌<◌, nat_le, ◌==◌, ◌||◌, Bool, true, false, ◌++◌, List, [], ◌∷◌, length, slice_get, map, slice_set, Option, Some, None, Result, Ok, Err, if◌then◌else◌}
+use Rattle.std.specs.Prelude.{◌≡◌, ◌⊎◌, ℕ, ◌+◌, ◌<◌, nat_le, ◌==◌, ◌||◌, ◌++◌, List, [], ◌∷◌, length, slice_get, map, slice_set, Option, Some, None, Result, Ok, Err, if◌then◌else◌}
 use Rattle.std.specs.List.{filter, flat_map}
 use Rattle.vclock.specs.Answer.{first_fault}
 use Rattle.vclock.specs.declared.format.Format.{Format}
@@ -13,11 +13,11 @@ use Rattle.range_journal.specs.Journal.{held}
 use Rattle.row_bytes.specs.declared.row.Row.{Row}
 use Rattle.hash_tree.specs.Nodes.{tree_depth}
 use Rattle.walk_messages.specs.declared.message.Offer.{Offer}
-use Rattle.sync_session.specs.Steps.{started, after, after_refusal, cancelled_by, IsDue, IsTakeFault}
+use Rattle.sync_session.specs.Steps.{started, after, failed, cancelled_by, IsDue, IsTakeFault}
 use Rattle.sync_session.specs.Walks.{TakenText, Walk, AreSpelled, IsInnerText}
 use Rattle.sync_session.specs.declared.state.SessionState.{SessionState}
-use Rattle.sync_session.specs.declared.state.SessionState.TheVariants.{Open, Finished, Failed, Cancelled}
 use Rattle.range_state.specs.Config.{Config}
+use Rattle.range_state.specs.Records.{is_open_state}
 use Rattle.range_state.specs.declared.«record».Record.{Record}
 use Rattle.range_state.specs.declared.event.AnswerTaken.{AnswerTaken}
 use Rattle.range_state.specs.State.{State, rows_now, dirty_fault, accept_step}
@@ -28,20 +28,6 @@ use Rattle.range_state.specs.State.{State, rows_now, dirty_fault, accept_step}
 abbrev pub number_of : Format → ℕ
 number_of One = 1
 number_of Two = 2
-
--- whether a session can still take texts
-abbrev pub is_open_state : SessionState → Bool
-is_open_state Open = true
-is_open_state Finished = false
-is_open_state Failed = false
-is_open_state Cancelled = false
-
-unfoldable pub is_open : Record → Bool
-is_open r = is_open_state r.session.state
-
--- how many sessions are open
-abbrev pub open_count : List Record → ℕ
-open_count records = length (filter is_open records)
 
 -- why an offer is none for this range
 abbrev pub foreign_fault : Config → Offer → Option Refusal
@@ -147,11 +133,12 @@ pub record IsLeafFault (s : State) (seat : ℕ) (r : Record) (t : TakenText) (e 
   pub read : IsLeafRead s r t rows
   pub fault : leaf_fault s seat (offers_of rows) ≡ Some e
 
--- why a text is not taken, and the state afterwards
+-- why a text is not taken, and the state afterwards: a session fails by a text that no node can have, else nothing changes
 abbrev pub Refuses : State → ℕ → ℕ → Record → TakenText → Refusal → State → Type 0
 Refuses s seat id r t refusals.Crowded new = IsLeafFault s seat r t refusals.Crowded × (new ≡ s)
 Refuses s seat id r t refusals.JournalFull new = IsLeafFault s seat r t refusals.JournalFull × (new ≡ s)
-Refuses s seat id r t e new = IsTakeFault r.session t e × (new ≡ walked_to s id r (after_refusal r.session e))
+Refuses s seat id r t refusals.NotCanonical new = IsTakeFault r.session t refusals.NotCanonical × (new ≡ walked_to s id r (failed r.session))
+Refuses s seat id r t e new = IsTakeFault r.session t e × (new ≡ s)
 
 -- what a text is answered for a session, and the state afterwards
 abbrev pub TakesText : State → ℕ → ℕ → Record → TakenText → Result AnswerTaken Refusal → State → Type 0

@@ -32,7 +32,7 @@ use Rattle.range_state.specs.declared.event.Accepted.{Accepted}
 use Rattle.range_state.specs.declared.event.Accepted.TheVariants.{Taken, Known}
 use Rattle.range_state.specs.Config.{Config, is_config}
 use Rattle.sync_session.specs.Walks.{TakenText}
-use Rattle.range_state.specs.Records.{IsKept}
+use Rattle.range_state.specs.Records.{IsKept, open_count}
 use Rattle.range_state.specs.Rows.{rows_of}
 
 -- which range it is, the entries of its journal, by place the digests of the clean nodes of its tree, and the records of
@@ -186,7 +186,7 @@ IsFromPartner s e = Any (λ (r : Record). Any (IsLeafWith s.config.format e) r.s
 
 -- what holds of each state: the entries are of the range, each was news, each row has a text, the children of a clean node are
 -- clean, each clean node has the digest of its text for the rows now, each record is right for the entries, there are at most
--- 1,024 records, and what came from a partner was in a text that a session took
+-- 1,024 records, at most 64 of their sessions are open, and what came from a partner was in a text that a session took
 pub record IsRight (s : State) : Type 0 where
   pub config : IsTrue (is_config s.config)
   pub own : AllByRecursion (IsOwn s.config) s.entries
@@ -195,6 +195,7 @@ pub record IsRight (s : State) : Type 0 where
   pub marks : IsTreeFor (leaf_in s.config) (rows_of s.entries) (tree_of s)
   pub records : AllByRecursion (IsKept s.config s.entries) s.records
   pub few : length s.records ≤ 1024
+  pub few_open : open_count s.records ≤ 64
   pub partners : AllByRecursion (λ (e : Entry). e.source ≡ Partner → IsFromPartner s e) s.entries
 
 -- the rows of a leaf

@@ -6,10 +6,11 @@ use Rattle.vclock.specs.declared.format.Format.{Format}
 use Rattle.version_set.specs.declared.version.Version.{Version}
 use Rattle.hash_tree.specs.Leaves.{rows_at}
 use Rattle.hash_tree.specs.Nodes.{tree_depth}
-use Rattle.snapshot.specs.RowMaps.{RowMap, leaf_in}
+use Rattle.snapshot.specs.RowMaps.{RowMap, leaf_in, root_of}
 use Rattle.hash_tree.specs.declared.node.NodeAt.{NodeAt}
 use Rattle.sync_session.specs.TreeNodes.{Node, node_of}
-use Rattle.sync_session.specs.Differing.{differ}
+use Rattle.sync_session.specs.Differing.{differ, nodes_of, IsHonest}
+use Rattle.sync_session.specs.Steps.{state_by}
 use Rattle.sync_session.specs.declared.state.SessionState.{SessionState}
 use Rattle.sync_session.specs.declared.state.SessionState.TheVariants.{Open, Finished}
 use Rattle.range_state.specs.Config.{Config}
@@ -67,9 +68,21 @@ abbrev pub ended : Option Refusal → SessionState
 ended None = Finished
 ended (Some e) = Open
 
--- one record more, of a session with this partner
-abbrev pub HasOneMore : List Record → ℕ → List Record → Type 0
-HasOneMore old partner new = (r : Record) × (r.partner ≡ partner) × (new ≡ old ++ r ∷ [])
+-- One record more: a session of the rows now with a partner whose rows these are. Each text that it took is the partner's
+-- own; the nodes whose texts it took are the first ones that it asked, and the others are outstanding.
+pub record HasOneMore (s : State) (partner : ℕ) (other : RowMap) (new : List Record) : Type 0 where
+  pub r : Record
+  pub records : new ≡ s.records ++ r ∷ []
+  pub partner_is : r.partner ≡ partner
+  pub own : r.session.own ≡ rows_now s
+  pub root : r.session.root ≡ root_of other
+  pub texts : IsHonest r.session other
+  pub turn : r.session.asked ≡ nodes_of r.session.taken ++ r.session.outstanding
+  pub stands : r.session.state ≡ state_by r.session.outstanding
+
+-- one record more, which asked each node where the trees differ, in order
+abbrev pub HasAskedAll : State → ℕ → RowMap → List Record → Type 0
+HasAskedAll s partner other new = (more : HasOneMore s partner other new) × (more.r.session.asked ≡ differ (rows_now s) other)
 
 -- The state after a whole session, and what is answered: the partner's leaves were taken where the trees differ, there is
 -- one more session, and each node where the trees differ was asked.
@@ -93,7 +106,7 @@ pub record IsPartWay (s : State) (seat partner : ℕ) (other : RowMap) (new : St
   pub config : new.config ≡ (taken_leaves s seat other 0 leaves).state.config
   pub entries : new.entries ≡ (taken_leaves s seat other 0 leaves).state.entries
   pub marks : new.marks ≡ (taken_leaves s seat other 0 leaves).state.marks
-  pub session : HasOneMore s.records partner new.records
+  pub session : HasOneMore s partner other new.records
 
 -- the first of some nodes, if there is one
 abbrev pub IsFirstOf : List Node → Option NodeAt → Type 0

@@ -1,7 +1,7 @@
 -- A range whose tree was rehashed: the paper of 2007, section 4.7.
 use Rattle.std.specs.Prelude.{◌≡◌, ℕ, zero, suc, ◌^◌, ◌++◌, Option, Some, List, map}
 use Rattle.std.specs.List.{range_with_len}
-use Rattle.hash_tree.specs.Nodes.{tree_depth}
+use Rattle.hash_tree.specs.Nodes.{tree_depth, digest_at}
 use Rattle.hash_tree.specs.Texts.{node_digest}
 use Rattle.range_state.specs.Rows.{rows_of}
 use Rattle.range_state.specs.State.{State, leaf_in}
@@ -19,8 +19,9 @@ digests_below s depth (suc height) = level_digests s depth (suc height) ++ diges
 abbrev pub rehashed : State → State
 rehashed s = record { config = s.config; entries = s.entries; marks = digests_below s 0 (tree_depth s.config.format); records = s.records }
 
--- only the digests of nodes differ
+-- only the digests of nodes differ, and no node lost its digest
 pub record IsSameRange (s t : State) : Type 0 where
   pub config : t.config ≡ s.config
   pub entries : t.entries ≡ s.entries
   pub records : t.records ≡ s.records
+  pub kept : (place : ℕ) (d : List ℕ) → digest_at s.marks place ≡ Some d → digest_at t.marks place ≡ Some d

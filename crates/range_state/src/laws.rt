@@ -1,15 +1,17 @@
 //! What the definitions say of rows and sessions.
-ghost use Rattle.std.specs.Prelude.{◌≡◌, ◌≤◌, ◌↔◌, List, Any, Contains, true};
+ghost use Rattle.std.specs.Prelude.{◌≡◌, ◌≢◌, ◌≤◌, ◌↔◌, [], List, Any, Contains, true};
+ghost use Rattle.std.specs.List.{AllByRecursion};
 ghost use Rattle.range_journal.specs.declared.journal.Entry.{Entry};
 ghost use Rattle.range_journal.specs.Journal.{held};
 ghost use Rattle.row_bytes.specs.declared.row.Row.{Row};
 ghost use Rattle.hash_tree.specs.Leaves.{AscendByKey};
 ghost use Rattle.range_journal.specs.declared.journal.Source.TheVariants.{Partner};
 ghost use Rattle.snapshot.specs.RowMaps.{RowMap};
-ghost use Rattle.sync_session.specs.TreeNodes.{Node, has_node};
-ghost use Rattle.sync_session.specs.Walks.{Held, NoTwoShareADigest, IsPartners};
-ghost use Rattle.sync_session.specs.Differing.{differ, times, IsHonest, IsNearlyDone};
-ghost use Rattle.sync_session.specs.declared.state.SessionState.TheVariants.{Finished};
+ghost use Rattle.sync_session.specs.TreeNodes.{Node, has_node, text_of};
+ghost use Rattle.sync_session.specs.Walks.{Held, IsCanonical, IsRightlyTaken, NoTwoShareADigest, IsPartners};
+ghost use Rattle.sync_session.specs.Steps.{IsDue};
+ghost use Rattle.sync_session.specs.Differing.{differ, times, IsHonest, IsNearlyDone, IsInTurn, Ascends};
+ghost use Rattle.sync_session.specs.declared.state.SessionState.TheVariants.{Open, Finished};
 ghost use Rattle.range_state.specs.declared.«record».Record.{Record};
 ghost use Rattle.range_state.specs.Records.{IsOver};
 ghost use Rattle.range_state.specs.Rows.{rows_of};
@@ -42,17 +44,31 @@ pub fn partners_versions_were_taken()
     ensures { (s : State) → IsRight s → (e : Entry) → Contains s.entries e → e.source ≡ Partner → IsFromPartner s e }
 {}
 
-/// A session that was not ended early asks no node twice. Where each text that it took is the partner's own, it asks nodes
-/// where the trees differ and no others; all of them, once no node with children is outstanding, as when it is finished.
+/// Each text that a session took can be its node's, and had the digest that was expected there. A session asks no node
+/// twice, and by depth, and then by index, if the texts came in the order of the asks. If each text that it took is the
+/// partner's own, it asks nodes where the trees differ and no others, and the partner's text of an outstanding node is never
+/// refused. All that holds of a session that failed or was cancelled as well. One that was not asks all the nodes where the
+/// trees differ, once no node with children is outstanding, as when it is finished. A session that is not open has nothing
+/// outstanding.
 pub fn sessions_ask_where_the_trees_differ()
-    ensures once { (s : State) → IsRight s → (r : Record) → Contains s.records r → ¬ IsOver r.session
+    ensures texts { (s : State) → IsRight s → (r : Record) → Contains s.records r
+        → AllByRecursion (IsRightlyTaken r.session) r.session.taken }
+    ensures once { (s : State) → IsRight s → (r : Record) → Contains s.records r
         → (n : Node) → times n r.session.asked ≤ 1 }
-    ensures only { (s : State) → IsRight s → (r : Record) → Contains s.records r → ¬ IsOver r.session
+    ensures ordered { (s : State) → IsRight s → (r : Record) → Contains s.records r
+        → IsInTurn r.session → Ascends r.session.asked }
+    ensures only { (s : State) → IsRight s → (r : Record) → Contains s.records r
         → (other : RowMap) → IsPartners r.session other → IsHonest r.session other
         → (n : Node) → has_node n r.session.asked ≡ true → has_node n (differ r.session.own other) ≡ true }
+    ensures due { (s : State) → IsRight s → (r : Record) → Contains s.records r
+        → (other : RowMap) → IsPartners r.session other → IsHonest r.session other
+        → (n : Node) → has_node n r.session.outstanding ≡ true
+        → IsDue r.session (record { node = n; text = text_of other n }) × IsCanonical r.session.own n (text_of other n) }
     ensures all { (s : State) → IsRight s → (r : Record) → Contains s.records r → ¬ IsOver r.session
         → (other : RowMap) → IsPartners r.session other → IsHonest r.session other → IsNearlyDone r.session
         → (n : Node) → has_node n (differ r.session.own other) ≡ true → has_node n r.session.asked ≡ true }
     ensures done { (s : State) → IsRight s → (r : Record) → Contains s.records r → r.session.state ≡ Finished
         → (¬ IsOver r.session) × IsNearlyDone r.session }
+    ensures ended { (s : State) → IsRight s → (r : Record) → Contains s.records r
+        → r.session.state ≢ Open → r.session.outstanding ≡ [] }
 {}

@@ -5,5 +5,5 @@ pub mod FieldLaws
 pub mod Laws
 pub mod Sets
 pub mod RowLaws
+pub mod Heads
 pub mod ManyRows
-pub mod Strips

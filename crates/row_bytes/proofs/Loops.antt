@@ -17,10 +17,10 @@ pairs_go_on count i above before bytes pair after total lt h so_far =
     sym one ∙ so_far
 
 -- a pair could not be read
-pub pairs_end : (e : ReadError) (count i above : ℕ) (before : List (ℕ × ℕ)) (bytes : List ℕ) (total : Result (List (ℕ × ℕ) × List ℕ) ℕ) → i < count → Fails e (pair_at above bytes)
-    → pairs_at (count - i) above before bytes ≡ total → Fails e total
+pub pairs_end : (e : ReadError) (count i above : ℕ) (before : List (ℕ × ℕ)) (bytes : List ℕ) (total : Result (List (ℕ × ℕ) × List ℕ) ℕ) → i < count → Fails ⊥ e (pair_at above bytes)
+    → pairs_at (count - i) above before bytes ≡ total → Fails (Unit {0}) e total
 unfolding pairs_at
-pairs_end errors.Memory count i above before bytes total lt h so_far = tt
+pairs_end errors.Memory count i above before bytes total lt h so_far = absurd h
 pairs_end (errors.Left left) count i above before bytes total lt h so_far =
     let k : count - i ≡ suc (count - (i + 1)) = omega arith in
     let one : pairs_at (count - i) above before bytes ≡ Err left = rw (k, h) refl in
@@ -46,8 +46,8 @@ versions_go_on format count i last before bytes v after text total lt h t f so_f
     rw t (sym one ∙ so_far)
 
 -- a version could not be read
-pub versions_end : (e : ReadError) (format : Format) (count i : ℕ) (last : List ℕ) (before : List Version) (bytes : List ℕ) (total : Result (List Version × List ℕ) ℕ) → i < count → Fails e (version_at format bytes)
-    → versions_at format (count - i) last before bytes ≡ total → Fails e total
+pub versions_end : (e : ReadError) (format : Format) (count i : ℕ) (last : List ℕ) (before : List Version) (bytes : List ℕ) (total : Result (List Version × List ℕ) ℕ) → i < count → Fails (Unit {0}) e (version_at format bytes)
+    → versions_at format (count - i) last before bytes ≡ total → Fails (Unit {0}) e total
 unfolding versions_at
 versions_end errors.Memory format count i last before bytes total lt h so_far = tt
 versions_end (errors.Left left) format count i last before bytes total lt h so_far =

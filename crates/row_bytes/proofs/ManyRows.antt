@@ -1,5 +1,5 @@
 -- Rows one after another: what was read is spelled so, and what is spelled so is read.
-use Rattle.std.proofs.Common.{◌≡◌, ℕ, zero, suc, ◌+◌, ◌-◌, ◌<◌, ◌≤◌, Bool, true, false, cond, ltb, eqb, take, drop, Result, Some, List, [], ◌∷◌, ◌++◌, length, Ok, Err, refl, sym, ap, subst, ◌∙◌, append_assoc, arith}
+use Rattle.std.proofs.Common.{◌≡◌, inl, inr, ℕ, zero, suc, ◌+◌, ◌-◌, ◌<◌, ◌≤◌, Bool, true, false, cond, ltb, eqb, take, drop, Result, Some, List, [], ◌∷◌, ◌++◌, length, Ok, Err, refl, sym, ap, subst, ◌∙◌, append_assoc, arith}
 use Rattle.std.specs.Int.{w16, byte_len, from_be_bytes}
 use Rattle.std.specs.List.{flat_map, AllByRecursion, slice_get}
 use Rattle.std.proofs.Math.Seq.{get_or-append_seam}
@@ -11,8 +11,9 @@ use Rattle.row_bytes.specs.declared.fault.ReadError.{ReadError}
 use Rattle.row_bytes.specs.declared.fault.ReadError.TheVariants as errors
 use Rattle.row_bytes.specs.declared.row.Row.{Row}
 use Rattle.row_bytes.specs.Rows.{is_before, row_text, IsRow, KeysAscend, AreRows}
-use Rattle.row_bytes.specs.Reading.{◌>>=◌, Fails, number_at, field_at, row_at, key_of, last_key, rows_at}
+use Rattle.row_bytes.specs.Reading.{◌>>=◌, Fails, HasHead, number_at, field_at, row_at, key_of, last_key, rows_at}
 use Rattle.row_bytes.proofs.FieldLaws.{IsBytes, bind_ok, guard_ok, passed_ok, ok_is}
+use Rattle.row_bytes.proofs.Heads.{HasBegun}
 use Rattle.row_bytes.proofs.RowLaws.{few, row_takes, row_again, row_rest_within, row_within, IsWithin}
 
 -- what follows a length of two bytes is shorter
@@ -120,9 +121,9 @@ ended format zero rows rest left total enough some e so_far = absurd (omega arit
 ended format (suc most) rows rest left total enough some e so_far = sym so_far ∙ rows_stop format most (last_key rows) rows rest left some e
 
 -- it ends at a row that can't be read
-pub way_ended : (e : ReadError) (format : Format) (rows : List Row) (rest : List ℕ) (total : Result (List Row) ℕ) → IsOnTheWay format rows rest total → 0 < length rest → Fails e (row_at format rest) → Fails e total
-way_ended errors.Memory format rows rest total way some h = tt
-way_ended (errors.Left left) format rows rest total way some h = ended format way.most rows rest left total way.enough some h way.so_far
+pub way_ended : (e : ReadError) (format : Format) (rows : List Row) (text rest : List ℕ) (total : Result (List Row) ℕ) → IsOnTheWay format rows rest total → HasBegun text rest → 0 < length rest → Fails (HasHead rest) e (row_at format rest) → Fails (HasHead text) e total
+way_ended errors.Memory format rows text rest total way begun some h = elim begun [ inl same ↦ subst HasHead same h | inr head ↦ head ]
+way_ended (errors.Left left) format rows text rest total way begun some h = ended format way.most rows rest left total way.enough some h way.so_far
 
 -- ---- laws
 

@@ -9,6 +9,7 @@ use Rattle.vclock.specs.declared.format.Format.{Format}
 use Rattle.vclock.specs.declared.format.Format.TheVariants.{One, Two}
 use Rattle.version_set.specs.declared.version.Version.{Version}
 use Rattle.version_set.specs.Version.{version_text, IsVersionSet}
+use Rattle.version_set.proofs.Lists.{all-push}
 use Rattle.row_bytes.specs.declared.row.Row.{Row}
 use Rattle.row_bytes.specs.Rows.{is_before, is_apart, row_text, IsVersion, AreAscending, AreApart, IsRow}
 use Rattle.row_bytes.specs.Reading.{◌>>=◌, number_at, field_at, bytes_at, pair_at, pairs_at, kind_at, longest_value, version_at, may_follow, versions_at, row_at}
@@ -29,11 +30,6 @@ both_true false b p q = absurd cc
 
 -- ---- versions one after another
 
--- one more item with the fact
-AllByRecursion-push : {X : Type 0} (P : X → Type 0) (xs : List X) (y : X) → AllByRecursion P xs → P y → AllByRecursion P (xs ++ y ∷ [])
-AllByRecursion-push P [] y h p = (p, tt)
-AllByRecursion-push P (x ∷ xs) y h p = (h.0, AllByRecursion-push P xs y h.1 p)
-
 -- an item within a list has the fact
 AllByRecursion-inner : {X : Type 0} (P : X → Type 0) (xs : List X) (y : X) (ys : List X) → AllByRecursion P (xs ++ y ∷ ys) → P y
 AllByRecursion-inner P [] y ys h = h.0
@@ -44,7 +40,7 @@ apart_push : (before : List Version) (v : Version) → AreApart before → list_
 apart_push [] v h e = (tt, tt)
 apart_push (u ∷ us) v h e =
     let b = both_hold (is_apart u v) (list_all (λ u. is_apart u v) us) e in
-    (AllByRecursion-push (λ (w : Version). is_apart u w ≡ true) us v h.0 b.0, apart_push us v h.1 b.1)
+    (all-push (λ (w : Version). is_apart u w ≡ true) us v h.0 b.0, apart_push us v h.1 b.1)
 
 -- a version is apart from each before it
 apart_at : (before : List Version) (v : Version) (after : List Version) → AreApart (before ++ v ∷ after) → list_all (λ u. is_apart u v) before ≡ true

@@ -4,7 +4,7 @@ use Rattle.vclock.specs.declared.refusal.Refusal.{Refusal}
 use Rattle.vclock.specs.declared.refusal.Refusal.TheVariants as refusals
 use Rattle.vclock.specs.declared.format.Format.{Format}
 use Rattle.row_bytes.specs.declared.row.Row.{Row}
-use Rattle.row_bytes.specs.Reading.{row_at, rows_at}
+use Rattle.row_bytes.specs.Reading.{HasHead, row_at, rows_at}
 
 -- the row and the rest, or no memory
 abbrev pub IsRead : {X : Type 0} → Row → List ℕ → (X → Row × List ℕ) → Result X Refusal → Type 0
@@ -17,10 +17,10 @@ pub record IsBrokenAt (format : Format) (text : List ℕ) (offset : ℕ) : Type 
   pub broken : row_at format text ≡ Err left
   pub offset_is : offset + left ≡ length text
 
--- a refusal is the row's, at its offset, or want of memory
+-- a refusal is the row's, at its offset, or want of memory for what follows its key and the number of its versions
 abbrev pub IsReadFault : Format → List ℕ → Refusal → Type 0
 IsReadFault format text (refusals.RowBroken offset) = IsBrokenAt format text offset
-IsReadFault format text e = e ≡ refusals.NoMemory
+IsReadFault format text e = (e ≡ refusals.NoMemory) × HasHead text
 
 -- those rows, or no memory
 abbrev pub AreRead : List Row → Result (List Row) Refusal → Type 0
@@ -33,7 +33,7 @@ pub record AreBrokenAt (format : Format) (text : List ℕ) (offset : ℕ) : Type
   pub broken : rows_at format (length text) [] [] text ≡ Err left
   pub offset_is : offset + left ≡ length text
 
--- a refusal is that of rows, at its offset, or want of memory
+-- a refusal is that of rows, at its offset, or want of memory for what follows the first key and the number of its versions
 abbrev pub AreReadFault : Format → List ℕ → Refusal → Type 0
 AreReadFault format text (refusals.RowBroken offset) = AreBrokenAt format text offset
-AreReadFault format text e = e ≡ refusals.NoMemory
+AreReadFault format text e = (e ≡ refusals.NoMemory) × HasHead text

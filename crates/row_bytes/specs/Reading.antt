@@ -20,15 +20,15 @@ abbrev pub ◌>>=◌ : {A B : Type 0} → Result A ℕ → (A → Result B ℕ) 
 (Ok x) >>= f = f x
 (Err e) >>= f = Err e
 
--- An error is want of memory, or where reading stops.
-abbrev pub Fails : {Y : Type 0} → ReadError → Result Y ℕ → Type 0
-Fails errors.Memory read = Unit {0}
-Fails (errors.Left left) read = read ≡ Err left
+-- An error is where reading stops, or want of memory, which comes only if begun holds.
+abbrev pub Fails : {Y : Type 0} → Type 0 → ReadError → Result Y ℕ → Type 0
+Fails begun errors.Memory read = begun
+Fails begun (errors.Left left) read = read ≡ Err left
 
--- What a function returned, seen by view, is what reading gives, unless memory ran out.
-abbrev pub Gives : {X Y : Type 0} → (X → Y) → Result X ReadError → Result Y ℕ → Type 0
-Gives view (Ok x) read = read ≡ Ok (view x)
-Gives view (Err e) read = Fails e read
+-- What a function returned, seen by view, is what reading gives, unless memory ran out, which comes only if begun holds.
+abbrev pub Gives : {X Y : Type 0} → Type 0 → (X → Y) → Result X ReadError → Result Y ℕ → Type 0
+Gives begun view (Ok x) read = read ≡ Ok (view x)
+Gives begun view (Err e) read = Fails begun e read
 
 -- a number
 abbrev pub number_at : Width → List ℕ → Result (ℕ × List ℕ) ℕ
@@ -92,6 +92,19 @@ versions_at format zero last before bytes = Ok (before, bytes)
 versions_at format (suc k) last before bytes = do
   v ← version_at format bytes
   if may_follow format last before v.0 then versions_at format k (version_text format v.0) (before ++ v.0 ∷ []) v.1 else Err (length bytes)
+
+-- what stands before the versions of a row: how long the key is, the key, how many versions there are
+abbrev pub head_at : List ℕ → Result ((List ℕ × ℕ) × List ℕ) ℕ
+head_at bytes = do
+  len ← field_at w16 (λ n. nat_le 1 n && nat_le n 255) bytes
+  key ← bytes_at len.0 len.1
+  count ← field_at w16 (λ n. nat_le 1 n && nat_le n 64) key.1
+  Ok ((key.0, count.0), count.1)
+
+-- the bytes begin with the key of a row and the number of its versions
+pub record HasHead (bytes : List ℕ) : Type 0 where
+  pub head : (List ℕ × ℕ) × List ℕ
+  pub read : head_at bytes ≡ Ok head
 
 -- a row
 unfoldable pub row_at : Format → List ℕ → Result (Row × List ℕ) ℕ

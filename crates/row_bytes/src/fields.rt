@@ -1,5 +1,5 @@
 // The fields that texts are made of, read from the left.
-ghost use Rattle.std.specs.Prelude.{◌≡◌, [], nat_lt, nat_le, ◌&&◌};
+ghost use Rattle.std.specs.Prelude.{◌≡◌, [], ⊤, nat_lt, nat_le, ◌&&◌};
 ghost use Rattle.std.specs.Int.{w8, w16, w32, w64};
 ghost use Rattle.row_bytes.specs.Reading.{Gives, number_at, field_at, bytes_at, pair_at, pairs_at, kind_at, longest_value};
 
@@ -10,7 +10,7 @@ use version_set::kind::Kind;
 
 /// A number of one byte.
 fn u8_at(bytes: &[u8]) -> Result<(u8, &[u8]), ReadError>
-    ensures { Gives (λ x. (x.0, x.1.now)) result (number_at w8 bytes.now) }
+    ensures { Gives ⊥ (λ x. (x.0, x.1.now)) result (number_at w8 bytes.now) }
 {
     if bytes.len() < 1 {
         return Err(ReadError::Left(bytes.len()));
@@ -21,7 +21,7 @@ fn u8_at(bytes: &[u8]) -> Result<(u8, &[u8]), ReadError>
 
 /// A number of two bytes.
 fn u16_at(bytes: &[u8]) -> Result<(u16, &[u8]), ReadError>
-    ensures { Gives (λ x. (x.0, x.1.now)) result (number_at w16 bytes.now) }
+    ensures { Gives ⊥ (λ x. (x.0, x.1.now)) result (number_at w16 bytes.now) }
 {
     if bytes.len() < 2 {
         return Err(ReadError::Left(bytes.len()));
@@ -32,7 +32,7 @@ fn u16_at(bytes: &[u8]) -> Result<(u16, &[u8]), ReadError>
 
 /// A number of four bytes.
 fn u32_at(bytes: &[u8]) -> Result<(u32, &[u8]), ReadError>
-    ensures { Gives (λ x. (x.0, x.1.now)) result (number_at w32 bytes.now) }
+    ensures { Gives ⊥ (λ x. (x.0, x.1.now)) result (number_at w32 bytes.now) }
 {
     if bytes.len() < 4 {
         return Err(ReadError::Left(bytes.len()));
@@ -44,7 +44,7 @@ fn u32_at(bytes: &[u8]) -> Result<(u32, &[u8]), ReadError>
 
 /// A number of eight bytes.
 fn u64_at(bytes: &[u8]) -> Result<(u64, &[u8]), ReadError>
-    ensures { Gives (λ x. (x.0, x.1.now)) result (number_at w64 bytes.now) }
+    ensures { Gives ⊥ (λ x. (x.0, x.1.now)) result (number_at w64 bytes.now) }
 {
     if bytes.len() < 8 {
         return Err(ReadError::Left(bytes.len()));
@@ -58,7 +58,7 @@ fn u64_at(bytes: &[u8]) -> Result<(u64, &[u8]), ReadError>
 
 /// That many bytes.
 pub(crate) fn slice_of(len: usize, bytes: &[u8]) -> Result<(&[u8], &[u8]), ReadError>
-    ensures { Gives (λ x. (x.0.now, x.1.now)) result (bytes_at len bytes.now) }
+    ensures { Gives ⊥ (λ x. (x.0.now, x.1.now)) result (bytes_at len bytes.now) }
 {
     if bytes.len() < len {
         return Err(ReadError::Left(bytes.len()));
@@ -69,7 +69,7 @@ pub(crate) fn slice_of(len: usize, bytes: &[u8]) -> Result<(&[u8], &[u8]), ReadE
 
 /// How many pairs a clock has.
 pub(crate) fn pair_count_of(bytes: &[u8]) -> Result<(u8, &[u8]), ReadError>
-    ensures { Gives (λ x. (x.0, x.1.now)) result (field_at w8 (λ n. nat_le n 32) bytes.now) }
+    ensures { Gives ⊥ (λ x. (x.0, x.1.now)) result (field_at w8 (λ n. nat_le n 32) bytes.now) }
 {
     let (count, rest) = u8_at(bytes)?;
     if count > 32 {
@@ -80,7 +80,7 @@ pub(crate) fn pair_count_of(bytes: &[u8]) -> Result<(u8, &[u8]), ReadError>
 
 /// The length of a value, at most so long.
 pub(crate) fn value_len_of(most: usize, bytes: &[u8]) -> Result<(u32, &[u8]), ReadError>
-    ensures { Gives (λ x. (x.0, x.1.now)) result (field_at w32 (λ n. nat_le n most) bytes.now) }
+    ensures { Gives ⊥ (λ x. (x.0, x.1.now)) result (field_at w32 (λ n. nat_le n most) bytes.now) }
 {
     let (len, rest) = u32_at(bytes)?;
     if len as usize > most {
@@ -92,7 +92,7 @@ pub(crate) fn value_len_of(most: usize, bytes: &[u8]) -> Result<(u32, &[u8]), Re
 /// The kind of a version, where the format has a byte for it.
 #[tactic(auto, unfolding(crate::specs::Reading::kind_at))]
 pub(crate) fn kind_of(format: Format, bytes: &[u8]) -> Result<(Kind, &[u8]), ReadError>
-    ensures { Gives (λ x. (x.0, x.1.now)) result (kind_at format bytes.now) }
+    ensures { Gives ⊥ (λ x. (x.0, x.1.now)) result (kind_at format bytes.now) }
 {
     match format {
         Format::One => Ok((Kind::Live, bytes)),
@@ -103,7 +103,7 @@ pub(crate) fn kind_of(format: Format, bytes: &[u8]) -> Result<(Kind, &[u8]), Rea
 /// The byte of a kind.
 #[tactic(auto, unfolding(crate::specs::Reading::kind_at))]
 fn kind_byte_of(bytes: &[u8]) -> Result<(Kind, &[u8]), ReadError>
-    ensures { Gives (λ x. (x.0, x.1.now)) result (kind_at Format.Two bytes.now) }
+    ensures { Gives ⊥ (λ x. (x.0, x.1.now)) result (kind_at Format.Two bytes.now) }
 {
     let (byte, rest) = u8_at(bytes)?;
     match byte {
@@ -125,7 +125,7 @@ pub(crate) fn longest_value(format: Format, kind: Kind) -> usize
 
 /// A length or a count, from 1 up to the most.
 pub(crate) fn count_of(most: u16, bytes: &[u8]) -> Result<(u16, &[u8]), ReadError>
-    ensures { Gives (λ x. (x.0, x.1.now)) result (field_at w16 (λ n. nat_le 1 n && nat_le n most) bytes.now) }
+    ensures { Gives ⊥ (λ x. (x.0, x.1.now)) result (field_at w16 (λ n. nat_le 1 n && nat_le n most) bytes.now) }
 {
     let (count, rest) = u16_at(bytes)?;
     if count < 1 || count > most {
@@ -136,7 +136,7 @@ pub(crate) fn count_of(most: u16, bytes: &[u8]) -> Result<(u16, &[u8]), ReadErro
 
 /// A node above another.
 fn node_of(above: u16, bytes: &[u8]) -> Result<(u16, &[u8]), ReadError>
-    ensures { Gives (λ x. (x.0, x.1.now)) result (field_at w16 (nat_lt above) bytes.now) }
+    ensures { Gives ⊥ (λ x. (x.0, x.1.now)) result (field_at w16 (nat_lt above) bytes.now) }
 {
     let (node, rest) = u16_at(bytes)?;
     if node <= above {
@@ -147,7 +147,7 @@ fn node_of(above: u16, bytes: &[u8]) -> Result<(u16, &[u8]), ReadError>
 
 /// A counter.
 fn counter_of(bytes: &[u8]) -> Result<(u64, &[u8]), ReadError>
-    ensures { Gives (λ x. (x.0, x.1.now)) result (field_at w64 (nat_lt 0) bytes.now) }
+    ensures { Gives ⊥ (λ x. (x.0, x.1.now)) result (field_at w64 (nat_lt 0) bytes.now) }
 {
     let (counter, rest) = u64_at(bytes)?;
     if counter == 0 {
@@ -159,7 +159,7 @@ fn counter_of(bytes: &[u8]) -> Result<(u64, &[u8]), ReadError>
 /// A node above another, and its counter.
 #[tactic(auto, unfolding(crate::specs::Reading::pair_at))]
 fn pair_of(above: u16, bytes: &[u8]) -> Result<((u16, u64), &[u8]), ReadError>
-    ensures { Gives (λ x. (x.0, x.1.now)) result (pair_at above bytes.now) }
+    ensures { Gives ⊥ (λ x. (x.0, x.1.now)) result (pair_at above bytes.now) }
 {
     let (node, rest) = node_of(above, bytes)?;
     let (counter, rest) = counter_of(rest)?;
@@ -172,7 +172,7 @@ pub(crate) fn pairs_of(
     count: u8,
     bytes: &[u8],
 ) -> Result<(Vec<(u16, u64)>, &[u8]), ReadError>
-    ensures { Gives (λ x. (x.0.items, x.1.now)) result (pairs_at count 0 [] bytes.now) }
+    ensures { Gives ⊤ (λ x. (x.0.items, x.1.now)) result (pairs_at count 0 [] bytes.now) }
 {
     let mut pairs = Vec::new(alloc);
     let mut above = 0u16;

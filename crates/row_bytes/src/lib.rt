@@ -6,5 +6,4 @@ mod fields;
 pub mod lengths;
 pub mod reading;
 pub mod row;
-pub mod stripping;
 pub mod writing;

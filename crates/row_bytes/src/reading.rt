@@ -1,11 +1,11 @@
 //! Reading rows. What a row's text is, this project's profile says.
-ghost use Rattle.std.specs.Prelude.{◌≡◌, ◌++◌, ℕ, List, [], length, IfOk, IfErr};
+ghost use Rattle.std.specs.Prelude.{◌≡◌, ◌++◌, ℕ, List, [], ⊤, length, IfOk, IfErr};
 ghost use Rattle.std.specs.List.{list_all, flat_map};
 ghost use Rattle.version_set.specs.Version.{version_text, IsVersionSet};
 ghost use Rattle.row_bytes.specs.declared.row.Row.{Row};
 ghost use Rattle.row_bytes.specs.Rows.{is_before, is_apart, row_text, IsRow, AreRows, FitsText};
 ghost use Rattle.row_bytes.specs.Outcome.{IsRead, IsReadFault, AreRead, AreReadFault};
-ghost use Rattle.row_bytes.specs.Reading.{Gives, version_at, may_follow, versions_at, row_at, last_key, rows_at};
+ghost use Rattle.row_bytes.specs.Reading.{Gives, HasHead, version_at, may_follow, versions_at, row_at, last_key, rows_at};
 
 use crate::fault::ReadError;
 use crate::fields::{
@@ -29,7 +29,7 @@ const MOST_VERSIONS: u16 = 64;
 /// A version.
 #[tactic(auto, unfolding(crate::specs::Reading::version_at))]
 fn version_of(alloc: Global, format: Format, bytes: &[u8]) -> Result<(Version, &[u8]), ReadError>
-    ensures { Gives (λ x. (x.0, x.1.now)) result (version_at format bytes.now) }
+    ensures { Gives ⊤ (λ x. (x.0, x.1.now)) result (version_at format bytes.now) }
 {
     let (kind, rest) = kind_of(format, bytes)?;
     let (count, rest) = pair_count_of(rest)?;
@@ -50,7 +50,7 @@ fn version_and_text(
     format: Format,
     bytes: &[u8],
 ) -> Result<(Version, &[u8], &[u8]), ReadError>
-    ensures read { Gives (λ x. (x.0, x.2.now)) result (version_at format bytes.now) }
+    ensures read { Gives ⊤ (λ x. (x.0, x.2.now)) result (version_at format bytes.now) }
     ensures text { IfOk result (λ x. x.1.now ≡ version_text format x.0) }
 {
     let (version, rest) = version_of(alloc, format, bytes)?;
@@ -101,7 +101,7 @@ fn versions_of(
     count: u16,
     bytes: &[u8],
 ) -> Result<(Vec<Version>, &[u8]), ReadError>
-    ensures { Gives (λ x. (x.0.items, x.1.now)) result (versions_at format count [] [] bytes.now) }
+    ensures { Gives ⊤ (λ x. (x.0.items, x.1.now)) result (versions_at format count [] [] bytes.now) }
 {
     let mut versions = Vec::new(alloc);
     let mut last: &[u8] = &[];
@@ -121,7 +121,7 @@ fn versions_of(
 /// A row.
 #[tactic(auto, unfolding(crate::specs::Reading::row_at))]
 fn row_of(alloc: Global, format: Format, bytes: &[u8]) -> Result<(Row, &[u8]), ReadError>
-    ensures { Gives (λ x. (x.0, x.1.now)) result (row_at format bytes.now) }
+    ensures { Gives (HasHead bytes.now) (λ x. (x.0, x.1.now)) result (row_at format bytes.now) }
 {
     let (len, rest) = count_of(LONGEST_KEY, bytes)?;
     let (key, rest) = slice_of(len as usize, rest)?;
@@ -144,7 +144,7 @@ pub fn read_row(alloc: Global, format: Format, text: &[u8]) -> Result<(Row, &[u8
     // A text that begins with a row's is read, unless memory runs out.
     ensures only { (r : Row) (rest : List ℕ) → IsRow format r → text.now ≡ row_text format r ++ rest
         → IsRead r rest (λ x. (x.0, x.1.now)) result }
-    // Where it is broken, it is broken there.
+    // Where it is broken, it is broken there; memory runs out only after the key and the number of versions.
     ensures broken { IfErr result (IsReadFault format text.now) }
 {
     match row_of(alloc, format, text) {
@@ -167,7 +167,7 @@ fn last_key(rows: &[Row]) -> &[u8]
 
 /// Rows up to the end.
 fn rows_of(alloc: Global, format: Format, text: &[u8]) -> Result<Vec<Row>, ReadError>
-    ensures { Gives (λ x. x.items) result (rows_at format (length text.now) [] [] text.now) }
+    ensures { Gives (HasHead text.now) (λ x. x.items) result (rows_at format (length text.now) [] [] text.now) }
 {
     let mut rows = Vec::new(alloc);
     let mut rest = text;
@@ -193,7 +193,7 @@ pub fn read_rows(alloc: Global, format: Format, text: &[u8]) -> Result<RowList, 
     ensures found { IfOk result (λ rows. AreRows format rows × (text.now ≡ flat_map (row_text format) rows)) }
     // The text of rows is read, unless memory runs out.
     ensures only { (rows : List Row) → AreRows format rows → text.now ≡ flat_map (row_text format) rows → AreRead rows result }
-    // Where it is broken, it is broken there.
+    // Where it is broken, it is broken there; memory runs out only after the first key and the number of its versions.
     ensures broken { IfErr result (AreReadFault format text.now) }
 {
     match rows_of(alloc, format, text) {

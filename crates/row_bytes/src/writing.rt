@@ -8,14 +8,15 @@ ghost use Rattle.version_set.specs.Kind.{value_fault};
 ghost use Rattle.version_set.specs.Version.{pair_text, plain_text, version_text};
 ghost use Rattle.row_bytes.specs.Rows.{row_text, FitsText};
 
+use crate::lengths::row_len;
 use crate::row::Row;
 use std::alloc::{AllocError, Global};
 use vclock::format::Format;
 use vclock::refusal::Refusal;
 use version_set::version::Version;
 
-/// Appends a pair of a clock: a node in two bytes, then its counter in eight. Like each of these calls, it fails only
-/// where memory is needed beyond the room of `out`.
+/// Appends a pair of a clock: a node in two bytes, then its counter in eight. Like each of these calls, it fails only if
+/// memory is needed beyond the room of `out`.
 fn put_pair(out: &mut Vec<u8>, pair: (u16, u64)) -> Result<(), AllocError>
     ensures ok { OnOk result (out.new.items ≡ out.old.items ++ pair_text pair) }
     ensures room { OnErr result (vec_capacity out.old < length out.old.items + length (pair_text pair)) }
@@ -86,15 +87,17 @@ fn put_versions(out: &mut Vec<u8>, format: Format, versions: &[Version]) -> Resu
     Ok(())
 }
 
-/// Appends the text of a row (this project's profile). It fails only where memory is needed beyond the room of `out`, and
-/// then some of the text stands at the end.
+/// Appends the text of a row (this project's profile). It fails only if memory is needed beyond the room of `out`, which
+/// is then as it was.
 #[tactic(auto, unfolding(crate::specs::Rows::row_text), using(crate::proofs::Limits::key_short))]
 pub fn put_row(out: &mut Vec<u8>, format: Format, row: &Row) -> Result<(), AllocError>
     requires { FitsText format row.now }
     ensures ok { OnOk result (out.new.items ≡ out.old.items ++ row_text format row.now) }
     ensures room { OnErr result (vec_capacity out.old < length out.old.items + length (row_text format row.now)) }
     ensures grows { vec_capacity out.old ≤ vec_capacity out.new }
+    ensures err { OnErr result (out.new.items ≡ out.old.items) }
 {
+    out.reserve(row_len(format, row) as usize)?;
     let key = row.key.as_slice();
     out.extend_from_slice(&(key.len() as u16).to_be_bytes())?;
     out.extend_from_slice(key)?;

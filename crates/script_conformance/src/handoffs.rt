@@ -51,6 +51,29 @@ fn a_hint_waits_for_its_owner(rt: HostRuntime) -> Result<(), Fail> {
 }
 
 #[test]
+fn a_hint_is_kept_by_the_first_carrier_that_is_up(rt: HostRuntime) -> Result<(), Fail> {
+    expect_answers(
+        &rt,
+        &[
+            (
+                r#"{"ring":{"bits":0,"copies":2,"nodes":[1,2,3,4]}}"#,
+                r#"{"nodes":4,"ranges":1}"#,
+            ),
+            DOWN,
+            (r#"{"down":{"node":3}}"#, r#"{"node":3,"up":false}"#),
+            PUT,
+            (r#"{"up":{"node":3}}"#, r#"{"node":3,"up":true}"#),
+            UP,
+            (DELIVER, r#"{"delivered":0,"known":0,"pending":0}"#),
+            (
+                r#"{"deliver":{"node":4}}"#,
+                r#"{"delivered":1,"known":0,"pending":0}"#,
+            ),
+        ],
+    )
+}
+
+#[test]
 fn a_hint_that_is_known_is_delivered(rt: HostRuntime) -> Result<(), Fail> {
     expect_answers(
         &rt,

@@ -9,11 +9,12 @@ use Rattle.version_set.specs.Version.{place_by}
 use Rattle.row_bytes.specs.declared.row.Row.{Row}
 use Rattle.key_ring.specs.Places.{leaf_bits, leaf_at}
 use Rattle.hash_tree.specs.Leaves.{Bucket, key_cmp, AscendByKey, rows_at}
-use Rattle.hash_tree.proofs.KeyOrder.{turned, all_filter}
+use Rattle.hash_tree.proofs.KeyOrder.{turned}
 use Rattle.snapshot.specs.RowMaps.{RowMap, leaf_in}
 use Rattle.snapshot.specs.Snapshots.{with_row, in_order, leaves_of, map_of}
 use Rattle.vclock.specs.declared.format.Format.{Format}
 use Rattle.vclock.specs.declared.format.Format.TheVariants.{One, Two}
+use Rattle.version_set.proofs.Lists.{all-append, all-filter}
 
 -- the row's key is less than that of the other
 abbrev IsBefore : Row → Row → Type 0
@@ -57,13 +58,9 @@ later r (x ∷ front) rows others all is =
 abbrev spread : (List ℕ → ℕ) → List Row → ℕ → ℕ → List Row
 spread leaf rows from n = flat_map (λ i. rows_at leaf i rows) (range_with_len from n)
 
-all-append : (P : Row → Type 0) (xs ys : List Row) → AllByRecursion P xs → AllByRecursion P ys → AllByRecursion P (xs ++ ys)
-all-append P [] ys a b = b
-all-append P (x ∷ xs) ys a b = (a.0, all-append P xs ys a.1 b)
-
 all-spread : (P : Row → Type 0) (leaf : List ℕ → ℕ) (rows : List Row) (n from : ℕ) → AllByRecursion P rows → AllByRecursion P (spread leaf rows from n)
 all-spread P leaf rows zero from all = tt
-all-spread P leaf rows (suc n) from all = all-append P (rows_at leaf from rows) (spread leaf rows (from + 1) n) (all_filter P (λ (x : Row). nat_eq (leaf x.key) from) rows all) (all-spread P leaf rows n (from + 1) all)
+all-spread P leaf rows (suc n) from all = all-append P (rows_at leaf from rows) (spread leaf rows (from + 1) n) (all-filter P (λ (x : Row). nat_eq (leaf x.key) from) rows all) (all-spread P leaf rows n (from + 1) all)
 
 -- a row of a leaf is not in the others
 not_here : (leaf : List ℕ → ℕ) (r : Row) (rows : List Row) (i : ℕ) → nat_eq (leaf r.key) i ≡ false → rows_at leaf i (r ∷ rows) ≡ rows_at leaf i rows
@@ -88,7 +85,7 @@ spread_first leaf r rows (suc n) from all least most =
       | inr there ↦
           let same = not_here leaf r rows from (ne_eqb (leaf r.key) from there) in
           ap (λ (t : List Row). in_order (t ++ spread leaf (r ∷ rows) (from + 1) n)) same
-          ∙ later r front (spread leaf (r ∷ rows) (from + 1) n) behind (all_filter (IsBefore r) (λ (x : Row). nat_eq (leaf x.key) from) rows all) (spread_first leaf r rows n (from + 1) all (omega arith) (omega arith))
+          ∙ later r front (spread leaf (r ∷ rows) (from + 1) n) behind (all-filter (IsBefore r) (λ (x : Row). nat_eq (leaf x.key) from) rows all) (spread_first leaf r rows n (from + 1) all (omega arith) (omega arith))
     ]
 
 spread_none : (leaf : List ℕ → ℕ) (n from : ℕ) → in_order (spread leaf [] from n) ≡ []

@@ -14,12 +14,12 @@ use Rattle.hash_tree.specs.Texts.{leaf_text, inner_text, node_text, AreTrue}
 use Rattle.hash_tree.proofs.PlaceLaws.{place_within, child_place, child_within}
 use Rattle.hash_tree.proofs.TextLaws.{leaf_node}
 use Rattle.hash_tree.proofs.TreeLaws.{children_text}
-use Rattle.hash_tree.proofs.KeyOrder.{all_filter}
 use Rattle.snapshot.specs.RowMaps.{RowMap, leaf_in, text_at, digest_at}
 use Rattle.snapshot.specs.Snapshots.{leaves_of, IsSnapshot}
 use Rattle.snapshot.proofs.OrderLaws.{bucket_at}
 use Rattle.std.specs.Prelude.{nat_eq}
 use Rattle.std.specs.List.{AllByRecursion}
+use Rattle.version_set.proofs.Lists.{all-filter}
 
 -- ---- leaves
 
@@ -35,7 +35,7 @@ leaf_shown m leaves digests i d is within = ap (λ (xs : List Bucket). get_or xs
 
 -- the rows of a leaf have a text
 pub leaf_fits : (m : RowMap) (leaves : List Bucket) (digests : List (List ℕ)) (i : ℕ) → IsSnapshot m leaves digests → AllByRecursion (FitsText m.format) (rows_at (leaf_in m) i m.rows)
-leaf_fits m leaves digests i is = all_filter (FitsText m.format) (λ (r : Row). nat_eq (leaf_in m r.key) i) m.rows (rows_fit m.format m.rows is.rows.each)
+leaf_fits m leaves digests i is = all-filter (FitsText m.format) (λ (r : Row). nat_eq (leaf_in m r.key) i) m.rows (rows_fit m.format m.rows is.rows.each)
 
 -- a node of the leaves' depth is a leaf
 pub leaf_within : (f : Format) (depth index : ℕ) → depth ≡ tree_depth f → index < 16 ^ depth → index < 2 ^ leaf_bits f

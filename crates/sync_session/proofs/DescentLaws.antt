@@ -10,9 +10,9 @@ use Rattle.sha2.specs.Sha256.{sha256}
 use Rattle.row_bytes.specs.declared.row.Row.{Row}
 use Rattle.version_set.specs.declared.version.Version.{Version}
 use Rattle.row_bytes.specs.Rows.{IsRow, AreRows}
-use Rattle.hash_tree.proofs.KeyOrder.{all_filter}
 use Rattle.hash_tree.proofs.TextLaws.{leaf_node, same_leaf}
 use Rattle.vclock.specs.declared.format.Format.{Format}
+use Rattle.version_set.proofs.Lists.{all-filter}
 use Rattle.sync_session.specs.declared.state.SessionState.TheVariants.{Finished}
 use Rattle.sync_session.specs.TreeNodes.{Node, top, child, is_node, has_node}
 use Rattle.snapshot.specs.RowMaps.{RowMap, IsRowMap, leaf_in, root_of}
@@ -224,7 +224,7 @@ leaf_held held w other good leaf (inl same) =
     let texts : leaf_text w.own.format (leaf_rows w.own leaf) ≡ leaf_text w.own.format (leaf_rows other leaf) =
     sym (leaf_node w.own.format (leaf_in w.own) w.own.rows leaf) ∙ same ∙ leaf_node other.format (leaf_in other) other.rows leaf ∙ ap (λ (f : Format). leaf_text f (leaf_rows other leaf)) good.format in
     let equal : leaf_rows w.own leaf ≡ leaf_rows other leaf = same_leaf w.own.format (leaf_rows w.own leaf) (leaf_rows other leaf) ours.each (subst (λ (f : Format). AllByRecursion (IsRow f) (leaf_rows other leaf)) good.format theirs.each) texts in
-    subst (λ (rs : List Row). Held rs held) equal (all_filter _ _ w.own.rows good.walked.own_held)
+    subst (λ (rs : List Row). Held rs held) equal (all-filter _ _ w.own.rows good.walked.own_held)
 leaf_held held w other good leaf (inr taken) =
     let text = text_above other zero leaf in
     let spelled : text ≡ leaf_text w.own.format (leaf_rows other leaf) = leaf_node other.format (leaf_in other) other.rows leaf ∙ ap (λ (f : Format). leaf_text f (leaf_rows other leaf)) good.format in

@@ -9,10 +9,10 @@ use Rattle.row_bytes.specs.declared.row.Row.{Row}
 use Rattle.version_set.specs.declared.version.Version.{Version}
 use Rattle.row_bytes.specs.Rows.{AreRows}
 use Rattle.key_ring.specs.Places.{range_at, leaf_at}
-use Rattle.hash_tree.proofs.KeyOrder.{all_filter}
 use Rattle.hash_tree.proofs.TextLaws.{leaf_node}
 use Rattle.sync_session.proofs.StepLaws.{All-weaker}
 use Rattle.vclock.specs.declared.format.Format.{Format}
+use Rattle.version_set.proofs.Lists.{all-filter}
 use Rattle.sync_session.specs.TreeNodes.{Node, top, child, is_node, has_node}
 use Rattle.snapshot.specs.RowMaps.{RowMap, IsRowMap, leaf_in, root_of}
 use Rattle.hash_tree.specs.Nodes.{tree_depth}
@@ -21,9 +21,10 @@ use Rattle.sync_session.proofs.TextLaws.{text_above, leaf_rows, leaf_are, length
 use Rattle.sync_session.specs.TreeNodes.{text_of, digest_of}
 use Rattle.sync_session.specs.Walks.{Walk, TakenText, Walked, child_digest, taken_at, expected_at, first_asked, asks, IsCanonical, IsInnerText, AreSpelled, IsPartners}
 use Rattle.sync_session.specs.Steps.{IsDue}
-use Rattle.sync_session.specs.Differing.{first_of_level, nodes_above_depth, all_nodes, is_unlike, differs_at, differ, times, nodes_of, IsOrderly, IsHonest, IsNearlyDone}
+use Rattle.sync_session.specs.Differing.{first_of_level, nodes_above_depth, all_nodes, is_unlike, differs_at, differ, times, nodes_of, IsOrderly, IsTraced, IsHonest, IsNearlyDone}
 use Rattle.sync_session.proofs.DescentLaws.{at_node, levels, is_node-true, is_node-same, All-taken_at, entry, has_node-flat_map}
 use Rattle.sync_session.proofs.CountLaws.{times-append, has_times, times_has, asker, no_root, asks_in}
+use Rattle.sync_session.proofs.TraceLaws.{traced}
 
 -- ---- tests
 
@@ -110,9 +111,8 @@ child_digest_of t n j deep lt =
     ap (λ (h : ℕ). child_digest (text_above t h n.index) j) (omega (arith, deep)) ∙ child_digest-text t (tree_depth t.format - suc n.depth) n.index j lt
 
 -- what the proofs below rest on
-record IsFair (held : List ℕ → List Version) (w : Walk) (other : RowMap) : Type 0 where
-  walked : Walked held w
-  orderly : IsOrderly w
+record IsFair (w : Walk) (other : RowMap) : Type 0 where
+  traced : IsTraced w
   partner : IsPartners w other
   honest : IsHonest w other
 
@@ -124,8 +124,8 @@ pub record IsDifferent (w : Walk) (other : RowMap) (d i : ℕ) : Type 0 where
   pub shallow : d ≤ levels w
   pub within : i < 16 ^ d
 
-asked_times : (held : List ℕ → List Version) (w : Walk) → Walked held w → (n : Node) → times n w.asked ≡ times n (first_asked w.own w.root) + times n (flat_map (asks w.own) w.taken)
-asked_times held w h n = ap (times n) h.asked ∙ times-append n (first_asked w.own w.root) (flat_map (asks w.own) w.taken)
+asked_times : (w : Walk) → IsTraced w → (n : Node) → times n w.asked ≡ times n (first_asked w.own w.root) + times n (flat_map (asks w.own) w.taken)
+asked_times w h n = ap (times n) h.asked ∙ times-append n (first_asked w.own w.root) (flat_map (asks w.own) w.taken)
 
 -- the first node is asked only where the roots differ
 first_only : (w : Walk) (n : Node) → 1 ≤ times n (first_asked w.own w.root) → (n ≡ top) × (bytes_eq w.root (root_of w.own) ≡ false)
@@ -147,15 +147,15 @@ kid_unlike w other p n j deep lt =
     ap not (bytes_eq_comm (digest_of w.own (child n j)) (digest_of other (child n j)) ∙ ap (λ r. bytes_eq r (digest_of w.own (child n j))) (sym (child_digest_of other n j (omega (arith, deep, same_levels w other p)) lt)))
 
 -- each node that was asked is where they differ
-asked_differs : (held : List ℕ → List Version) (w : Walk) (other : RowMap) → IsFair held w other → (d i : ℕ) → 1 ≤ times (at_node d i) w.asked → IsDifferent w other d i
-asked_differs held w other fair zero i h =
+asked_differs : (w : Walk) (other : RowMap) → IsFair w other → (d i : ℕ) → 1 ≤ times (at_node d i) w.asked → IsDifferent w other d i
+asked_differs w other fair zero i h =
     elim (cases_lt 0 (times (at_node zero i) (flat_map (asks w.own) w.taken))) [
       | inl kid ↦
           let who = asker (λ t. t.text ≡ text_of other t.node) w.own w.taken (at_node zero i) fair.honest (omega arith) in
           let depth : zero ≡ suc who.t.node.depth = ap (λ (n : Node). n.depth) who.by.kid.is in
           absurd (omega (arith, depth))
       | inr none ↦
-          let first = first_only w (at_node zero i) (omega (arith, asked_times held w fair.walked (at_node zero i))) in
+          let first = first_only w (at_node zero i) (omega (arith, asked_times w fair.traced (at_node zero i))) in
           let index : i ≡ 0 = ap (λ (n : Node). n.index) first.0 in
           record {
             differs = ap (λ (n : Node). is_unlike w.own other n) first.0 ∙ (root_unlike w other fair.partner ∙ ap not first.1);
@@ -163,8 +163,8 @@ asked_differs held w other fair zero i h =
             within = omega (arith, index);
           }
     ]
-asked_differs held w other fair (suc d) i h =
-    let who = asker (λ t. t.text ≡ text_of other t.node) w.own w.taken (at_node (suc d) i) fair.honest (omega (arith, asked_times held w fair.walked (at_node (suc d) i), no_root w.own w.root (at_node (suc d) i) d refl)) in
+asked_differs w other fair (suc d) i h =
+    let who = asker (λ t. t.text ≡ text_of other t.node) w.own w.taken (at_node (suc d) i) fair.honest (omega (arith, asked_times w fair.traced (at_node (suc d) i), no_root w.own w.root (at_node (suc d) i) d refl)) in
     let kid = who.by.kid in
     let depth : suc d ≡ suc who.t.node.depth = ap (λ (n : Node). n.depth) kid.is in
     let index : i ≡ 16 * who.t.node.index + kid.j = ap (λ (n : Node). n.index) kid.is in
@@ -172,7 +172,7 @@ asked_differs held w other fair (suc d) i h =
     let up : i / 16 ≡ who.t.node.index = omega (arith, index, kid.below) in
     let parent : who.t.node ≡ at_node d (i / 16) = ap (λ (k : ℕ). at_node k who.t.node.index) (sym deep) ∙ ap (at_node d) (sym up) in
     let taken : 1 ≤ times (at_node d (i / 16)) (nodes_of w.taken) = subst (λ (n : Node). 1 ≤ times n (nodes_of w.taken)) parent who.counts in
-    let above = asked_differs held w other fair d (i / 16) (omega (arith, taken, fair.orderly.shared (at_node d (i / 16)))) in
+    let above = asked_differs w other fair d (i / 16) (omega (arith, taken, fair.traced.took (at_node d (i / 16)))) in
     let unlike : is_unlike w.own other (at_node (suc d) i) ≡ true =
     ap (is_unlike w.own other) kid.is
     ∙ (kid_unlike w other fair.partner who.t.node kid.j who.by.inner kid.below
@@ -203,20 +203,20 @@ honest_at w other honest n h = by_case (taken_at w.taken n) refl (is_taken_at w.
     by_case (Some text) at is = at ∙ ap (λ (x : List ℕ). Some x) (All-taken_at (λ t. t.text ≡ text_of other t.node) w.taken n text honest at)
 
 -- each node where they differ is asked, where no inner node is outstanding
-differing_asked : (held : List ℕ → List Version) (w : Walk) (other : RowMap) → IsFair held w other → IsNearlyDone w → (d i : ℕ) → d ≤ levels w → i < 16 ^ d → differs_at w.own other d i ≡ true → 1 ≤ times (at_node d i) w.asked
-differing_asked held w other fair done zero i shallow within e =
+differing_asked : (w : Walk) (other : RowMap) → IsFair w other → IsOrderly w → IsNearlyDone w → (d i : ℕ) → d ≤ levels w → i < 16 ^ d → differs_at w.own other d i ≡ true → 1 ≤ times (at_node d i) w.asked
+differing_asked w other fair orderly done zero i shallow within e =
     let index : i ≡ 0 = omega arith in
     let unlike : bytes_eq w.root (root_of w.own) ≡ false = not-true (bytes_eq w.root (root_of w.own)) (sym (root_unlike w other fair.partner) ∙ (ap (λ (k : ℕ). is_unlike w.own other (at_node zero k)) (sym index) ∙ e)) in
     let first : times (at_node zero 0) (first_asked w.own w.root) ≡ 1 = ap (λ b. times (at_node zero 0) (cond b [] (top ∷ []))) unlike in
-    subst (λ (k : ℕ). 1 ≤ times (at_node zero k) w.asked) (sym index) (omega (arith, first, asked_times held w fair.walked (at_node zero 0)))
-differing_asked held w other fair done (suc d) i shallow within e =
+    subst (λ (k : ℕ). 1 ≤ times (at_node zero k) w.asked) (sym index) (omega (arith, first, asked_times w fair.traced (at_node zero 0)))
+differing_asked w other fair orderly done (suc d) i shallow within e =
     let n = at_node d (i / 16) in
     let parts = and_parts (differs_at w.own other d (i / 16)) (is_unlike w.own other (at_node (suc d) i)) e in
-    let above = differing_asked held w other fair done d (i / 16) (omega arith) (omega (arith, within)) parts.0 in
+    let above = differing_asked w other fair orderly done d (i / 16) (omega arith) (omega (arith, within)) parts.0 in
     elim (cases_lt 0 (times n w.outstanding)) [
       | inl still ↦ absurd (omega (arith, done n (times_has n w.outstanding (omega arith))))
       | inr none ↦
-          let text = honest_at w other fair.honest n (omega (arith, above, fair.orderly.shared n)) in
+          let text = honest_at w other fair.honest n (omega (arith, above, orderly.shared n)) in
           let place : 16 * (i / 16) + i % 16 ≡ i = omega arith in
           let unlike : bytes_eq (child_digest (text_of other n) (i % 16)) (digest_of w.own (child n (i % 16))) ≡ false =
           not-true (bytes_eq (child_digest (text_of other n) (i % 16)) (digest_of w.own (child n (i % 16))))
@@ -225,29 +225,29 @@ differing_asked held w other fair done (suc d) i shallow within e =
           asks_in w.own (entry n (text_of other n)) (at_node (suc d) i)
           (record { inner = omega arith; kid = record { j = i % 16; below = omega arith; is = ap (at_node (suc d)) (sym place); unlike = unlike } }) in
           let found = has_times (at_node (suc d) i) (flat_map (asks w.own) w.taken) (has_node-flat_map (asks w.own) w.taken n (at_node (suc d) i) (text_of other n) text (times_has (at_node (suc d) i) (asks w.own (entry n (text_of other n))) asks_it)) in
-          omega (arith, found, asked_times held w fair.walked (at_node (suc d) i))
+          omega (arith, found, asked_times w fair.traced (at_node (suc d) i))
     ]
 
-pub asked_is_differ : (held : List ℕ → List Version) (w : Walk) (other : RowMap) → Walked held w → IsOrderly w → IsPartners w other → IsHonest w other → (n : Node) → has_node n w.asked ≡ true → has_node n (differ w.own other) ≡ true
-asked_is_differ held w other walked orderly partner honest n h =
-    let is = asked_differs held w other (record { walked = walked; orderly = orderly; partner = partner; honest = honest }) n.depth n.index (has_times n w.asked h) in
+pub asked_is_differ : (w : Walk) (other : RowMap) → IsTraced w → IsPartners w other → IsHonest w other → (n : Node) → has_node n w.asked ≡ true → has_node n (differ w.own other) ≡ true
+asked_is_differ w other traced partner honest n h =
+    let is = asked_differs w other (record { traced = traced; partner = partner; honest = honest }) n.depth n.index (has_times n w.asked h) in
     has_filter (λ m. differs_at w.own other m.depth m.index) n (all_nodes w.own.format) is.differs (levels_have (suc (levels w)) n.depth n.index (omega (arith, is.shallow)) is.within)
 
 pub differ_is_asked : (held : List ℕ → List Version) (w : Walk) (other : RowMap) → Walked held w → IsOrderly w → IsPartners w other → IsHonest w other → IsNearlyDone w → (n : Node) → has_node n (differ w.own other) ≡ true → has_node n w.asked ≡ true
 differ_is_asked held w other walked orderly partner honest done n h =
     let f = filter_has (λ m. differs_at w.own other m.depth m.index) n (all_nodes w.own.format) h in
     let at = levels_only (suc (levels w)) n f.1 in
-    times_has n w.asked (differing_asked held w other (record { walked = walked; orderly = orderly; partner = partner; honest = honest }) done n.depth n.index (omega (arith, at.0)) at.1 f.0)
+    times_has n w.asked (differing_asked w other (record { traced = traced held w walked orderly; partner = partner; honest = honest }) orderly done n.depth n.index (omega (arith, at.0)) at.1 f.0)
 
 -- ---- the true text of an outstanding node is taken
 
-due_digest : (held : List ℕ → List Version) (w : Walk) (other : RowMap) → IsFair held w other → (d i : ℕ) → 1 ≤ times (at_node d i) w.asked → expected_at w.root w.taken d i ≡ Some (digest_of other (at_node d i))
-due_digest held w other fair zero i h =
-    let is = asked_differs held w other fair zero i h in
+due_digest : (w : Walk) (other : RowMap) → IsFair w other → (d i : ℕ) → 1 ≤ times (at_node d i) w.asked → expected_at w.root w.taken d i ≡ Some (digest_of other (at_node d i))
+due_digest w other fair zero i h =
+    let is = asked_differs w other fair zero i h in
     let index : i ≡ 0 = omega (arith, is.within) in
     ap (λ (x : List ℕ). Some x) (sym fair.partner.root ∙ ap (λ (k : ℕ). digest_of other (at_node zero k)) (sym index))
-due_digest held w other fair (suc d) i h =
-    let who = asker (λ t. t.text ≡ text_of other t.node) w.own w.taken (at_node (suc d) i) fair.honest (omega (arith, asked_times held w fair.walked (at_node (suc d) i), no_root w.own w.root (at_node (suc d) i) d refl)) in
+due_digest w other fair (suc d) i h =
+    let who = asker (λ t. t.text ≡ text_of other t.node) w.own w.taken (at_node (suc d) i) fair.honest (omega (arith, asked_times w fair.traced (at_node (suc d) i), no_root w.own w.root (at_node (suc d) i) d refl)) in
     let kid = who.by.kid in
     let depth : suc d ≡ suc who.t.node.depth = ap (λ (n : Node). n.depth) kid.is in
     let index : i ≡ 16 * who.t.node.index + kid.j = ap (λ (n : Node). n.index) kid.is in
@@ -277,7 +277,7 @@ leaf_form : (m : RowMap) → IsRowMap m → (n : Node) → AreSpelled m n (text_
 leaf_form m is n = record {
   text_is = leaf_node m.format (leaf_in m) m.rows n.index;
   are = leaf_are m is n.index;
-  range = all_filter _ _ m.rows is.here;
+  range = all-filter _ _ m.rows is.here;
   leaf = all_here (λ r. leaf_in m r.key) n.index m.rows;
 }
 
@@ -307,10 +307,10 @@ canonical_of w other p n shallow =
 
 pub true_text_due : (held : List ℕ → List Version) (w : Walk) (other : RowMap) → Walked held w → IsOrderly w → IsPartners w other → IsHonest w other → (n : Node) → has_node n w.outstanding ≡ true → IsDue w (entry n (text_of other n)) × IsCanonical w.own n (text_of other n)
 true_text_due held w other walked orderly partner honest n h =
-    let fair : IsFair held w other = record { walked = walked; orderly = orderly; partner = partner; honest = honest } in
+    let fair : IsFair w other = record { traced = traced held w walked orderly; partner = partner; honest = honest } in
     let asked : 1 ≤ times n w.asked = omega (arith, has_times n w.outstanding h, orderly.shared n) in
-    let is = asked_differs held w other fair n.depth n.index asked in (
-      record { asked = h; digest = due_digest held w other fair n.depth n.index asked },
+    let is = asked_differs w other fair n.depth n.index asked in (
+      record { asked = h; digest = due_digest w other fair n.depth n.index asked },
       canonical_of w other partner n is.shallow,
     )
 

@@ -2,6 +2,7 @@ pub mod TextLaws
 pub mod DescentLaws
 pub mod StepLaws
 pub mod CountLaws
+pub mod TraceLaws
 pub mod HonestLaws
 pub mod OrderLaws
 pub mod NodeLists

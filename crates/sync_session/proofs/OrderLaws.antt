@@ -4,22 +4,18 @@ use Rattle.std.specs.Prelude.{bytes_eq}
 use Rattle.std.specs.List.{flat_map, AllByRecursion}
 use Rattle.std.proofs.lemmas.Bool.{or_left}
 use Rattle.std.proofs.lemmas.List.{append_cancel_left}
-use Rattle.version_set.specs.declared.version.Version.{Version}
+use Rattle.version_set.proofs.Lists.{all-append}
 use Rattle.sync_session.specs.TreeNodes.{Node, top, child, is_node, has_node}
 use Rattle.snapshot.specs.RowMaps.{RowMap, root_of}
 use Rattle.hash_tree.specs.Nodes.{tree_depth}
 use Rattle.sync_session.specs.TreeNodes.{digest_of, place_of}
-use Rattle.sync_session.specs.Walks.{Walk, TakenText, Walked, child_digest, differing, asks}
-use Rattle.sync_session.specs.Differing.{times, nodes_of, Ascends, IsInTurn}
+use Rattle.sync_session.specs.Walks.{Walk, TakenText, child_digest, differing, asks}
+use Rattle.sync_session.specs.Differing.{times, nodes_of, IsTraced, Ascends, IsInTurn}
 use Rattle.sync_session.proofs.StepLaws.{All-weaker}
 use Rattle.sync_session.proofs.DescentLaws.{is_node-same}
 use Rattle.sync_session.proofs.CountLaws.{all_unit, times-append, has_times, asker}
 
 -- ---- lists of nodes
-
-all-append : (P : Node → Type 0) (xs ys : List Node) → AllByRecursion P xs → AllByRecursion P ys → AllByRecursion P (xs ++ ys)
-all-append P [] ys p q = q
-all-append P (x ∷ xs) ys p q = (p.0, all-append P xs ys p.1 q)
 
 abbrev Below : List Node → List Node → Type 0
 Below xs ys = AllByRecursion (λ x. AllByRecursion (λ y. place_of x < place_of y) ys) xs
@@ -122,8 +118,8 @@ in_order own done (x ∷ pending) (t ∷ ts) rest p b e =
     first_or d [] = d
     first_or d (n ∷ nodes) = n
 
-pub asked_in_order : (held : List ℕ → List Version) (w : Walk) → Walked held w → IsInTurn w → Ascends w.asked
-asked_in_order held w h turn =
+pub asked_in_order : (w : Walk) → IsTraced w → IsInTurn w → Ascends w.asked
+asked_in_order w h turn =
     subst (λ (xs : List Node). Ascends xs) (sym h.asked) (by_case (bytes_eq w.root (root_of w.own)) refl)
   where
     by_case : (b : Bool) → bytes_eq w.root (root_of w.own) ≡ b → Ascends (cond b [] (top ∷ []) ++ flat_map (asks w.own) w.taken)

@@ -7,6 +7,7 @@ use Rattle.std.proofs.lemmas.List.Folds.{list_any-append}
 use Rattle.std.proofs.lemmas.Grind.{flat_map-append}
 use Rattle.row_bytes.specs.declared.row.Row.{Row}
 use Rattle.version_set.specs.declared.version.Version.{Version}
+use Rattle.version_set.proofs.Lists.{all-push}
 use Rattle.sync_session.specs.declared.state.SessionState.TheVariants.{Finished}
 use Rattle.sync_session.specs.TreeNodes.{Node, is_node, has_node}
 use Rattle.snapshot.specs.RowMaps.{RowMap, IsRowMap}
@@ -20,10 +21,6 @@ use Rattle.sync_session.proofs.DescentLaws.{is_node-true, is_node-same}
 pub All-weaker : {X : Type 0} (P Q : X → Type 0) (xs : List X) → ((x : X) → P x → Q x) → AllByRecursion P xs → AllByRecursion Q xs
 All-weaker P Q [] f h = tt
 All-weaker P Q (x ∷ xs) f h = (f x h.0, All-weaker P Q xs f h.1)
-
-pub All-push : {X : Type 0} (P : X → Type 0) (xs : List X) (y : X) → AllByRecursion P xs → P y → AllByRecursion P (xs ++ y ∷ [])
-All-push P [] y h p = (p, tt)
-All-push P (x ∷ xs) y h p = (h.0, All-push P xs y h.1 p)
 
 pub Held-grows : (before now : List ℕ → List Version) (rows : List Row) → Grows before now → Held rows before → Held rows now
 Held-grows before now rows grows h = All-weaker _ _ rows (λ r each. All-weaker _ _ r.versions (λ v covered. grows v r.key covered) each) h
@@ -134,8 +131,8 @@ walked_after held w t h due canonical is_held =
     record {
       map = h.map;
       own_held = h.own_held;
-      rows_held = All-push _ w.taken t h.rows_held is_held;
-      texts = All-push (IsRightlyTaken (after w t)) w.taken t
+      rows_held = all-push _ w.taken t h.rows_held is_held;
+      texts = all-push (IsRightlyTaken (after w t)) w.taken t
           (All-weaker (IsRightlyTaken w) (IsRightlyTaken (after w t)) w.taken (λ u is. record { canonical = is.canonical; digest = expected_stays w.root w.taken (t ∷ []) u.node.depth u.node.index _ is.digest }) h.texts)
           (record { canonical = canonical; digest = expected_stays w.root w.taken (t ∷ []) t.node.depth t.node.index _ due.digest });
       asked =

@@ -5,7 +5,7 @@ use Rattle.vclock.specs.declared.format.Format.{Format}
 use Rattle.hash_tree.specs.Nodes.{tree_depth}
 use Rattle.snapshot.specs.RowMaps.{RowMap}
 use Rattle.sync_session.specs.TreeNodes.{Node, is_node, has_node, place_of, text_of, digest_of}
-use Rattle.sync_session.specs.Walks.{TakenText, Walk}
+use Rattle.sync_session.specs.Walks.{TakenText, Walk, asked_by, IsRightlyTaken}
 
 -- the first k nodes of a depth
 unfoldable pub first_of_level : ℕ → ℕ → List Node
@@ -45,6 +45,14 @@ nodes_of taken = map (λ t. t.node) taken
 -- Each node was asked once at most, and each that was asked is taken or outstanding, and not both.
 pub record IsOrderly (w : Walk) : Type 0 where
   pub shared : (n : Node) → times n w.asked ≡ times n (nodes_of w.taken) + times n w.outstanding
+  pub once : (n : Node) → times n w.asked ≤ 1
+
+-- What stays true of a walk however it ends: each text that was taken can be its node's and had the digest that was
+-- expected there; the nodes asked are those that the texts ask, each once; and only nodes that were asked were taken.
+pub record IsTraced (w : Walk) : Type 0 where
+  pub texts : AllByRecursion (IsRightlyTaken w) w.taken
+  pub asked : w.asked ≡ asked_by w.own w.root w.taken
+  pub took : (n : Node) → times n (nodes_of w.taken) ≤ times n w.asked
   pub once : (n : Node) → times n w.asked ≤ 1
 
 -- each text that was taken is the partner's own

@@ -48,13 +48,13 @@ pub record IsDue (w : Walk) (t : TakenText) : Type 0 where
   pub asked : has_node t.node w.outstanding ≡ true
   pub digest : expected w.root w.taken t.node ≡ Some (sha256 t.text)
 
--- Why a text is not taken, by the first cause that stands. Reading a leaf takes memory, so NoMemory may stand in place
--- of NotCanonical.
+-- Why a text is not taken, by the first cause that stands. Reading a leaf takes memory, so at a leaf NoMemory may stand in
+-- place of NotCanonical.
 abbrev pub IsTakeFault : Walk → TakenText → Refusal → Type 0
 IsTakeFault w t refusals.NotAsked = has_node t.node w.outstanding ≡ false
 IsTakeFault w t refusals.WrongDigest = (has_node t.node w.outstanding ≡ true) × (expected w.root w.taken t.node ≢ Some (sha256 t.text))
 IsTakeFault w t refusals.NotCanonical = IsDue w t × (IsCanonical w.own t.node t.text → ⊥)
-IsTakeFault w t refusals.NoMemory = IsDue w t
+IsTakeFault w t refusals.NoMemory = IsDue w t × (t.node.depth < tree_depth w.own.format → IsInnerText w.own.format t.text)
 IsTakeFault w t e = ⊥
 
 -- the walk after a refusal: one that answers a text that no node can have fails, any other stays

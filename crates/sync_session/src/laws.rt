@@ -7,8 +7,8 @@ ghost use Rattle.snapshot.specs.RowMaps.{RowMap, IsRowMap};
 ghost use Rattle.sync_session.specs.declared.state.SessionState.TheVariants.{Finished};
 ghost use Rattle.sync_session.specs.TreeNodes.{Node, has_node, text_of};
 ghost use Rattle.sync_session.specs.Walks.{TakenText, Walk, Walked, Held, IsLeafHeld, IsCanonical, AreSpelled, NoTwoShareADigest, IsPartners};
-ghost use Rattle.sync_session.specs.Steps.{started, after, IsDue, Grows};
-ghost use Rattle.sync_session.specs.Differing.{differ, IsOrderly, IsHonest, IsNearlyDone, IsInTurn, Ascends};
+ghost use Rattle.sync_session.specs.Steps.{started, after, failed, cancelled_by, IsDue, Grows};
+ghost use Rattle.sync_session.specs.Differing.{differ, IsOrderly, IsTraced, IsHonest, IsNearlyDone, IsInTurn, Ascends};
 
 /// After a finished session each version of the partner's rows is held or is below one that is: of any rows of the same
 /// format, ring bits and range whose root is the one that was offered, provided that no two different texts among those
@@ -36,12 +36,19 @@ pub fn a_walk_stays_orderly()
         → IsOrderly (after w t) }
 {}
 
-/// Where each text that was taken is the partner's own, a session asks nodes where the trees differ and no others; all of
-/// them, once no node with children is outstanding; and the partner's text of an outstanding node is never refused.
-/// Texts that are taken in the order of the asks leave the nodes asked by depth, and then by index, whoever answers.
+/// What a session took and asked stays with it when it ends, by a text that no node can have or by a cancel.
+pub fn a_walk_leaves_a_trace()
+    ensures going { (held : List ℕ → List Version) (w : Walk) → Walked held w → IsOrderly w → IsTraced w }
+    ensures failed { (w : Walk) → IsTraced w → IsTraced (failed w) }
+    ensures cancelled { (w : Walk) → IsTraced w → IsTraced (cancelled_by w w.state) }
+{}
+
+/// If each text that was taken is the partner's own, a session asks nodes where the trees differ and no others, however it
+/// ends; all of them, once no node with children is outstanding; and the partner's text of an outstanding node is never
+/// refused. Texts that are taken in the order of the asks leave the nodes asked by depth, and then by index, whoever
+/// answers.
 pub fn a_session_asks_where_the_trees_differ()
-    ensures only { (held : List ℕ → List Version) (w : Walk) (other : RowMap) → Walked held w → IsOrderly w
-        → IsPartners w other → IsHonest w other
+    ensures only { (w : Walk) (other : RowMap) → IsTraced w → IsPartners w other → IsHonest w other
         → (n : Node) → has_node n w.asked ≡ true → has_node n (differ w.own other) ≡ true }
     ensures all { (held : List ℕ → List Version) (w : Walk) (other : RowMap) → Walked held w → IsOrderly w
         → IsPartners w other → IsHonest w other → IsNearlyDone w
@@ -49,6 +56,6 @@ pub fn a_session_asks_where_the_trees_differ()
     ensures due { (held : List ℕ → List Version) (w : Walk) (other : RowMap) → Walked held w → IsOrderly w
         → IsPartners w other → IsHonest w other → (n : Node) → has_node n w.outstanding ≡ true
         → IsDue w (record { node = n; text = text_of other n }) × IsCanonical w.own n (text_of other n) }
-    ensures ordered { (held : List ℕ → List Version) (w : Walk) → Walked held w → IsInTurn w → Ascends w.asked }
+    ensures ordered { (w : Walk) → IsTraced w → IsInTurn w → Ascends w.asked }
     ensures both_ways { (a b : RowMap) → a.format ≡ b.format → differ a b ≡ differ b a }
 {}

@@ -1,11 +1,11 @@
 //! One walk of two trees.
-ghost use Rattle.std.specs.Prelude.{◌≡◌, ⊤, None, OnOk, OnErr, map};
+ghost use Rattle.std.specs.Prelude.{◌≡◌, ⊤, None, [], OnOk, OnErr, map};
 ghost use Rattle.std.specs.Arc.{arc_value};
 ghost use Rattle.vclock.specs.Answer.{Answers};
 ghost use Rattle.hash_tree.specs.Nodes.{tree_depth};
 ghost use Rattle.sync_session.specs.TreeNodes.{node_of};
-ghost use Rattle.sync_session.specs.Walks.{asks, IsCanonical};
-ghost use Rattle.sync_session.specs.Steps.{state_by, started, after, cancelled_by, IsDue, Takes};
+ghost use Rattle.sync_session.specs.Walks.{TakenText, asks, IsCanonical};
+ghost use Rattle.sync_session.specs.Steps.{state_by, started, after, failed, cancelled_by, IsDue, Takes};
 ghost use Rattle.sync_session.specs.Readings.{Shows};
 
 use crate::state::SessionState;
@@ -86,7 +86,8 @@ impl Session {
         })
     }
 
-    /// The own snapshot. It takes no memory, like each of these calls but `start`, `rows_of` and `take`.
+    /// The own snapshot. It takes no memory, like each of these calls but `start`, `rows_of`, `take` and
+    /// `take_leaf`.
     pub fn own(&self) -> &Arc<Snapshot, Global>
         ensures { arc_value result.now ≡ self.now.own }
     {
@@ -131,8 +132,8 @@ impl Session {
     /// The rows that taking this text would give: none for a node with children. The session stays as it is.
     ///
     /// Refused, in order: NotAsked (the node is not outstanding), WrongDigest (the text has not the digest that is
-    /// expected at the node), NotCanonical (no rows of the range give the node this text), NoMemory. Reading rows takes
-    /// memory, so NoMemory may stand in place of NotCanonical.
+    /// expected at the node), NotCanonical (no rows of the range give the node this text), NoMemory. Reading a leaf takes
+    /// memory, so at a leaf NoMemory may stand in place of NotCanonical.
     pub fn rows_of(&self, alloc: Global, node: NodeAt, text: &Hashed) -> Result<RowList, Refusal>
         ensures { Shows self.now (record { node = node_of node; text = text.now }) result }
     {
@@ -168,13 +169,12 @@ impl Session {
                     self.record(node, text, &new)?;
                     Ok(Answered::Inner)
                 } else {
-                    self.record(node, text, &[])?;
+                    self.take_leaf(node, text)?;
                     Ok(Answered::Leaf(rows))
                 }
             }
             Err(Refusal::NotCanonical) => {
-                self.outstanding.clear();
-                self.state = SessionState::Failed;
+                self.fail();
                 Err(Refusal::NotCanonical)
             }
             Err(other) => Err(other),
@@ -211,14 +211,29 @@ impl Session {
         Ok(())
     }
 
+    /// Ends a session by a text that it awaits and that the node cannot have: it has failed.
+    pub fn fail(&mut self)
+        requires { (t : TakenText) × IsDue self.old t × (IsCanonical self.old.own t.node t.text → ⊥) }
+        ensures { self.new ≡ failed self.old }
+    {
+        self.end(SessionState::Failed);
+    }
+
     /// Ends a session that is open; another stays as it is.
     pub fn cancel(&mut self)
         ensures { self.new ≡ cancelled_by self.old self.old.state }
     {
         if self.state == SessionState::Open {
-            self.outstanding.clear();
-            self.state = SessionState::Cancelled;
+            self.end(SessionState::Cancelled);
         }
+    }
+
+    /// Awaits no text any more.
+    fn end(&mut self, state: SessionState)
+        ensures { self.new ≡ record self.old { outstanding = []; state = state } }
+    {
+        self.outstanding.clear();
+        self.state = state;
     }
 }
 

@@ -59,8 +59,9 @@ pub enum PassPart {
 
 /// Why a call was refused, in the order of the numbers that scripts print.
 ///
-/// A call tests its causes in the order that its own page lists, answers the first that is present, and leaves its
-/// value as it was.
+/// A call tests its causes in the order that its own page lists, returns the first that is present, and leaves its value
+/// as it was, with three exceptions that docs/FORMATS.md names: a session that refuses a text as `NotCanonical` has failed,
+/// and a rehash or a whole sync that runs out of memory keeps what it has done so far.
 #[derive(Debug, Drop)]
 pub enum Refusal {
     /// A pair has node 0, a node over 65,535 or counter 0, or a node comes twice.
@@ -71,7 +72,7 @@ pub enum Refusal {
     CounterFull,
     /// The key's length is not 1 to 255 bytes.
     BadKey,
-    /// The value is too long for the format, or a tombstone stands where none may.
+    /// The value is too long for the format, a tombstone has a value, or a tombstone stands where the format has none.
     BadValue,
     /// Some held version has seen the put's clock: the clocks that are held, in the order of the set.
     StaleContext(Clocks),
@@ -137,7 +138,7 @@ pub enum Refusal {
     BadLine,
     /// A row's text is broken: the offset of the first byte of the field that is wrong.
     RowBroken(u64),
-    /// No message, one of another kind than is awaited, or a node that the tree has not.
+    /// The bytes are no message, the message is of the wrong kind, or the tree has no such node.
     BadMessage,
     /// A growth was refused.
     NoMemory,

@@ -1,3 +1,4 @@
+pub mod Lists
 pub mod SetLaws
 pub mod TextOrder
 pub mod OfferLemmas

@@ -1,6 +1,6 @@
 -- What an offer makes of a set.
-use Rattle.std.proofs.Common.{◌≡◌, ◌≤◌, ◌<◌, ◌+◌, false, not, filter, length, None, Some, sym, ◌∙◌, subst, arith, refl, List, inl, inr}
-use Rattle.std.proofs.lemmas.Bool.{lt-ltb, le-ltb, cases_lt}
+use Rattle.std.proofs.Common.{◌≡◌, ◌≤◌, ◌<◌, ◌+◌, false, not, filter, length, None, Some, sym, ◌∙◌, subst, arith, refl, List}
+use Rattle.std.proofs.lemmas.Bool.{lt-ltb, le-ltb}
 use Rattle.version_set.proofs.SetLaws.{maximal-with_version, grown, length-grown}
 use Rattle.version_set.specs.declared.version.Version.{Version}
 use Rattle.version_set.specs.Version.{is_below, covered, with_version, offered, offer_fault, IsVersionSet}
@@ -23,14 +23,6 @@ made v S T clock set f room e = record {
 pub crowded : (v : Version) (S : List Version) → IsVersionSet S → covered v S ≡ false → 64 ≤ length (filter (λ w. not (is_below w v)) S) → offer_fault v S ≡ Some Crowded
 crowded v S set f full = rw (f, length-grown v S set f, lt-ltb 64 (length (filter (λ w. not (is_below w v)) S) + 1) (omega arith)) refl
 
--- an offer that is not refused leaves room for one more
-pub has_room : (v : Version) (S : List Version) → IsVersionSet S → covered v S ≡ false → offer_fault v S ≡ None → length (filter (λ w. not (is_below w v)) S) < 64
-has_room v S set f none =
-    elim (cases_lt (length (filter (λ w. not (is_below w v)) S)) 64) [
-      | inl lt ↦ lt
-      | inr full ↦ let some = crowded v S set f full in absurd (let e : None ≡ Some Crowded = sym none ∙ some in cc)
-    ]
-
--- and one with room is not refused
+-- an offer to a set with room is not refused
 pub not_crowded : (v : Version) (S : List Version) → IsVersionSet S → covered v S ≡ false → length (filter (λ w. not (is_below w v)) S) < 64 → offer_fault v S ≡ None
 not_crowded v S set f room = rw (f, length-grown v S set f, le-ltb 64 (length (filter (λ w. not (is_below w v)) S) + 1) (omega arith)) refl

@@ -16,6 +16,7 @@ use Rattle.version_set.specs.declared.kind.Kind.{Kind}
 use Rattle.version_set.specs.declared.kind.Kind.TheVariants.{Live, Tombstone}
 use Rattle.version_set.specs.declared.version.Version.{Version}
 use Rattle.version_set.specs.Version.{NoneIsBelow, is_below, covered, maximal, with_version, IsBelow, IsCovered, is_same, version_cmp, pair_cmp, place_by, Ascends, offered, IsVersionSet, set_from}
+use Rattle.version_set.proofs.Lists.{all-filter}
 
 -- the order of texts is total
 pub version_total : IsTotalOrder version_cmp
@@ -171,10 +172,6 @@ any-with_version p v (w ∷ S) h =
 with_version-first : (v : Version) (S : List Version) → AllByRecursion (λ w. version_cmp v w ≡ Less) S → with_version v S ≡ v ∷ S
 with_version-first v [] h = refl
 with_version-first v (w ∷ S) h = rw h.0 refl
-
-pub all-filter : {X : Type 0} (P : X → Type 0) (p : X → Bool) (xs : List X) → AllByRecursion P xs → AllByRecursion P (filter p xs)
-all-filter P p [] h = tt
-all-filter P p (x ∷ xs) h = elim (p x) as (λ b. AllByRecursion P (cond b (x ∷ filter p xs) (filter p xs))) [ true ↦ (h.0, all-filter P p xs h.1) | false ↦ all-filter P p xs h.1 ]
 
 pub Ascends-filter : (p : Version → Bool) (S : List Version) → Ascends S → Ascends (filter p S)
 Ascends-filter p [] h = tt

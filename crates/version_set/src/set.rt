@@ -1,5 +1,5 @@
 //! Sets of versions.
-ghost use Rattle.std.specs.Prelude.{◌≡◌, ◌≢◌, ◌<◌, ◌≤◌, ◌+◌, ◌↔◌, ◌||◌, [], not, filter, map, length, None, Some, IfOk, IfErr, OnOk, OnErr, IsTrue, if◌then◌else◌};
+ghost use Rattle.std.specs.Prelude.{◌≡◌, ◌≢◌, ◌<◌, ◌≤◌, ◌+◌, ◌↔◌, ◌||◌, [], not, filter, map, length, None, Some, IsOk, OnOk, OnErr, IsTrue, if◌then◌else◌};
 ghost use Rattle.std.specs.List.{AllByRecursion};
 ghost use Rattle.std.specs.Slice.Iter.{iter_rest};
 ghost use Rattle.std.specs.Vec.{vec_len, vec_capacity};
@@ -124,6 +124,7 @@ impl VersionSet {
         ensures test { result ≡ covered version.now self.now }
         ensures fact { IsTrue result ↔ IsCovered version.now self.now }
     {
+        // The call brings the prover the fact that the version's clock is one.
         let _valid = version.clock.pairs();
         is_covered(&self.versions, version)
     }
@@ -138,27 +139,13 @@ impl VersionSet {
         count_kept(&self.versions, version) >= MOST_VERSIONS
     }
 
-    /// The set with room for one more version, so that an offer needs no memory: for calls that make room in several
-    /// places before they change one. Refused: NoMemory, and then the set is handed back.
-    pub fn with_room(self) -> Result<RoomySet, SetWithoutRoom>
-        ensures ok { IfOk result (λ roomy. roomy ≡ self) }
-        ensures err { IfErr result (λ failed. failed.set ≡ self) }
-    {
-        let VersionSet { mut versions } = self;
-        match versions.reserve(1) {
-            Ok(()) => Ok(RoomySet { versions }),
-            Err(_) => Err(SetWithoutRoom {
-                set: VersionSet { versions },
-            }),
-        }
-    }
-
     /// Takes a version into the set, unless it is covered: then the members below it leave.
     ///
     /// Refused, in order: Crowded (the set would have over 64 members), NoMemory. The set is then as it was.
     pub fn offer(&mut self, version: Version) -> Result<Offered, Refusal>
         ensures answers { Answers result (offer_fault version self.old) (λ offered. (offered ≡ Offered.Known) ↔ IsTrue (covered version self.old)) }
         ensures set { OnOk result (self.new ≡ offered version self.old) }
+        ensures known { IsTrue (covered version self.old) → IsOk result }
         ensures err { OnErr result (self.new ≡ self.old) }
     {
         let _valid = version.clock.pairs();
@@ -174,49 +161,6 @@ impl VersionSet {
         insert(&mut self.versions, version);
         Ok(Offered::Added)
     }
-}
-
-/// A set that has room for one more version.
-#[derive(Debug, Drop)]
-pub struct RoomySet {
-    versions: Vec<Version>,
-}
-
-impl Model for RoomySet {
-    ghost use Rattle.std.specs.Prelude.{List, ◌<◌};
-    ghost use Rattle.std.specs.Vec.{vec_len, vec_capacity};
-    ghost use Rattle.version_set.specs.declared.version.Version.{Version};
-    ghost use Rattle.version_set.specs.Version.{IsVersionSet};
-
-    ghost Value = { List Version };
-
-    ghost view = { λ s. s.versions.items };
-
-    ghost invariant = { λ s. IsVersionSet s.versions.items × (vec_len s.versions < vec_capacity s.versions) };
-}
-
-impl RoomySet {
-    /// Takes a version into the set, unless it is covered: then the members below it leave. It takes no memory.
-    pub fn offer(self, version: Version) -> VersionSet
-        requires { offer_fault version self ≡ None }
-        ensures { result ≡ offered version self }
-    {
-        let _valid = version.clock.pairs();
-        let RoomySet { mut versions } = self;
-        if is_covered(&versions, &version) {
-            return VersionSet { versions };
-        }
-        drop_below(&mut versions, &version);
-        insert(&mut versions, version);
-        VersionSet { versions }
-    }
-}
-
-/// Room was refused to a set, which is as it was.
-#[derive(Debug, Drop)]
-pub struct SetWithoutRoom {
-    /// The set.
-    pub set: VersionSet,
 }
 
 fn is_covered(versions: &[Version], version: &Version) -> bool

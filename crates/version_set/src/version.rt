@@ -38,6 +38,7 @@ impl Version {
         ensures test { result ≡ is_below self.now other.now }
         ensures fact { IsTrue result ↔ IsBelow self.now other.now }
     {
+        // The calls bring the prover the fact that both clocks are clocks.
         let _valid = self.clock.pairs();
         let _other_valid = other.clock.pairs();
         match self.clock.compare(&other.clock) {

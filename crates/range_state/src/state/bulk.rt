@@ -16,10 +16,10 @@ use std::thread::Threads;
 use vclock::refusal::Refusal;
 
 impl RangeState {
-    /// Hashes every dirty node and installs the digests, until no node is dirty, and answers how many were. In each turn
-    /// the nodes whose children are clean are hashed, in several threads where there is enough to hash.
+    /// Hashes every dirty node and installs the digests, and returns how many nodes were dirty. Each round hashes the nodes
+    /// whose children are clean, in several threads if there is enough to hash.
     ///
-    /// Refused: NoMemory. Then some of the nodes may be clean; the journal and the rows are as they were.
+    /// Refused: NoMemory. Then some of the dirty nodes may be clean, and all else is as it was.
     pub fn rehash(&mut self, rt: &(impl Threads + Sync), alloc: Global) -> Result<u64, Refusal>
         ensures count { Answers result None (λ hashed. hashed ≡ dirty_count self.old.marks) }
         ensures ok { OnOk result (self.new ≡ rehashed self.old) }

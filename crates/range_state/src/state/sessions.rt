@@ -2,7 +2,8 @@
 ghost use Rattle.std.specs.Prelude.{◌≡◌, ⊤, length, OnOk, OnErr};
 ghost use Rattle.vclock.specs.Answer.{Answers, AnswersAtOnce};
 ghost use Rattle.range_state.specs.State.{IsRight};
-ghost use Rattle.range_state.specs.Sessions.{number_of, is_open, open_count, foreign_fault, standings, crowd_fault, open_fault, opened, unknown_fault, cancelled_at};
+ghost use Rattle.range_state.specs.Records.{is_open, open_count};
+ghost use Rattle.range_state.specs.Sessions.{number_of, foreign_fault, standings, crowd_fault, open_fault, opened, unknown_fault, cancelled_at};
 
 use crate::record::Record;
 use crate::state::RangeState;
@@ -103,11 +104,11 @@ fn open_count(records: &[Record]) -> usize
 }
 
 /// Whether a session can still take texts.
-#[tactic(auto, unfolding(crate::specs::Sessions::is_open))]
-fn is_open(record: &Record) -> bool
-    ensures { result ≡ is_open record.now }
+#[tactic(auto, unfolding(crate::specs::Records::is_open))]
+fn is_open(kept: &Record) -> bool
+    ensures { result ≡ is_open kept.now }
 {
-    match record.session.state() {
+    match kept.session.state() {
         SessionState::Open => true,
         SessionState::Finished | SessionState::Failed | SessionState::Cancelled => false,
     }

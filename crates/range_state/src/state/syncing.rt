@@ -1,12 +1,12 @@
 //! Whole sessions with a partner that answers truly.
-ghost use Rattle.std.specs.Prelude.{◌≡◌, ◌≢◌, ◌⊎◌, ◌+◌, ◌<◌, ◌≤◌, ⊤, None, length, slice_get, MatchOption, IfOk, IfErr, OnErr, Err};
-ghost use Rattle.vclock.specs.Answer.{AnswersOrNoMemory, first_fault};
+ghost use Rattle.std.specs.Prelude.{◌≡◌, ◌≢◌, ◌⊎◌, ◌+◌, ◌<◌, ◌≤◌, ⊤, None, length, slice_get, MatchOption, IfOk, IfErr, OnOk, OnErr, Err};
+ghost use Rattle.vclock.specs.Answer.{Answers, AnswersOrNoMemory, first_fault};
 ghost use Rattle.hash_tree.specs.Nodes.{tree_depth};
 ghost use Rattle.snapshot.specs.RowMaps.{IsRowMap, root_of};
 ghost use Rattle.sync_session.specs.TreeNodes.{node_of, text_of};
 ghost use Rattle.range_state.specs.State.{IsRight, dirty_fault};
 ghost use Rattle.range_state.specs.Sessions.{number_of, standings, crowd_fault, TakesFor};
-ghost use Rattle.range_state.specs.Syncs.{IsOfRange, HasOneMore, IsSyncedTo, IsPartWay, IsFirstOf};
+ghost use Rattle.range_state.specs.Syncs.{IsOfRange, HasAskedAll, IsSyncedTo, IsPartWay, IsFirstOf};
 
 use crate::event::AnswerTaken;
 use crate::state::RangeState;
@@ -45,10 +45,10 @@ impl RangeState {
         other: &Snapshot,
     ) -> Result<Synced, Refusal>
         requires { IsOfRange self.old.config other.now }
-        ensures answers { AnswersOrNoMemory result
+        ensures answers { Answers result
             (first_fault (crowd_fault (standings self.old.records)) (dirty_fault self.old)) (λ _. ⊤) }
         ensures ok { IfOk result (λ a. IsSyncedTo self.old seat other.now self.new a) }
-        ensures session { IfOk result (λ _. HasOneMore self.old.records partner self.new.records) }
+        ensures session { OnOk result (HasAskedAll self.old partner other.now self.new.records) }
         ensures err { IfErr result (λ e. e ≢ Refusal.NoMemory → self.new ≡ self.old) }
         ensures late { OnErr result ((self.new ≡ self.old) ⊎ IsPartWay self.old seat partner other.now self.new) }
     {

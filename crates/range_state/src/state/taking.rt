@@ -3,9 +3,9 @@ ghost use Rattle.std.specs.Prelude.{ℕ, ◌≡◌, ◌<◌, ◌≤◌, ◌^◌,
 ghost use Rattle.range_journal.specs.Log.{AreNumberedFrom};
 ghost use Rattle.hash_tree.specs.Nodes.{dirtied, tree_depth};
 ghost use Rattle.sync_session.specs.TreeNodes.{node_of};
-ghost use Rattle.sync_session.specs.Steps.{IsDue};
-ghost use Rattle.sync_session.specs.Walks.{IsCanonical};
-ghost use Rattle.range_state.specs.Sessions.{IsInnerRead, IsLeafRead, TakesAnswer};
+ghost use Rattle.sync_session.specs.Steps.{failed, IsDue};
+ghost use Rattle.sync_session.specs.Walks.{TakenText, IsCanonical};
+ghost use Rattle.range_state.specs.Sessions.{walked_to, IsInnerRead, IsLeafRead, TakesAnswer};
 
 use crate::event::AnswerTaken;
 use crate::state::RangeState;
@@ -23,8 +23,9 @@ impl RangeState {
     /// accepted, all or none.
     ///
     /// Refused, in order: UnknownSession (there is no record of that number), NotAsked, WrongDigest, NotCanonical (the
-    /// session has failed then), Crowded (in its turn one would be a version too many for its key), JournalFull, NoMemory,
-    /// which may stand in place of NotCanonical, Crowded and JournalFull. After any but NotCanonical the state is as it was.
+    /// session has failed then), Crowded (in its turn one would be a version too many for its key), JournalFull, NoMemory.
+    /// Reading a leaf takes memory, so at a leaf NoMemory may stand in place of NotCanonical, Crowded and JournalFull. After
+    /// any but NotCanonical the state is as it was.
     pub fn take_answer(
         &mut self,
         alloc: Global,
@@ -47,7 +48,10 @@ impl RangeState {
                     self.take_inner(alloc, id, node, text)
                 }
             }
-            Err(Refusal::NotCanonical) => self.fail_session(alloc, id, node, text),
+            Err(Refusal::NotCanonical) => {
+                self.fail_session(id);
+                Err(Refusal::NotCanonical)
+            }
             Err(refusal) => Err(refusal),
         }
     }
@@ -111,24 +115,14 @@ impl RangeState {
         })
     }
 
-    /// Has a session fail by a text that no node can have.
-    fn fail_session(
-        &mut self,
-        alloc: Global,
-        id: u64,
-        node: NodeAt,
-        text: Hashed,
-    ) -> Result<AnswerTaken, Refusal>
+    /// Has a session fail by a text that it awaits and that the node cannot have.
+    fn fail_session(&mut self, id: u64)
         requires { MatchOption (slice_get self.old.records id) ⊥
-            (λ r. IsDue r.session (record { node = node_of node; text = text })
-            × (IsCanonical r.session.own (node_of node) text → ⊥)) }
-        ensures { (seat : ℕ) → TakesAnswer self.old seat id
-            (record { node = node_of node; text = text }) result self.new }
+            (λ r. (t : TakenText) × IsDue r.session t × (IsCanonical r.session.own t.node t.text → ⊥)) }
+        ensures { MatchOption (slice_get self.old.records id) ⊥
+            (λ r. self.new ≡ walked_to self.old id r (failed r.session)) }
     {
-        match self.records[id as usize].session.take(alloc, node, text) {
-            Ok(_) => unreachable!(),
-            Err(refusal) => Err(refusal),
-        }
+        self.records[id as usize].session.fail();
     }
 }
 

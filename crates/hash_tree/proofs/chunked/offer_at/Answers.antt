@@ -13,13 +13,13 @@ offer-requires-clause-at c =
     let spot = c.requires.spot in
     omega (arith, spot.within, ap (λ (rs : List Row). length rs) (rows_read chunks r.chunk c.index_mut.result.now spot.chunk c.index_mut.ensures.value))
 
-pub returns-clause-answers : goal.returns-clause-answers
-returns-clause-answers c =
+pub offer-requires-clause-room : goal.offer-requires-clause-room
+offer-requires-clause-room c =
     let chunks = c.args.chunks.now.items in
     let r = c.args.spot in
     let spot = c.requires.spot in
     let versions = ap (λ (rs : List Row). versions_at rs r.at) (rows_read chunks r.chunk c.index_mut.result.now spot.chunk c.index_mut.ensures.value) ∙ versions-in_chunk chunks r.chunk r.at (place_in chunks r.chunk r.at) spot.chunk spot.within spot.before in
-    rw (← versions) c.offer.ensures.answers
+    rw versions c.requires.room
 
 pub returns-clause-ok : goal.returns-clause-ok
 returns-clause-ok c =

@@ -1,5 +1,5 @@
 use Rattle.std.proofs.Common.{◌++◌, List, ap, ◌∙◌}
-use Rattle.row_bytes.proofs.Strips.{behind_item}
+use Rattle.hash_tree.proofs.Strips.{behind_item}
 use Rattle.hash_tree.specs.Chunks.{chunk_text}
 use Rattle.hash_tree.proofs.comparing.strip_chunks.Goals as goal
 

@@ -1,6 +1,6 @@
 use Rattle.std.proofs.Common.{drop}
 use Rattle.std.specs.List.{flat_map}
-use Rattle.row_bytes.proofs.Strips.{IsBehind}
+use Rattle.hash_tree.proofs.Strips.{IsBehind}
 use Rattle.hash_tree.specs.Chunks.{chunk_text}
 use Rattle.hash_tree.proofs.comparing.strip_chunks.Given as goal
 

@@ -27,20 +27,20 @@ offer_at-requires-clause-spot c =
     let place = subst (λ (rs : List Row). IsAt k rs c.in-Ok.at) rows c.in-Ok.ensures in
     row_spot k chunks i c.in-Ok.at of place
 
-pub offer_at-requires-clause-value : goal.offer_at-requires-clause-value
-offer_at-requires-clause-value c = values_fit c.args.format c.args.chunks.now.items c.args.version c.requires.chunks.each c.requires.value
-
-pub returns-in_err-row-in-Err-clause-answers : goal.returns-in_err-row-in-Err-clause-answers
-returns-in_err-row-in-Err-clause-answers c =
+pub offer_at-requires-clause-room : goal.offer_at-requires-clause-room
+offer_at-requires-clause-room c =
     let chunks = c.args.chunks.now.items in
     let k = c.args.key.now in
     let i = c.chunk_of-chunk.result in
     let number = c.chunk_of-chunk.ensures in
     let of = subst (λ (cs : List Bucket). IsChunkOf k cs i) c.deref.ensures.value (record { within = number.within; before = number.before; after = number.after }) in
     let rows = c.rows.ensures ∙ rows_read chunks i c.index.result.now of.within c.index.ensures in
-    let place = subst (λ (rs : List Row). IsBetween k rs c.in-Err.at) rows c.in-Err.ensures in
-    let whole = between_there k chunks i c.in-Err.at of place in
-    rw whole.holds (search rules)
+    let place = subst (λ (rs : List Row). IsAt k rs c.in-Ok.at) rows c.in-Ok.ensures in
+    let whole = at_there k chunks i c.in-Ok.at of place in
+    rw (at_holds k (all_rows chunks) (place_in chunks i c.in-Ok.at) whole) c.requires.room
+
+pub offer_at-requires-clause-value : goal.offer_at-requires-clause-value
+offer_at-requires-clause-value c = values_fit c.args.format c.args.chunks.now.items c.args.version c.requires.chunks.each c.requires.value
 
 pub insert_at-requires-clause-spot : goal.insert_at-requires-clause-spot
 insert_at-requires-clause-spot c =
@@ -52,19 +52,6 @@ insert_at-requires-clause-spot c =
     let rows = c.rows.ensures ∙ rows_read chunks i c.index.result.now of.within c.index.ensures in
     let place = subst (λ (rs : List Row). IsBetween k rs c.in-Err.at) rows c.in-Err.ensures in
     gap_spot k chunks i c.in-Err.at of place
-
-pub returns-in-Ok-clause-answers : goal.returns-in-Ok-clause-answers
-returns-in-Ok-clause-answers c =
-    let chunks = c.args.chunks.now.items in
-    let k = c.args.key.now in
-    let i = c.chunk_of-chunk.result in
-    let number = c.chunk_of-chunk.ensures in
-    let of = subst (λ (cs : List Bucket). IsChunkOf k cs i) c.deref.ensures.value (record { within = number.within; before = number.before; after = number.after }) in
-    let rows = c.rows.ensures ∙ rows_read chunks i c.index.result.now of.within c.index.ensures in
-    let place = subst (λ (rs : List Row). IsAt k rs c.in-Ok.at) rows c.in-Ok.ensures in
-    let whole = at_there k chunks i c.in-Ok.at of place in
-    let versions = at_holds k (all_rows chunks) (place_in chunks i c.in-Ok.at) whole in
-    rw (← versions) c.offer_at.ensures.answers
 
 pub returns-in-Ok-clause-ok : goal.returns-in-Ok-clause-ok
 returns-in-Ok-clause-ok c =
@@ -80,18 +67,6 @@ returns-in-Ok-clause-ok c =
 
 pub returns-in-Ok-clause-chunks : goal.returns-in-Ok-clause-chunks
 returns-in-Ok-clause-chunks c = c.offer_at.ensures.chunks c.args.format c.requires.chunks
-
-pub returns-in_ok-row-in-Err-clause-answers : goal.returns-in_ok-row-in-Err-clause-answers
-returns-in_ok-row-in-Err-clause-answers c =
-    let chunks = c.args.chunks.now.items in
-    let k = c.args.key.now in
-    let i = c.chunk_of-chunk.result in
-    let number = c.chunk_of-chunk.ensures in
-    let of = subst (λ (cs : List Bucket). IsChunkOf k cs i) c.deref.ensures.value (record { within = number.within; before = number.before; after = number.after }) in
-    let rows = c.rows.ensures ∙ rows_read chunks i c.index.result.now of.within c.index.ensures in
-    let place = subst (λ (rs : List Row). IsBetween k rs c.in-Err.at) rows c.in-Err.ensures in
-    let whole = between_there k chunks i c.in-Err.at of place in
-    rw whole.holds (search rules)
 
 pub returns-in_ok-row-in-Err-clause-ok : goal.returns-in_ok-row-in-Err-clause-ok
 returns-in_ok-row-in-Err-clause-ok c =

@@ -8,5 +8,5 @@ abbrev pub invariant-loop-digest : goal.invariant-loop-digest
 invariant-loop-digest l = record {
   so_far : l.out.items ≡ l.fn.out.items ++ inner_byte l.fn.format ∷ flat_map (λ (d : List ℕ). d) (take l.digest-index l.digests);
   long : length l.out.items ≡ length l.fn.out.items + 1 + 32 * l.digest-index;
-  room : vec_capacity l.fn.out ≤ vec_capacity l.out;
+  room : length l.fn.out.items + 513 ≤ vec_capacity l.out;
 }

@@ -1,5 +1,14 @@
-use Rattle.range_state.proofs.SessionResults.{asked_once, asked_only, asked_all, finished_done}
+use Rattle.range_state.proofs.SessionResults.{rightly_taken, asked_once, asked_ordered, asked_only, still_due, asked_all, finished_done, ended_done}
 use Rattle.range_state.proofs.laws.sessions_ask_where_the_trees_differ.Goals as goal
 
 pub returns : goal.returns
-returns c = record { once = asked_once; only = asked_only; all = asked_all; done = finished_done }
+returns c = record {
+  texts = rightly_taken;
+  once = asked_once;
+  ordered = asked_ordered;
+  only = asked_only;
+  due = still_due;
+  all = asked_all;
+  done = finished_done;
+  ended = ended_done;
+}

@@ -22,3 +22,10 @@ returns-clause-room c =
     let text = ap (λ (cs : List Bucket). leaf_byte s.format ∷ flat_map chunk_text cs) c.deref.ensures.value ∙ text_of_chunks c.args.self.now s.format s.chunks.items c.self.view_is c.self.invariant.1 in
     on_err_map c.put_chunks.result (λ (full : vec_capacity c.reserve.new.out < length c.reserve.new.out.items + length (flat_map chunk_text c.deref.result.now) + 1).
     omega (arith, full, c.reserve.ensures.capacity, ap (λ (t : List ℕ). length t) c.reserve.ensures.items, ap (λ (t : List ℕ). length t) text)) c.put_chunks.ensures.room
+
+pub returns-clause-err : goal.returns-clause-err
+returns-clause-err c =
+    let s = c.self.inside in
+    let text = ap (λ (cs : List Bucket). leaf_byte s.format ∷ flat_map chunk_text cs) c.deref.ensures.value ∙ text_of_chunks c.args.self.now s.format s.chunks.items c.self.view_is c.self.invariant.1 in
+    on_err_map c.put_chunks.result (λ (full : vec_capacity c.reserve.new.out < length c.reserve.new.out.items + length (flat_map chunk_text c.deref.result.now) + 1).
+    absurd (omega (arith, full, c.in_ok-reserve.ensures.room, c.text_len.ensures, ap (λ (t : List ℕ). length t) c.reserve.ensures.items, ap (λ (t : List ℕ). length t) text))) c.put_chunks.ensures.room

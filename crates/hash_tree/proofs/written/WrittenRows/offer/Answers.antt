@@ -1,5 +1,6 @@
-use Rattle.std.proofs.Common.{rules, ◌≡◌, ◌++◌, ◌+◌, ◌≤◌, ◌∙◌, ℕ, List, length, take, drop, set, sym, ap, arith}
+use Rattle.std.proofs.Common.{None, Some, refl, inl, inr, ◌≡◌, ◌++◌, ◌+◌, ◌≤◌, ◌∙◌, ℕ, List, length, take, drop, set, sym, ap, arith}
 use Rattle.std.proofs.lemmas.List.{length-drop}
+use Rattle.std.proofs.lemmas.Result.{err_from_is_err_and}
 use Rattle.std.specs.List.{sum_by}
 use Rattle.std.specs.Vec.{vec_capacity}
 use Rattle.version_set.specs.Version.{offered}
@@ -9,18 +10,6 @@ use Rattle.hash_tree.specs.Leaves.{Bucket}
 use Rattle.hash_tree.specs.Chunks.{offered_at}
 use Rattle.hash_tree.proofs.ChunkLaws.{start_within, end_is, keeps-set, within-inside, value-inside, versions-inside, fits-at, room-at, offered_at-set}
 use Rattle.hash_tree.proofs.written.WrittenRows.offer.Goals as goal
-
-pub returns-then-crowds-clause-answers : goal.returns-then-crowds-clause-answers
-returns-then-crowds-clause-answers c =
-    let s = c.self.inside in
-    let versions = versions-inside c.args.self.now s.format s.rows.items c.args.at c.index.result.now c.self.view_is c.requires.at c.index.ensures in
-    rw (← versions) (search rules)
-
-pub returns-in_err-make_room-clause-answers : goal.returns-in_err-make_room-clause-answers
-returns-in_err-make_room-clause-answers c =
-    let s = c.self.inside in
-    let versions = versions-inside c.args.self.now s.format s.rows.items c.args.at c.index.result.now c.self.view_is c.requires.at c.index.ensures in
-    rw (← versions) (search rules)
 
 pub total-start-requires : goal.total-start-requires
 total-start-requires c =
@@ -34,7 +23,7 @@ overflow_add-end c =
     let at = c.args.at in
     let within = within-inside c.args.self.now s.format s.rows.items at c.self.view_is c.requires.at in
     let begins : c.total-start.result ≡ sum_by (λ (n : ℕ). n) (take at s.lens.items) = c.total-start.ensures ∙ ap (λ (ls : List ℕ). sum_by (λ (n : ℕ). n) (take at ls)) c.deref.ensures.value in
-    omega (arith, end_is s.format s.rows.items s.lens.items s.text.items at c.total-start.result c.index-2.result.now c.self.invariant within begins c.index-2.ensures, start_within s.format s.rows.items s.lens.items s.text.items (at + 1) c.self.invariant, s.text.ok.0, s.text.ok.1, s.text.small)
+    omega (arith, end_is s.format s.rows.items s.lens.items s.text.items at c.total-start.result c.index.result.now c.self.invariant within begins c.index.ensures, start_within s.format s.rows.items s.lens.items s.text.items (at + 1) c.self.invariant, s.text.ok.0, s.text.ok.1, s.text.small)
 
 pub rest_of-requires : goal.rest_of-requires
 rest_of-requires c =
@@ -42,19 +31,15 @@ rest_of-requires c =
     let at = c.args.at in
     let within = within-inside c.args.self.now s.format s.rows.items at c.self.view_is c.requires.at in
     let begins : c.total-start.result ≡ sum_by (λ (n : ℕ). n) (take at s.lens.items) = c.total-start.ensures ∙ ap (λ (ls : List ℕ). sum_by (λ (n : ℕ). n) (take at ls)) c.deref.ensures.value in
-    omega (arith, end_is s.format s.rows.items s.lens.items s.text.items at c.total-start.result c.index-2.result.now c.self.invariant within begins c.index-2.ensures, start_within s.format s.rows.items s.lens.items s.text.items (at + 1) c.self.invariant, ap length c.deref-2.ensures.value)
-
-pub returns-in_err-rest-clause-answers : goal.returns-in_err-rest-clause-answers
-returns-in_err-rest-clause-answers c =
-    let s = c.self.inside in
-    let versions = versions-inside c.args.self.now s.format s.rows.items c.args.at c.index.result.now c.self.view_is c.requires.at c.index.ensures in
-    rw (← versions) (search rules)
+    omega (arith, end_is s.format s.rows.items s.lens.items s.text.items at c.total-start.result c.index.result.now c.self.invariant within begins c.index.ensures, start_within s.format s.rows.items s.lens.items s.text.items (at + 1) c.self.invariant, ap length c.deref-2.ensures.value)
 
 pub returns-in_err-offer-clause-answers : goal.returns-in_err-offer-clause-answers
 returns-in_err-offer-clause-answers c =
     let s = c.self.inside in
     let versions = versions-inside c.args.self.now s.format s.rows.items c.args.at c.index_mut-row.result.now c.self.view_is c.requires.at c.index_mut-row.ensures.value in
-    rw (← versions) (search rules)
+    let none = rw (← versions) at c.requires.room in
+    let p = err_from_is_err_and c.from_residual-in_err-offer.result c.from_residual-in_err-offer.ensures.1 in
+    rw (p.1, p.2) (elim c.in_err-offer.ensures.answers [ inl n ↦ inl (refl, n.1) | inr e ↦ absurd (let no : None ≡ Some _ = sym none ∙ e in cc) ])
 
 pub put_before-requires-clause-within : goal.put_before-requires-clause-within
 put_before-requires-clause-within c =
@@ -62,7 +47,7 @@ put_before-requires-clause-within c =
     let at = c.args.at in
     let within = within-inside c.args.self.now s.format s.rows.items at c.self.view_is c.requires.at in
     let begins : c.total-start.result ≡ sum_by (λ (n : ℕ). n) (take at s.lens.items) = c.total-start.ensures ∙ ap (λ (ls : List ℕ). sum_by (λ (n : ℕ). n) (take at ls)) c.deref.ensures.value in
-    omega (arith, end_is s.format s.rows.items s.lens.items s.text.items at c.total-start.result c.index-2.result.now c.self.invariant within begins c.index-2.ensures, start_within s.format s.rows.items s.lens.items s.text.items (at + 1) c.self.invariant, ap length c.make_room.ensures.items)
+    omega (arith, end_is s.format s.rows.items s.lens.items s.text.items at c.total-start.result c.index.result.now c.self.invariant within begins c.index.ensures, start_within s.format s.rows.items s.lens.items s.text.items (at + 1) c.self.invariant, ap length c.make_room.ensures.items)
 
 pub put_before-requires-clause-fits : goal.put_before-requires-clause-fits
 put_before-requires-clause-fits c =
@@ -76,14 +61,14 @@ put_before-requires-clause-room c =
     let s = c.self.inside in
     let at = c.args.at in
     let start = c.total-start.result in
-    let len = c.index-2.result.now in
+    let len = c.index.result.now in
     let within = within-inside c.args.self.now s.format s.rows.items at c.self.view_is c.requires.at in
     let begins : start ≡ sum_by (λ (n : ℕ). n) (take at s.lens.items) = c.total-start.ensures ∙ ap (λ (ls : List ℕ). sum_by (λ (n : ℕ). n) (take at ls)) c.deref.ensures.value in
     let rest : c.deref-3.result.now ≡ drop (start + len) s.text.items = c.deref-3.ensures.value ∙ c.in_ok-rest.ensures.1 ∙ ap (drop (start + len)) c.deref-2.ensures.value in
     let room : start + len + length c.deref-3.result.now + c.version_len-more.result ≤ vec_capacity c.make_room.new.items =
-    omega (arith, end_is s.format s.rows.items s.lens.items s.text.items at start len c.self.invariant within begins c.index-2.ensures, start_within s.format s.rows.items s.lens.items s.text.items (at + 1) c.self.invariant, ap length rest, length-drop (start + len) s.text.items, ap length c.make_room.ensures.items, c.in_ok-make_room.ensures.room) in
+    omega (arith, end_is s.format s.rows.items s.lens.items s.text.items at start len c.self.invariant within begins c.index.ensures, start_within s.format s.rows.items s.lens.items s.text.items (at + 1) c.self.invariant, ap length rest, length-drop (start + len) s.text.items, ap length c.make_room.ensures.items, c.in_ok-make_room.ensures.room) in
     rw c.in_ok-offer.ensures.set
-    (room-at s.format s.rows.items s.lens.items s.text.items at len c.version_len-more.result start (length c.deref-3.result.now) _ c.index_mut-row.result.now c.args.version c.self.invariant within c.index_mut-row.ensures.value c.index-2.ensures c.version_len-more.ensures.exact room)
+    (room-at s.format s.rows.items s.lens.items s.text.items at len c.version_len-more.result start (length c.deref-3.result.now) _ c.index_mut-row.result.now c.args.version c.self.invariant within c.index_mut-row.ensures.value c.index.ensures c.version_len-more.ensures.exact room)
 
 pub row_len-requires : goal.row_len-requires
 row_len-requires c =
@@ -99,22 +84,16 @@ invariant_of-self-2 c =
     let old = c.index_mut-row.result.now in
     let new : Row = record { key = old.key; versions = c.offer.new.self } in
     let start = c.total-start.result in
-    let end = start + c.index-2.result.now in
+    let end = start + c.index.result.now in
     let within = within-inside c.args.self.now s.format s.rows.items at c.self.view_is c.requires.at in
     let value = value-inside c.args.self.now s.format s.rows.items c.args.version c.self.view_is c.requires.value in
     let begins : c.total-start.result ≡ sum_by (λ (n : ℕ). n) (take at s.lens.items) = c.total-start.ensures ∙ ap (λ (ls : List ℕ). sum_by (λ (n : ℕ). n) (take at ls)) c.deref.ensures.value in
-    let ends = end_is s.format s.rows.items s.lens.items s.text.items at start c.index-2.result.now c.self.invariant within begins c.index-2.ensures in
+    let ends = end_is s.format s.rows.items s.lens.items s.text.items at start c.index.result.now c.self.invariant within begins c.index.ensures in
     let fits : FitsText s.format new = rw c.in_ok-offer.ensures.set (fits-at s.format s.rows.items s.lens.items s.text.items at old c.args.version c.self.invariant within c.index_mut-row.ensures.value value) in
     let rest : c.deref-3.result.now ≡ drop end s.text.items = c.deref-3.ensures.value ∙ c.in_ok-rest.ensures.1 ∙ ap (drop end) c.deref-2.ensures.value in
     let now : c.put_before.new.text.items ≡ take start s.text.items ++ row_text s.format new ++ drop end s.text.items =
     c.put_before.ensures ∙ ap (λ (t : List ℕ). take start t ++ row_text s.format new ++ c.deref-3.result.now) c.make_room.ensures.items ∙ ap (λ (t : List ℕ). take start s.text.items ++ row_text s.format new ++ t) rest in
     keeps-set s.format s.rows.items s.lens.items s.text.items at c.row_len.result start end new c.put_before.new.text.items c.self.invariant within fits c.row_len.ensures.exact begins ends now
-
-pub returns-clause-answers : goal.returns-clause-answers
-returns-clause-answers c =
-    let s = c.self.inside in
-    let versions = versions-inside c.args.self.now s.format s.rows.items c.args.at c.index_mut-row.result.now c.self.view_is c.requires.at c.index_mut-row.ensures.value in
-    rw (← versions) (search rules)
 
 pub returns-clause-ok : goal.returns-clause-ok
 returns-clause-ok c =

@@ -3,6 +3,7 @@ use Rattle.snapshot.specs.RowMaps.{RowMap}
 use Rattle.sync_session.specs.Walks.{Walk}
 use Rattle.sync_session.specs.Steps.{started}
 use Rattle.range_state.specs.declared.«record».Record.{Record}
+use Rattle.range_state.specs.Records.{open_count}
 use Rattle.range_state.specs.State.{State, IsRight, rows_now}
 use Rattle.range_state.specs.Sessions.{standings, crowd_fault}
 use Rattle.range_state.proofs.SessionLaws.{opened_right, room_of}
@@ -12,7 +13,7 @@ pub invariant_of-self-2 : goal.invariant_of-self-2
 invariant_of-self-2 c =
     let s : State = record { config = c.self.inside.config; entries = c.self.inside.journal.entries; marks = c.self.inside.marks.digests; records = c.self.inside.records.items } in
     let r : Record = record { partner = c.args.partner; session = c.in_ok-session.session } in
-    let room : length s.records < 1024 = room_of s.records (subst (λ (rs : List Record). crowd_fault (standings rs) ≡ None) c.deref.ensures.value c.in_ok-check_crowd.ensures.0) in
+    let room : (length s.records < 1024) × (open_count s.records < 64) = room_of s.records (subst (λ (rs : List Record). crowd_fault (standings rs) ≡ None) c.deref.ensures.value c.in_ok-check_crowd.ensures.0) in
     let own = c.in_ok-own.ensures.1 ∙ ap rows_now (sym c.self.view_is) in
     let begun = c.in_ok-session.ensures.1 ∙ ap (λ (m : RowMap). started m c.args.offer.root) own in
     let right = opened_right s c.args.partner c.args.offer.root r c.self.invariant.0 room (ap (λ (w : Walk). record { partner = c.args.partner; session = w }) begun) in

@@ -9,7 +9,7 @@ use Rattle.sync_session.specs.Differing.{differ}
 use Rattle.sync_session.proofs.DescentLaws.{entry}
 use Rattle.range_state.specs.State.{State, rows_now}
 use Rattle.range_state.specs.Sessions.{TakesFor}
-use Rattle.range_state.proofs.SyncLaws.{still_with, begun, part_way, taken_first, moved_first, no_memory, IsTold, taken_count, count_of, true_walk, here_is, first_is, shallow, went_on, stops, finished, refused_at, room_left}
+use Rattle.range_state.proofs.SyncLaws.{still_with, begun, part_way, taken_first, moved_first, all_asked, all_asked_at, no_memory, IsTold, taken_count, count_of, true_walk, here_is, first_is, shallow, went_on, stops, finished, refused_at, room_left}
 use Rattle.range_state.proofs.state.RangeState.sync_with.Goals as goal
 
 on_err : {T : Type 0} (r : Result T Refusal) (P : Type 0) → P → OnErr r P
@@ -123,7 +123,7 @@ returns-in-Err c =
     record {
       answers = (search rules, tt);
       ok = refused_at s at.self c.answer_from.new.self c.args.seat id at.known other c.synced.result u n first.0 c.in-Err.fault is at.invariant.at first.1 stop told;
-      session = (u.r, at.invariant.partner, ap (λ (x : State). x.records) stop.1 ∙ u.records);
+      session = all_asked_at s at.self c.answer_from.new.self c.args.seat c.args.partner at.known other u n first.0 c.in-Err.fault is first.1 stop at.invariant.partner;
       err = tt;
       late = tt;
     }
@@ -146,7 +146,14 @@ returns-clause-ok c =
     finished s at.self c.args.seat id at.known other c.synced-2.result u is at.invariant.at first told
 
 pub returns-clause-session : goal.returns-clause-session
-returns-clause-session c = (c.loop-node.invariant.under.r, c.loop-node.invariant.partner, c.loop-node.invariant.under.records)
+returns-clause-session c =
+    let at = c.loop-node in
+    let s = c.args.self.now in
+    let other = c.args.other.now in
+    let u = at.invariant.under in
+    let is = true_walk s at.self c.args.seat at.known other u c.first_outstanding.ensures.valid c.requires c.offer_of.ensures.valid in
+    let first = first_is s at.self c.args.seat at.known c.in_ok-id.id other u at.invariant.at None c.in_default.ensures.first in
+    all_asked s at.self c.args.seat c.args.partner at.known other u is first at.invariant.partner
 
 pub returns-in_err-known-in-Ok-clause-late : goal.returns-in_err-known-in-Ok-clause-late
 returns-in_err-known-in-Ok-clause-late c =

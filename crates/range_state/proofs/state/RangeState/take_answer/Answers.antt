@@ -5,13 +5,13 @@ use Rattle.vclock.specs.declared.format.Format.{Format}
 use Rattle.vclock.specs.declared.refusal.Refusal.TheVariants.{NotCanonical}
 use Rattle.row_bytes.specs.declared.row.Row.{Row}
 use Rattle.hash_tree.specs.Nodes.{tree_depth}
-use Rattle.sync_session.specs.Steps.{IsDue}
+use Rattle.sync_session.specs.Steps.{IsDue, failed}
 use Rattle.sync_session.specs.TreeNodes.{node_of}
 use Rattle.sync_session.specs.Walks.{TakenText, IsCanonical}
 use Rattle.range_state.specs.declared.«record».Record.{Record}
 use Rattle.range_state.specs.State.{State, IsRight}
-use Rattle.range_state.specs.Sessions.{IsInnerRead, IsLeafRead}
-use Rattle.range_state.proofs.AnswerLaws.{got_record, leaf_read, inner_read, refused, refused_early}
+use Rattle.range_state.specs.Sessions.{walked_to, IsInnerRead, IsLeafRead}
+use Rattle.range_state.proofs.AnswerLaws.{got_record, leaf_read, inner_read, refused, refused_for_good}
 use Rattle.range_state.proofs.state.RangeState.take_answer.Goals as goal
 
 pub take_leaf-requires : goal.take_leaf-requires
@@ -47,7 +47,20 @@ fail_session-requires c =
     let within : c.args.id < length c.self.inside.records.items = omega (arith, ltb-true _ _ (sym c.in-Some.ensures.lookup.0), ap length c.deref.ensures.value) in
     let here : slice_get now.records c.args.id ≡ Some r = ap (λ (u : State). slice_get u.records c.args.id) (sym c.self.view_is) ∙ got_record c.self.inside.records.items c.args.id r within was in
     let told = rw c.in-Err-NotCanonical.field-0-is at c.in-Err-NotCanonical.ensures in
-    subst (λ (o : Option Record). MatchOption o ⊥ (λ x. IsDue x.session t × (IsCanonical x.session.own t.node t.text → ⊥))) (sym here) told
+    subst (λ (o : Option Record). MatchOption o ⊥ (λ x. (u : TakenText) × IsDue x.session u × (IsCanonical x.session.own u.node u.text → ⊥))) (sym here) (t, told.0, told.1)
+
+pub returns-in-Err-NotCanonical : goal.returns-in-Err-NotCanonical
+returns-in-Err-NotCanonical c =
+    let now = c.args.self.now in
+    let new = c.fail_session.new.self in
+    let r : Record = c.in-Some.record.now in
+    let t : TakenText = record { node = node_of c.args.node; text = c.args.text } in
+    let was = c.in-Some.ensures.lookup.1 ∙ ap (λ (rs : List Record). get_or rs c.args.id r) c.deref.ensures.value in
+    let within : c.args.id < length c.self.inside.records.items = omega (arith, ltb-true _ _ (sym c.in-Some.ensures.lookup.0), ap length c.deref.ensures.value) in
+    let here : slice_get now.records c.args.id ≡ Some r = ap (λ (u : State). slice_get u.records c.args.id) (sym c.self.view_is) ∙ got_record c.self.inside.records.items c.args.id r within was in
+    let told = rw c.in-Err-NotCanonical.field-0-is at c.in-Err-NotCanonical.ensures in
+    let is : new ≡ walked_to now c.args.id r (failed r.session) = subst (λ (o : Option Record). MatchOption o ⊥ (λ x. new ≡ walked_to now c.args.id x (failed x.session))) here c.fail_session.ensures in
+    refused_for_good now new c.args.seat c.args.id r t here told is
 
 pub returns : goal.returns
 returns c =
@@ -57,6 +70,5 @@ returns c =
     let was = c.in-Some.ensures.lookup.1 ∙ ap (λ (rs : List Record). get_or rs c.args.id r) c.deref.ensures.value in
     let within : c.args.id < length c.self.inside.records.items = omega (arith, ltb-true _ _ (sym c.in-Some.ensures.lookup.0), ap length c.deref.ensures.value) in
     let here : slice_get now.records c.args.id ≡ Some r = ap (λ (u : State). slice_get u.records c.args.id) (sym c.self.view_is) ∙ got_record c.self.inside.records.items c.args.id r within was in
-    let mine = was ∙ ap (λ (u : State). get_or u.records c.args.id r) c.self.view_is in
     let other : c.in-Err.refusal ≡ NotCanonical → ⊥ = search rules in
-    refused now now c.args.seat c.args.id r t c.in-Err.refusal here c.in-Err.ensures (refused_early now c.args.id r c.in-Err.refusal mine other)
+    refused now c.args.seat c.args.id r t c.in-Err.refusal here c.in-Err.ensures other

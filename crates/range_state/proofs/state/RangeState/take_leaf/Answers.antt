@@ -1,5 +1,5 @@
 use Rattle.std.proofs.Common.{rules, ◌≡◌, ◌<◌, ◌+◌, ℕ, None, List, ◌++◌, length, cond, set, get_or, refl, sym, ap, subst, ◌∙◌, arith, slice_get, Ok, Err}
-use Rattle.std.specs.Prelude.{MatchOption, nat_eq}
+use Rattle.std.specs.Prelude.{nat_eq}
 use Rattle.std.proofs.lemmas.Result.{err_from_is_err_and}
 use Rattle.std.proofs.lemmas.List.{length-append}
 use Rattle.range_journal.specs.declared.journal.Entry.{Entry}
@@ -7,13 +7,12 @@ use Rattle.range_journal.specs.Journal.{reserve_fault}
 use Rattle.range_journal.specs.Log.{Log}
 use Rattle.hash_tree.specs.Nodes.{Tree, dirtied}
 use Rattle.sync_session.specs.Walks.{TakenText}
-use Rattle.sync_session.specs.Steps.{after_refusal}
 use Rattle.sync_session.specs.TreeNodes.{node_of}
 use Rattle.range_state.specs.declared.«record».Record.{Record}
 use Rattle.range_state.specs.declared.event.AnswerTaken.{AnswerTaken}
 use Rattle.range_state.specs.State.{State, IsRight, AreLeaves}
-use Rattle.range_state.specs.Sessions.{offers_of, walked_to, IsLeafRead, TakesFor, taken_in}
-use Rattle.range_state.proofs.AnswerLaws.{IsAccepted, rows_ready, not_prepared, no_room, has_record, got_record, the_record, refused_right, refused, accepted_right, accepted_leaves, leaf_taken, leaf_inside, leaf_due, leaf_refused}
+use Rattle.range_state.specs.Sessions.{offers_of, IsLeafRead, TakesFor, taken_in}
+use Rattle.range_state.proofs.AnswerLaws.{IsAccepted, rows_ready, not_prepared, no_memory, no_room, has_record, the_record, stayed, accepted_right, accepted_leaves, leaf_taken, leaf_inside, leaf_due}
 use Rattle.range_state.proofs.state.RangeState.take_leaf.Goals as goal
 
 pub prepare_rows-requires-clause-here : goal.prepare_rows-requires-clause-here
@@ -31,7 +30,7 @@ pub returns-in_err-batch : goal.returns-in_err-batch
 returns-in_err-batch c =
     let t : TakenText = record { node = node_of c.args.node; text = c.args.text } in
     let p = err_from_is_err_and c.from_residual.result c.from_residual.ensures.1 in
-    let told = not_prepared c.args.self.now c.args.seat c.args.id t c.args.rows.now c.in_err-batch.field-0.0 c.requires c.in_err-batch.ensures in
+    let told = not_prepared c.args.self.now c.args.seat c.args.id t c.args.rows.now c.in_err-batch.field-0.0 (subst IsRight c.self.view_is c.self.invariant.0) c.requires c.in_err-batch.ensures in
     rw (p.1, p.2) told
 
 pub returns-in_err-reserve : goal.returns-in_err-reserve
@@ -45,7 +44,7 @@ returns-in_err-reserve c =
     let count : length (taken_in now c.args.seat (offers_of c.args.rows.now)).entries ≡ length now.entries + c.len.result = omega (arith, ap length ready.1, length-append now.entries b.entries.items, c.len.ensures) in
     let es : c.self.inside.journal.entries ≡ now.entries = ap (λ (u : State). u.entries) c.self.view_is in
     let limit : c.self.inside.journal.limit ≡ now.config.limit = c.self.invariant.2 ∙ ap (λ (u : State). u.config.limit) c.self.view_is in
-    let told = no_room now c.args.seat c.args.id t c.args.rows.now c.in_err-reserve.field-0.0 c.self.inside.journal c.len.result c.requires c.in_ok-batch.ensures.0 count es limit c.in_err-reserve.ensures.answers in
+    let told = no_room now c.args.seat c.args.id t c.args.rows.now c.in_err-reserve.field-0.0 c.self.inside.journal c.len.result (subst IsRight c.self.view_is c.self.invariant.0) c.requires c.in_ok-batch.ensures.0 count es limit c.in_err-reserve.ensures.answers in
     let same : now ≡ record { config = s.config; entries = c.reserve.new.self.entries; marks = s.marks; records = s.records } =
     sym c.self.view_is ∙ ap (λ (l : Log). record { config = s.config; entries = l.entries; marks = s.marks; records = s.records }) (sym c.in_err-reserve.ensures.err) in
     rw (p.1, p.2) (subst (λ (u : State). TakesFor now c.args.seat c.args.id (slice_get now.records c.args.id) t (Err c.in_err-reserve.field-0.0) u) same told)
@@ -89,14 +88,9 @@ pub invariant_of-self-in_err-take_leaf : goal.invariant_of-self-in_err-take_leaf
 invariant_of-self-in_err-take_leaf c =
     let s : State = record { config = c.self.inside.config; entries = c.self.inside.journal.entries; marks = c.self.inside.marks.digests; records = c.self.inside.records.items } in
     let r : Record = c.index_mut.result.now in
-    let t : TakenText = record { node = node_of c.args.node; text = c.args.text } in
-    let read = λ (x : Record). IsLeafRead c.args.self.now x t c.args.rows.now in
-    let was : r ≡ get_or c.args.self.now.records c.args.id r = c.index_mut.ensures.value ∙ ap (λ (u : State). get_or u.records c.args.id r) c.self.view_is in
-    let due = (the_record c.args.self.now.records c.args.id r read (has_record c.args.self.now.records c.args.id read c.requires) was c.requires).due in
-    let told = leaf_refused r t c.in_err-take_leaf.field-0.0 c.take_leaf.new.self due (search rules) c.in_err-take_leaf.ensures.err in
     let log = c.in_ok-reserve.ensures.ok in
     let es : s.entries ≡ c.reserve.new.self.entries = ap (λ (l : Log). l.entries) (sym log) in
-    let right = refused_right s c.args.id r c.in_err-take_leaf.field-0.0 c.take_leaf.new.self c.self.invariant.0 c.index_mut.ensures.value told.1 in (
+    let right = subst IsRight (stayed s c.args.id r c.take_leaf.new.self c.index_mut.ensures.value c.in_err-take_leaf.ensures.err) c.self.invariant.0 in (
       subst (λ (xs : List Entry). IsRight (record { config = s.config; entries = xs; marks = s.marks; records = set s.records c.args.id (record { partner = r.partner; session = c.take_leaf.new.self }) })) es right,
       subst (λ (xs : List Entry). AreLeaves s.config xs c.self.inside.leaves.items) es c.self.invariant.1,
       ap (λ (l : Log). l.limit) log ∙ c.self.invariant.2,
@@ -106,21 +100,18 @@ invariant_of-self-in_err-take_leaf c =
 pub returns-in_err-take_leaf : goal.returns-in_err-take_leaf
 returns-in_err-take_leaf c =
     let s : State = record { config = c.self.inside.config; entries = c.self.inside.journal.entries; marks = c.self.inside.marks.digests; records = c.self.inside.records.items } in
+    let now = c.args.self.now in
     let r : Record = c.index_mut.result.now in
     let t : TakenText = record { node = node_of c.args.node; text = c.args.text } in
-    let read = λ (x : Record). IsLeafRead c.args.self.now x t c.args.rows.now in
-    let was : r ≡ get_or c.args.self.now.records c.args.id r = c.index_mut.ensures.value ∙ ap (λ (u : State). get_or u.records c.args.id r) c.self.view_is in
-    let due = (the_record c.args.self.now.records c.args.id r read (has_record c.args.self.now.records c.args.id read c.requires) was c.requires).due in
-    let told = leaf_refused r t c.in_err-take_leaf.field-0.0 c.take_leaf.new.self due (search rules) c.in_err-take_leaf.ensures.err in
     let e = c.in_err-take_leaf.field-0.0 in
     let p = err_from_is_err_and c.from_residual-in_err-take_leaf.result c.from_residual-in_err-take_leaf.ensures.1 in
-    let asked = subst (λ (u : State). MatchOption (slice_get u.records c.args.id) ⊥ (λ x. IsLeafRead u x t c.args.rows.now)) (sym c.self.view_is) c.requires in
-    let within = has_record s.records c.args.id (λ x. IsLeafRead s x t c.args.rows.now) asked in
-    let here = got_record s.records c.args.id r within c.index_mut.ensures.value in
-    let es : c.reserve.new.self.entries ≡ s.entries = ap (λ (l : Log). l.entries) c.in_ok-reserve.ensures.ok in
-    let new : State = record { config = s.config; entries = c.reserve.new.self.entries; marks = s.marks; records = set s.records c.args.id (record { partner = r.partner; session = c.take_leaf.new.self }) } in
-    let is : new ≡ walked_to s c.args.id r (after_refusal r.session e) = λ i. record { config = s.config; entries = es i; marks = s.marks; records = set s.records c.args.id (record { partner = r.partner; session = told.1 i }) } in
-    rw (p.1, p.2) (subst (λ (u : State). TakesFor u c.args.seat c.args.id (slice_get u.records c.args.id) t (Err e) new) c.self.view_is (refused s new c.args.seat c.args.id r t e here told.0 is))
+    let records = set s.records c.args.id (record { partner = r.partner; session = c.take_leaf.new.self }) in
+    let new : State = record { config = s.config; entries = c.reserve.new.self.entries; marks = s.marks; records = records } in
+    let same : now ≡ new =
+    sym c.self.view_is ∙ stayed s c.args.id r c.take_leaf.new.self c.index_mut.ensures.value c.in_err-take_leaf.ensures.err
+    ∙ ap (λ (l : Log). record { config = s.config; entries = l.entries; marks = s.marks; records = records }) (sym c.in_ok-reserve.ensures.ok) in
+    let told = no_memory now c.args.seat c.args.id t c.args.rows.now e (subst IsRight c.self.view_is c.self.invariant.0) c.requires (search rules) in
+    rw (p.1, p.2) (subst (λ (u : State). TakesFor now c.args.seat c.args.id (slice_get now.records c.args.id) t (Err e) u) same told)
 
 -- the record, which is at its place
 is_there : (c : goal.After-append_all) → (c.args.id < length c.args.self.now.records) × (c.index_mut.result.now ≡ get_or c.args.self.now.records c.args.id c.index_mut.result.now)

@@ -1,7 +1,7 @@
 use Rattle.std.proofs.Common.{rules, ◌≡◌, Some, None, length, if◌then◌else◌, ◌∙◌}
 use Rattle.std.specs.Prelude.{nat_le, ◌||◌}
 use Rattle.vclock.specs.declared.refusal.Refusal.TheVariants.{SessionsFull}
-use Rattle.range_state.specs.Sessions.{open_count}
+use Rattle.range_state.specs.Records.{open_count}
 use Rattle.range_state.proofs.SessionLaws.{crowd_by}
 use Rattle.range_state.proofs.state.sessions.check_crowd.Goals as goal
 

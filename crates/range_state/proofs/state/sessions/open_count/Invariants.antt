@@ -1,5 +1,5 @@
 use Rattle.std.proofs.Common.{◌≡◌, ◌≤◌, take}
-use Rattle.range_state.specs.Sessions.{open_count}
+use Rattle.range_state.specs.Records.{open_count}
 use Rattle.range_state.proofs.state.sessions.open_count.Given as goal
 
 abbrev pub invariant-loop-record : goal.invariant-loop-record
