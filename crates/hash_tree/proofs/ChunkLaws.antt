@@ -12,8 +12,8 @@ use Rattle.row_bytes.specs.declared.row.Row.{Row}
 use Rattle.row_bytes.specs.Rows.{row_text, FitsText}
 use Rattle.hash_tree.specs.Leaves.{Bucket}
 use Rattle.hash_tree.specs.Chunks.{first_key, versions_at, offered_at}
-use Rattle.hash_tree.proofs.KeyOrder.{all_get}
-use Rattle.hash_tree.proofs.RowLengths.{fits-offered, row-grows}
+use Rattle.hash_tree.proofs.KeyLaws.{all_get}
+use Rattle.hash_tree.proofs.RowLengthLaws.{fits-offered, row-grows}
 
 -- ---- what holds of all
 

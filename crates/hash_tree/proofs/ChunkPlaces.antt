@@ -12,7 +12,7 @@ use Rattle.row_bytes.specs.Rows.{row_text}
 use Rattle.hash_tree.specs.Leaves.{Bucket, IsBucket}
 use Rattle.hash_tree.specs.Chunks.{all_rows, rows_of, chunk_text, IsChunk, AreChunks, IsGapSpot, IsSplit, versions_at, offered_at}
 use Rattle.hash_tree.specs.Texts.{leaf_byte, leaf_text}
-use Rattle.hash_tree.proofs.KeyOrder.{all_get}
+use Rattle.hash_tree.proofs.KeyLaws.{all_get}
 use Rattle.hash_tree.proofs.ChunkLaws.{all-set, all-insert}
 
 -- ---- texts and lengths

@@ -8,11 +8,11 @@ use Rattle.std.proofs.lemmas.List.{length-append, set-append_left, set-append_ri
 use Rattle.std.proofs.lemmas.List.Edits.{insert-append_left, insert-append_right}
 use Rattle.version_set.specs.declared.version.Version.{Version}
 use Rattle.version_set.specs.Version.{place_by, offered}
-use Rattle.version_set.proofs.Lists.{all-append}
+use Rattle.version_set.proofs.ListLaws.{all-append}
 use Rattle.row_bytes.specs.declared.row.Row.{Row}
 use Rattle.hash_tree.specs.Leaves.{key_cmp, Bucket, AscendByKey, IsAt, IsBetween, with_offer, versions_in}
 use Rattle.hash_tree.specs.Chunks.{all_rows, rows_of, begin_by, place_in, IsRowSpot, IsGapSpot, versions_at, offered_at}
-use Rattle.hash_tree.proofs.KeyOrder.{key_exact, turned, less_trans}
+use Rattle.hash_tree.proofs.KeyLaws.{key_exact, turned, less_trans}
 use Rattle.hash_tree.proofs.LeafLaws.{offer_first, in_first}
 use Rattle.hash_tree.proofs.ChunkLaws.{versions_at-get, offered_at-set}
 use Rattle.hash_tree.proofs.ChunkPlaces.{three_parts}

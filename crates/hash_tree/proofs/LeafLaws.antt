@@ -6,10 +6,10 @@ use Rattle.std.specs.List.{AllByRecursion}
 use Rattle.std.specs.declared.cmp.Ordering.TheVariants.{Less, Equal, Greater}
 use Rattle.version_set.specs.declared.version.Version.{Version}
 use Rattle.version_set.specs.Version.{place_by, offered}
-use Rattle.version_set.proofs.Lists.{all-filter}
+use Rattle.version_set.proofs.ListLaws.{all-filter}
 use Rattle.row_bytes.specs.declared.row.Row.{Row}
 use Rattle.hash_tree.specs.Leaves.{key_cmp, AscendByKey, rows_at, with_offer, versions_in}
-use Rattle.hash_tree.proofs.KeyOrder.{key_exact, less_rows}
+use Rattle.hash_tree.proofs.KeyLaws.{key_exact, less_rows}
 
 pub offer_first : (k : List ℕ) (v : Version) (rows : List Row) → AllByRecursion (λ (y : Row). key_cmp k y.key ≡ Less) rows → with_offer k v rows ≡ record { key = k; versions = offered v [] } ∷ rows
 offer_first k v [] h = refl

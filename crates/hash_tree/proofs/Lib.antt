@@ -1,10 +1,10 @@
-pub mod KeyOrder
+pub mod KeyLaws
 pub mod SearchLaws
 pub mod LeafLaws
 pub mod ChunkLaws
 pub mod ChunkPlaces
 pub mod KeySpots
-pub mod RowLengths
+pub mod RowLengthLaws
 pub mod PlaceLaws
 pub mod PathLaws
 pub mod Strips

@@ -10,7 +10,7 @@ use Rattle.version_set.specs.declared.version.Version.{Version}
 use Rattle.version_set.specs.Version.{offered}
 use Rattle.row_bytes.specs.declared.row.Row.{Row}
 use Rattle.hash_tree.specs.Leaves.{key_cmp, AscendByKey, with_offer, versions_in, IsPlace}
-use Rattle.hash_tree.proofs.KeyOrder.{key_exact, turned, less_trans, all_get, ascend_pair}
+use Rattle.hash_tree.proofs.KeyLaws.{key_exact, turned, less_trans, all_get, ascend_pair}
 
 abbrev row_cmp : List ℕ → Row → Ordering
 row_cmp k r = key_cmp r.key k

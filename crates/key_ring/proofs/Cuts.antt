@@ -7,13 +7,10 @@ use Rattle.std.specs.Int.Bits.{bit_and}
 use Rattle.std.specs.Int.{w32, to_le_bytes}
 use Rattle.md5.specs.Md5.{md5, digest_bytes}
 use Rattle.md5.proofs.StandardFacts.{length-md5}
+use Rattle.vclock.proofs.ByteLaws.{IsBytes}
 use Rattle.vclock.specs.declared.format.Format.{Format}
 use Rattle.vclock.specs.declared.format.Format.TheVariants.{One, Two}
 use Rattle.key_ring.specs.Places.{number_of, key_number, range_at, leaf_bits, leaf_at}
-
--- each number is a byte
-abbrev pub IsBytes : List ℕ → Type 0
-IsBytes bytes = (i : ℕ) → get_or bytes i 0 < 256
 
 -- bytes, and then bytes
 IsBytes-append : (xs ys : List ℕ) → IsBytes xs → IsBytes ys → IsBytes (xs ++ ys)

@@ -7,7 +7,7 @@ use Rattle.vclock.specs.declared.format.Format.TheVariants.{One, Two}
 use Rattle.hash_tree.specs.Nodes.{tree_depth, place_at}
 use Rattle.range_state.specs.Config.{Config}
 use Rattle.range_state.specs.State as range
-use Rattle.range_state.proofs.TreeSteps.{all_dirty-at}
+use Rattle.range_state.proofs.TreeStepLaws.{all_dirty-at}
 use Rattle.outage_script.specs.Acts.{is_tree_node, shown_digest}
 
 -- no tree has a node below its leaves

@@ -7,10 +7,10 @@ use Rattle.std.proofs.lemmas.List.{length-map, map_push}
 use Rattle.std.proofs.lemmas.List.FromFn.{length-range_with_len}
 use Rattle.std.proofs.lemmas.Bool.{and_parts}
 use Rattle.std.proofs.lemmas.Bool.Decides.{nat_tests}
-use Rattle.version_set.proofs.Lists.{all-append}
+use Rattle.version_set.proofs.ListLaws.{all-append}
 use Rattle.key_ring.specs.Ring.{Places, is_ring, is_node, preference_list}
 use Rattle.hash_tree.proofs.ChunkLaws.{all-drop, all-set, all-take}
-use Rattle.hash_tree.proofs.KeyOrder.{all_get}
+use Rattle.hash_tree.proofs.KeyLaws.{all_get}
 use Rattle.range_state.specs.Config.{Config}
 use Rattle.outage_script.specs.Homes.{AreOf, IsHome}
 use Rattle.snapshot.specs.RowMaps.{RowMap}

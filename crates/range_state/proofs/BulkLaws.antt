@@ -13,7 +13,7 @@ use Rattle.sha2.specs.Sha256.{sha256}
 use Rattle.hash_tree.specs.declared.node.NodeAt.{NodeAt}
 use Rattle.hash_tree.specs.Nodes.{tree_depth, nodes_above, node_count, place_at, digest_at, children_of, are_clean, dirty_count, is_ready, ready_from}
 use Rattle.hash_tree.specs.Texts.{node_digest}
-use Rattle.hash_tree.proofs.KeyOrder.{all_get}
+use Rattle.hash_tree.proofs.KeyLaws.{all_get}
 use Rattle.hash_tree.proofs.PlaceLaws.{above_more, above_below, node_count_is}
 use Rattle.hash_tree.proofs.TreeLaws.{child_at, clean_child}
 use Rattle.hash_tree.proofs.ReadyLaws.{ready_parts, none_ready, clean_all}

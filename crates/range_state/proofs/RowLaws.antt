@@ -13,7 +13,7 @@ use Rattle.range_journal.specs.Journal.{held, versions_of}
 use Rattle.range_journal.proofs.JournalLaws.{held-push, contains_cons, contains_later, any_cons, any_later}
 use Rattle.row_bytes.specs.declared.row.Row.{Row}
 use Rattle.hash_tree.specs.Leaves.{key_cmp, AscendByKey, rows_at, with_offer, versions_in}
-use Rattle.hash_tree.proofs.KeyOrder.{key_exact, turned, less_trans}
+use Rattle.hash_tree.proofs.KeyLaws.{key_exact, turned, less_trans}
 use Rattle.hash_tree.proofs.LeafLaws.{rows_at-with_offer, versions_in-rows_at}
 use Rattle.range_state.specs.Rows.{with_key, keys_from, rows_of}
 

@@ -14,9 +14,9 @@ use Rattle.version_set.specs.declared.version.Version.{Version}
 use Rattle.version_set.proofs.SetLaws.{grown, length-grown, maximal-with_version}
 use Rattle.row_bytes.specs.Rows.{IsRow}
 use Rattle.row_bytes.specs.declared.row.Row.{Row}
-use Rattle.row_bytes.proofs.Sets.{set_row, row_set, row_fits}
+use Rattle.row_bytes.proofs.RowSetLaws.{set_row, row_set, row_fits}
 use Rattle.hash_tree.specs.Leaves.{key_cmp, with_offer, versions_in}
-use Rattle.hash_tree.proofs.RowLengths.{fits-offered}
+use Rattle.hash_tree.proofs.RowLengthLaws.{fits-offered}
 use Rattle.range_state.specs.Rows.{rows_of}
 
 -- no version is a set

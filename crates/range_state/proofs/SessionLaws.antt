@@ -11,11 +11,11 @@ use Rattle.vclock.specs.declared.refusal.Refusal.TheVariants.{SessionsFull}
 use Rattle.version_set.specs.declared.version.Version.{Version}
 use Rattle.version_set.specs.Version.{covered, is_same}
 use Rattle.version_set.proofs.SetLaws.{version_total}
-use Rattle.version_set.proofs.Lists.{all-append, all-push}
+use Rattle.version_set.proofs.ListLaws.{all-append, all-push}
 use Rattle.range_journal.specs.declared.journal.Entry.{Entry}
 use Rattle.range_journal.specs.Journal.{held}
 use Rattle.hash_tree.proofs.ChunkLaws.{all-set}
-use Rattle.hash_tree.proofs.KeyOrder.{all_get}
+use Rattle.hash_tree.proofs.KeyLaws.{all_get}
 use Rattle.sync_session.specs.TreeNodes.{Node}
 use Rattle.sync_session.specs.Walks.{Walk, Held, first_asked}
 use Rattle.sync_session.specs.Steps.{state_by, started, cancelled_by}

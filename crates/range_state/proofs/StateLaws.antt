@@ -9,7 +9,7 @@ use Rattle.std.specs.List.{AllByRecursion, list_any}
 use Rattle.vclock.specs.Answer.{first_fault}
 use Rattle.vclock.specs.Clock.{at_most, Pairs, Rises, IsClock}
 use Rattle.vclock.specs.Keys.{key_fault}
-use Rattle.vclock.proofs.ClockLemmas.{at_most_itself}
+use Rattle.vclock.proofs.ClockLaws.{at_most_itself}
 use Rattle.vclock.specs.declared.format.Format.{Format}
 use Rattle.vclock.specs.declared.format.Format.TheVariants.{One, Two}
 use Rattle.vclock.specs.declared.refusal.Refusal.{Refusal}
@@ -19,13 +19,14 @@ use Rattle.version_set.specs.declared.kind.Kind.{Kind}
 use Rattle.version_set.specs.declared.version.Version.{Version}
 use Rattle.version_set.specs.Version.{covered, offer_fault, is_below, is_same, with_version, set_from}
 use Rattle.version_set.proofs.SetLaws.{covered-maximal, is_same-exact, all-with_version}
-use Rattle.version_set.proofs.Lists.{all-filter, all-push}
+use Rattle.version_set.proofs.ListLaws.{all-filter, all-push}
 use Rattle.range_journal.specs.declared.journal.Entry.{Entry}
 use Rattle.range_journal.specs.Log.{Log}
 use Rattle.range_journal.specs.declared.journal.Source.TheVariants.{Partner}
 use Rattle.range_journal.specs.Journal.{accepted, held, versions_of, AreNews, reserve_fault}
 use Rattle.range_journal.proofs.JournalLaws.{AreNews-push, covered-held}
 use Rattle.row_bytes.specs.Rows.{IsRow}
+use Rattle.row_bytes.proofs.LimitLaws.{no_fault_else}
 use Rattle.row_bytes.specs.declared.row.Row.{Row}
 use Rattle.key_ring.specs.Places.{leaf_at, leaf_bits, range_at}
 use Rattle.hash_tree.specs.Leaves.{Bucket, rows_at, with_offer, versions_in}
@@ -151,10 +152,6 @@ pub first_none : (a b : Option Refusal) → first_fault a b ≡ None → a ≡ N
 first_none None b e = refl
 first_none (Some x) b e = absurd (let no : Some x ≡ None = e in cc)
 
-no_fault : (b : Bool) (e : Refusal) → cond b None (Some e) ≡ None → b ≡ true
-no_fault true e h = refl
-no_fault false e h = absurd (let no : Some e ≡ None = h in cc)
-
 -- a key and a value that have their place here are within the limits
 pub in_limits : (c : Config) (key : List ℕ) (kind : Kind) (value : List ℕ) → place_fault c key kind value ≡ None → (key_fault key ≡ None) × (value_fault c.format kind value ≡ None)
 in_limits c key kind value h = (first_none (key_fault key) _ h, first_none (value_fault c.format kind value) _ (later_none (key_fault key) _ h))
@@ -166,7 +163,7 @@ own c e h =
     record {
       key = first_none (key_fault e.key) _ h;
       value = first_none (value_fault c.format e.version.kind e.version.value) _ later;
-      here = eqb-true (range_at c.bits e.key) c.range (no_fault _ OtherRange (later_none (value_fault c.format e.version.kind e.version.value) _ later));
+      here = eqb-true (range_at c.bits e.key) c.range (no_fault_else _ OtherRange (later_none (value_fault c.format e.version.kind e.version.value) _ later));
     }
 
 -- what was found is such a list, and what holds of the list holds of it

@@ -8,7 +8,7 @@ use Rattle.std.proofs.lemmas.List.Folds.{list_any-append}
 use Rattle.vclock.specs.declared.format.Format.{Format}
 use Rattle.vclock.specs.declared.refusal.Refusal.{Refusal}
 use Rattle.vclock.specs.declared.refusal.Refusal.TheVariants as refusals
-use Rattle.version_set.proofs.Lists.{all-push}
+use Rattle.version_set.proofs.ListLaws.{all-push}
 use Rattle.range_journal.specs.Journal.{held}
 use Rattle.row_bytes.specs.declared.row.Row.{Row}
 use Rattle.hash_tree.specs.Nodes.{tree_depth}
@@ -34,7 +34,7 @@ use Rattle.range_state.specs.State.{State, IsRight, rows_now}
 use Rattle.range_state.specs.Sessions.{standings, offers_of, taken_in, leaf_fault, opened, walked_to, IsLeafRead, IsLeafFault, TakesInner, TakesLeaf, TakesText, TakesFor, Refuses}
 use Rattle.range_state.specs.Syncs.{IsOfRange, leaves_in, offers_at, known_in, Progress, taken_leaves, synced, ended, HasOneMore, HasAskedAll, IsSyncedTo, IsPartWay, IsFirstOf}
 use Rattle.range_state.proofs.SyncLists.{AreIn, member_of, has_head, all_has, same_nodes, fits, ascends_before, ascends_behind, without_first, differ_ascends, differ_inside, as_deep}
-use Rattle.range_state.proofs.SyncSteps.{beside, records_stay, config_stays, so_far, taken_more, leaf_came, leaf_refused, leaves-append, leaf_counts, inner_counts, no_leaves, nodes-push, got_last, set_last, all_last, true_rows}
+use Rattle.range_state.proofs.SyncStepLaws.{beside, records_stay, config_stays, so_far, taken_more, leaf_came, leaf_refused, leaves-append, leaf_counts, inner_counts, no_leaves, nodes-push, got_last, set_last, all_last, true_rows}
 
 -- ---- how many texts a session took
 

@@ -2,7 +2,7 @@
 use Rattle.std.proofs.Common.{◌≡◌, ℕ, zero, suc, ◌+◌, ◌^◌, ◌<◌, ◌≤◌, ◌⊎◌, Bool, true, false, not, cond, List, [], ◌∷◌, ◌++◌, length, refl, sym, ap, subst, ◌∙◌, arith, inl, inr}
 use Rattle.std.specs.List.{filter, AllByRecursion}
 use Rattle.std.proofs.lemmas.Bool.{cases_lt, or_cases, or_left, or_right, false_from_ne_true}
-use Rattle.version_set.proofs.Lists.{all-append, all-filter}
+use Rattle.version_set.proofs.ListLaws.{all-append, all-filter}
 use Rattle.hash_tree.specs.Nodes.{tree_depth, nodes_above}
 use Rattle.hash_tree.proofs.PlaceLaws.{above_below}
 use Rattle.snapshot.specs.RowMaps.{RowMap}

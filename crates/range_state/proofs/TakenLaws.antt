@@ -17,7 +17,7 @@ use Rattle.vclock.specs.declared.format.Format.TheVariants.{One, Two}
 use Rattle.version_set.specs.Kind.{value_fault}
 use Rattle.version_set.specs.declared.version.Version.{Version}
 use Rattle.version_set.specs.Version.{covered, offer_fault, is_same, is_below, version_text}
-use Rattle.version_set.proofs.Lists.{all-append}
+use Rattle.version_set.proofs.ListLaws.{all-append}
 use Rattle.range_journal.specs.declared.journal.Entry.{Entry}
 use Rattle.range_journal.specs.declared.journal.Source.TheVariants.{Partner}
 use Rattle.range_journal.specs.Journal.{held, versions_of}
@@ -27,7 +27,7 @@ use Rattle.row_bytes.specs.declared.row.Row.{Row}
 use Rattle.row_bytes.specs.Rows.{IsRow, IsVersion, AreRows, row_text}
 use Rattle.hash_tree.specs.Nodes.{tree_depth, digest_at, is_on_path, dirtied}
 use Rattle.hash_tree.specs.Texts.{leaf_text}
-use Rattle.hash_tree.proofs.KeyOrder.{all_get}
+use Rattle.hash_tree.proofs.KeyLaws.{all_get}
 use Rattle.hash_tree.proofs.TreeLaws.{dirtied-at, length-dirtied}
 use Rattle.snapshot.specs.RowMaps.{RowMap}
 use Rattle.snapshot.specs.RowMaps as maps

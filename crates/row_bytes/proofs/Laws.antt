@@ -14,8 +14,9 @@ use Rattle.version_set.specs.declared.version.Version.{Version}
 use Rattle.version_set.specs.Version.{pair_text, plain_text, version_text}
 use Rattle.row_bytes.specs.Rows.{IsVersion}
 use Rattle.row_bytes.specs.Reading.{◌>>=◌, field_at, bytes_at, pair_at, pairs_at, kind_of, kind_at, longest_value, version_at}
-use Rattle.row_bytes.proofs.FieldLaws.{IsBytes, bind_ok, ok_is, Takes, Takes-none, Takes-then, wide8, wide16, wide32, wide64, field_takes, field_again, bytes_takes, bytes_again}
-use Rattle.row_bytes.proofs.Limits.{no_fault, no_fault_else}
+use Rattle.vclock.proofs.ByteLaws.{IsBytes}
+use Rattle.row_bytes.proofs.FieldLaws.{bind_ok, ok_is, Takes, Takes-none, Takes-then, wide8, wide16, wide32, wide64, field_takes, field_again, bytes_takes, bytes_again}
+use Rattle.row_bytes.proofs.LimitLaws.{no_fault, no_fault_else}
 
 -- a pair that may stand above a node
 pub record IsPair (above : ℕ) (p : ℕ × ℕ) : Type 0 where

@@ -1,9 +1,9 @@
-pub mod Limits
-pub mod TextLengths
+pub mod LimitLaws
+pub mod TextLengthLaws
 pub mod Loops
 pub mod FieldLaws
 pub mod Laws
-pub mod Sets
+pub mod RowSetLaws
 pub mod RowLaws
 pub mod Heads
 pub mod ManyRows

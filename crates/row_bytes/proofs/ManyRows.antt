@@ -12,7 +12,8 @@ use Rattle.row_bytes.specs.declared.fault.ReadError.TheVariants as errors
 use Rattle.row_bytes.specs.declared.row.Row.{Row}
 use Rattle.row_bytes.specs.Rows.{is_before, row_text, IsRow, KeysAscend, AreRows}
 use Rattle.row_bytes.specs.Reading.{◌>>=◌, Fails, HasHead, number_at, field_at, row_at, key_of, last_key, rows_at}
-use Rattle.row_bytes.proofs.FieldLaws.{IsBytes, bind_ok, guard_ok, passed_ok, ok_is}
+use Rattle.vclock.proofs.ByteLaws.{IsBytes}
+use Rattle.row_bytes.proofs.FieldLaws.{bind_ok, guard_ok, passed_ok, ok_is}
 use Rattle.row_bytes.proofs.Heads.{HasBegun}
 use Rattle.row_bytes.proofs.RowLaws.{few, row_takes, row_again, row_rest_within, row_within, IsWithin}
 

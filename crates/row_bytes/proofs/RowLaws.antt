@@ -9,14 +9,15 @@ use Rattle.vclock.specs.declared.format.Format.{Format}
 use Rattle.vclock.specs.declared.format.Format.TheVariants.{One, Two}
 use Rattle.version_set.specs.declared.version.Version.{Version}
 use Rattle.version_set.specs.Version.{version_text, IsVersionSet}
-use Rattle.version_set.proofs.Lists.{all-push}
+use Rattle.version_set.proofs.ListLaws.{all-push}
 use Rattle.row_bytes.specs.declared.row.Row.{Row}
 use Rattle.row_bytes.specs.Rows.{is_before, is_apart, row_text, IsVersion, AreAscending, AreApart, IsRow}
 use Rattle.row_bytes.specs.Reading.{◌>>=◌, number_at, field_at, bytes_at, pair_at, pairs_at, kind_at, longest_value, version_at, may_follow, versions_at, row_at}
-use Rattle.row_bytes.proofs.FieldLaws.{IsBytes, bind_ok, passed_ok, ok_is, Takes, Takes-none, Takes-then, wide16, field_takes, field_again, bytes_takes, bytes_again}
+use Rattle.vclock.proofs.ByteLaws.{IsBytes}
+use Rattle.row_bytes.proofs.FieldLaws.{bind_ok, passed_ok, ok_is, Takes, Takes-none, Takes-then, wide16, field_takes, field_again, bytes_takes, bytes_again}
 use Rattle.row_bytes.proofs.Laws.{version_takes, version_again}
-use Rattle.row_bytes.proofs.Limits.{no_fault}
-use Rattle.row_bytes.proofs.Sets.{set_of}
+use Rattle.row_bytes.proofs.LimitLaws.{no_fault}
+use Rattle.row_bytes.proofs.RowSetLaws.{set_of}
 
 -- both tests hold
 both_hold : (a b : Bool) → (a && b) ≡ true → (a ≡ true) × (b ≡ true)

@@ -9,7 +9,7 @@ use vclock::format::Format;
 use version_set::version::Version;
 
 /// How many bytes stand for a version in both formats, without its kind: at most 65,861.
-#[tactic(auto, using(crate::proofs::TextLengths::text_lengths))]
+#[tactic(auto, using(crate::proofs::TextLengthLaws::text_lengths))]
 fn plain_len(version: &Version) -> u64
     requires { length version.now.value ≤ 65536 }
     ensures exact { result ≡ length (plain_text version.now) }
@@ -20,7 +20,7 @@ fn plain_len(version: &Version) -> u64
 }
 
 /// How many bytes the text of a version has: at most 65,862.
-#[tactic(auto, using(crate::proofs::Limits::value_short))]
+#[tactic(auto, using(crate::proofs::LimitLaws::value_short))]
 pub fn version_len(format: Format, version: &Version) -> u64
     requires { value_fault format version.now.kind version.now.value ≡ None }
     ensures exact { result ≡ length (version_text format version.now) }
@@ -34,7 +34,7 @@ pub fn version_len(format: Format, version: &Version) -> u64
 
 /// How many bytes the text of a row has: at most 4,215,427. It takes time in proportion to the versions of the row, and
 /// no memory.
-#[tactic(auto, using(crate::proofs::Limits::key_short))]
+#[tactic(auto, using(crate::proofs::LimitLaws::key_short))]
 pub fn row_len(format: Format, row: &Row) -> u64
     requires { FitsText format row.now }
     ensures exact { result ≡ length (row_text format row.now) }

@@ -56,7 +56,7 @@ fn put_plain(out: &mut Vec<u8>, version: &Version) -> Result<(), AllocError>
 }
 
 /// Appends the text of a version, which has a byte for the kind in format 2 alone.
-#[tactic(auto, using(crate::proofs::Limits::value_short))]
+#[tactic(auto, using(crate::proofs::LimitLaws::value_short))]
 fn put_version(out: &mut Vec<u8>, format: Format, version: &Version) -> Result<(), AllocError>
     requires { value_fault format version.now.kind version.now.value ≡ None }
     ensures ok { OnOk result (out.new.items ≡ out.old.items ++ version_text format version.now) }
@@ -89,7 +89,7 @@ fn put_versions(out: &mut Vec<u8>, format: Format, versions: &[Version]) -> Resu
 
 /// Appends the text of a row (this project's profile). It fails only if memory is needed beyond the room of `out`, which
 /// is then as it was.
-#[tactic(auto, unfolding(crate::specs::Rows::row_text), using(crate::proofs::Limits::key_short))]
+#[tactic(auto, unfolding(crate::specs::Rows::row_text), using(crate::proofs::LimitLaws::key_short))]
 pub fn put_row(out: &mut Vec<u8>, format: Format, row: &Row) -> Result<(), AllocError>
     requires { FitsText format row.now }
     ensures ok { OnOk result (out.new.items ≡ out.old.items ++ row_text format row.now) }

@@ -9,12 +9,12 @@ use Rattle.version_set.specs.Version.{place_by}
 use Rattle.row_bytes.specs.declared.row.Row.{Row}
 use Rattle.key_ring.specs.Places.{leaf_bits, leaf_at}
 use Rattle.hash_tree.specs.Leaves.{Bucket, key_cmp, AscendByKey, rows_at}
-use Rattle.hash_tree.proofs.KeyOrder.{turned}
+use Rattle.hash_tree.proofs.KeyLaws.{turned}
 use Rattle.snapshot.specs.RowMaps.{RowMap, leaf_in}
 use Rattle.snapshot.specs.Snapshots.{with_row, in_order, leaves_of, map_of}
 use Rattle.vclock.specs.declared.format.Format.{Format}
 use Rattle.vclock.specs.declared.format.Format.TheVariants.{One, Two}
-use Rattle.version_set.proofs.Lists.{all-append, all-filter}
+use Rattle.version_set.proofs.ListLaws.{all-append, all-filter}
 
 -- the row's key is less than that of the other
 abbrev IsBefore : Row → Row → Type 0

@@ -7,7 +7,7 @@ use Rattle.vclock.specs.declared.format.Format.TheVariants.{One, Two}
 use Rattle.key_ring.specs.Places.{leaf_bits}
 use Rattle.row_bytes.specs.Rows.{FitsText}
 use Rattle.row_bytes.specs.declared.row.Row.{Row}
-use Rattle.row_bytes.proofs.Sets.{rows_fit}
+use Rattle.row_bytes.proofs.RowSetLaws.{rows_fit}
 use Rattle.hash_tree.specs.Leaves.{Bucket, rows_at}
 use Rattle.hash_tree.specs.Nodes.{tree_depth, place_at, children_of}
 use Rattle.hash_tree.specs.Texts.{leaf_text, inner_text, node_text, AreTrue}
@@ -19,7 +19,7 @@ use Rattle.snapshot.specs.Snapshots.{leaves_of, IsSnapshot}
 use Rattle.snapshot.proofs.OrderLaws.{bucket_at}
 use Rattle.std.specs.Prelude.{nat_eq}
 use Rattle.std.specs.List.{AllByRecursion}
-use Rattle.version_set.proofs.Lists.{all-filter}
+use Rattle.version_set.proofs.ListLaws.{all-filter}
 
 -- ---- leaves
 

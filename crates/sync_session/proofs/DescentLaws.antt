@@ -12,7 +12,7 @@ use Rattle.version_set.specs.declared.version.Version.{Version}
 use Rattle.row_bytes.specs.Rows.{IsRow, AreRows}
 use Rattle.hash_tree.proofs.TextLaws.{leaf_node, same_leaf}
 use Rattle.vclock.specs.declared.format.Format.{Format}
-use Rattle.version_set.proofs.Lists.{all-filter}
+use Rattle.version_set.proofs.ListLaws.{all-filter}
 use Rattle.sync_session.specs.declared.state.SessionState.TheVariants.{Finished}
 use Rattle.sync_session.specs.TreeNodes.{Node, top, child, is_node, has_node}
 use Rattle.snapshot.specs.RowMaps.{RowMap, IsRowMap, leaf_in, root_of}

@@ -12,7 +12,7 @@ use Rattle.key_ring.specs.Places.{range_at, leaf_at}
 use Rattle.hash_tree.proofs.TextLaws.{leaf_node}
 use Rattle.sync_session.proofs.StepLaws.{All-weaker}
 use Rattle.vclock.specs.declared.format.Format.{Format}
-use Rattle.version_set.proofs.Lists.{all-filter}
+use Rattle.version_set.proofs.ListLaws.{all-filter}
 use Rattle.sync_session.specs.TreeNodes.{Node, top, child, is_node, has_node}
 use Rattle.snapshot.specs.RowMaps.{RowMap, IsRowMap, leaf_in, root_of}
 use Rattle.hash_tree.specs.Nodes.{tree_depth}

@@ -4,7 +4,7 @@ use Rattle.std.specs.Prelude.{bytes_eq}
 use Rattle.std.specs.List.{flat_map, AllByRecursion}
 use Rattle.std.proofs.lemmas.Bool.{or_left}
 use Rattle.std.proofs.lemmas.List.{append_cancel_left}
-use Rattle.version_set.proofs.Lists.{all-append}
+use Rattle.version_set.proofs.ListLaws.{all-append}
 use Rattle.sync_session.specs.TreeNodes.{Node, top, child, is_node, has_node}
 use Rattle.snapshot.specs.RowMaps.{RowMap, root_of}
 use Rattle.hash_tree.specs.Nodes.{tree_depth}

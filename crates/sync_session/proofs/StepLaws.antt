@@ -7,7 +7,7 @@ use Rattle.std.proofs.lemmas.List.Folds.{list_any-append}
 use Rattle.std.proofs.lemmas.Grind.{flat_map-append}
 use Rattle.row_bytes.specs.declared.row.Row.{Row}
 use Rattle.version_set.specs.declared.version.Version.{Version}
-use Rattle.version_set.proofs.Lists.{all-push}
+use Rattle.version_set.proofs.ListLaws.{all-push}
 use Rattle.sync_session.specs.declared.state.SessionState.TheVariants.{Finished}
 use Rattle.sync_session.specs.TreeNodes.{Node, is_node, has_node}
 use Rattle.snapshot.specs.RowMaps.{RowMap, IsRowMap}

@@ -1,4 +1,4 @@
-pub mod Lists
+pub mod ListLaws
 pub mod SetLaws
-pub mod TextOrder
+pub mod TextOrderLaws
 pub mod OfferLemmas

@@ -10,13 +10,13 @@ use Rattle.std.specs.Cmp.{IsTotalOrder}
 use Rattle.std.proofs.lemmas.Cmp.{then_total, on_total, lists_total, nat_cmp_total, nat_list_cmp_total, tied_itself}
 use Rattle.vclock.specs.Clock.{Pairs, counter, at_most, IsClock}
 use Rattle.std.proofs.lemmas.List.Folds.{Any-from_list_any, list_any-from_Any}
-use Rattle.vclock.proofs.ClockLemmas.{at_most-counters, at_most-is, at_most_itself, same_clock}
+use Rattle.vclock.proofs.ClockLaws.{at_most-counters, at_most-is, at_most_itself, same_clock}
 use Rattle.version_set.specs.Kind.{kind_byte}
 use Rattle.version_set.specs.declared.kind.Kind.{Kind}
 use Rattle.version_set.specs.declared.kind.Kind.TheVariants.{Live, Tombstone}
 use Rattle.version_set.specs.declared.version.Version.{Version}
 use Rattle.version_set.specs.Version.{NoneIsBelow, is_below, covered, maximal, with_version, IsBelow, IsCovered, is_same, version_cmp, pair_cmp, place_by, Ascends, offered, IsVersionSet, set_from}
-use Rattle.version_set.proofs.Lists.{all-filter}
+use Rattle.version_set.proofs.ListLaws.{all-filter}
 
 -- the order of texts is total
 pub version_total : IsTotalOrder version_cmp
@@ -177,7 +177,7 @@ pub Ascends-filter : (p : Version → Bool) (S : List Version) → Ascends S →
 Ascends-filter p [] h = tt
 Ascends-filter p (v ∷ S) h = elim (p v) as (λ b. Ascends (cond b (v ∷ filter p S) (filter p S))) [ true ↦ (all-filter _ p S h.0, Ascends-filter p S h.1) | false ↦ Ascends-filter p S h.1 ]
 
-less_all : (v w : Version) (S : List Version) → version_cmp v w ≡ Less → AllByRecursion (λ x. version_cmp w x ≡ Less) S → AllByRecursion (λ x. version_cmp v x ≡ Less) S
+pub less_all : (v w : Version) (S : List Version) → version_cmp v w ≡ Less → AllByRecursion (λ x. version_cmp w x ≡ Less) S → AllByRecursion (λ x. version_cmp v x ≡ Less) S
 less_all v w [] h all = tt
 less_all v w (x ∷ S) h all = (version_total.trans v w x h all.0, less_all v w S h all.1)
 

@@ -2,7 +2,7 @@ use Rattle.std.proofs.Common.{◌≡◌, ◌≤◌, List, length, subst, sym, ap
 use Rattle.row_bytes.specs.declared.row.Row.{Row}
 use Rattle.hash_tree.specs.Leaves.{Bucket}
 use Rattle.hash_tree.specs.Chunks.{rows_of, place_in}
-use Rattle.hash_tree.proofs.KeyOrder.{all_get}
+use Rattle.hash_tree.proofs.KeyLaws.{all_get}
 use Rattle.hash_tree.proofs.ChunkPlaces.{rows_read, gap-behind}
 use Rattle.hash_tree.proofs.chunked.roomy_gap.Goals as goal
 

@@ -1,7 +1,7 @@
 use Rattle.std.proofs.Common.{◌∷◌, ℕ, List, length, take, ap, arith}
 use Rattle.std.specs.List.{flat_map}
 use Rattle.std.proofs.lemmas.List.{length-append}
-use Rattle.row_bytes.proofs.TextLengths.{on_err}
+use Rattle.row_bytes.proofs.TextLengthLaws.{on_err}
 use Rattle.hash_tree.specs.Chunks.{chunk_text}
 use Rattle.hash_tree.specs.Texts.{leaf_byte}
 use Rattle.hash_tree.proofs.TextLaws.{part_within}

@@ -3,7 +3,7 @@ use Rattle.std.specs.List.{flat_map}
 use Rattle.std.proofs.lemmas.List.{take_all}
 use Rattle.version_set.specs.Version.{version_text}
 use Rattle.version_set.specs.declared.version.Version.{Version}
-use Rattle.row_bytes.proofs.TextLengths.{row_text_len}
+use Rattle.row_bytes.proofs.TextLengthLaws.{row_text_len}
 use Rattle.row_bytes.proofs.lengths.row_len.Goals as goal
 
 pub returns-clause-exact : goal.returns-clause-exact

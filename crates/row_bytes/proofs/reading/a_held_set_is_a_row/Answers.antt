@@ -1,4 +1,4 @@
-use Rattle.row_bytes.proofs.Sets.{set_row, row_set, row_fits}
+use Rattle.row_bytes.proofs.RowSetLaws.{set_row, row_set, row_fits}
 use Rattle.row_bytes.proofs.reading.a_held_set_is_a_row.Goals as goal
 
 pub returns-clause-held : goal.returns-clause-held

@@ -1,5 +1,5 @@
 use Rattle.version_set.specs.Version.{pair_text}
-use Rattle.row_bytes.proofs.TextLengths.{on_err, lacks_room}
+use Rattle.row_bytes.proofs.TextLengthLaws.{on_err, lacks_room}
 use Rattle.row_bytes.proofs.writing.put_pairs.Goals as goal
 
 pub returns-in_err-put_pair-clause-room : goal.returns-in_err-put_pair-clause-room

@@ -5,7 +5,7 @@ use Rattle.std.specs.Vec.{vec_capacity}
 use Rattle.std.proofs.lemmas.List.{length-append}
 use Rattle.version_set.specs.Version.{version_text}
 use Rattle.version_set.specs.declared.version.Version.{Version}
-use Rattle.row_bytes.proofs.TextLengths.{on_err, lacks_room}
+use Rattle.row_bytes.proofs.TextLengthLaws.{on_err, lacks_room}
 use Rattle.row_bytes.proofs.writing.put_versions.Goals as goal
 
 pub returns-in_err-put_version-clause-room : goal.returns-in_err-put_version-clause-room

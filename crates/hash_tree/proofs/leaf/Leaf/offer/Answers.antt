@@ -2,7 +2,7 @@ use Rattle.std.proofs.Common.{◌≡◌, List, sym, subst}
 use Rattle.row_bytes.specs.declared.row.Row.{Row}
 use Rattle.hash_tree.specs.Leaves.{IsBucket, with_offer}
 use Rattle.hash_tree.specs.Chunks.{all_rows}
-use Rattle.hash_tree.proofs.RowLengths.{IsBucket-with_offer}
+use Rattle.hash_tree.proofs.RowLengthLaws.{IsBucket-with_offer}
 use Rattle.hash_tree.proofs.ChunkLaws.{value-inside}
 use Rattle.hash_tree.proofs.ChunkPlaces.{either_way}
 use Rattle.hash_tree.proofs.leaf.Leaf.offer.Goals as goal

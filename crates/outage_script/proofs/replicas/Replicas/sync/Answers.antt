@@ -1,5 +1,5 @@
 use Rattle.std.proofs.Common.{rules, ◌≡◌, ◌∙◌, sym, subst, List, Some, get_or}
-use Rattle.hash_tree.proofs.KeyOrder.{all_get}
+use Rattle.hash_tree.proofs.KeyLaws.{all_get}
 use Rattle.range_state.specs.State.{rows_now}
 use Rattle.outage_script.specs.Homes.{IsHome}
 use Rattle.outage_script.specs.State.{Replica, home}

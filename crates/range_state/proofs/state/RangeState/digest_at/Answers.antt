@@ -1,7 +1,7 @@
 use Rattle.std.proofs.Common.{subst, ap, ◌∙◌}
 use Rattle.hash_tree.specs.Nodes.{digest_at}
 use Rattle.range_state.specs.State.{State, IsRight, place_of}
-use Rattle.range_state.proofs.TreeSteps.{digest_is}
+use Rattle.range_state.proofs.TreeStepLaws.{digest_is}
 use Rattle.range_state.proofs.state.RangeState.digest_at.Goals as goal
 
 pub returns-clause-right : goal.returns-clause-right

@@ -4,7 +4,7 @@ use Rattle.vclock.specs.declared.format.Format.{Format}
 use Rattle.hash_tree.specs.Nodes.{tree_depth, children_of}
 use Rattle.hash_tree.specs.Texts.{inner_text}
 use Rattle.range_state.specs.State.{State, IsRight, AreLeaves, place_of}
-use Rattle.range_state.proofs.TreeSteps.{leaf_current, inner_current}
+use Rattle.range_state.proofs.TreeStepLaws.{leaf_current, inner_current}
 use Rattle.range_state.proofs.state.RangeState.is_current.Goals as goal
 
 pub returns-then-node-tree_depth : goal.returns-then-node-tree_depth

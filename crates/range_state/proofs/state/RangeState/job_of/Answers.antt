@@ -7,7 +7,7 @@ use Rattle.hash_tree.specs.Texts.{leaf_text, inner_text}
 use Rattle.rehash.specs.Jobs.{NodeText}
 use Rattle.range_state.specs.State.{State, IsRight, AreLeaves, place_of}
 use Rattle.std.proofs.lemmas.Bool.{leb-true}
-use Rattle.range_state.proofs.TreeSteps.{leaf_text_here, inner_text_here}
+use Rattle.range_state.proofs.TreeStepLaws.{leaf_text_here, inner_text_here}
 use Rattle.range_state.proofs.state.RangeState.job_of.Goals as goal
 
 pub returns-then-node-tree_depth : goal.returns-then-node-tree_depth

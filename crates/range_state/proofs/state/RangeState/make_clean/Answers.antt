@@ -1,7 +1,7 @@
 use Rattle.std.proofs.Common.{Some, set, subst, sym, ap, ◌∙◌, IsTrue}
 use Rattle.hash_tree.specs.Nodes.{Tree}
 use Rattle.range_state.specs.State.{State, is_current, place_of}
-use Rattle.range_state.proofs.TreeSteps.{cleaned_right}
+use Rattle.range_state.proofs.TreeStepLaws.{cleaned_right}
 use Rattle.range_state.proofs.state.RangeState.make_clean.Goals as goal
 
 pub invariant_of-self : goal.invariant_of-self

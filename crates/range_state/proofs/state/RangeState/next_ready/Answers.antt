@@ -1,6 +1,6 @@
 use Rattle.std.proofs.Common.{subst}
 use Rattle.range_state.specs.State.{State, IsRight}
-use Rattle.range_state.proofs.TreeSteps.{Found, found_has, found_is_ready}
+use Rattle.range_state.proofs.TreeStepLaws.{Found, found_has, found_is_ready}
 use Rattle.range_state.proofs.state.RangeState.next_ready.Goals as goal
 
 pub returns-clause-has : goal.returns-clause-has

@@ -1,5 +1,5 @@
 use Rattle.std.proofs.Common.{arith, ◌≡◌, ◌≤◌, ◌+◌, ◌-◌, false, sym, get_or, length, ◌∙◌, ap, subst, drop}
-use Rattle.vclock.proofs.ClockLemmas.{good_at, good_pair, counter-clock_of, clock_of-drop, Rises-with_counter, length-with_counter}
+use Rattle.vclock.proofs.ClockLaws.{good_at, good_pair, counter-clock_of, clock_of-drop, Rises-with_counter, length-with_counter}
 use Rattle.vclock.specs.Clock.{is_bad_pair, counter, clock_of, Rises, with_counter}
 use Rattle.std.specs.List.{list_any}
 use Rattle.vclock.proofs.clock.Clock.from_pairs.Goals as goal

@@ -2,7 +2,7 @@ use Rattle.std.proofs.Common.{arith, ◌≡◌, ◌<◌, ◌^◌, None, sym, sub
 use Rattle.std.proofs.lemmas.Grind.{common_steps}
 use Rattle.std.proofs.lemmas.Bool.{eq-eqb, ne_eqb}
 use Rattle.std.proofs.lemmas.Bool.Decides.{nat_tests}
-use Rattle.vclock.proofs.ClockLemmas.{raised_clock, counter-with_counter}
+use Rattle.vclock.proofs.ClockLaws.{raised_clock, counter-with_counter}
 use Rattle.vclock.specs.Clock.{raised, raise_fault, IsClock, counter}
 use Rattle.vclock.proofs.clock.Clock.raise.Goals as goal
 

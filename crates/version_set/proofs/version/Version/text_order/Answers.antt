@@ -1,5 +1,5 @@
 use Rattle.std.proofs.Common.{◌∙◌, sym}
-use Rattle.version_set.proofs.TextOrder.{text_cmp-is, live_cmp-is}
+use Rattle.version_set.proofs.TextOrderLaws.{text_cmp-is, live_cmp-is}
 use Rattle.version_set.proofs.version.Version.text_order.Goals as goal
 
 pub returns-clause-fields : goal.returns-clause-fields

@@ -12,12 +12,12 @@ use Rattle.version_set.specs.Kind.{value_fault}
 use Rattle.version_set.specs.declared.version.Version.{Version}
 use Rattle.version_set.specs.Version.{version_cmp, place_by, is_below, covered, maximal, with_version, offered, version_text}
 use Rattle.version_set.proofs.SetLaws.{version_total, covered-maximal, all-with_version}
-use Rattle.version_set.proofs.Lists.{all-filter}
+use Rattle.version_set.proofs.ListLaws.{all-filter}
 use Rattle.row_bytes.specs.declared.row.Row.{Row}
 use Rattle.row_bytes.specs.Rows.{row_text, FitsText}
-use Rattle.row_bytes.proofs.TextLengths.{row_text_len}
+use Rattle.row_bytes.proofs.TextLengthLaws.{row_text_len}
 use Rattle.hash_tree.specs.Leaves.{key_cmp, IsBucket, with_offer}
-use Rattle.hash_tree.proofs.KeyOrder.{AscendByKey-with_offer}
+use Rattle.hash_tree.proofs.KeyLaws.{AscendByKey-with_offer}
 
 -- ---- what an offer keeps of the versions of a row
 

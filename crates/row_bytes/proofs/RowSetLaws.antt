@@ -13,11 +13,11 @@ use Rattle.version_set.specs.declared.kind.Kind.{Kind}
 use Rattle.version_set.specs.declared.kind.Kind.TheVariants.{Live, Tombstone}
 use Rattle.version_set.specs.declared.version.Version.{Version}
 use Rattle.version_set.specs.Version.{is_below, maximal, version_cmp, version_text, text_cmp, Ascends, IsVersionSet, HasText}
-use Rattle.version_set.proofs.SetLaws.{version_total, is_below-itself}
-use Rattle.version_set.proofs.TextOrder.{text_cmp-is, live_cmp-is}
+use Rattle.version_set.proofs.SetLaws.{less_all, is_below-itself}
+use Rattle.version_set.proofs.TextOrderLaws.{text_cmp-is, live_cmp-is}
 use Rattle.row_bytes.specs.declared.row.Row.{Row}
 use Rattle.row_bytes.specs.Rows.{is_before, is_apart, IsVersion, AreAscending, AreApart, IsRow, FitsText}
-use Rattle.row_bytes.proofs.Limits.{value_short}
+use Rattle.row_bytes.proofs.LimitLaws.{value_short}
 
 -- what is smaller is Less
 less_of : (o : Ordering) → is_lt o ≡ true → o ≡ Less
@@ -38,11 +38,6 @@ live_of Tombstone value h = absurd cc
 cmp-is : (format : Format) (v w : Version) → IsVersion format v → IsVersion format w → text_cmp format v w ≡ version_cmp v w
 cmp-is One v w hv hw = live_cmp-is v w (has_text One v hv) (has_text One w hw) (live_of v.kind v.value hv.value) (live_of w.kind w.value hw.value)
 cmp-is Two v w hv hw = text_cmp-is v w (has_text Two v hv) (has_text Two w hw)
-
--- what is less than the first is less than the others
-less_all : (v w : Version) (vs : List Version) → version_cmp v w ≡ Less → AllByRecursion (λ x. version_cmp w x ≡ Less) vs → AllByRecursion (λ x. version_cmp v x ≡ Less) vs
-less_all v w [] h all = tt
-less_all v w (x ∷ vs) h all = (version_total.trans v w x h all.0, less_all v w vs h all.1)
 
 -- versions whose texts ascend, each against the one before it, ascend
 ascends_after : (format : Format) (v : Version) (vs : List Version) → IsVersion format v → AllByRecursion (IsVersion format) vs → AreAscending format (version_text format v) vs → Ascends (v ∷ vs)
