@@ -1,5 +1,5 @@
 // Hints: versions that are kept for replicas that are down.
-use crate::sets::version;
+use crate::versions::version;
 use hint_store::hint::{Delivery, Fate};
 use hint_store::store::HintStore;
 use std::alloc::Global;

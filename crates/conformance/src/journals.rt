@@ -1,5 +1,5 @@
 // Journals.
-use crate::sets::version;
+use crate::versions::version;
 use range_journal::journal::{Journal, Source};
 use std::alloc::Global;
 use std::test::Fail;

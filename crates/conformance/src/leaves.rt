@@ -1,5 +1,5 @@
 // Leaves of more rows than a chunk has. The digest was made by another program from the definition.
-use crate::sets::version;
+use crate::versions::version;
 use hash_tree::hashed::hash;
 use hash_tree::shared::SharedLeaf;
 use std::alloc::Global;

@@ -1,12 +1,10 @@
-//! Tests of calls across the crates: worked examples and vectors.
+//! Tests of the calls below a range's: worked examples and vectors.
 #![tactic(auto)]
 
 #[cfg(test)]
 mod clocks;
 #[cfg(test)]
 mod digests;
-#[cfg(test)]
-mod events;
 #[cfg(test)]
 mod hints;
 #[cfg(test)]
@@ -20,18 +18,9 @@ mod messages;
 #[cfg(test)]
 mod places;
 #[cfg(test)]
-mod range_sessions;
-#[cfg(test)]
-mod ranges;
-#[cfg(test)]
 mod rows;
-#[cfg(test)]
-mod sessions;
 #[cfg(test)]
 mod sets;
 #[cfg(test)]
 mod slots;
-#[cfg(test)]
-mod snapshots;
-#[cfg(test)]
-mod trees;
+pub mod versions;

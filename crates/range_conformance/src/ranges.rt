@@ -1,7 +1,7 @@
 // Range states.
 ghost use Rattle.std.specs.Prelude.{◌<◌};
 
-use crate::sets::{members, version};
+use conformance::versions::{members, version};
 use range_journal::journal::Source;
 use range_state::config::RangeConfig;
 use range_state::event::{AcceptEvent, Accepted, Event, PutEvent, Reply};

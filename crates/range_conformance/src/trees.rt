@@ -1,5 +1,5 @@
 // Trees: node texts, marks, jobs and rehashes. The digests were made by another program from the definition.
-use crate::sets::version;
+use conformance::versions::version;
 use hash_tree::comparing::is_inner_text;
 use hash_tree::hashed::{Digest, Hashed, hash};
 use hash_tree::marks::Marks;
