@@ -234,17 +234,32 @@ fn expect_asked(rt: &impl Abort, state: &RangeState, nodes: &[(u8, u16)]) -> Res
     Ok(())
 }
 
+/// Opens a session with a partner, and answers so many of the nodes that it awaits truly.
+fn walk(
+    alloc: Global,
+    state: &mut RangeState,
+    partner: &Snapshot,
+    answers: u64,
+) -> Result<(), Fail> {
+    state.open_session(alloc, 7, offer(partner.root()))?;
+    for _ in 0..answers {
+        answer_first(alloc, state, partner)?;
+    }
+    Ok(())
+}
+
 #[test]
 fn a_session_asks_the_nodes_that_differ(rt: HostRuntime) -> Result<(), Fail> {
     let alloc = rt.alloc();
     let mut partner = range(&rt, alloc, true)?;
     let mut one = range(&rt, alloc, false)?;
-    one.sync_with(alloc, 5, 7, &*partner.snapshot(alloc)?)?;
+    walk(alloc, &mut one, &*partner.snapshot(alloc)?, 3)?;
     expect_asked(&rt, &one, &[(0, 0), (1, 0), (2, 12)])?;
     put_abc(alloc, &mut partner)?;
     partner.rehash(&rt, alloc)?;
     let mut two = range(&rt, alloc, false)?;
-    two.sync_with(alloc, 5, 7, &*partner.snapshot(alloc)?)?;
+    walk(alloc, &mut two, &*partner.snapshot(alloc)?, 5)?;
     expect_asked(&rt, &two, &[(0, 0), (1, 0), (1, 9), (2, 12), (2, 144)])?;
+    assert_eq!(rt; state_of(&two, 0)?, SessionState::Finished);
     Ok(())
 }
