@@ -123,3 +123,35 @@ fn a_cancelled_session_asks_nothing_more(rt: HostRuntime) -> Result<(), Fail> {
     assert!(rt; session.outstanding().is_empty());
     Ok(())
 }
+
+/// The text `abc`, which no node can have.
+fn abc(alloc: Global) -> Result<Hashed, Refusal> {
+    Ok(hash(Bytes::copy_of(alloc, b"abc")?))
+}
+
+#[test]
+fn a_session_takes_a_true_text_once(rt: HostRuntime) -> Result<(), Fail> {
+    let alloc = rt.alloc();
+    let partner = snapshot(&rt, alloc, true)?;
+    let mut session = session(&rt, alloc, partner.root())?;
+    let root = first(&session)?;
+    let forged = session.take(alloc, root, abc(alloc)?);
+    assert!(rt; matches!(&forged, Err(Refusal::WrongDigest)));
+    answer_first(alloc, &mut session, &partner)?;
+    let again = session.take(alloc, root, text_of(alloc, &partner, root)?);
+    assert!(rt; matches!(&again, Err(Refusal::NotAsked)));
+    Ok(())
+}
+
+#[test]
+fn a_session_fails_by_a_text_of_no_node(rt: HostRuntime) -> Result<(), Fail> {
+    let alloc = rt.alloc();
+    let mut session = session(&rt, alloc, abc(alloc)?.digest())?;
+    let root = first(&session)?;
+    let broken = session.take(alloc, root, abc(alloc)?);
+    assert!(rt; matches!(&broken, Err(Refusal::NotCanonical)));
+    assert_eq!(rt; session.state(), SessionState::Failed);
+    let again = session.take(alloc, root, abc(alloc)?);
+    assert!(rt; matches!(&again, Err(Refusal::NotAsked)));
+    Ok(())
+}
