@@ -48,7 +48,7 @@ pub progress_start : (found before : Option (List ℕ)) → Progress found found
 progress_start found before = record { bytes = []; written = []; reads = consumes_start found; writes = appends_nothing before; moves = moves_none (place_of 1 start []) }
 
 -- a piece was read and taken
-pub progress_next : (found left left' before after after' : Option (List ℕ)) (p q : Place) (piece : List ℕ) → Progress found left before after p → Consumes left left' piece → Feeds p piece q None after after' → Progress found left' before after' q
+progress_next : (found left left' before after after' : Option (List ℕ)) (p q : Place) (piece : List ℕ) → Progress found left before after p → Consumes left left' piece → Feeds p piece q None after after' → Progress found left' before after' q
 progress_next found left left' before after after' p q piece old reads fed = record {
   bytes = old.bytes ++ piece;
   written = old.written ++ fed.0;
@@ -56,6 +56,18 @@ progress_next found left left' before after after' p q piece old reads fed = rec
   writes = appends_both before after after' old.written fed.0 old.writes fed.1;
   moves = moves_both (place_of 1 start []) p q old.bytes piece old.written fed.0 old.moves fed.2;
 }
+
+-- a piece was read and taken, and a flush changed nothing of what was written
+pub progress_flushed : (found left left' before after fed flushed : Option (List ℕ)) (p q : Place) (piece : List ℕ) → Progress found left before after p → Consumes left left' piece → Feeds p piece q None after fed → Keeps fed flushed → Progress found left' before flushed q
+progress_flushed found left left' before after fed flushed p q piece old reads feeds kept =
+    let next = progress_next found left left' before after fed p q piece old reads feeds in
+    record {
+      bytes = next.bytes;
+      written = next.written;
+      reads = next.reads;
+      writes = appends_none before fed flushed next.written next.writes kept;
+      moves = next.moves;
+    }
 
 -- what is right for the bytes that were read, and for the whole input, is right
 right_of : (end : ScriptEnd) (bytes left w : List ℕ) → Ends end (script_outcome bytes) w → Ends end (script_outcome (bytes ++ left)) w → IsRight end bytes left w

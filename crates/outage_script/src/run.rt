@@ -104,6 +104,9 @@ fn drive<L: Ledger, T: Threads + Sync, R: Read, W: Write>(
         if let Some(end) = session.feed(rt, alloc, &buffer[..count], writer) {
             return flushed(writer, end);
         }
+        if writer.flush().is_err() {
+            return ScriptEnd::Device;
+        }
     }
     ScriptEnd::Device
 }

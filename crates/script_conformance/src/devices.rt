@@ -170,6 +170,6 @@ fn each_fault_of_a_device_ends_the_script(rt: HostRuntime) {
         assert!(rt; count_faults(&rt, script, Fault::Read) > 70);
         assert_eq!(rt; count_faults(&rt, script, Fault::Write), bytes);
         assert_eq!(rt; count_faults(&rt, script, Fault::Nothing), bytes);
-        assert_eq!(rt; count_faults(&rt, script, Fault::Flush), 1);
+        assert!(rt; count_faults(&rt, script, Fault::Flush) > 70);
     }
 }

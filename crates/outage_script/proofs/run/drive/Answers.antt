@@ -1,7 +1,7 @@
 use Rattle.std.proofs.Common.{rules, ◌≡◌, ◌<◌, length, [], Some, None}
 use Rattle.std.specs.Io.KnownBytes.{Consumes, IsAtEnd}
 use Rattle.outage_script.specs.Moves.{place_of}
-use Rattle.outage_script.proofs.RunLemmas.{progress_next, runs_cut, runs_stopped, runs_finished, keeps_same, refilled}
+use Rattle.outage_script.proofs.RunLemmas.{progress_flushed, runs_cut, runs_stopped, runs_finished, keeps_same, refilled}
 use Rattle.outage_script.proofs.run.drive.Goals as goal
 use Rattle.outage_script.proofs.run.drive.Goals.{in-Some, in-None}
 
@@ -46,6 +46,20 @@ returns-in-Some-feed g c =
     (place_of c.feed.new.self.number c.feed.new.self.world c.feed.new.self.line.items)
     _ c.in-Some-feed.end c.flushed-in-Some-feed.result c.loop-calls.invariant.run (rw (c.deref.ensures.value, refilled c.read.new.buf c.loop-calls.buffer.items c.loop-calls.buffer.len same) c.in-Ok.ensures.bytes.0) c.in-Some-feed.ensures.feeds c.flushed-in-Some-feed.ensures.kept c.flushed-in-Some-feed.ensures.end
 
+pub returns-then-is_err : goal.returns-then-is_err
+returns-then-is_err g c =
+    let remaining = g.R.Read.remaining in
+    let contents = g.W.Write.contents in
+    let same : length c.read.new.buf ≡ c.loop-calls.buffer.len = search rules in
+    runs_cut (remaining c.args.reader.now) (remaining c.read.new.self) (remaining c.read.new.self)
+    (contents c.args.writer.now) (contents c.flush.new.self) _
+    (progress_flushed (remaining c.args.reader.now) (remaining c.loop-calls.reader) (remaining c.read.new.self)
+        (contents c.args.writer.now) (contents c.loop-calls.writer) (contents c.feed.new.writer) (contents c.flush.new.self)
+        (place_of c.loop-calls.session.number c.loop-calls.session.world c.loop-calls.session.line.items)
+        (place_of c.feed.new.self.number c.feed.new.self.world c.feed.new.self.line.items)
+        _ c.loop-calls.invariant.run (rw (c.deref.ensures.value, refilled c.read.new.buf c.loop-calls.buffer.items c.loop-calls.buffer.len same) c.in-Ok.ensures.bytes.0) c.in_default.ensures.feeds c.flush.ensures.bytes)
+    (keeps_same _)
+
 pub loop-calls-preserved : goal.loop-calls-preserved
 loop-calls-preserved g c =
     let remaining = g.R.Read.remaining in
@@ -54,11 +68,11 @@ loop-calls-preserved g c =
     record {
       size = search rules;
       number = search rules;
-      run = progress_next (remaining c.args.reader.now) (remaining c.loop-calls.reader) (remaining c.read.new.self)
-          (contents c.args.writer.now) (contents c.loop-calls.writer) (contents c.feed.new.writer)
+      run = progress_flushed (remaining c.args.reader.now) (remaining c.loop-calls.reader) (remaining c.read.new.self)
+          (contents c.args.writer.now) (contents c.loop-calls.writer) (contents c.feed.new.writer) (contents c.flush.new.self)
           (place_of c.loop-calls.session.number c.loop-calls.session.world c.loop-calls.session.line.items)
           (place_of c.feed.new.self.number c.feed.new.self.world c.feed.new.self.line.items)
-          _ c.loop-calls.invariant.run (rw (c.deref.ensures.value, refilled c.read.new.buf c.loop-calls.buffer.items c.loop-calls.buffer.len same) c.in-Ok.ensures.bytes.0) c.in_default.ensures.feeds;
+          _ c.loop-calls.invariant.run (rw (c.deref.ensures.value, refilled c.read.new.buf c.loop-calls.buffer.items c.loop-calls.buffer.len same) c.in-Ok.ensures.bytes.0) c.in_default.ensures.feeds c.flush.ensures.bytes;
     }
 
 pub returns : goal.returns
