@@ -76,7 +76,8 @@ fn run_with<L: Ledger, T: Threads + Sync, R: Read, W: Write>(
     end
 }
 
-/// Feeds a session with what the reader gives.
+/// Feeds a session with what the reader gives. What it writes is flushed after each piece, for a caller who sends the next
+/// line when this one is answered; a batch pays a write more for each piece.
 fn drive<L: Ledger, T: Threads + Sync, R: Read, W: Write>(
     rt: &T,
     alloc: Global,
