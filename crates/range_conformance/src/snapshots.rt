@@ -1,5 +1,11 @@
 // Snapshots.
+ghost use Rattle.std.specs.Prelude.{◌≡◌, ◌++◌, replicate, IfOk, OnOk};
+ghost use Rattle.range_conformance.specs.EmptyTrees.{no_leaves, text_above, by_depth};
+
+use hash_tree::hashed::{Digest, Hashed, hash};
 use hash_tree::node::NodeAt;
+use hash_tree::shared::SharedLeaf;
+use hash_tree::texts::inner_text;
 use range_state::config::RangeConfig;
 use range_state::event::{Event, Reply};
 use range_state::state::RangeState;
@@ -11,6 +17,7 @@ use std::test::Fail;
 use std::thread::Threads;
 use vclock::bytes::Bytes;
 use vclock::clock::Clock;
+use vclock::format::Format;
 use vclock::refusal::Refusal;
 use version_set::kind::Kind;
 use walk_messages::message::{Ask, Offer};
@@ -124,5 +131,67 @@ fn a_snapshot_is_an_event(rt: HostRuntime) -> Result<(), Fail> {
     let replies = state.run_events(alloc, events)?;
     assert_eq!(rt; replies.len(), 1);
     assert!(rt; matches!(&replies[0], Reply::Snapshot(Ok(snapshot)) if snapshot.bits() == 0));
+    Ok(())
+}
+
+/// The leaves of a range without rows.
+fn empty_leaves(alloc: Global) -> Result<Vec<SharedLeaf>, Fail>
+    ensures { IfOk result (λ leaves. leaves.items ≡ no_leaves) }
+{
+    let mut leaves = Vec::new(alloc);
+    for _ in 0..256_usize {
+        leaves.push(SharedLeaf::empty(Format::One))?;
+    }
+    Ok(leaves)
+}
+
+/// A node whose 16 children all have this digest.
+#[tactic(auto, unfolding(crate::specs::EmptyTrees::text_above))]
+fn above(alloc: Global, digest: Digest) -> Result<Hashed, Fail>
+    ensures { IfOk result (λ node. node ≡ text_above digest) }
+{
+    let text = inner_text(alloc, Format::One, &[digest; 16])?;
+    Ok(hash(Bytes::from(text)))
+}
+
+/// Appends a digest so many times.
+fn push_copies(digests: &mut Vec<Digest>, digest: Digest, count: usize) -> Result<(), Fail>
+    ensures { OnOk result (digests.new.items ≡ digests.old.items ++ replicate count digest) }
+{
+    for _ in 0..count {
+        digests.push(digest)?;
+    }
+    Ok(())
+}
+
+/// The digests of a tree, by place, where all nodes of a depth have the same.
+fn by_depth(alloc: Global, root: Digest, inner: Digest, leaf: Digest) -> Result<Vec<Digest>, Fail>
+    ensures { IfOk result (λ digests. digests.items ≡ by_depth root inner leaf) }
+{
+    let mut digests = Vec::new(alloc);
+    digests.push(root)?;
+    push_copies(&mut digests, inner, 16)?;
+    push_copies(&mut digests, leaf, 256)?;
+    Ok(digests)
+}
+
+#[test]
+fn a_snapshot_is_made_of_leaves_and_digests(rt: HostRuntime) -> Result<(), Fail> {
+    let alloc = rt.alloc();
+    let leaf = hash(Bytes::copy_of(alloc, &[0])?);
+    let inner = above(alloc, leaf.digest())?;
+    let root = above(alloc, inner.digest())?;
+    let leaves = empty_leaves(alloc)?;
+    let digests = by_depth(alloc, root.digest(), inner.digest(), leaf.digest())?;
+    let snapshot = Snapshot::new(alloc, Format::One, 0, 0, leaves, digests)?;
+    assert_eq!(rt;
+        (snapshot.format(), snapshot.bits(), snapshot.range()),
+        (Format::One, 0, 0)
+    );
+    assert_eq!(rt; snapshot.root(), root.digest());
+    assert_eq!(rt; inner.text().len(), 513);
+    assert_eq!(rt; text_at(alloc, &snapshot, 0, 0)?.as_slice(), root.text());
+    assert_eq!(rt; text_at(alloc, &snapshot, 1, 0)?.as_slice(), inner.text());
+    assert_eq!(rt; text_at(alloc, &snapshot, 2, 0)?.as_slice(), [0].as_slice());
     Ok(())
 }
