@@ -8,14 +8,28 @@ use std::env::Env;
 use std::io::ErrorKind;
 
 /// What the program is.
-const ABOUT: &str = "Keeps the replicas of a Dynamo ring the same.
+const ABOUT: &str = "Brings the replicas of a Dynamo ring together again, in one process and in memory.
 
-Its command `run` reads a script from standard input. A script is JSON lines: each line is one
-command, and each command is answered by one line on standard output. It acts on a ring that is
-empty at the start of the script and is gone at its end.";
+Its word `run` reads a script from standard input. A script is JSON lines: each line is one command,
+and each command is answered by one line on standard output, as soon as it is read. It acts on a
+ring that is empty at the start of the script and is gone at its end.";
 
-/// What a script looks like.
-const SCRIPTS: &str = r#"A script of two lines:
+/// The commands, and what a script looks like.
+const SCRIPTS: &str = r#"Commands, each with its members; ? marks one that may be left out:
+  ring     bits copies nodes limit? format?   makes a ring of nodes
+  put      node key context value lose?       writes a value at a node
+  get      node key                           reads the versions of a key
+  row      node key                           shows the text of a key's row
+  down     node                               takes a node down
+  up       node                               brings a node up
+  deliver  node                               offers a node's hints to their owners
+  rehash   node range                         hashes the tree of a range
+  node     node range depth index             shows the digest of a node of a tree
+  sync     node from range                    takes what another replica has
+  slot     do n?                              lends a slot, takes it back, sets the target
+  sample   at micros                          reports a latency
+
+A script of two lines:
   {"put":{"node":1,"key":"61","context":[],"value":"78"}}
   {"get":{"node":1,"key":"61"}}
 
@@ -29,11 +43,11 @@ With these lines in the file first.jsonl:
 Keys and values are bytes in hexadecimal digits: 61 is the letter a. A clock is a list of pairs
 [node,counter]. The context of a put is the clock of the versions that it replaces, as a get showed
 them; [] is that of the first put. A command that is refused is answered by its cause, and changes
-nothing. A line that is no command is answered by BadLine and ends the script. A line of spaces is
-passed over.
+nothing, except a sync that stops halfway. A line that isn't a command ends the script with BadLine.
+Blank lines are skipped. docs/SCRIPTS.md has each command with its answers and refusals.
 
-Exit status: 0 where each line was answered, 1 at a bad line, 2 for wrong words on the command
-line, 3 where a device failed or there is no memory."#;
+Exit status: 0 if each line was answered, 1 at a bad line, 2 for wrong words on the command line, 3
+if a device failed or there is no memory."#;
 
 /// What the words ask for.
 #[derive(Clone, Copy, Debug, PartialEq, Eq)]
@@ -42,7 +56,7 @@ pub(crate) enum Task {
     Run,
 }
 
-/// The words of the command line, the program's name first. None where a word is no text.
+/// The words of the command line, the program's name first. `None` if a word is no text.
 pub(crate) fn words_of<R: Env + AllocGlobal>(rt: &R) -> Result<Option<Vec<String>>, Fault> {
     match env::args(rt) {
         Ok(words) => match words.collect(rt.alloc()) {

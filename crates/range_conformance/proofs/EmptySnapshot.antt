@@ -1,111 +1,131 @@
--- The snapshot of a range of format 1 without rows: all nodes of a depth have the same text.
-use Rattle.std.proofs.Common.{◌≡◌, ℕ, zero, suc, ◌+◌, ◌*◌, ◌-◌, ◌<◌, Some, None, List, [], ◌∷◌, ◌++◌, length, map, replicate, get_or, refl, sym, ap, subst, ◌∙◌, arith}
-use Rattle.std.proofs.lemmas.List.{get_or-replicate, get_or_append_left, get_or-append_right, get_or-map}
+-- The snapshot of a range without rows, in format 1.
+use Rattle.std.proofs.Common.{◌≡◌, ℕ, zero, suc, ◌+◌, ◌*◌, ◌-◌, ◌<◌, ◌≤◌, ◌^◌, Some, List, [], ◌∷◌, ◌++◌, None, length, get_or, map, replicate, refl, sym, ap, subst, ◌∙◌, arith}
+use Rattle.std.proofs.lemmas.List.{get_or-map, get_or-replicate, get_or_append_left, get_or-append_right, length-append, length-replicate}
 use Rattle.std.proofs.lemmas.List.FromFn.{fill_by_all}
-use Rattle.std.proofs.lemmas.Grind.{get_or_head}
 use Rattle.sha2.specs.Sha256.{sha256}
 use Rattle.vclock.specs.declared.format.Format.TheVariants.{One}
 use Rattle.hash_tree.specs.Leaves.{Bucket}
-use Rattle.hash_tree.specs.Nodes.{digest_at}
-use Rattle.hash_tree.specs.Texts.{leaf_text, inner_text, node_digest, AreTrue}
-use Rattle.hash_tree.proofs.TextLaws.{per_child_is, leaf_node, inner_node}
-use Rattle.snapshot.specs.RowMaps.{RowMap, leaf_in}
+use Rattle.hash_tree.specs.Nodes.{place_at}
+use Rattle.hash_tree.specs.Texts.{leaf_text, inner_text, node_text, AreTrue}
+use Rattle.hash_tree.proofs.TextLaws.{per_child_is}
+use Rattle.snapshot.specs.RowMaps.{RowMap, IsRowMap, leaf_in}
 use Rattle.snapshot.specs.Snapshots.{leaves_of, map_of, IsSnapshot}
-use Rattle.snapshot.proofs.OrderLaws.{leaves_make}
-use Rattle.range_conformance.specs.EmptyTrees.{no_leaf, no_leaves, text_above, by_depth}
+use Rattle.snapshot.proofs.OrderLaws.{bucket_at, leaves_make}
 
--- a range of format 1 without rows
-abbrev no_rows : RowMap
-no_rows = record { format = One; bits = 0; range = 0; rows = [] }
+-- the row map without rows
+abbrev empty_map : ℕ → ℕ → RowMap
+empty_map bits range = record { format = One; bits = bits; range = range; rows = [] }
 
--- the digest of each node of a height
-abbrev AllAre : ℕ → List ℕ → Type 0
-AllAre height d = (index : ℕ) → node_digest One (leaf_in no_rows) [] height index ≡ d
+-- a leaf without rows
+abbrev empty_leaf : Bucket
+empty_leaf = record { format = One; rows = [] }
 
--- Nodes above those with the same digest have the same text.
-inner_are : (height : ℕ) (d : List ℕ) → AllAre height d → AllAre (suc height) (sha256 (inner_text One (replicate 16 d)))
-inner_are height d each index =
-    let child = λ (j : ℕ). node_digest One (leaf_in no_rows) [] height (16 * index + j) in
-    ap sha256 (inner_node One (leaf_in no_rows) [] height index ∙ ap (inner_text One) (sym (per_child_is child (replicate 16 d) refl (λ j less. get_or-replicate 16 j d [] less ∙ sym (each (16 * index + j))))))
+-- the text of each node of a height
+abbrev text_of : ℕ → List ℕ
+text_of zero = leaf_text One []
+text_of (suc height) = inner_text One (replicate 16 (sha256 (text_of height)))
 
--- Leaves without rows have the same text.
-leaves_are : AllAre zero (sha256 (leaf_text One []))
-leaves_are index = ap sha256 (leaf_node One (leaf_in no_rows) [] index)
+-- the digests by place, where all nodes of a depth have the same
+abbrev by_place : List ℕ → List ℕ → List ℕ → List (List ℕ)
+by_place root inner leaf = root ∷ replicate 16 inner ++ replicate 256 leaf
 
--- What is the same in Some is the same.
+-- the digests of all nodes by place
+abbrev true_digests : List (List ℕ)
+true_digests = by_place (sha256 (text_of 2)) (sha256 (text_of 1)) (sha256 (text_of 0))
+
+-- All nodes of a height have the same text.
+node_is : (leaf : List ℕ → ℕ) (height index : ℕ) → node_text One leaf [] height index ≡ text_of height
+unfolding node_text
+node_is leaf zero index = refl
+node_is leaf (suc height) index =
+    let d = sha256 (text_of height) in
+    let each : (j : ℕ) → j < 16 → get_or (replicate 16 d) j [] ≡ sha256 (node_text One leaf [] height (16 * index + j)) =
+    λ j less. get_or-replicate 16 j d [] less ∙ ap sha256 (sym (node_is leaf height (16 * index + j))) in
+    sym (ap (inner_text One) (per_child_is (λ j. sha256 (node_text One leaf [] height (16 * index + j))) (replicate 16 d) (length-replicate 16 d) each))
+
+-- There are 273 digests.
+length-by_place : (root inner leaf : List ℕ) → length (by_place root inner leaf) ≡ 273
+length-by_place root inner leaf = omega (arith, length-append (replicate 16 inner) (replicate 256 leaf), length-replicate 16 inner, length-replicate 256 leaf)
+
+-- The digest of an inner node stands at its place.
+at_inner : (root inner leaf : List ℕ) (index : ℕ) → index < 16 → get_or (by_place root inner leaf) (suc index) [] ≡ inner
+at_inner root inner leaf index less =
+    get_or_append_left (replicate 16 inner) (replicate 256 leaf) [] index (omega (arith, length-replicate 16 inner)) ∙ get_or-replicate 16 index inner [] less
+
+-- The digest of a leaf stands at its place.
+at_leaf : (root inner leaf : List ℕ) (index : ℕ) → index < 256 → get_or (by_place root inner leaf) (suc (16 + index)) [] ≡ leaf
+at_leaf root inner leaf index less =
+    get_or-append_right (replicate 16 inner) (replicate 256 leaf) 16 (16 + index) [] (length-replicate 16 inner) (omega arith)
+    ∙ get_or-replicate 256 (16 + index - 16) leaf [] (omega arith)
+
+-- Each node has the digest of its text at its place.
+at_place : (depth height index : ℕ) → depth + height ≡ 2 → index < 16 ^ depth → get_or true_digests (place_at depth index) [] ≡ sha256 (text_of height)
+at_place zero height index sum within =
+    let first : place_at zero index ≡ 0 = omega arith in
+    let level : height ≡ 2 = omega arith in
+    ap (λ (p : ℕ). get_or true_digests p []) first ∙ sym (ap (λ (h : ℕ). sha256 (text_of h)) level)
+at_place (suc zero) height index sum within =
+    let place : place_at (suc zero) index ≡ suc index = omega arith in
+    let level : height ≡ 1 = omega arith in
+    ap (λ (p : ℕ). get_or true_digests p []) place
+    ∙ at_inner (sha256 (text_of 2)) (sha256 (text_of 1)) (sha256 (text_of 0)) index (omega arith) ∙ sym (ap (λ (h : ℕ). sha256 (text_of h)) level)
+at_place (suc (suc zero)) height index sum within =
+    let place : place_at (suc (suc zero)) index ≡ suc (16 + index) = omega arith in
+    let level : height ≡ 0 = omega arith in
+    ap (λ (p : ℕ). get_or true_digests p []) place
+    ∙ at_leaf (sha256 (text_of 2)) (sha256 (text_of 1)) (sha256 (text_of 0)) index (omega arith) ∙ sym (ap (λ (h : ℕ). sha256 (text_of h)) level)
+at_place (suc (suc (suc depth))) height index sum within = absurd (omega arith)
+
+-- Each node stands before the end.
+place_before : (depth height index : ℕ) → depth + height ≡ 2 → index < 16 ^ depth → place_at depth index < 273
+place_before zero height index sum within = omega arith
+place_before (suc zero) height index sum within = omega arith
+place_before (suc (suc zero)) height index sum within = omega arith
+place_before (suc (suc (suc depth))) height index sum within = absurd (omega arith)
+
+-- Equal options have equal values.
 some_is : (x y : List ℕ) → Some x ≡ Some y → x ≡ y
 some_is x y e = cc
 
--- What stands among the digests is the digest of a node of that depth.
-digest_is : (ds : List (List ℕ)) (place : ℕ) (d : List ℕ) → place < length ds → digest_at (map Some ds) place ≡ Some d → get_or ds place [] ≡ d
-digest_is ds place d within e = some_is (get_or ds place []) d (sym (get_or-map (λ (d : List ℕ). Some d) ds place [] None within) ∙ e)
+-- The digests are right.
+right : (leaf : List ℕ → ℕ) → AreTrue One leaf [] (map Some true_digests)
+unfolding AreTrue
+right leaf depth height index d sum within e =
+    let place = place_at depth index in
+    let before : place < length true_digests = omega (arith, place_before depth height index sum within, length-by_place (sha256 (text_of 2)) (sha256 (text_of 1)) (sha256 (text_of 0))) in
+    let got : Some (get_or true_digests place []) ≡ Some d = sym (get_or-map (λ (x : List ℕ). Some x) true_digests place [] None before) ∙ e in
+    sym (some_is (get_or true_digests place []) d got) ∙ at_place depth height index sum within ∙ ap sha256 (sym (node_is leaf height index))
 
--- There is a digest for each node.
-count_by_depth : (root inner leaf : List ℕ) → length (by_depth root inner leaf) ≡ 273
-unfolding by_depth
-count_by_depth root inner leaf = refl
+-- The leaves have no rows.
+leaves_are : (bits range : ℕ) → replicate 256 empty_leaf ≡ leaves_of (empty_map bits range)
+unfolding leaves_of
+leaves_are bits range = fill_by_all (bucket_at (empty_map bits range)) (replicate 256 empty_leaf) 256 empty_leaf (length-replicate 256 empty_leaf) (λ j less. get_or-replicate 256 j empty_leaf empty_leaf less)
 
--- Digests by depth are right for a range without rows.
-are_true : (root inner leaf : List ℕ) → AllAre 2 root → AllAre 1 inner → AllAre 0 leaf → AreTrue One (leaf_in no_rows) [] (map Some (by_depth root inner leaf))
-unfolding AreTrue by_depth
-are_true root inner leaf top middle low zero height index d sum within e =
-    let two : 2 ≡ height = omega arith in
-    let here : get_or (by_depth root inner leaf) (0 + index) [] ≡ root = get_or_head root (replicate 16 inner ++ replicate 256 leaf) (0 + index) [] (omega arith) in
-    sym (digest_is (by_depth root inner leaf) (0 + index) d (omega (arith, count_by_depth root inner leaf)) e) ∙ here ∙ sym (top index) ∙ ap (λ (h : ℕ). node_digest One (leaf_in no_rows) [] h index) two
-are_true root inner leaf top middle low (suc zero) height index d sum within e =
-    let one : 1 ≡ height = omega arith in
-    let few : index < 16 = within in
-    let long : length (root ∷ replicate 16 inner) ≡ 17 = refl in
-    let upper : get_or (by_depth root inner leaf) (1 + index) [] ≡ get_or (root ∷ replicate 16 inner) (1 + index) [] = get_or_append_left (root ∷ replicate 16 inner) (replicate 256 leaf) [] (1 + index) (omega (arith, long)) in
-    let behind : get_or (root ∷ replicate 16 inner) (1 + index) [] ≡ get_or (replicate 16 inner) (1 + index - 1) [] = get_or-append_right (root ∷ []) (replicate 16 inner) 1 (1 + index) [] refl (omega arith) in
-    let here : get_or (replicate 16 inner) (1 + index - 1) [] ≡ inner = get_or-replicate 16 (1 + index - 1) inner [] (omega arith) in
-    sym (digest_is (by_depth root inner leaf) (1 + index) d (omega (arith, count_by_depth root inner leaf)) e) ∙ upper ∙ behind ∙ here ∙ sym (middle index) ∙ ap (λ (h : ℕ). node_digest One (leaf_in no_rows) [] h index) one
-are_true root inner leaf top middle low (suc (suc zero)) height index d sum within e =
-    let none : 0 ≡ height = omega arith in
-    let few : index < 256 = within in
-    let behind : get_or (by_depth root inner leaf) (17 + index) [] ≡ get_or (replicate 256 leaf) (17 + index - 17) [] = get_or-append_right (root ∷ replicate 16 inner) (replicate 256 leaf) 17 (17 + index) [] refl (omega arith) in
-    let here : get_or (replicate 256 leaf) (17 + index - 17) [] ≡ leaf = get_or-replicate 256 (17 + index - 17) leaf [] (omega arith) in
-    sym (digest_is (by_depth root inner leaf) (17 + index) d (omega (arith, count_by_depth root inner leaf)) e) ∙ behind ∙ here ∙ sym (low index) ∙ ap (λ (h : ℕ). node_digest One (leaf_in no_rows) [] h index) none
-are_true root inner leaf top middle low (suc (suc (suc depth))) height index d sum within e = absurd (omega arith)
+-- No rows are a row map.
+empty_rows : (bits range : ℕ) → bits ≤ 8 → range < 2 ^ bits → IsRowMap (empty_map bits range)
+empty_rows bits range few less = record {
+  few = few;
+  range = less;
+  ascending = tt;
+  each = tt;
+  here = tt;
+}
 
--- The leaves of a range without rows are all empty.
-leaves_empty : no_leaves ≡ leaves_of no_rows
-unfolding leaves_of no_leaves
-leaves_empty = fill_by_all (λ (i : ℕ). no_leaf) (replicate 256 no_leaf) 256 no_leaf refl (λ j less. get_or-replicate 256 j no_leaf no_leaf less)
-
--- The text of a node whose children all have one digest, as the definition has it.
-text_above_is : (d : List ℕ) → text_above d ≡ inner_text One (replicate 16 d)
-unfolding text_above
-text_above_is d = refl
-
--- The text of a leaf without rows is the one byte 0.
-pub empty_text : leaf_text One [] ≡ 0 ∷ []
-unfolding leaf_text
-empty_text = refl
-
--- As many empty leaves as a range has are its leaves.
-pub are_no_leaves : (leaves : List Bucket) (n : ℕ) → n ≡ 256 → leaves ≡ replicate n no_leaf → leaves ≡ no_leaves
-unfolding no_leaves
-are_no_leaves leaves n all are = are ∙ ap (λ (n : ℕ). replicate n no_leaf) all
-
--- The digests of each depth, one after the other, are those of the tree.
-pub are_by_depth : (digests upper : List (List ℕ)) (root inner leaf : List ℕ) → upper ≡ (root ∷ []) ++ replicate 16 inner → digests ≡ upper ++ replicate 256 leaf → digests ≡ by_depth root inner leaf
-unfolding by_depth
-are_by_depth digests upper root inner leaf above all = all ∙ ap (λ (xs : List (List ℕ)). xs ++ replicate 256 leaf) above
-
--- Empty leaves and digests by depth are a snapshot.
-pub empty_snapshot : (leaves : List Bucket) (digests : List (List ℕ)) (root inner leaf : List ℕ) → leaves ≡ no_leaves → digests ≡ by_depth root inner leaf
-    → root ≡ sha256 (text_above inner) → inner ≡ sha256 (text_above leaf) → leaf ≡ sha256 (leaf_text One []) → IsSnapshot (map_of One 0 0 leaves) leaves digests
-empty_snapshot leaves digests root inner leaf are by top middle low =
-    let lowest : AllAre 0 leaf = subst (λ (d : List ℕ). AllAre 0 d) (sym low) leaves_are in
-    let inners : AllAre 1 inner = subst (λ (d : List ℕ). AllAre 1 d) (sym (middle ∙ ap sha256 (text_above_is leaf))) (inner_are 0 leaf lowest) in
-    let roots : AllAre 2 root = subst (λ (d : List ℕ). AllAre 2 d) (sym (top ∙ ap sha256 (text_above_is inner))) (inner_are 1 inner inners) in
-    let same : leaves ≡ leaves_of no_rows = are ∙ leaves_empty in
-    let made : map_of One 0 0 leaves ≡ no_rows = ap (map_of One 0 0) same ∙ leaves_make no_rows tt in
-    let of_map : IsSnapshot no_rows leaves digests = record {
-      rows = record { few = omega arith; range = omega arith; ascending = tt; each = tt; here = tt };
-      leaves_are = same;
-      all = ap (λ (xs : List (List ℕ)). length xs) by ∙ count_by_depth root inner leaf;
-      right = subst (λ (xs : List (List ℕ)). AreTrue One (leaf_in no_rows) [] (map Some xs)) (sym by) (are_true root inner leaf roots inners lowest);
+-- Leaves without rows and the digests of their nodes' texts make a snapshot.
+pub empty_snapshot : (bits range : ℕ) (leaves : List Bucket) (digests : List (List ℕ)) (root inner leaf : List ℕ) → bits ≤ 8 → range < 2 ^ bits → leaves ≡ replicate 256 (record { format = One; rows = [] })
+    → leaf ≡ leaf_text One [] → inner ≡ inner_text One (replicate 16 (sha256 leaf)) → root ≡ inner_text One (replicate 16 (sha256 inner))
+    → digests ≡ sha256 root ∷ replicate 16 (sha256 inner) ++ replicate 256 (sha256 leaf) → IsSnapshot (map_of One bits range leaves) leaves digests
+empty_snapshot bits range leaves digests root inner leaf few less no_rows leaf_is inner_is root_is digests_are =
+    let m = empty_map bits range in
+    let inner_at : inner ≡ text_of 1 = inner_is ∙ ap (λ (t : List ℕ). inner_text One (replicate 16 (sha256 t))) leaf_is in
+    let root_at : root ≡ text_of 2 = root_is ∙ ap (λ (t : List ℕ). inner_text One (replicate 16 (sha256 t))) inner_at in
+    let all : digests ≡ true_digests = digests_are ∙ (λ i. by_place (sha256 (root_at i)) (sha256 (inner_at i)) (sha256 (leaf_is i))) in
+    let shared : leaves ≡ leaves_of m = no_rows ∙ leaves_are bits range in
+    let made : map_of One bits range leaves ≡ m = ap (λ (xs : List Bucket). map_of One bits range xs) shared ∙ leaves_make m tt in
+    let whole : IsSnapshot m leaves digests = record {
+      rows = empty_rows bits range few less;
+      leaves_are = shared;
+      all = ap (λ (ds : List (List ℕ)). length ds) all ∙ length-by_place (sha256 (text_of 2)) (sha256 (text_of 1)) (sha256 (text_of 0));
+      right = subst (λ (ds : List (List ℕ)). AreTrue One (leaf_in m) [] (map Some ds)) (sym all) (right (leaf_in m));
     } in
-    subst (λ (x : RowMap). IsSnapshot x leaves digests) (sym made) of_map
+    subst (λ (n : RowMap). IsSnapshot n leaves digests) (sym made) whole

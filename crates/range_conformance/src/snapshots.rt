@@ -1,15 +1,17 @@
 // Snapshots.
-ghost use Rattle.std.specs.Prelude.{◌≡◌, ◌++◌, replicate, IfOk, OnOk};
-ghost use Rattle.range_conformance.specs.EmptyTrees.{no_leaves, text_above, by_depth};
+ghost use Rattle.std.specs.Prelude.{◌≡◌, ◌∷◌, ◌++◌, [], replicate, IfOk};
+ghost use Rattle.sha2.specs.Sha256.{sha256};
+ghost use Rattle.hash_tree.specs.Texts.{inner_text};
 
-use hash_tree::hashed::{Digest, Hashed, hash};
+use hash_tree::hashed::Digest;
 use hash_tree::node::NodeAt;
 use hash_tree::shared::SharedLeaf;
-use hash_tree::texts::inner_text;
+use hash_tree::texts::{inner_text, leaf_text};
 use range_state::config::RangeConfig;
 use range_state::event::{Event, Reply};
 use range_state::state::RangeState;
 use rehash::job::run_job;
+use sha2::{Digest as _, Sha256};
 use snapshot::snapshot::Snapshot;
 use std::alloc::Global;
 use std::process::Abort;
@@ -134,64 +136,60 @@ fn a_snapshot_is_an_event(rt: HostRuntime) -> Result<(), Fail> {
     Ok(())
 }
 
-/// The leaves of a range without rows.
+/// The leaves of a range without rows, in format 1.
 fn empty_leaves(alloc: Global) -> Result<Vec<SharedLeaf>, Fail>
-    ensures { IfOk result (λ leaves. leaves.items ≡ no_leaves) }
+    ensures { IfOk result (λ leaves. leaves.items ≡ replicate 256 (record { format = Format.One; rows = [] })) }
 {
-    let mut leaves = Vec::new(alloc);
-    for _ in 0..256_usize {
+    let count = 256;
+    let mut leaves = Vec::with_capacity(alloc, count)?;
+    for _ in 0..count {
         leaves.push(SharedLeaf::empty(Format::One))?;
     }
     Ok(leaves)
 }
 
-/// A node whose 16 children all have this digest.
-#[tactic(auto, unfolding(crate::specs::EmptyTrees::text_above))]
-fn above(alloc: Global, digest: Digest) -> Result<Hashed, Fail>
-    ensures { IfOk result (λ node. node ≡ text_above digest) }
+/// The text of a node above 16 nodes that have all the same text, in format 1.
+fn text_above(alloc: Global, child: &[u8]) -> Result<Vec<u8>, Fail>
+    ensures { IfOk result (λ text. text.items ≡ inner_text Format.One (replicate 16 (sha256 child.now))) }
 {
-    let text = inner_text(alloc, Format::One, &[digest; 16])?;
-    Ok(hash(Bytes::from(text)))
+    let digest: Digest = Sha256::digest(child);
+    Ok(inner_text(alloc, Format::One, &[digest; 16])?)
 }
 
-/// Appends a digest so many times.
-fn push_copies(digests: &mut Vec<Digest>, digest: Digest, count: usize) -> Result<(), Fail>
-    ensures { OnOk result (digests.new.items ≡ digests.old.items ++ replicate count digest) }
-{
-    for _ in 0..count {
-        digests.push(digest)?;
-    }
-    Ok(())
-}
-
-/// The digests of a tree, by place, where all nodes of a depth have the same.
-fn by_depth(alloc: Global, root: Digest, inner: Digest, leaf: Digest) -> Result<Vec<Digest>, Fail>
-    ensures { IfOk result (λ digests. digests.items ≡ by_depth root inner leaf) }
+/// The digests of all nodes by place, where all nodes of a depth have the same text, in format 1.
+fn digests_by_place(
+    alloc: Global,
+    root: &[u8],
+    inner: &[u8],
+    leaf: &[u8],
+) -> Result<Vec<Digest>, Fail>
+    ensures { IfOk result (λ digests. digests.items
+        ≡ sha256 root.now ∷ replicate 16 (sha256 inner.now) ++ replicate 256 (sha256 leaf.now)) }
 {
     let mut digests = Vec::new(alloc);
-    digests.push(root)?;
-    push_copies(&mut digests, inner, 16)?;
-    push_copies(&mut digests, leaf, 256)?;
+    digests.push(Sha256::digest(root))?;
+    digests.extend_from_slice(&[Sha256::digest(inner); 16])?;
+    digests.extend_from_slice(&[Sha256::digest(leaf); 256])?;
     Ok(digests)
 }
 
 #[test]
 fn a_snapshot_is_made_of_leaves_and_digests(rt: HostRuntime) -> Result<(), Fail> {
     let alloc = rt.alloc();
-    let leaf = hash(Bytes::copy_of(alloc, &[0])?);
-    let inner = above(alloc, leaf.digest())?;
-    let root = above(alloc, inner.digest())?;
+    let leaf = leaf_text(alloc, Format::One, &[])?;
+    let inner = text_above(alloc, &leaf)?;
+    let root = text_above(alloc, &inner)?;
     let leaves = empty_leaves(alloc)?;
-    let digests = by_depth(alloc, root.digest(), inner.digest(), leaf.digest())?;
-    let snapshot = Snapshot::new(alloc, Format::One, 0, 0, leaves, digests)?;
-    assert_eq!(rt;
-        (snapshot.format(), snapshot.bits(), snapshot.range()),
-        (Format::One, 0, 0)
-    );
-    assert_eq!(rt; snapshot.root(), root.digest());
-    assert_eq!(rt; inner.text().len(), 513);
-    assert_eq!(rt; text_at(alloc, &snapshot, 0, 0)?.as_slice(), root.text());
-    assert_eq!(rt; text_at(alloc, &snapshot, 1, 0)?.as_slice(), inner.text());
-    assert_eq!(rt; text_at(alloc, &snapshot, 2, 0)?.as_slice(), [0].as_slice());
+    let digests = digests_by_place(alloc, &root, &inner, &leaf)?;
+    let snapshot = Snapshot::new(alloc, Format::One, 3, 5, leaves, digests)?;
+    assert!(rt; matches!(snapshot.format(), Format::One));
+    assert_eq!(rt; snapshot.bits(), 3);
+    assert_eq!(rt; snapshot.range(), 5);
+    assert_eq!(rt; snapshot.root(), Sha256::digest(&root));
+    assert_eq!(rt; leaf.as_slice(), [0].as_slice());
+    assert_eq!(rt; inner.len(), 513);
+    assert_eq!(rt; text_at(alloc, &snapshot, 0, 0)?, root);
+    assert_eq!(rt; text_at(alloc, &snapshot, 1, 0)?, inner);
+    assert_eq!(rt; text_at(alloc, &snapshot, 2, 255)?, leaf);
     Ok(())
 }
