@@ -8,7 +8,8 @@ use std::env::Env;
 use std::io::ErrorKind;
 
 /// What the program is.
-const ABOUT: &str = "Brings the replicas of a Dynamo ring together again, in one process and in memory.
+const ABOUT: &str =
+    "Brings the replicas of a Dynamo ring together again, in one process and in memory.
 
 Its word `run` reads a script from standard input. A script is JSON lines: each line is one command,
 and each command is answered by one line on standard output, as soon as it is read. It acts on a

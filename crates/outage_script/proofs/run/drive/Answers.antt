@@ -54,10 +54,10 @@ returns-then-is_err g c =
     runs_cut (remaining c.args.reader.now) (remaining c.read.new.self) (remaining c.read.new.self)
     (contents c.args.writer.now) (contents c.flush.new.self) _
     (progress_flushed (remaining c.args.reader.now) (remaining c.loop-calls.reader) (remaining c.read.new.self)
-        (contents c.args.writer.now) (contents c.loop-calls.writer) (contents c.feed.new.writer) (contents c.flush.new.self)
-        (place_of c.loop-calls.session.number c.loop-calls.session.world c.loop-calls.session.line.items)
-        (place_of c.feed.new.self.number c.feed.new.self.world c.feed.new.self.line.items)
-        _ c.loop-calls.invariant.run (rw (c.deref.ensures.value, refilled c.read.new.buf c.loop-calls.buffer.items c.loop-calls.buffer.len same) c.in-Ok.ensures.bytes.0) c.in_default.ensures.feeds c.flush.ensures.bytes)
+    (contents c.args.writer.now) (contents c.loop-calls.writer) (contents c.feed.new.writer) (contents c.flush.new.self)
+    (place_of c.loop-calls.session.number c.loop-calls.session.world c.loop-calls.session.line.items)
+    (place_of c.feed.new.self.number c.feed.new.self.world c.feed.new.self.line.items)
+    _ c.loop-calls.invariant.run (rw (c.deref.ensures.value, refilled c.read.new.buf c.loop-calls.buffer.items c.loop-calls.buffer.len same) c.in-Ok.ensures.bytes.0) c.in_default.ensures.feeds c.flush.ensures.bytes)
     (keeps_same _)
 
 pub loop-calls-preserved : goal.loop-calls-preserved
