@@ -30,7 +30,8 @@ use Rattle.range_state.specs.Rows.{rows_of, keys_from}
 use Rattle.range_state.specs.Records.{IsKept, is_open_state, is_open, open_count}
 use Rattle.range_state.specs.State.{State, IsRight, IsLeafWith, rows_now}
 use Rattle.range_state.specs.Sessions.{standings, crowd_fault}
-use Rattle.range_state.proofs.StateLaws.{IsSound, passed}
+use Rattle.row_bytes.proofs.LimitLaws.{no_fault}
+use Rattle.range_state.proofs.StateLaws.{IsSound}
 use Rattle.range_state.proofs.RecordLaws.{all_kept}
 use Rattle.range_state.proofs.OfferLaws.{row_map_now}
 
@@ -186,7 +187,7 @@ crowd_by rs = λ i. if nat_le 64 (open_states rs i) || nat_le 1024 (as_many rs i
 -- where a session can be opened, there is room for a record, and for an open session
 pub room_of : (rs : List Record) → crowd_fault (standings rs) ≡ None → (length rs < 1024) × (open_count rs < 64)
 room_of rs h =
-    let tests = or_parts (nat_le 64 (length (filter is_open_state (standings rs)))) (nat_le 1024 (length (standings rs))) (passed _ SessionsFull h) in
+    let tests = or_parts (nat_le 64 (length (filter is_open_state (standings rs)))) (nat_le 1024 (length (standings rs))) (no_fault _ SessionsFull h) in
     (below 1024 (length (standings rs)) (length rs) (as_many rs) tests.1, below 64 (length (filter is_open_state (standings rs))) (open_count rs) (open_states rs) tests.0)
   where
     below : (most n m : ℕ) → n ≡ m → nat_le most n ≡ false → m < most

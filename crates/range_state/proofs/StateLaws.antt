@@ -26,7 +26,7 @@ use Rattle.range_journal.specs.declared.journal.Source.TheVariants.{Partner}
 use Rattle.range_journal.specs.Journal.{accepted, held, versions_of, AreNews, reserve_fault}
 use Rattle.range_journal.proofs.JournalLaws.{AreNews-push, covered-held}
 use Rattle.row_bytes.specs.Rows.{IsRow}
-use Rattle.row_bytes.proofs.LimitLaws.{no_fault_else}
+use Rattle.row_bytes.proofs.LimitLaws.{no_fault, no_fault_else}
 use Rattle.row_bytes.specs.declared.row.Row.{Row}
 use Rattle.key_ring.specs.Places.{leaf_at, leaf_bits, range_at}
 use Rattle.hash_tree.specs.Leaves.{Bucket, rows_at, with_offer, versions_in}
@@ -324,13 +324,9 @@ unseen v (w ∷ S) r h =
     ] in
     rw (same, below) (unseen v S r parts.1)
 
-pub passed : (b : Bool) (e : Refusal) → cond b (Some e) None ≡ None → b ≡ false
-passed true e h = absurd (let no : Some e ≡ None = h in cc)
-passed false e h = refl
-
 -- a version whose clock is not stale is news
 pub news : (s : State) (key : List ℕ) (v : Version) → Rises 0 v.clock → stale_fault (held s.entries key) v.clock ≡ None → knows s key v ≡ false
-news s key v r h = sym (knows_held s key v) ∙ unseen v (held s.entries key) r (passed _ (StaleContext _) h)
+news s key v r h = sym (knows_held s key v) ∙ unseen v (held s.entries key) r (no_fault _ (StaleContext _) h)
 
 -- ---- why a version that is not known is refused
 

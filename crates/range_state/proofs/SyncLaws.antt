@@ -23,7 +23,7 @@ use Rattle.sync_session.specs.declared.state.SessionState.{SessionState}
 use Rattle.sync_session.specs.declared.state.SessionState.TheVariants.{Open, Finished, Failed, Cancelled}
 use Rattle.sync_session.proofs.StepLaws.{All-weaker}
 use Rattle.sync_session.proofs.DescentLaws.{entry}
-use Rattle.sync_session.proofs.OrderLaws.{asked_in_order}
+use Rattle.sync_session.proofs.OrderLaws.{asked_in_order, Ascends-suffix}
 use Rattle.sync_session.proofs.HonestLaws.{asked_is_differ, differ_is_asked, true_text_due}
 use Rattle.range_state.specs.Config.{Config}
 use Rattle.range_state.specs.declared.«record».Record.{Record}
@@ -33,7 +33,7 @@ use Rattle.range_state.specs.Records.{IsKept, IsGoing}
 use Rattle.range_state.specs.State.{State, IsRight, rows_now}
 use Rattle.range_state.specs.Sessions.{standings, offers_of, taken_in, leaf_fault, opened, walked_to, IsLeafRead, IsLeafFault, TakesInner, TakesLeaf, TakesText, TakesFor, Refuses}
 use Rattle.range_state.specs.Syncs.{IsOfRange, leaves_in, offers_at, known_in, Progress, taken_leaves, synced, ended, HasOneMore, HasAskedAll, IsSyncedTo, IsPartWay, IsFirstOf}
-use Rattle.range_state.proofs.SyncLists.{AreIn, member_of, has_head, all_has, same_nodes, fits, ascends_before, ascends_behind, without_first, differ_ascends, differ_inside, as_deep}
+use Rattle.range_state.proofs.SyncLists.{AreIn, member_of, has_head, all_has, same_nodes, fits, ascends_before, without_first, differ_ascends, differ_inside, as_deep}
 use Rattle.range_state.proofs.SyncStepLaws.{beside, records_stay, config_stays, so_far, taken_more, leaf_came, leaf_refused, leaves-append, leaf_counts, inner_counts, no_leaves, nodes-push, got_last, set_last, all_last, true_rows}
 
 -- ---- how many texts a session took
@@ -144,7 +144,7 @@ asked_in s now seat known other u is n h =
 
 left_ascend : (s now : State) (seat known : ℕ) (other : RowMap) (u : IsUnderWay s seat other known now) (n : Node) (rest : List Node) → IsTrueWalk s now other u.r → u.r.session.outstanding ≡ n ∷ rest → Ascends (n ∷ rest)
 left_ascend s now seat known other u n rest is first =
-    ascends_behind (nodes_of u.r.session.taken) (n ∷ rest) (subst (λ (xs : List Node). Ascends xs) (u.turn ∙ ap (λ (xs : List Node). nodes_of u.r.session.taken ++ xs) first) (asked_ascend s now seat known other u is))
+    Ascends-suffix (nodes_of u.r.session.taken) (n ∷ rest) (subst (λ (xs : List Node). Ascends xs) (u.turn ∙ ap (λ (xs : List Node). nodes_of u.r.session.taken ++ xs) first) (asked_ascend s now seat known other u is))
 
 -- ---- the session goes on
 

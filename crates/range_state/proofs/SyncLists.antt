@@ -79,10 +79,6 @@ ascends-append : (xs ys : List Node) → Ascends xs → Ascends ys → AllByRecu
 ascends-append [] ys p q b = q
 ascends-append (x ∷ xs) ys p q b = (all-append (λ y. place_of x < place_of y) xs ys p.0 b.0, ascends-append xs ys p.1 q b.1)
 
-pub ascends_behind : (xs ys : List Node) → Ascends (xs ++ ys) → Ascends ys
-ascends_behind [] ys p = p
-ascends_behind (x ∷ xs) ys p = ascends_behind xs ys p.1
-
 pub ascends_before : (xs : List Node) (n : Node) (ys : List Node) → Ascends (xs ++ n ∷ ys) → AllByRecursion (λ x. place_of x < place_of n) xs
 ascends_before [] n ys p = tt
 ascends_before (x ∷ xs) n ys p = (all_has (λ m. place_of x < place_of m) (xs ++ n ∷ ys) p.0 n (has_behind xs), ascends_before xs n ys p.1)

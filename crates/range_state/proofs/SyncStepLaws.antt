@@ -27,6 +27,7 @@ use Rattle.range_state.specs.State.{State, knows, entry_of, journaled, accept_st
 use Rattle.range_state.specs.Sessions.{taken_in, crowded_in, leaf_fault}
 use Rattle.range_state.specs.Syncs.{leaves_in, offers_at, Progress, known_in, unless_refused, taken_leaves}
 use Rattle.range_state.proofs.BatchLaws.{Offers}
+use Rattle.range_state.proofs.TakenLaws.{step_config}
 
 -- ---- a state beside other records
 
@@ -51,9 +52,6 @@ fault_beside t rs seat offers = λ i. first_fault (crowded_beside t rs seat offe
 
 pub records_stay : (t : State) (seat : ℕ) (offers : Offers) → (taken_in t seat offers).records ≡ t.records
 records_stay t seat offers = ap (λ (u : State). u.records) (taken_beside t t.records seat offers)
-
-step_config : (t : State) (seat : ℕ) (key : List ℕ) (v : Version) → (accept_step t seat Partner key v).config ≡ t.config
-step_config t seat key v = elim (knows t key v) as (λ b. (cond b t (journaled t (entry_of t seat Partner key v))).config ≡ t.config) [ true ↦ refl | false ↦ refl ]
 
 pub config_stays : (t : State) (seat : ℕ) (offers : Offers) → (taken_in t seat offers).config ≡ t.config
 config_stays t seat [] = refl

@@ -113,7 +113,8 @@ step_sound t seat key v ok here clock fits = elim (knows t key v) as (λ b. know
   | false ↦ λ fresh. grown_sound t (entry_of t seat Partner key v) ok here (knows_held t key v ∙ fresh) clock fits
 ] refl
 
-step_config : (t : State) (seat : ℕ) (key : List ℕ) (v : Version) → (accept_step t seat Partner key v).config ≡ t.config
+-- A step keeps the configuration.
+pub step_config : (t : State) (seat : ℕ) (key : List ℕ) (v : Version) → (accept_step t seat Partner key v).config ≡ t.config
 step_config t seat key v = elim (knows t key v) as (λ b. (cond b t (journaled t (entry_of t seat Partner key v))).config ≡ t.config) [ true ↦ refl | false ↦ refl ]
 
 pub taken_sound : (c : Config) (t : State) (leaf seat : ℕ) (offers : Offers) → t.config ≡ c → IsSound t → AllByRecursion (λ o. IsOfferFor c leaf o.0 o.1) offers → crowded_in t seat offers ≡ None → IsSound (taken_in t seat offers)

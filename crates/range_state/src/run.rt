@@ -49,6 +49,7 @@ impl RangeState {
             Event::TakeAnswer(answer) => Reply::TakeAnswer(self.run_answer(alloc, answer)),
             Event::CancelSession(id) => Reply::CancelSession(self.cancel_session(id)),
         };
+        // Called for its clause alone: the state is right.
         let _right = self.journal();
         reply
     }

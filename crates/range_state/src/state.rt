@@ -190,6 +190,7 @@ impl RangeState {
     {
         let leaf = self.home(key, kind, value.as_slice())?;
         let clock = context.raise(alloc, at)?;
+        // Called for its clause alone: the pairs are those of a clock.
         let _valid = clock.pairs();
         let set = self.find(leaf, key);
         check_context(alloc, set, &clock)?;
@@ -253,6 +254,7 @@ impl RangeState {
             ≡ journaled self.old (entry_of self.old seat source key.now version)) }
         ensures err { OnErr result (self.new ≡ self.old) }
     {
+        // Called for its clause alone: the version's clock is one.
         let _valid = version.clock.pairs();
         self.journal.reserve(1)?;
         let receipt = Receipt {

@@ -156,10 +156,7 @@ impl Snapshot {
 fn text_of(alloc: Global, leaf: &SharedLeaf) -> Result<Vec<u8>, Refusal>
     ensures { Answers result None (λ text. text.items ≡ leaf_text leaf.now.format leaf.now.rows) }
 {
-    let Ok(len) = usize::try_from(leaf.text_len()) else {
-        return Err(Refusal::NoMemory);
-    };
-    let mut text = Vec::with_capacity(alloc, len)?;
+    let mut text = Vec::new(alloc);
     leaf.put_text(&mut text)?;
     Ok(text)
 }

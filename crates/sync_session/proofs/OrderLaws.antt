@@ -86,7 +86,7 @@ none_asks_itself own t ts rest e =
 abbrev Bound : List Node → List Node → Type 0
 Bound xs ys = AllByRecursion (λ x. AllByRecursion (λ y. place_of x < 16 * place_of y + 1) ys) xs
 
-Ascends-suffix : (xs ys : List Node) → Ascends (xs ++ ys) → Ascends ys
+pub Ascends-suffix : (xs ys : List Node) → Ascends (xs ++ ys) → Ascends ys
 Ascends-suffix [] ys p = p
 Ascends-suffix (x ∷ xs) ys p = Ascends-suffix xs ys p.1
 

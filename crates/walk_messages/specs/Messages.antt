@@ -18,7 +18,7 @@ message_text (messages.Offer o) = 1 ∷ to_be_bytes w32 o.offer ++ o.format ∷ 
 message_text (messages.Ask a) = 2 ∷ to_be_bytes w32 a.offer ++ node_text a.node
 message_text (messages.Answer a) = 3 ∷ to_be_bytes w32 a.offer ++ node_text a.node ++ to_be_bytes w64 (length a.text) ++ a.text
 
--- a message whose numbers and digest have their widths
+-- a message whose offer number and digest have their widths; the format and the range of an offer are bytes by their types
 abbrev pub IsMessage : Message → Type 0
 IsMessage (messages.Offer o) = (o.offer < 2 ^ 32) × (length o.root ≡ 32)
 IsMessage (messages.Ask a) = a.offer < 2 ^ 32

@@ -27,6 +27,7 @@ impl RangeState {
     {
         let dirty = self.marks.dirty_count() as u64;
         while self.rehash_ready(rt, alloc)? {}
+        // Called for its clause alone: the state is right.
         let _right = self.journal();
         Ok(dirty)
     }

@@ -93,6 +93,7 @@ impl RangeState {
         ensures { TakesAnswer self.old seat id
             (record { node = node_of node; text = text }) result self.new }
     {
+        // Called for its clause alone: the digest is the text's.
         let _bytes = text.text();
         let batch = self.prepare_rows(alloc, seat, node.index, rows)?;
         self.journal.reserve(batch.entries.len() as u64)?;
