@@ -73,8 +73,13 @@ impl Job {
         self.node
     }
 
+    /// How many bytes its room has, as many as its text or a few more.
+    pub(crate) fn room(&self) -> usize {
+        self.room.capacity()
+    }
+
     /// Writes the text into its room. It takes no memory.
-    pub(crate) fn into_text(self) -> Vec<u8>
+    fn into_text(self) -> Vec<u8>
         ensures { result.items ≡ self.text }
     {
         let mut text = self.room;
