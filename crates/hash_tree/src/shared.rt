@@ -6,7 +6,7 @@ ghost use Rattle.vclock.specs.Answer.{Answers};
 ghost use Rattle.vclock.specs.Keys.{key_fault};
 ghost use Rattle.version_set.specs.Kind.{value_fault};
 ghost use Rattle.version_set.specs.Version.{offer_fault};
-ghost use Rattle.hash_tree.specs.Leaves.{versions_in, with_offer};
+ghost use Rattle.hash_tree.specs.Leaves.{IsBucket, versions_in, with_offer};
 ghost use Rattle.hash_tree.specs.Texts.{leaf_text};
 
 use crate::comparing::is_chunked_text;
@@ -104,9 +104,11 @@ impl SharedLeaf {
         }
     }
 
-    /// What is held for a key, if it has a row. It takes no memory, and looks at as many rows as a search by halves does.
+    /// What is held for a key, if it has a row. The rows ascend by key. It takes no memory, and looks at as many rows as a
+    /// search by halves does.
     pub fn find(&self, key: &[u8]) -> Option<&VersionSet>
-        ensures { unwrap_or (option_map (λ s. s.now) result) [] ≡ versions_in key.now self.now.rows }
+        ensures found { unwrap_or (option_map (λ s. s.now) result) [] ≡ versions_in key.now self.now.rows }
+        ensures valid { IsBucket self.now }
     {
         match &self.leaf {
             Some(leaf) => leaf.find(key),
