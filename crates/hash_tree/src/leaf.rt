@@ -5,7 +5,7 @@ ghost use Rattle.vclock.specs.Answer.{Answers};
 ghost use Rattle.vclock.specs.Keys.{key_fault};
 ghost use Rattle.version_set.specs.Kind.{value_fault};
 ghost use Rattle.version_set.specs.Version.{offer_fault, offered};
-ghost use Rattle.hash_tree.specs.Leaves.{AscendByKey, IsPlace, versions_in, with_offer};
+ghost use Rattle.hash_tree.specs.Leaves.{AscendByKey, IsBucket, IsPlace, versions_in, with_offer};
 ghost use Rattle.hash_tree.specs.Chunks.{all_rows, AreChunks};
 ghost use Rattle.hash_tree.specs.Texts.{leaf_text};
 
@@ -90,7 +90,8 @@ impl Leaf {
 
     /// What is held for a key, if it has a row. It takes no memory, and looks at as many rows as a search by halves does.
     pub(crate) fn find(&self, key: &[u8]) -> Option<&VersionSet>
-        ensures { unwrap_or (option_map (λ s. s.now) result) [] ≡ versions_in key.now self.now.rows }
+        ensures found { unwrap_or (option_map (λ s. s.now) result) [] ≡ versions_in key.now self.now.rows }
+        ensures valid { IsBucket self.now }
     {
         if self.chunks.is_empty() {
             return None;

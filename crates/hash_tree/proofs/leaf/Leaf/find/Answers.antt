@@ -12,8 +12,8 @@ find_place-requires c =
     let rows = c.rows-rows.ensures ∙ rows_read chunks i c.index.result.now within c.index.ensures in
     subst AscendByKey (sym rows) (chunk_ascends chunks i within c.self.invariant.0.ascending)
 
-pub returns-in-Ok : goal.returns-in-Ok
-returns-in-Ok c =
+pub returns-in-Ok-clause-found : goal.returns-in-Ok-clause-found
+returns-in-Ok-clause-found c =
     let chunks = c.self.inside.chunks.items in
     let k = c.args.key.now in
     let i = c.chunk_of.result in
@@ -22,8 +22,8 @@ returns-in-Ok c =
     let rows = c.rows-rows.ensures ∙ rows_read chunks i c.index.result.now of.within c.index.ensures in
     sym (c.in-Ok.ensures.holds c.index-rows-at.result) ∙ ap (versions_in k) rows ∙ versions_there k chunks i of ∙ ap (λ (b : Bucket). versions_in k b.rows) c.self.view_is
 
-pub returns-in-Err : goal.returns-in-Err
-returns-in-Err c =
+pub returns-in-Err-clause-found : goal.returns-in-Err-clause-found
+returns-in-Err-clause-found c =
     let chunks = c.self.inside.chunks.items in
     let k = c.args.key.now in
     let i = c.chunk_of.result in
