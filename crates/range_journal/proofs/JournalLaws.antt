@@ -1,5 +1,5 @@
 -- What one more entry changes.
-use Rattle.std.proofs.Common.{◌⊎◌, zero, suc, inl, inr, Decides, true≢false, None, Some, ltb, ◌≤◌, ◌↔◌, Contains, Any, arith, add-zero, ◌≡◌, ℕ, ◌+◌, ◌<◌, Bool, true, false, cond, List, [], ◌∷◌, ◌++◌, length, get_or, take, refl, ap, sym, subst, ◌∙◌, ◌||◌, append_assoc, append-nil}
+use Rattle.std.proofs.Common.{◌⊎◌, zero, suc, inl, inr, Decides, true≢false, None, Some, ltb, ◌≤◌, ◌↔◌, Contains, Any, arith, add-zero, ◌≡◌, ℕ, ◌+◌, ◌<◌, Bool, true, false, cond, List, [], ◌∷◌, ◌++◌, length, get_or, take, refl, ap, sym, subst, ◌∙◌, ◌||◌, append_assoc, append-nil, max}
 use Rattle.std.proofs.lemmas.List.{take_more}
 use Rattle.std.specs.Prelude.{nat_eq}
 use Rattle.std.specs.Cmp.Lexicographic.{pointwise}
@@ -7,15 +7,17 @@ use Rattle.version_set.specs.declared.version.Version.{Version}
 use Rattle.version_set.specs.Version.{covered, is_same, is_below, maximal, with_version, offered, offer_fault, Ascends, set_from}
 use Rattle.version_set.proofs.SetLaws.{offered-maximal, Ascends-with_version, covered-maximal, any-set_from, version_total, is_same-exact}
 use Rattle.range_journal.specs.declared.journal.Entry.{Entry}
-use Rattle.range_journal.specs.Log.{AreNumberedFrom}
-use Rattle.range_journal.specs.Journal.{versions_of, accepted, held, NeverCrowded, AreNewsAfter, AreNews}
-use Rattle.vclock.specs.declared.refusal.Refusal.TheVariants.{Crowded}
+use Rattle.range_journal.specs.Log.{Log, AreNumberedFrom}
+use Rattle.vclock.specs.Outcome.{gives, refuses}
+use Rattle.vclock.specs.declared.refusal.Refusal.{Refusal}
+use Rattle.range_journal.specs.Journal.{reserve, versions_of, accepted, held, NeverCrowded, AreNewsAfter, AreNews}
+use Rattle.vclock.specs.declared.refusal.Refusal.TheVariants.{Crowded, JournalFull}
 use Rattle.std.specs.List.{list_any}
 use Rattle.std.specs.Ordering.{is_eq}
 use Rattle.std.proofs.lemmas.Cmp.{tied_itself}
 use Rattle.std.proofs.lemmas.List.Folds.{Any-from_list_any, list_any-from_Any}
 use Rattle.std.proofs.lemmas.Slice.Eq.{bytes_eq-Decides}
-use Rattle.std.proofs.lemmas.Bool.{le-ltb}
+use Rattle.std.proofs.lemmas.Bool.{le-ltb, lt-ltb, cases_lt}
 
 pub set_from-push : (S vs : List Version) (v : Version) → set_from S (vs ++ v ∷ []) ≡ with_version v (set_from S vs)
 set_from-push S [] v = refl
@@ -153,3 +155,21 @@ pub never_refused : (es : List Entry) (i : ℕ) (x : Entry) (key : List ℕ) (ol
     → old ≡ held (take i es) key → v ≡ x.version → NeverCrowded es key → offer_fault v old ≡ None
 never_refused es i x key old v h is same was copy never =
     fits v old (subst (λ T. length T ≤ 64) (sym (held_took es i x key old (offered v old) v h is same was copy refl)) (never (i + 1)))
+
+-- a reserve that was not refused
+pub record Reserved (log new : Log) (k : ℕ) : Type 0 where
+  pub within : length log.entries + k ≤ log.limit
+  pub is : new ≡ record log { room = max log.room k }
+
+pub reserve_ok : (log new : Log) (k : ℕ) → reserve log k ≡ gives tt new → Reserved log new k
+reserve_ok log new k e = elim (cases_lt log.limit (length log.entries + k)) [
+  | inl full ↦ absurd (let no = rw (lt-ltb log.limit (length log.entries + k) full) at e in cc)
+  | inr room ↦ let same = rw (le-ltb log.limit (length log.entries + k) room) at e in record { within = room; is = cc }
+]
+
+-- and one that was
+pub reserve_err : (log : Log) (k : ℕ) (e : Refusal) → reserve log k ≡ refuses e → (log.limit < length log.entries + k) × (e ≡ JournalFull)
+reserve_err log k e is = elim (cases_lt log.limit (length log.entries + k)) [
+  | inl full ↦ let same = rw (lt-ltb log.limit (length log.entries + k) full) at is in (full, cc)
+  | inr room ↦ absurd (let no = rw (le-ltb log.limit (length log.entries + k) room) at is in cc)
+]

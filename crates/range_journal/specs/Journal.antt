@@ -1,22 +1,27 @@
 -- Journals, and what they say of keys: a put is a new version beside those of the paper of 2007, section 4.4.
-use Rattle.std.specs.Prelude.{◌≡◌, ℕ, ◌+◌, ◌-◌, false, List, [], ◌∷◌, ◌++◌, length, take, ◌≤◌, nat_lt, nat_eq, Option, Some, None, if◌then◌else◌}
+use Rattle.std.specs.Prelude.{◌≡◌, ℕ, ◌+◌, ◌-◌, false, List, [], ◌∷◌, ◌++◌, length, take, ◌≤◌, nat_lt, nat_eq, max, if◌then◌else◌}
 use Rattle.std.specs.Cmp.Lexicographic.{pointwise}
 use Rattle.vclock.specs.declared.refusal.Refusal.{Refusal}
 use Rattle.vclock.specs.declared.refusal.Refusal.TheVariants.{JournalFull}
 use Rattle.version_set.specs.declared.version.Version.{Version}
 use Rattle.version_set.specs.Version.{covered, maximal, set_from}
 use Rattle.range_journal.specs.declared.journal.Entry.{Entry}
+use Rattle.range_journal.specs.declared.journal.Source.{Source}
+use Rattle.vclock.specs.Outcome.{Outcome, gives, refuses}
 use Rattle.range_journal.specs.Log.{Log}
 
 -- the journal with an entry at its end
 abbrev pub with_entry : Log → Entry → Log
 with_entry log e = record { entries = log.entries ++ e ∷ []; limit = log.limit; room = log.room - 1 }
 
-abbrev pub append_fault : Log → Option Refusal
-append_fault log = if nat_lt (length log.entries) log.limit then None else Some JournalFull
+-- room for so many more entries, within the limit
+abbrev pub reserve : Log → ℕ → Outcome (Unit {0}) Log
+reserve log k = if nat_lt log.limit (length log.entries + k) then refuses JournalFull else gives tt (record log { room = max log.room k })
 
-abbrev pub reserve_fault : Log → ℕ → Option Refusal
-reserve_fault log k = if nat_lt log.limit (length log.entries + k) then Some JournalFull else None
+-- the next number, and the journal with an entry of it
+abbrev pub append : Log → ℕ → Source → List ℕ → Version → Outcome ℕ Log
+append log seat source key version =
+    if nat_lt (length log.entries) log.limit then gives (length log.entries) (with_entry log (record { number = length log.entries; seat = seat; source = source; key = key; version = version })) else refuses JournalFull
 
 -- the versions that the entries have for a key, in order
 abbrev pub versions_of : List Entry → List ℕ → List Version

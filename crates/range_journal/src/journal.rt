@@ -2,8 +2,9 @@
 ghost use Rattle.std.specs.Prelude.{◌≡◌, ◌≤◌, ◌⊎◌, [], length, max, ⊤, None, OnOk, OnErr, IfOk, IfErr, slice_get};
 ghost use Rattle.std.specs.Option.{option_copied};
 ghost use Rattle.vclock.specs.Answer.{Answers};
+ghost use Rattle.vclock.specs.Outcome.{Does};
 ghost use Rattle.range_journal.specs.Log.{IsLog};
-ghost use Rattle.range_journal.specs.Journal.{with_entry, append_fault, reserve_fault, held, NeverCrowded};
+ghost use Rattle.range_journal.specs.Journal.{append, reserve, with_entry, held, NeverCrowded};
 
 use std::alloc::Global;
 use std::marker::Model;
@@ -98,10 +99,8 @@ impl Journal {
     ///
     /// Refused, in order: JournalFull (they would pass the limit), NoMemory. The journal is then as it was.
     pub fn reserve(&mut self, entries: u64) -> Result<(), Refusal>
-        ensures answers { Answers result (reserve_fault self.old entries) (λ _. ⊤) }
+        ensures reserves { Does result self.old self.new (reserve self.old entries) }
         ensures roomy { entries ≤ self.old.room → IfErr result (λ e. ¬ (e ≡ Refusal.NoMemory)) }
-        ensures ok { OnOk result (self.new ≡ record self.old { room = max self.old.room entries }) }
-        ensures err { OnErr result (self.new ≡ self.old) }
     {
         if entries > self.limit - self.len() {
             return Err(Refusal::JournalFull);
@@ -123,10 +122,8 @@ impl Journal {
         key: Bytes,
         version: Version,
     ) -> Result<u64, Refusal>
-        ensures answers { Answers result (append_fault self.old) (λ number. number ≡ length self.old.entries) }
+        ensures appends { Does result self.old self.new (append self.old seat source key version) }
         ensures roomy { 1 ≤ self.old.room → IfErr result (λ e. ¬ (e ≡ Refusal.NoMemory)) }
-        ensures added { OnOk result (self.new ≡ with_entry self.old (record { number = length self.old.entries; seat = seat; source = source; key = key; version = version })) }
-        ensures err { OnErr result (self.new ≡ self.old) }
     {
         self.reserve(1)?;
         Ok(self.append_reserved(seat, source, key, version))

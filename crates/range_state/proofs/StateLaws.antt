@@ -23,8 +23,11 @@ use Rattle.version_set.proofs.ListLaws.{all-filter, all-push}
 use Rattle.range_journal.specs.declared.journal.Entry.{Entry}
 use Rattle.range_journal.specs.Log.{Log}
 use Rattle.range_journal.specs.declared.journal.Source.TheVariants.{Partner}
-use Rattle.range_journal.specs.Journal.{accepted, held, versions_of, AreNews, reserve_fault}
-use Rattle.range_journal.proofs.JournalLaws.{AreNews-push, covered-held}
+use Rattle.range_journal.specs.declared.journal.Source.{Source}
+use Rattle.range_journal.specs.Journal.{accepted, held, versions_of, AreNews}
+use Rattle.range_journal.proofs.JournalLaws.{AreNews-push, covered-held, Reserved}
+use Rattle.vclock.specs.Outcome.{Outcome, gives, refuses, is_given}
+use Rattle.vclock.proofs.OutcomeLaws.{bind_err}
 use Rattle.row_bytes.specs.Rows.{IsRow}
 use Rattle.row_bytes.proofs.LimitLaws.{no_fault, no_fault_else}
 use Rattle.row_bytes.specs.declared.row.Row.{Row}
@@ -35,9 +38,10 @@ use Rattle.hash_tree.specs.Texts.{AreTrue, IsTreeFor}
 use Rattle.hash_tree.proofs.TreeLaws.{true_kept, true_fresh, tree_fresh, tree_dirtied}
 use Rattle.range_state.specs.Config.{Config, is_config}
 use Rattle.range_state.specs.Rows.{rows_of}
-use Rattle.range_state.specs.State.{State, all_dirty, fresh, tree_of, bucket_of, leaf_in, leaf_count, place_fault, journaled, full_fault, knows, accept_fault, stale_fault, IsOwn, IsRight, IsFromPartner, AreLeaves}
+use Rattle.range_state.specs.State.{State, all_dirty, fresh, tree_of, bucket_of, leaf_in, leaf_count, place_fault, journaled, full_fault, knows, entry_of, admit, accept, stale_fault, IsOwn, IsRight, IsFromPartner, AreLeaves}
 use Rattle.range_state.specs.declared.«record».Record.{Record}
 use Rattle.range_state.proofs.RecordLaws.{all_kept}
+use Rattle.range_state.specs.declared.event.Accepted.TheVariants.{Taken}
 use Rattle.range_state.proofs.RowLaws.{leaf_holds, leaf-push, rows_of-push, rows_of-ascend, versions_in-rows_of}
 use Rattle.range_state.proofs.RowTexts.{rows_offered, no_row}
 
@@ -172,23 +176,19 @@ IfSome-all P (Some set) S is all = subst (AllByRecursion P) (sym is) all
 IfSome-all P None S is all = tt
 
 -- where a reserve was not refused, the journal is not full
-pub room_left : (s : State) (log : Log) → log.entries ≡ s.entries → log.limit ≡ s.config.limit → reserve_fault log 1 ≡ None → full_fault s ≡ None
-room_left s log entries limit h =
-    let at : reserve_fault (record { entries = s.entries; limit = s.config.limit; room = log.room }) 1 ≡ None = subst (λ (t : ℕ). cond (nat_lt t (length s.entries + 1)) (Some JournalFull) None ≡ None) limit (subst (λ (t : List Entry). cond (nat_lt log.limit (length t + 1)) (Some JournalFull) None ≡ None) entries h) in
-    elim (cases_lt s.config.limit (length s.entries + 1)) [
-      | inl full ↦ absurd (let no : Some JournalFull ≡ None = rw (lt-ltb s.config.limit (length s.entries + 1) full) at at in cc)
-      | inr room ↦ rw (lt-ltb (length s.entries) s.config.limit (omega (arith, room))) refl
-    ]
+pub room_left : (s : State) (log new : Log) → log.entries ≡ s.entries → log.limit ≡ s.config.limit → Reserved log new 1 → full_fault s ≡ None
+room_left s log new entries limit h =
+    rw (lt-ltb (length s.entries) s.config.limit (omega (arith, h.within, ap length entries, limit))) refl
 
 -- an offer that fits is refused for want of memory alone
-pub admit_err : (s : State) (leaves : List Bucket) (leaf : ℕ) (key : List ℕ) (v w : Version) (b : Bucket) (e : Refusal) → AreLeaves s.config s.entries leaves → leaf ≡ leaf_in s.config key → b ≡ get_or leaves leaf b → w ≡ v
-    → full_fault s ≡ None → offer_fault v (held s.entries key) ≡ None
-    → ((offer_fault w (versions_in key b.rows) ≡ None) × (e ≡ NoMemory)) ⊎ (offer_fault w (versions_in key b.rows) ≡ Some e) → ((full_fault s ≡ None) × (e ≡ NoMemory)) ⊎ (full_fault s ≡ Some e)
-admit_err s leaves leaf key v w b e ok at is copy room fits h =
-    let here = set_here s leaves leaf key b ok at is in
-    let same : offer_fault w (versions_in key b.rows) ≡ None = (λ i. offer_fault (copy i) (here i)) ∙ fits in
+pub admit_err : (s : State) (leaves : List Bucket) (leaf : ℕ) (x : Entry) (v w : Version) (b : Bucket) (e : Refusal) → AreLeaves s.config s.entries leaves → leaf ≡ leaf_in s.config x.key → b ≡ get_or leaves leaf b → w ≡ v
+    → full_fault s ≡ None → offer_fault v (held s.entries x.key) ≡ None
+    → ((offer_fault w (versions_in x.key b.rows) ≡ None) × (e ≡ NoMemory)) ⊎ (offer_fault w (versions_in x.key b.rows) ≡ Some e) → ((e ≡ NoMemory) × IsTrue (is_given (admit s x))) ⊎ (admit s x ≡ refuses e)
+admit_err s leaves leaf x v w b e ok at is copy room fits h =
+    let here = set_here s leaves leaf x.key b ok at is in
+    let same : offer_fault w (versions_in x.key b.rows) ≡ None = (λ i. offer_fault (copy i) (here i)) ∙ fits in
     elim h [
-      | inl m ↦ inl (room, m.1)
+      | inl m ↦ inl (m.1, rw room refl)
       | inr f ↦ absurd (let no : Some e ≡ None = sym f ∙ same in cc)
     ]
 
@@ -330,8 +330,7 @@ news s key v r h = sym (knows_held s key v) ∙ unseen v (held s.entries key) r 
 
 -- ---- why a version that is not known is refused
 
-pub accept_crowded : (s : State) (key : List ℕ) (v : Version) → place_fault s.config key v.kind v.value ≡ None → knows s key v ≡ false → offer_fault v (held s.entries key) ≡ Some Crowded → accept_fault s key v ≡ Some Crowded
-accept_crowded s key v here news full = rw (here, news, full) refl
-
-pub accept_late : (s : State) (key : List ℕ) (v : Version) → place_fault s.config key v.kind v.value ≡ None → knows s key v ≡ false → offer_fault v (held s.entries key) ≡ None → accept_fault s key v ≡ full_fault s
-accept_late s key v here news fits = rw (here, news, fits) refl
+pub accept_refused : (s : State) (seat : ℕ) (source : Source) (key : List ℕ) (v : Version) (e : Refusal) → place_fault s.config key v.kind v.value ≡ None → knows s key v ≡ false → offer_fault v (held s.entries key) ≡ None
+    → ((e ≡ NoMemory) × IsTrue (is_given (admit s (entry_of s seat source key v)))) ⊎ (admit s (entry_of s seat source key v) ≡ refuses e) → ((e ≡ NoMemory) × IsTrue (is_given (accept s seat source key v))) ⊎ (accept s seat source key v ≡ refuses e)
+accept_refused s seat source key v e here news fits h =
+    rw (here, news, fits) (bind_err (admit s (entry_of s seat source key v)) (λ p. gives (Taken p.0) p.1) e (λ p. refl) h)

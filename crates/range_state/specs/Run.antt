@@ -3,10 +3,11 @@ use Rattle.std.specs.Prelude.{◌≡◌, ⊤, Result, Option, List, [], ◌∷�
 use Rattle.std.specs.Arc.{arc_value}
 use Rattle.std.specs.declared.alloc.Global.{Global}
 use Rattle.std.specs.declared.sync.Arc.{Arc}
-use Rattle.vclock.specs.Answer.{Answers, AnswersAtOnce, AnswersOrNoMemory}
+use Rattle.vclock.specs.Answer.{Answers}
+use Rattle.vclock.specs.Outcome.{Does, DoesAtOnce, DoesOrNoMemory}
 use Rattle.vclock.specs.declared.refusal.Refusal.{Refusal}
 use Rattle.vclock.specs.declared.refusal.Refusal.TheVariants.{NoMemory}
-use Rattle.std.specs.Prelude.{None, IfErr, OnOk, OnErr}
+use Rattle.std.specs.Prelude.{None, IfErr}
 use Rattle.version_set.specs.declared.version.Version.{Version}
 use Rattle.range_journal.specs.declared.journal.Entry.{Entry}
 use Rattle.range_journal.specs.Journal.{held}
@@ -21,20 +22,19 @@ use Rattle.range_state.specs.declared.event.AnswerEvent.{AnswerEvent}
 use Rattle.range_state.specs.declared.event.AnswerTaken.{AnswerTaken}
 use Rattle.range_state.specs.declared.event.Reply.{Reply}
 use Rattle.range_state.specs.declared.event.Reply.TheVariants as replies
-use Rattle.range_state.specs.State.{State, IsRight, GivesJob, journaled, ask_fault, put_fault, put_entry, accept_fault, accept_step, accept_reply, install_fault, installed, rows_now, dirty_fault}
-use Rattle.range_state.specs.Sessions.{open_fault, opened, unknown_fault, cancelled_at, TakesAnswer}
+use Rattle.range_state.specs.State.{State, IsRight, GivesJob, ask_fault, put, accept, install, rows_now, dirty_fault}
+use Rattle.range_state.specs.Sessions.{open_session, cancel_session, TakesAnswer}
 use Rattle.sync_session.specs.TreeNodes.{node_of}
 use Rattle.rehash.specs.Jobs.{NodeText}
 use Rattle.snapshot.specs.RowMaps.{RowMap}
 
--- a put answered its entry, which the journal has from then on; or it was refused, and nothing changed: NoMemory stands in
--- place of no cause that is tested before the clock is raised
+-- a put: NoMemory stands in place of no cause that is tested before the clock is raised
 abbrev pub PutStep : State → PutEvent → Result Entry Refusal → State → Type 0
-PutStep s p r t = IfErr r (λ e. e ≡ NoMemory → ask_fault s.config p.at p.key p.context p.kind p.value ≡ None) × AnswersOrNoMemory r (put_fault s p.at p.key p.context p.kind p.value) (λ e. e ≡ put_entry s p.seat p.at p.key p.context p.kind p.value) × OnOk r (t ≡ journaled s (put_entry s p.seat p.at p.key p.context p.kind p.value)) × OnErr r (t ≡ s)
+PutStep s p r t = DoesOrNoMemory r s t (put s p.seat p.at p.key p.context p.kind p.value) × IfErr r (λ e. e ≡ NoMemory → ask_fault s.config p.at p.key p.context p.kind p.value ≡ None)
 
--- a version was taken or known; or it was refused, and nothing changed
+-- a version from another node
 abbrev pub AcceptStep : State → AcceptEvent → Result Accepted Refusal → State → Type 0
-AcceptStep s a r t = Answers r (accept_fault s a.key a.version) (λ x. x ≡ accept_reply s a.seat a.source a.key a.version) × OnOk r (t ≡ accept_step s a.seat a.source a.key a.version) × OnErr r (t ≡ s)
+AcceptStep s a r t = Does r s t (accept s a.seat a.source a.key a.version)
 
 -- the held versions were answered, and nothing changed
 abbrev pub GetStep : State → List ℕ → Result (List Version) Refusal → State → Type 0
@@ -44,25 +44,25 @@ GetStep s key r t = Answers r None (λ set. set ≡ held s.entries key) × (t �
 abbrev pub TakeJobStep : State → Result (Option NodeText) Refusal → State → Type 0
 TakeJobStep s r t = Answers r None (GivesJob s) × (t ≡ s)
 
--- a node got the digest of its text; or it was refused, and nothing changed
+-- the digest of a node's text
 abbrev pub InstallStep : State → InstallEvent → Result ⊤ Refusal → State → Type 0
-InstallStep s i r t = AnswersAtOnce r (install_fault s i.node i.hashed) (λ _. ⊤) × OnOk r (t ≡ installed s i.node i.hashed) × OnErr r (t ≡ s)
+InstallStep s i r t = DoesAtOnce r s t (install s i.node i.hashed)
 
 -- the rows now were answered, or some node had no digest; and nothing changed
 abbrev pub SnapshotStep : State → Result (Arc RowMap Global) Refusal → State → Type 0
 SnapshotStep s r t = Answers r (dirty_fault s) (λ snapshot. arc_value snapshot ≡ rows_now s) × (t ≡ s)
 
--- a session was opened, and its number answered; or it was refused, and nothing changed
+-- a new session
 abbrev pub OpenStep : State → OpenEvent → Result ℕ Refusal → State → Type 0
-OpenStep s o r t = Answers r (open_fault s o.offer) (λ id. id ≡ length s.records) × OnOk r (t ≡ opened s o.partner o.offer) × OnErr r (t ≡ s)
+OpenStep s o r t = Does r s t (open_session s o.partner o.offer)
 
 -- a partner's text was taken or refused
 abbrev pub TakeAnswerStep : State → AnswerEvent → Result AnswerTaken Refusal → State → Type 0
 TakeAnswerStep s a r t = TakesAnswer s a.seat a.id (record { node = node_of a.node; text = a.text }) r t
 
--- a session that was open has ended; or there is none of that number, and nothing changed
+-- a session is cancelled
 abbrev pub CancelStep : State → ℕ → Result ⊤ Refusal → State → Type 0
-CancelStep s id r t = AnswersAtOnce r (unknown_fault s id) (λ _. ⊤) × (t ≡ cancelled_at s id)
+CancelStep s id r t = DoesAtOnce r s t (cancel_session s id)
 
 -- from s, the event is answered by the reply, and leaves t
 unfoldable pub IsStep : State → Event → Reply → State → Type 0

@@ -2,6 +2,7 @@
 use Rattle.std.specs.Prelude.{◌≡◌, ◌⊎◌, ℕ, ◌+◌, ◌<◌, nat_le, ◌==◌, ◌||◌, ◌++◌, List, [], ◌∷◌, length, slice_get, map, slice_set, Option, Some, None, Result, Ok, Err, if◌then◌else◌}
 use Rattle.std.specs.List.{filter, flat_map}
 use Rattle.vclock.specs.Answer.{first_fault}
+use Rattle.vclock.specs.Outcome.{Outcome, gives, refuses, ◌>>◌}
 use Rattle.vclock.specs.declared.format.Format.{Format}
 use Rattle.vclock.specs.declared.format.Format.TheVariants.{One, Two}
 use Rattle.vclock.specs.declared.refusal.Refusal.{Refusal}
@@ -41,13 +42,17 @@ standings records = map (λ (r : Record). r.session.state) records
 abbrev pub crowd_fault : List SessionState → Option Refusal
 crowd_fault states = if nat_le 64 (length (filter is_open_state states)) || nat_le 1024 (length states) then Some refusals.SessionsFull else None
 
--- why a partner's offer is refused, in the order in which the causes are tested
-abbrev pub open_fault : State → Offer → Option Refusal
-open_fault s offer = first_fault (foreign_fault s.config offer) (first_fault (crowd_fault (standings s.records)) (dirty_fault s))
-
 -- the state with one more record: a session that compares the rows now with those of an offered root
 abbrev pub opened : State → ℕ → Offer → State
 opened s partner offer = record { config = s.config; entries = s.entries; marks = s.marks; records = s.records ++ (record { partner = partner; session = started (rows_now s) offer.root }) ∷ [] }
+
+-- the number of a new session, and the state with its record
+abbrev pub open_session : State → ℕ → Offer → Outcome ℕ State
+open_session s partner offer = do
+  foreign_fault s.config offer
+  crowd_fault (standings s.records)
+  dirty_fault s
+  gives (length s.records) (opened s partner offer)
 
 -- ---- changing a record
 
@@ -55,14 +60,14 @@ opened s partner offer = record { config = s.config; entries = s.entries; marks 
 abbrev pub walked_to : State → ℕ → Record → Walk → State
 walked_to s id r w = record { config = s.config; entries = s.entries; marks = s.marks; records = slice_set s.records id (record { partner = r.partner; session = w }) }
 
--- the record of a session is cancelled, or there is none and nothing changes
-abbrev pub cancelled_for : State → ℕ → Option Record → State
-cancelled_for s id None = s
-cancelled_for s id (Some r) = walked_to s id r (cancelled_by r.session r.session.state)
+-- the session of a record is cancelled, if there is one
+abbrev pub cancel_record : State → ℕ → Option Record → Outcome (Unit {0}) State
+cancel_record s id None = refuses refusals.UnknownSession
+cancel_record s id (Some r) = gives tt (walked_to s id r (cancelled_by r.session r.session.state))
 
--- the state after a session of that number was cancelled, if there is one
-abbrev pub cancelled_at : State → ℕ → State
-cancelled_at s id = cancelled_for s id (slice_get s.records id)
+-- the session of that number is cancelled, if there is one
+abbrev pub cancel_session : State → ℕ → Outcome (Unit {0}) State
+cancel_session s id = cancel_record s id (slice_get s.records id)
 
 -- why a session that may have no record is refused
 abbrev pub unknown_for : Option Record → Option Refusal

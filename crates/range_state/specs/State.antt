@@ -5,6 +5,7 @@ use Rattle.std.specs.List.{list_any, AllByRecursion}
 use Rattle.std.specs.Cmp.Lexicographic.{pointwise}
 use Rattle.sha2.specs.Sha256.{sha256}
 use Rattle.vclock.specs.Answer.{first_fault}
+use Rattle.vclock.specs.Outcome.{Outcome, gives, refuses, ◌>>=◌, ◌>>◌}
 use Rattle.vclock.specs.Clock.{at_most, raised, raise_fault, Pairs}
 use Rattle.vclock.specs.Keys.{key_fault}
 use Rattle.vclock.specs.declared.format.Format.{Format}
@@ -94,6 +95,21 @@ accept_reply s seat source key v = if knows s key v then Known else Taken (entry
 abbrev pub accept_step : State → ℕ → Source → List ℕ → Version → State
 accept_step s seat source key v = if knows s key v then s else journaled s (entry_of s seat source key v)
 
+-- an entry, and the state with it at the end
+abbrev pub admit : State → Entry → Outcome Entry State
+admit s e = do
+  full_fault s
+  gives e (journaled s e)
+
+-- a version that was made elsewhere is known, or is an entry from then on
+abbrev pub accept : State → ℕ → Source → List ℕ → Version → Outcome Accepted State
+accept s seat source key v = do
+  place_fault s.config key v.kind v.value
+  if knows s key v then gives Known s else do
+    offer_fault v (held s.entries key)
+    taken ← admit s (entry_of s seat source key v)
+    gives (Taken taken.0) taken.1
+
 -- the version that a put at a node makes: its clock is the context with the node's counter raised by one
 abbrev pub put_version : ℕ → Pairs → Kind → List ℕ → Version
 put_version at context kind value = record { clock = raised context at; kind = kind; value = value }
@@ -113,6 +129,15 @@ put_fault s at key context kind value = first_fault (ask_fault s.config at key c
 -- the entry of a put
 abbrev pub put_entry : State → ℕ → ℕ → List ℕ → Pairs → Kind → List ℕ → Entry
 put_entry s seat at key context kind value = entry_of s seat Client key (put_version at context kind value)
+
+-- a value that is put at a node is an entry from then on
+abbrev pub put : State → ℕ → ℕ → List ℕ → Pairs → Kind → List ℕ → Outcome Entry State
+put s seat at key context kind value = do
+  place_fault s.config key kind value
+  raise_fault context at
+  stale_fault (held s.entries key) (raised context at)
+  offer_fault (put_version at context kind value) (held s.entries key)
+  admit s (put_entry s seat at key context kind value)
 
 -- whether the range's tree has a node
 abbrev pub has_node : Config → NodeAt → Bool
@@ -146,13 +171,13 @@ pub record AreJobs (s : State) (most : ℕ) (jobs : List NodeText) : Type 0 wher
 abbrev pub is_current : State → NodeAt → List ℕ → Bool
 is_current s node text = has_node s.config node && are_clean (children_of s.marks (place_of node)) && pointwise nat_eq text (text_in s node)
 
--- why a digest is not installed
-abbrev pub install_fault : State → NodeAt → List ℕ → Option Refusal
-install_fault s node text = if is_current s node text then None else Some Stale
-
 -- the state with the digest of a text
 abbrev pub installed : State → NodeAt → List ℕ → State
 installed s node text = record { config = s.config; entries = s.entries; marks = slice_set s.marks (place_of node) (Some (sha256 text)); records = s.records }
+
+-- a text's digest is installed
+abbrev pub install : State → NodeAt → List ℕ → Outcome (Unit {0}) State
+install s node text = if is_current s node text then gives tt (installed s node text) else refuses Stale
 
 -- the rows now
 abbrev pub rows_now : State → RowMap

@@ -2,6 +2,7 @@
 ghost use Rattle.std.specs.Prelude.{◌≡◌, ◌<◌, ◌≤◌, ◌^◌, ⊤, [], false, if◌then◌else◌, None, Some, unwrap_or, option_map, replicate, IsTrue, IfOk, IfErr, OnOk, OnErr};
 ghost use Rattle.std.specs.List.{list_any, AllByRecursion};
 ghost use Rattle.vclock.specs.Answer.{Answers, AnswersAtOnce, AnswersOrNoMemory};
+ghost use Rattle.vclock.specs.Outcome.{Does, DoesOrNoMemory};
 ghost use Rattle.vclock.specs.Clock.{at_most};
 ghost use Rattle.version_set.specs.Kind.{value_fault};
 ghost use Rattle.version_set.specs.Version.{covered, offer_fault};
@@ -11,7 +12,7 @@ ghost use Rattle.key_ring.specs.Places.{leaf_bits};
 ghost use Rattle.hash_tree.specs.Leaves.{rows_at};
 ghost use Rattle.range_state.specs.Sent.{is_sent};
 ghost use Rattle.range_state.specs.Rows.{rows_of};
-ghost use Rattle.range_state.specs.State.{IsRight, fresh, leaf_in, leaf_count, place_fault, ask_fault, stale_fault, full_fault, accept_fault, put_fault, entry_of, put_entry, put_version, journaled, knows, accept_step, accept_reply};
+ghost use Rattle.range_state.specs.State.{IsRight, fresh, leaf_in, leaf_count, place_fault, ask_fault, stale_fault, full_fault, entry_of, put_entry, put_version, journaled, knows, admit, accept, put};
 
 use crate::config::RangeConfig;
 use crate::event::{Accepted, Receipt};
@@ -144,10 +145,7 @@ impl RangeState {
         version: Version,
     ) -> Result<Accepted, Refusal>
         requires { IsTrue (is_sent source) }
-        ensures answers { Answers result (accept_fault self.old key.now version)
-            (λ reply. reply ≡ accept_reply self.old seat source key.now version) }
-        ensures step { OnOk result (self.new ≡ accept_step self.old seat source key.now version) }
-        ensures err { OnErr result (self.new ≡ self.old) }
+        ensures { Does result self.old self.new (accept self.old seat source key.now version) }
     {
         let leaf = self.home(key, version.kind, version.value.as_slice())?;
         let set = self.find(leaf, key);
@@ -180,13 +178,10 @@ impl RangeState {
         value: Bytes,
     ) -> Result<Receipt, Refusal>
         requires { 1 ≤ at }
-        ensures answers { AnswersOrNoMemory result (put_fault self.old at key.now context.now kind value)
-            (λ receipt. receipt ≡ put_entry self.old seat at key.now context.now kind value) }
+        ensures puts { DoesOrNoMemory result self.old self.new
+            (put self.old seat at key.now context.now kind value) }
         ensures early { IfErr result (λ e. e ≡ Refusal.NoMemory
             → ask_fault self.old.config at key.now context.now kind value ≡ None) }
-        ensures step { OnOk result (self.new
-            ≡ journaled self.old (put_entry self.old seat at key.now context.now kind value)) }
-        ensures err { OnErr result (self.new ≡ self.old) }
     {
         let leaf = self.home(key, kind, value.as_slice())?;
         let clock = context.raise(alloc, at)?;
@@ -248,11 +243,8 @@ impl RangeState {
         requires here { place_fault self.old.config key.now version.kind version.value ≡ None }
         requires news { knows self.old key.now version ≡ false }
         requires fits { offer_fault version (held self.old.entries key.now) ≡ None }
-        ensures answers { Answers result (full_fault self.old)
-            (λ receipt. receipt ≡ entry_of self.old seat source key.now version) }
-        ensures step { OnOk result (self.new
-            ≡ journaled self.old (entry_of self.old seat source key.now version)) }
-        ensures err { OnErr result (self.new ≡ self.old) }
+        ensures { Does result self.old self.new
+            (admit self.old (entry_of self.old seat source key.now version)) }
     {
         // Called for its clause alone: the version's clock is one.
         let _valid = version.clock.pairs();

@@ -1,9 +1,10 @@
 //! Sessions of a range with its partners.
-ghost use Rattle.std.specs.Prelude.{◌≡◌, ⊤, length, OnOk, OnErr};
-ghost use Rattle.vclock.specs.Answer.{Answers, AnswersAtOnce};
+ghost use Rattle.std.specs.Prelude.{◌≡◌, ⊤};
+ghost use Rattle.vclock.specs.Answer.{AnswersAtOnce};
+ghost use Rattle.vclock.specs.Outcome.{Does, DoesAtOnce};
 ghost use Rattle.range_state.specs.State.{IsRight};
 ghost use Rattle.range_state.specs.Records.{is_open, open_count};
-ghost use Rattle.range_state.specs.Sessions.{number_of, foreign_fault, standings, crowd_fault, open_fault, opened, unknown_fault, cancelled_at};
+ghost use Rattle.range_state.specs.Sessions.{number_of, foreign_fault, standings, crowd_fault, open_session, cancel_session};
 
 use crate::record::Record;
 use crate::state::RangeState;
@@ -40,9 +41,7 @@ impl RangeState {
         partner: u16,
         offer: Offer,
     ) -> Result<u64, Refusal>
-        ensures answers { Answers result (open_fault self.old offer) (λ id. id ≡ length self.old.records) }
-        ensures step { OnOk result (self.new ≡ opened self.old partner offer) }
-        ensures err { OnErr result (self.new ≡ self.old) }
+        ensures { Does result self.old self.new (open_session self.old partner offer) }
     {
         self.check_offer(&offer)?;
         check_crowd(&self.records)?;
@@ -56,8 +55,7 @@ impl RangeState {
     /// Ends a session that is open; another stays as it is. It takes no memory. Refused: UnknownSession (there is no
     /// record of that number).
     pub fn cancel_session(&mut self, id: u64) -> Result<(), Refusal>
-        ensures answers { AnswersAtOnce result (unknown_fault self.old id) (λ _. ⊤) }
-        ensures step { self.new ≡ cancelled_at self.old id }
+        ensures { DoesAtOnce result self.old self.new (cancel_session self.old id) }
     {
         if id >= self.records.len() as u64 {
             return Err(Refusal::UnknownSession);

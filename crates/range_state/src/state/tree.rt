@@ -1,9 +1,10 @@
 //! The tree of a range: jobs of hashing, and their digests.
-ghost use Rattle.std.specs.Prelude.{◌≡◌, ◌+◌, ◌∷◌, ⊤, [], None, IsTrue, IfSome, MatchOption, OnOk, OnErr};
+ghost use Rattle.std.specs.Prelude.{◌≡◌, ◌+◌, ◌∷◌, ⊤, [], None, IsTrue, IfSome, MatchOption};
 ghost use Rattle.sha2.specs.Sha256.{sha256};
-ghost use Rattle.vclock.specs.Answer.{Answers, AnswersAtOnce};
+ghost use Rattle.vclock.specs.Answer.{Answers};
+ghost use Rattle.vclock.specs.Outcome.{DoesAtOnce};
 ghost use Rattle.hash_tree.specs.Nodes.{digest_at, is_ready, ready_from};
-ghost use Rattle.range_state.specs.State.{has_node, place_of, text_in, IsJob, GivesJob, AreJobs, is_current, install_fault, installed};
+ghost use Rattle.range_state.specs.State.{has_node, place_of, text_in, IsJob, GivesJob, AreJobs, is_current, install, installed};
 
 use crate::state::RangeState;
 use hash_tree::comparing::is_inner_text;
@@ -57,9 +58,7 @@ impl RangeState {
     /// Refused: Stale (the range's tree has no such node, one of its children is dirty, or its text is another one now). The
     /// state is then as it was. It takes no memory: the text is compared with the rows in place.
     pub fn install(&mut self, node: NodeAt, hashed: &Hashed) -> Result<(), Refusal>
-        ensures answers { AnswersAtOnce result (install_fault self.old node hashed.now) (λ _. ⊤) }
-        ensures step { OnOk result (self.new ≡ installed self.old node hashed.now) }
-        ensures err { OnErr result (self.new ≡ self.old) }
+        ensures { DoesAtOnce result self.old self.new (install self.old node hashed.now) }
     {
         if !self.is_current(node, hashed.text()) {
             return Err(Refusal::Stale);
