@@ -1,8 +1,8 @@
 -- What a session answers to a text, and what the range is then.
 use Rattle.std.proofs.Common.{◌≡◌, ◌≢◌, ℕ, zero, suc, ◌+◌, ◌<◌, ◌≤◌, ◌^◌, ◌⊎◌, Bool, true, false, cond, Option, Some, None, List, [], ◌∷◌, ◌++◌, length, set, get_or, refl, sym, ap, subst, ◌∙◌, inl, inr, arith, append_assoc, append-nil, slice_get}
-use Rattle.std.specs.Prelude.{nat_eq, nat_lt, nat_le, Ok, Err, MatchOption}
+use Rattle.std.specs.Prelude.{nat_eq, nat_lt, nat_le, Ok, Err, MatchOption, IsTrue}
 use Rattle.std.specs.List.{AllByRecursion}
-use Rattle.std.proofs.lemmas.Bool.{cases_eq, cases_lt, lt-ltb, le-ltb, le-leb}
+use Rattle.std.proofs.lemmas.Bool.{cases_eq, le-leb}
 use Rattle.std.proofs.lemmas.Bool.Decides.{nat_tests}
 use Rattle.std.proofs.lemmas.List.{length-append, length-set, set-get_or, get_or-set_same, get_or-set_other}
 use Rattle.std.proofs.lemmas.Option.{slice_get_read, slice_get_within, get_or_from_slice_get}
@@ -14,7 +14,9 @@ use Rattle.vclock.specs.declared.refusal.Refusal.TheVariants.{NoMemory, Crowded,
 use Rattle.version_set.specs.Version.{covered, maximal, with_version, offer_fault}
 use Rattle.version_set.specs.declared.version.Version.{Version}
 use Rattle.range_journal.specs.declared.journal.Entry.{Entry}
-use Rattle.range_journal.specs.Journal.{held, reserve_fault}
+use Rattle.range_journal.specs.Journal.{held, reserve}
+use Rattle.range_journal.proofs.JournalLaws.{Reserved, reserve_err}
+use Rattle.vclock.specs.Outcome as outcome
 use Rattle.range_journal.specs.Log.{Log}
 use Rattle.range_journal.specs.declared.journal.Source.TheVariants.{Partner}
 use Rattle.key_ring.specs.Places.{leaf_bits}
@@ -154,25 +156,19 @@ not_prepared s seat id t rows e ok h cause = with_record s.records id (λ r. IsL
 -- the journal has no room for the entries, or there is no memory
 pub no_room : (s : State) (seat id : ℕ) (t : TakenText) (rows : List Row) (e : Refusal) (log : Log) (n : ℕ) → IsRight s → MatchOption (slice_get s.records id) ⊥ (λ r. IsLeafRead s r t rows) → crowded_in s seat (offers_of rows) ≡ None
     → length (taken_in s seat (offers_of rows)).entries ≡ length s.entries + n → log.entries ≡ s.entries → log.limit ≡ s.config.limit
-    → ((reserve_fault log n ≡ None) × (e ≡ NoMemory)) ⊎ (reserve_fault log n ≡ Some e) → TakesFor s seat id (slice_get s.records id) t (Err e) s
+    → ((e ≡ NoMemory) × IsTrue (outcome.is_given (reserve log n))) ⊎ (reserve log n ≡ outcome.refuses e) → TakesFor s seat id (slice_get s.records id) t (Err e) s
 no_room s seat id t rows e log n ok h fits count entries limit cause = with_record s.records id (λ r. IsLeafRead s r t rows) _ (λ r within was read.
     let here = got_record s.records id r within was in
     elim cause [
-      | inl memory ↦ no_memory s seat id t rows e ok h memory.1
+      | inl memory ↦ no_memory s seat id t rows e ok h memory.0
       | inr full ↦
-          let both = over log.limit (length log.entries + n) e full in
-          let past : nat_le (length (taken_in s seat (offers_of rows)).entries) s.config.limit ≡ false = not_within _ _ (omega (arith, both.1, count, limit, ap length entries)) in
+          let both = reserve_err log n e full in
+          let past : nat_le (length (taken_in s seat (offers_of rows)).entries) s.config.limit ≡ false = not_within _ _ (omega (arith, both.0, count, limit, ap length entries)) in
           let fault : IsLeafFault s seat r t JournalFull = record { rows = rows; read = read; fault = rw (fits, past) refl } in
-          subst (λ (x : Refusal). TakesFor s seat id (slice_get s.records id) t (Err x) s) (sym both.0)
+          subst (λ (x : Refusal). TakesFor s seat id (slice_get s.records id) t (Err x) s) (sym both.1)
           (subst (λ (o : Option Record). TakesFor s seat id o t (Err JournalFull) s) (sym here) (fault, refl))
     ]) h
   where
-    over : (a b : ℕ) (x : Refusal) → cond (nat_lt a b) (Some JournalFull) None ≡ Some x → (x ≡ JournalFull) × (a < b)
-    over a b x h = elim (cases_lt a b) [
-      | inl less ↦ ((let same : Some JournalFull ≡ Some x = rw (lt-ltb a b less) at h in cc), less)
-      | inr past ↦ absurd (let clash : None ≡ Some x = rw (le-ltb a b past) at h in cc)
-    ]
-
     not_within : (a b : ℕ) → b < a → nat_le a b ≡ false
     not_within a b h = grind (arith, nat_tests)
 
@@ -265,15 +261,15 @@ accepted_leaves s seat id r t rows b entries marks w leaves ok are is within =
     let leaf : b.leaf ≡ bucket_of s.config (s.entries ++ grown.more) t.node.index = is.batch.leaf_is ∙ ap (λ (xs : List Entry). bucket_of s.config xs t.node.index) (sym is.entries_are ∙ es) in
     subst (λ (xs : List Entry). AreLeaves s.config xs (set leaves t.node.index b.leaf)) (sym es) (leaves_after s.config s.entries grown.more leaves t.node.index b.leaf are within grown.all leaf)
 
-pub leaf_taken : (s : State) (seat id : ℕ) (r : Record) (t : TakenText) (rows : List Row) (b : Batch) (entries : List Entry) (marks : List (Option (List ℕ))) (w : Walk) (a : AnswerTaken) (log : Log) → IsRight s → IsAccepted s seat id r t rows b entries marks w
-    → a.receipts.items ≡ b.receipts.items → a.known ≡ b.known → a.state ≡ w.state → log.entries ≡ s.entries → log.limit ≡ s.config.limit → reserve_fault log (length b.entries.items) ≡ None
+pub leaf_taken : (s : State) (seat id : ℕ) (r : Record) (t : TakenText) (rows : List Row) (b : Batch) (entries : List Entry) (marks : List (Option (List ℕ))) (w : Walk) (a : AnswerTaken) (log after : Log) → IsRight s → IsAccepted s seat id r t rows b entries marks w
+    → a.receipts.items ≡ b.receipts.items → a.known ≡ b.known → a.state ≡ w.state → log.entries ≡ s.entries → log.limit ≡ s.config.limit → Reserved log after (length b.entries.items)
     → TakesFor s seat id (slice_get s.records id) t (Ok a) (record { config = s.config; entries = entries; marks = marks; records = set s.records id (record { partner = r.partner; session = w }) })
-leaf_taken s seat id r t rows b entries marks w a log ok is receipts known state es limit room =
+leaf_taken s seat id r t rows b entries marks w a log after ok is receipts known state es limit room =
     let end = taken_in s seat (offers_of rows) in
     let new : State = record { config = s.config; entries = entries; marks = marks; records = set s.records id (record { partner = r.partner; session = w }) } in
     let here = got_record s.records id r is.within is.was in
     let count : length end.entries ≡ length s.entries + length b.entries.items = sym (ap length is.taken) ∙ length-append s.entries b.entries.items in
-    let low : nat_le (length end.entries) s.config.limit ≡ true = le-leb _ _ (omega (arith, count, limit, ap length es, enough log.limit (length log.entries + length b.entries.items) room)) in
+    let low : nat_le (length end.entries) s.config.limit ≡ true = le-leb _ _ (omega (arith, count, limit, ap length es, room.within)) in
     let came : a.receipts.items ≡ b.entries.items = receipts ∙ is.batch.receipts in
     let took : TakesLeaf s seat id r t a new = record {
       rows = rows;
@@ -285,12 +281,6 @@ leaf_taken s seat id r t rows b entries marks w a log ok is receipts known state
     } in
     let text : TakesText s seat id r t (Ok a) new = (state ∙ ap (λ (v : Walk). v.state) is.walk, inr took) in
     subst (λ (o : Option Record). TakesFor s seat id o t (Ok a) new) (sym here) text
-  where
-    enough : (x y : ℕ) → cond (nat_lt x y) (Some JournalFull) None ≡ None → y ≤ x
-    enough x y h = elim (cases_lt x y) [
-      | inl less ↦ absurd (let clash : Some JournalFull ≡ None = rw (lt-ltb x y less) at h in cc)
-      | inr room ↦ room
-    ]
 
 -- the leaves are the nodes of their depth
 pub leaf_inside : (c : Config) (depth index : ℕ) → depth ≡ tree_depth c.format → index < 16 ^ depth → index < leaf_count c

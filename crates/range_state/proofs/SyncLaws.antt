@@ -30,8 +30,10 @@ use Rattle.range_state.specs.declared.«record».Record.{Record}
 use Rattle.range_state.specs.declared.event.AnswerTaken.{AnswerTaken}
 use Rattle.range_state.specs.declared.state.syncing.Synced.{Synced}
 use Rattle.range_state.specs.Records.{IsKept, IsGoing}
-use Rattle.range_state.specs.State.{State, IsRight, rows_now}
-use Rattle.range_state.specs.Sessions.{standings, offers_of, taken_in, leaf_fault, opened, walked_to, IsLeafRead, IsLeafFault, TakesInner, TakesLeaf, TakesText, TakesFor, Refuses}
+use Rattle.range_state.specs.State.{State, IsRight, dirty_fault, rows_now}
+use Rattle.vclock.specs.Outcome.{gives}
+use Rattle.vclock.proofs.OutcomeLaws.{passed}
+use Rattle.range_state.specs.Sessions.{standings, crowd_fault, foreign_fault, open_session, offers_of, taken_in, leaf_fault, opened, walked_to, IsLeafRead, IsLeafFault, TakesInner, TakesLeaf, TakesText, TakesFor, Refuses}
 use Rattle.range_state.specs.Syncs.{IsOfRange, leaves_in, offers_at, known_in, Progress, taken_leaves, synced, ended, HasOneMore, HasAskedAll, IsSyncedTo, IsPartWay, IsFirstOf}
 use Rattle.range_state.proofs.SyncLists.{AreIn, member_of, has_head, all_has, same_nodes, fits, ascends_before, without_first, differ_ascends, differ_inside, as_deep}
 use Rattle.range_state.proofs.SyncStepLaws.{beside, records_stay, config_stays, so_far, taken_more, leaf_came, leaf_refused, leaves-append, leaf_counts, inner_counts, no_leaves, nodes-push, got_last, set_last, all_last, true_rows}
@@ -64,6 +66,15 @@ pub record IsUnderWay (s : State) (seat : ℕ) (other : RowMap) (known : ℕ) (n
 pub record HasBegun (s : State) (seat partner : ℕ) (other : RowMap) (new : State) : Type 0 where
   pub under : IsUnderWay s seat other 0 new
   pub partner_is : under.r.partner ≡ partner
+
+-- a session that was not refused
+pub open_ok : (s new : State) (partner id : ℕ) (offer : Offer) → open_session s partner offer ≡ gives id new → (id ≡ length s.records) × (new ≡ opened s partner offer)
+open_ok s new partner id offer is =
+    let here = passed (foreign_fault s.config offer) _ id new is in
+    let few = passed (crowd_fault (standings s.records)) _ id new here.1 in
+    let clean = passed (dirty_fault s) _ id new few.1 in
+    let same = clean.1 in
+    (cc, cc)
 
 pub begun : (s new : State) (seat partner : ℕ) (offer : Offer) (other : RowMap) → offer.root ≡ root_of other → new ≡ opened s partner offer → HasBegun s seat partner other new
 begun s new seat partner offer other root is = record {

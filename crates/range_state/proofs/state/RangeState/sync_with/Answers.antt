@@ -9,7 +9,7 @@ use Rattle.sync_session.specs.Differing.{differ}
 use Rattle.sync_session.proofs.DescentLaws.{entry}
 use Rattle.range_state.specs.State.{State, rows_now}
 use Rattle.range_state.specs.Sessions.{TakesFor}
-use Rattle.range_state.proofs.SyncLaws.{still_with, begun, part_way, taken_first, moved_first, all_asked, all_asked_at, no_memory, IsTold, taken_count, count_of, true_walk, here_is, first_is, shallow, went_on, stops, finished, refused_at, room_left}
+use Rattle.range_state.proofs.SyncLaws.{still_with, open_ok, begun, part_way, taken_first, moved_first, all_asked, all_asked_at, no_memory, IsTold, taken_count, count_of, true_walk, here_is, first_is, shallow, went_on, stops, finished, refused_at, room_left}
 use Rattle.range_state.proofs.state.RangeState.sync_with.Goals as goal
 
 on_err : {T : Type 0} (r : Result T Refusal) (P : Type 0) → P → OnErr r P
@@ -18,11 +18,11 @@ on_err (Err e) P p = p
 
 pub loop-node-init : goal.loop-node-init
 loop-node-init c =
-    let begin = begun c.args.self.now c.open_session.new.self c.args.seat c.args.partner c.offer_of.result c.args.other.now c.offer_of.ensures.root c.in_ok-id.ensures.step in
+    let begin = begun c.args.self.now c.open_session.new.self c.args.seat c.args.partner c.offer_of.result c.args.other.now c.offer_of.ensures.root (open_ok c.args.self.now _ c.args.partner _ c.offer_of.result c.in_ok-id.ensures).1 in
     record {
       under = begin.under;
       partner = begin.partner_is;
-      at = c.in_ok-id.ensures.answers.1;
+      at = (open_ok c.args.self.now _ c.args.partner _ c.offer_of.result c.in_ok-id.ensures).0;
       before = search rules;
     }
 

@@ -3,7 +3,7 @@ use Rattle.std.specs.Prelude.{nat_eq}
 use Rattle.std.proofs.lemmas.Result.{err_from_is_err_and}
 use Rattle.std.proofs.lemmas.List.{length-append}
 use Rattle.range_journal.specs.declared.journal.Entry.{Entry}
-use Rattle.range_journal.specs.Journal.{reserve_fault}
+use Rattle.range_journal.proofs.JournalLaws.{Reserved, reserve_ok}
 use Rattle.range_journal.specs.Log.{Log}
 use Rattle.hash_tree.specs.Nodes.{Tree, dirtied}
 use Rattle.sync_session.specs.Walks.{TakenText}
@@ -44,9 +44,9 @@ returns-in_err-reserve c =
     let count : length (taken_in now c.args.seat (offers_of c.args.rows.now)).entries ≡ length now.entries + c.len.result = omega (arith, ap length ready.1, length-append now.entries b.entries.items, c.len.ensures) in
     let es : c.self.inside.journal.entries ≡ now.entries = ap (λ (u : State). u.entries) c.self.view_is in
     let limit : c.self.inside.journal.limit ≡ now.config.limit = c.self.invariant.2 ∙ ap (λ (u : State). u.config.limit) c.self.view_is in
-    let told = no_room now c.args.seat c.args.id t c.args.rows.now c.in_err-reserve.field-0.0 c.self.inside.journal c.len.result (subst IsRight c.self.view_is c.self.invariant.0) c.requires c.in_ok-batch.ensures.0 count es limit c.in_err-reserve.ensures.answers in
+    let told = no_room now c.args.seat c.args.id t c.args.rows.now c.in_err-reserve.field-0.0 c.self.inside.journal c.len.result (subst IsRight c.self.view_is c.self.invariant.0) c.requires c.in_ok-batch.ensures.0 count es limit c.in_err-reserve.ensures.reserves.1 in
     let same : now ≡ record { config = s.config; entries = c.reserve.new.self.entries; marks = s.marks; records = s.records } =
-    sym c.self.view_is ∙ ap (λ (l : Log). record { config = s.config; entries = l.entries; marks = s.marks; records = s.records }) (sym c.in_err-reserve.ensures.err) in
+    sym c.self.view_is ∙ ap (λ (l : Log). record { config = s.config; entries = l.entries; marks = s.marks; records = s.records }) (sym c.in_err-reserve.ensures.reserves.0) in
     rw (p.1, p.2) (subst (λ (u : State). TakesFor now c.args.seat c.args.id (slice_get now.records c.args.id) t (Err c.in_err-reserve.field-0.0) u) same told)
 
 pub index_mut-requires : goal.index_mut-requires
@@ -88,7 +88,7 @@ pub invariant_of-self-in_err-take_leaf : goal.invariant_of-self-in_err-take_leaf
 invariant_of-self-in_err-take_leaf c =
     let s : State = record { config = c.self.inside.config; entries = c.self.inside.journal.entries; marks = c.self.inside.marks.digests; records = c.self.inside.records.items } in
     let r : Record = c.index_mut.result.now in
-    let log = c.in_ok-reserve.ensures.ok in
+    let log = (reserve_ok c.self.inside.journal _ _ c.in_ok-reserve.ensures.reserves).is in
     let es : s.entries ≡ c.reserve.new.self.entries = ap (λ (l : Log). l.entries) (sym log) in
     let right = subst IsRight (stayed s c.args.id r c.take_leaf.new.self c.index_mut.ensures.value c.in_err-take_leaf.ensures.err) c.self.invariant.0 in (
       subst (λ (xs : List Entry). IsRight (record { config = s.config; entries = xs; marks = s.marks; records = set s.records c.args.id (record { partner = r.partner; session = c.take_leaf.new.self }) })) es right,
@@ -109,7 +109,7 @@ returns-in_err-take_leaf c =
     let new : State = record { config = s.config; entries = c.reserve.new.self.entries; marks = s.marks; records = records } in
     let same : now ≡ new =
     sym c.self.view_is ∙ stayed s c.args.id r c.take_leaf.new.self c.index_mut.ensures.value c.in_err-take_leaf.ensures.err
-    ∙ ap (λ (l : Log). record { config = s.config; entries = l.entries; marks = s.marks; records = records }) (sym c.in_ok-reserve.ensures.ok) in
+    ∙ ap (λ (l : Log). record { config = s.config; entries = l.entries; marks = s.marks; records = records }) (sym (reserve_ok c.self.inside.journal _ _ c.in_ok-reserve.ensures.reserves).is) in
     let told = no_memory now c.args.seat c.args.id t c.args.rows.now e (subst IsRight c.self.view_is c.self.invariant.0) c.requires (search rules) in
     rw (p.1, p.2) (subst (λ (u : State). TakesFor now c.args.seat c.args.id (slice_get now.records c.args.id) t (Err e) u) same told)
 
@@ -128,7 +128,7 @@ is_accepted c =
     let r : Record = c.index_mut.result.now in
     let b = c.in_ok-batch.batch in
     let t : TakenText = record { node = node_of c.args.node; text = c.args.text } in
-    let log = c.in_ok-reserve.ensures.ok in
+    let log = (reserve_ok c.self.inside.journal _ _ c.in_ok-reserve.ensures.reserves).is in
     let es : c.append_all.new.journal.entries ≡ now.entries ++ b.entries.items = c.append_all.ensures.entries ∙ (λ i. (log i).entries ++ b.entries.items) ∙ ap (λ (u : State). u.entries ++ b.entries.items) c.self.view_is in
     let format : c.self.inside.marks.format ≡ now.config.format = c.self.invariant.3 ∙ ap (λ (u : State). u.config.format) c.self.view_is in
     let marks : c.mark_news.new.marks.digests ≡ cond (nat_eq (length b.entries.items) 0) now.marks (dirtied now.config.format c.args.node.index now.marks) =
@@ -162,7 +162,7 @@ invariant_of-self-2 c =
       subst (λ (u : State). IsRight (record { config = u.config; entries = c.append_all.new.journal.entries; marks = c.mark_news.new.marks.digests; records = set u.records c.args.id (record { partner = r.partner; session = c.take_leaf.new.self }) })) (sym c.self.view_is) right,
       subst (λ (u : State). AreLeaves u.config c.append_all.new.journal.entries (set c.self.inside.leaves.items c.from.result b.leaf)) (sym c.self.view_is)
           (subst (λ (n : ℕ). AreLeaves now.config c.append_all.new.journal.entries (set c.self.inside.leaves.items n b.leaf)) (sym c.from.ensures) leaves),
-      c.append_all.ensures.limit ∙ ap (λ (l : Log). l.limit) c.in_ok-reserve.ensures.ok ∙ c.self.invariant.2,
+      c.append_all.ensures.limit ∙ ap (λ (l : Log). l.limit) (reserve_ok c.self.inside.journal _ _ c.in_ok-reserve.ensures.reserves).is ∙ c.self.invariant.2,
       ap (λ (x : Tree). x.format) c.mark_news.ensures ∙ c.self.invariant.3,
     )
 
@@ -177,6 +177,6 @@ returns c =
     let held : c.self.inside.journal.entries ≡ now.entries = ap (λ (u : State). u.entries) c.self.view_is in
     let limit : c.self.inside.journal.limit ≡ now.config.limit = c.self.invariant.2 ∙ ap (λ (u : State). u.config.limit) c.self.view_is in
     let len : c.len.result ≡ length b.entries.items = omega (arith, c.len.ensures, b.entries.ok) in
-    let room = subst (λ (n : ℕ). reserve_fault c.self.inside.journal n ≡ None) len c.in_ok-reserve.ensures.answers.0 in
-    let took = leaf_taken now c.args.seat c.args.id r t c.args.rows.now b c.append_all.new.journal.entries c.mark_news.new.marks.digests c.take_leaf.new.self a c.self.inside.journal ok (is_accepted c) refl refl c.state-state.ensures held limit room in
+    let room = subst (λ (n : ℕ). Reserved c.self.inside.journal c.reserve.new.self n) len (reserve_ok c.self.inside.journal _ _ c.in_ok-reserve.ensures.reserves) in
+    let took = leaf_taken now c.args.seat c.args.id r t c.args.rows.now b c.append_all.new.journal.entries c.mark_news.new.marks.digests c.take_leaf.new.self a c.self.inside.journal c.reserve.new.self ok (is_accepted c) refl refl c.state-state.ensures held limit room in
     subst (λ (u : State). TakesFor now c.args.seat c.args.id (slice_get now.records c.args.id) t (Ok a) (record { config = u.config; entries = c.append_all.new.journal.entries; marks = c.mark_news.new.marks.digests; records = set u.records c.args.id (record { partner = r.partner; session = c.take_leaf.new.self }) })) (sym c.self.view_is) took
