@@ -12,7 +12,7 @@ index-requires c =
 pub returns-clause-set : goal.returns-clause-set
 returns-clause-set c =
     let ok = subst (λ (s : State). AreLeaves s.config s.entries c.self.inside.leaves.items) c.self.view_is c.self.invariant.1 in
-    c.find.ensures ∙ set_here c.args.self.now c.self.inside.leaves.items c.from.result c.args.key.now c.index.result.now ok (c.from.ensures ∙ c.requires) c.index.ensures
+    c.find.ensures.found ∙ set_here c.args.self.now c.self.inside.leaves.items c.from.result c.args.key.now c.index.result.now ok (c.from.ensures ∙ c.requires) c.index.ensures
 
 pub returns-clause-fit : goal.returns-clause-fit
 returns-clause-fit c =

@@ -11,21 +11,21 @@ use Rattle.range_state.proofs.state.RangeState.prepare_version.Goals as goal
 pub returns-then-covers-clause-answers : goal.returns-then-covers-clause-answers
 returns-then-covers-clause-answers c =
     let a = c.args.batch.now in
-    let known : covered c.args.version.now (versions_in c.args.key.now a.leaf.rows) ≡ true = cc (c.covers.ensures, c.if-covers.true, c.find-set.ensures) in
+    let known : covered c.args.version.now (versions_in c.args.key.now a.leaf.rows) ≡ true = cc (c.covers.ensures, c.if-covers.true, c.find-set.ensures.found) in
     let b : Batch = record { leaf = a.leaf; entries = a.entries; receipts = a.receipts; known = a.known + 1 } in
     ((known_next c.args.self.now c.args.seat c.args.leaf c.args.key.now c.args.version.now a b c.requires.batch c.requires.leaf known (λ i. b)).0, tt)
 
 pub returns-then-covers-clause-ok : goal.returns-then-covers-clause-ok
 returns-then-covers-clause-ok c =
     let a = c.args.batch.now in
-    let known : covered c.args.version.now (versions_in c.args.key.now a.leaf.rows) ≡ true = cc (c.covers.ensures, c.if-covers.true, c.find-set.ensures) in
+    let known : covered c.args.version.now (versions_in c.args.key.now a.leaf.rows) ≡ true = cc (c.covers.ensures, c.if-covers.true, c.find-set.ensures.found) in
     let b : Batch = record { leaf = a.leaf; entries = a.entries; receipts = a.receipts; known = a.known + 1 } in
     (known_next c.args.self.now c.args.seat c.args.leaf c.args.key.now c.args.version.now a b c.requires.batch c.requires.leaf known (λ i. b)).1
 
 pub returns-then-crowds-clause-answers : goal.returns-then-crowds-clause-answers
 returns-then-crowds-clause-answers c =
     let a = c.args.batch.now in
-    let full : offer_fault c.args.version.now (versions_in c.args.key.now a.leaf.rows) ≡ Some Crowded = rw (c.find-set.ensures, c.if-crowds.true) at c.crowds.ensures in
+    let full : offer_fault c.args.version.now (versions_in c.args.key.now a.leaf.rows) ≡ Some Crowded = rw (c.find-set.ensures.found, c.if-crowds.true) at c.crowds.ensures in
     inr (crowded_next c.args.self.now c.args.seat c.args.leaf c.args.key.now c.args.version.now a Crowded c.requires.batch c.requires.leaf full)
 
 pub returns-clause-answers : goal.returns-clause-answers
@@ -33,8 +33,8 @@ returns-clause-answers c =
     let s = c.args.self.now in
     let a = c.args.batch.now in
     let b : Batch = record { leaf = c.offer.new.self; entries = c.push.new.self; receipts = c.push-2.new.self; known = a.known } in
-    let fresh : covered c.args.version.now (versions_in c.args.key.now a.leaf.rows) ≡ false = cc (c.covers.ensures, c.if-covers.false, c.find-set.ensures) in
-    let fits : offer_fault c.args.version.now (versions_in c.args.key.now a.leaf.rows) ≡ None = rw (c.find-set.ensures, c.if-crowds.false) at c.crowds.ensures in
+    let fresh : covered c.args.version.now (versions_in c.args.key.now a.leaf.rows) ≡ false = cc (c.covers.ensures, c.if-covers.false, c.find-set.ensures.found) in
+    let fits : offer_fault c.args.version.now (versions_in c.args.key.now a.leaf.rows) ≡ None = rw (c.find-set.ensures.found, c.if-crowds.false) at c.crowds.ensures in
     let number : c.len.result + c.len-2.result ≡ length s.entries + length a.entries.items = omega (arith, c.len.ensures.count, c.len-2.ensures, ap (λ (t : State). length t.entries) c.self.view_is) in
     let made : c.in_ok-entry.entry ≡ record { number = length s.entries + length a.entries.items; seat = c.args.seat; source = Partner; key = c.args.key.now; version = c.args.version.now } =
     c.in_ok-entry.ensures.1 ∙ ap (λ (n : ℕ). record { number = n; seat = c.args.seat; source = Partner; key = c.args.key.now; version = c.args.version.now }) number in
@@ -49,8 +49,8 @@ returns-clause-ok c =
     let s = c.args.self.now in
     let a = c.args.batch.now in
     let b : Batch = record { leaf = c.offer.new.self; entries = c.push.new.self; receipts = c.push-2.new.self; known = a.known } in
-    let fresh : covered c.args.version.now (versions_in c.args.key.now a.leaf.rows) ≡ false = cc (c.covers.ensures, c.if-covers.false, c.find-set.ensures) in
-    let fits : offer_fault c.args.version.now (versions_in c.args.key.now a.leaf.rows) ≡ None = rw (c.find-set.ensures, c.if-crowds.false) at c.crowds.ensures in
+    let fresh : covered c.args.version.now (versions_in c.args.key.now a.leaf.rows) ≡ false = cc (c.covers.ensures, c.if-covers.false, c.find-set.ensures.found) in
+    let fits : offer_fault c.args.version.now (versions_in c.args.key.now a.leaf.rows) ≡ None = rw (c.find-set.ensures.found, c.if-crowds.false) at c.crowds.ensures in
     let number : c.len.result + c.len-2.result ≡ length s.entries + length a.entries.items = omega (arith, c.len.ensures.count, c.len-2.ensures, ap (λ (t : State). length t.entries) c.self.view_is) in
     let made : c.in_ok-entry.entry ≡ record { number = length s.entries + length a.entries.items; seat = c.args.seat; source = Partner; key = c.args.key.now; version = c.args.version.now } =
     c.in_ok-entry.ensures.1 ∙ ap (λ (n : ℕ). record { number = n; seat = c.args.seat; source = Partner; key = c.args.key.now; version = c.args.version.now }) number in
