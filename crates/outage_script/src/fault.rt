@@ -97,14 +97,14 @@ fn beginning_of(alloc: Global, name: &str) -> Result<String, AllocError> {
 
 /// The name of a command that takes the fewest edits.
 fn nearest_to(alloc: Global, name: &str) -> Result<&'static str, AllocError> {
-    let mut nearest = NAMES[0];
+    let mut nearest = 0;
     let mut fewest = usize::MAX;
-    for known in NAMES {
-        let edits = levenshtein(alloc, name, known)?;
+    for place in 0..NAMES.len() {
+        let edits = levenshtein(alloc, name, NAMES[place])?;
         if edits < fewest {
             fewest = edits;
-            nearest = known;
+            nearest = place;
         }
     }
-    Ok(nearest)
+    Ok(NAMES[nearest])
 }
