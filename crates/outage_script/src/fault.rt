@@ -22,7 +22,7 @@ pub enum LineFault {
     #[error("it is longer than 1048576 bytes")]
     TooLong,
     /// It is no JSON text.
-    #[error("it is no JSON: {0}")]
+    #[error("{0}")]
     NoJson(Error),
     /// It is no object with one member.
     #[error("it is no object with one member, which names a command")]
