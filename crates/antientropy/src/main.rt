@@ -7,7 +7,7 @@ mod words;
 
 use clap::Error;
 use fault::Fault;
-use outage_script::run_last_script;
+use outage_script::{LineFault, ScriptEnd, run_last_script};
 use status::{code_of, code_of_refusal, fault_code, usage_code};
 use std::env::Env;
 use std::io;
@@ -41,11 +41,23 @@ fn obey<R: Env + Input + Print + Eprint + AllocGlobal + Threads + Sync>(
 }
 
 /// Runs the script of standard input.
-fn run<R: Input + Print + AllocGlobal + Threads + Sync>(rt: &R) -> Result<ExitCode, Fault> {
+fn run<R: Input + Print + Eprint + AllocGlobal + Threads + Sync>(rt: &R) -> Result<ExitCode, Fault> {
     let alloc = rt.alloc();
     let mut reader = rt.reader();
     let mut writer = BufWriter::new(alloc, io::writer(rt)).map_err(|_| Fault::NoMemory)?;
-    code_of(run_last_script(rt, alloc, &mut reader, &mut writer))
+    let (end, fault) = run_last_script(rt, alloc, &mut reader, &mut writer);
+    if let ScriptEnd::BadLine(number) = end {
+        explain(rt, number, fault.as_ref());
+    }
+    code_of(end)
+}
+
+/// Says on standard error why a line ended the script.
+fn explain<R: Eprint>(rt: &R, number: u64, fault: Option<&LineFault>) {
+    let _ = match fault {
+        Some(fault) => eprintln!(rt; "antientropy: line {number}: {fault}"),
+        None => eprintln!(rt; "antientropy: line {number} is no command"),
+    };
 }
 
 /// Shows the help or the version, or what is wrong with the words.

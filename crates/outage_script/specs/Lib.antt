@@ -2,6 +2,7 @@ pub mod Lines
 pub mod Asks
 pub mod Reading
 pub mod Commands
+pub mod Faults
 pub mod Orders
 pub mod Answers
 pub mod State

@@ -17,6 +17,7 @@ pub enum ScriptEnd {
 mod answer;
 mod cluster;
 mod command;
+mod fault;
 mod handoff;
 mod json;
 mod memory;
@@ -28,5 +29,6 @@ mod slots;
 mod world;
 mod write;
 
+pub use fault::LineFault;
 pub use memory::{line_law, run_bytes};
 pub use run::{run_last_script, run_script};

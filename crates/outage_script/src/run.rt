@@ -6,6 +6,7 @@ ghost use Rattle.outage_script.specs.Moves.{place_of};
 ghost use Rattle.outage_script.specs.State.{start};
 
 use crate::ScriptEnd;
+use crate::fault::LineFault;
 use crate::session::Session;
 use crate::world::AtEnd;
 use std::alloc::{AllocError, Global};
@@ -34,18 +35,19 @@ pub fn run_script<T: Threads + Sync, R: Read, W: Write>(
         (W.contents writer.old) (W.contents writer.new) }
 {
     let blank = Blank::new(SLOTS);
-    run_with::<Brand, T, R, W>(blank, rt, alloc, reader, writer, AtEnd::Free)
+    run_with::<Brand, T, R, W>(blank, rt, alloc, reader, writer, AtEnd::Free).0
 }
 
 /// Runs the script that the reader gives, as the last thing that a process does: what the replicas hold is left to the
 /// system, which takes back all memory of a process at once when it ends. To free it here would take a quarter of a run.
+/// With the end comes why the last line that was read is no command, if it is none and there is memory to say so.
 pub fn run_last_script<T: Threads + Sync, R: Read, W: Write>(
     rt: &T,
     alloc: Global,
     reader: &mut R,
     writer: &mut W,
-) -> ScriptEnd
-    ensures { Runs result (R.remaining reader.old) (R.remaining reader.new)
+) -> (ScriptEnd, Option<LineFault>)
+    ensures { Runs result.0 (R.remaining reader.old) (R.remaining reader.new)
         (W.contents writer.old) (W.contents writer.new) }
 {
     let blank = Blank::new(SLOTS);
@@ -60,20 +62,24 @@ fn run_with<L: Ledger, T: Threads + Sync, R: Read, W: Write>(
     reader: &mut R,
     writer: &mut W,
     at_end: AtEnd,
-) -> ScriptEnd
+) -> (ScriptEnd, Option<LineFault>)
     requires ledger { (blank.name ≡ L.name) × (blank.parts ≡ L.parts) × (blank.parts ≡ 1024) }
-    ensures { Runs result (R.remaining reader.old) (R.remaining reader.new)
+    ensures { Runs result.0 (R.remaining reader.old) (R.remaining reader.new)
         (W.contents writer.old) (W.contents writer.new) }
 {
     let Ok(buffer) = zeros(alloc, READ_SIZE) else {
-        return ScriptEnd::NoMemory;
+        return (ScriptEnd::NoMemory, None);
     };
     let Ok(mut session) = Session::<L>::new(blank, alloc) else {
-        return ScriptEnd::NoMemory;
+        return (ScriptEnd::NoMemory, None);
     };
     let end = drive(rt, alloc, &mut session, buffer, reader, writer);
+    let fault = match end {
+        ScriptEnd::BadLine(_) => session.fault(alloc).ok(),
+        _ => None,
+    };
     session.close(at_end);
-    end
+    (end, fault)
 }
 
 /// Feeds a session with what the reader gives. What it writes is flushed after each piece, for a caller who sends the next

@@ -11,6 +11,7 @@ ghost use Rattle.outage_script.specs.State.{start};
 use crate::ScriptEnd;
 use crate::answer::{answer_line, bad_line_answer};
 use crate::command::command_in;
+use crate::fault::{LineFault, fault_of};
 use crate::world::{AtEnd, World};
 use crate::write::write_whole;
 use memchr::memchr;
@@ -22,11 +23,13 @@ use std::thread::Threads;
 /// How many bytes a line has at the most.
 const LINE_LIMIT: usize = 1_048_576;
 
-/// A run in progress: the world, the line that is not whole yet, and its number.
+/// A run in progress: the world, the line that is not whole yet, its number, and whether the run ended since it is too
+/// long.
 pub(crate) struct Session<L: Ledger> {
     world: World<L>,
     line: Vec<u8>,
     number: u64,
+    too_long: bool,
     ghost short: { vec_len line ≤ 1048576 },
     ghost inside: { IsTrue (list_all is_inside line.items) },
 }
@@ -42,6 +45,7 @@ impl<L: Ledger> Session<L> {
             world: World::start(blank, alloc)?,
             line: Vec::new(alloc),
             number: 1,
+            too_long: false,
         })
     }
 
@@ -51,8 +55,17 @@ impl<L: Ledger> Session<L> {
             world,
             line: _line,
             number: _number,
+            too_long: _too_long,
         } = self;
         world.close(at_end);
+    }
+
+    /// Why the line that ended the run is no command. It fails only if memory is needed.
+    pub(crate) fn fault(&self, alloc: Global) -> Result<LineFault, AllocError> {
+        if self.too_long {
+            return Ok(LineFault::TooLong);
+        }
+        fault_of(alloc, self.line.as_slice())
     }
 
     /// Takes the next bytes, up to the end of the run.
@@ -131,6 +144,7 @@ impl<L: Ledger> Session<L> {
             (W.contents writer.old) (W.contents writer.new) }
     {
         if bytes.len() > LINE_LIMIT - self.line.len() {
+            self.too_long = true;
             return Some(refuse(alloc, self.number, writer));
         }
         match self.line.extend_from_slice(bytes) {

@@ -1,0 +1,23 @@
+-- Why a line is no command.
+use Rattle.std.specs.Prelude.{◌≡◌, ℕ, List, codes, Bool, true, false, ◌||◌, Option, None, Some}
+use Rattle.std.specs.Str.{bytes_eq}
+use Rattle.serde_json.specs.Data.{Data}
+use Rattle.outage_script.specs.Reading.{value_of, sole_member}
+use Rattle.outage_script.specs.declared.fault.LineFault.{LineFault}
+use Rattle.outage_script.specs.declared.fault.LineFault.TheVariants.{TooLong, NoJson, NoName, Unknown, Members}
+
+-- a name that a command has
+abbrev pub is_command : List ℕ → Bool
+is_command name = bytes_eq name (codes "ring") || bytes_eq name (codes "put") || bytes_eq name (codes "get") || bytes_eq name (codes "row") || bytes_eq name (codes "down") || bytes_eq name (codes "up") || bytes_eq name (codes "deliver") || bytes_eq name (codes "rehash") || bytes_eq name (codes "sync") || bytes_eq name (codes "node") || bytes_eq name (codes "slot") || bytes_eq name (codes "sample")
+
+-- an object whose one member's name is a command's, or is not
+abbrev pub Names : Bool → Data → Type 0
+Names known d = (m : List ℕ × Data) × (sole_member d ≡ Some m) × (is_command m.0 ≡ known)
+
+-- what a fault says of a line that is not too long
+abbrev pub IsFaultOf : LineFault → List ℕ → Type 0
+IsFaultOf TooLong line = ⊥
+IsFaultOf (NoJson e) line = value_of line ≡ None
+IsFaultOf NoName line = (d : Data) × (value_of line ≡ Some d) × (sole_member d ≡ None)
+IsFaultOf (Unknown name nearest) line = (d : Data) × (value_of line ≡ Some d) × Names false d
+IsFaultOf (Members members) line = (d : Data) × (value_of line ≡ Some d) × Names true d
