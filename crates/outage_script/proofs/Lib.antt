@@ -1,4 +1,5 @@
 pub mod Known
+pub mod Told
 pub mod ReadLemmas
 pub mod AnswerLemmas
 pub mod ReplicaLaws
