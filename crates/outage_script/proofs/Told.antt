@@ -1,5 +1,5 @@
 -- What one outcome tells a caller that says cause, reply and step one by one.
-use Rattle.std.proofs.Common.{◌≡◌, ℕ, Bool, true, false, List, Option, Some, None, refl, ap, inl, inr, cond}
+use Rattle.std.proofs.Common.{◌≡◌, ℕ, Bool, true, false, List, Option, Some, None, refl, sym, ap, inl, inr, cond}
 use Rattle.std.specs.Prelude.{Result, Ok, Err, OnOk, OnErr, IsTrue}
 use Rattle.vclock.specs.Answer.{AnswersOrNoMemory, first_fault}
 use Rattle.vclock.specs.Clock.{Pairs, raise_fault, raised}
@@ -62,3 +62,15 @@ accept_told r s t seat source key v is = told r s t _ _ _ (loosely r s t _ (rw (
 
 pub put_told : (r : Result Entry Refusal) (s t : State) (seat at : ℕ) (key : List ℕ) (context : Pairs) (kind : Kind) (value : List ℕ) → DoesOrNoMemory r s t (put s seat at key context kind value) → IsTold r s t (put_fault s at key context kind value) (put_entry s seat at key context kind value) (journaled s (put_entry s seat at key context kind value))
 put_told r s t seat at key context kind value is = told r s t _ _ _ (rw (sym (put_is s seat at key context kind value)) is)
+
+-- the range stays the same
+pub accept_config : (s : State) (seat : ℕ) (source : Source) (key : List ℕ) (v : Version) → (accept_step s seat source key v).config ≡ s.config
+accept_config s seat source key v = pick (knows s key v)
+  where
+    pick : (known : Bool) → (cond known s (journaled s (entry_of s seat source key v))).config ≡ s.config
+    pick true = refl
+    pick false = refl
+
+pub put_config : (r : Result Entry Refusal) (s t : State) (seat at : ℕ) (key : List ℕ) (context : Pairs) (kind : Kind) (value : List ℕ) → DoesOrNoMemory r s t (put s seat at key context kind value) → t.config ≡ s.config
+put_config (Ok x) s t seat at key context kind value is = ap (λ (u : State). u.config) (put_told (Ok x) s t seat at key context kind value is).ok
+put_config (Err e) s t seat at key context kind value is = ap (λ (u : State). u.config) (put_told (Err e) s t seat at key context kind value is).err
