@@ -1,8 +1,8 @@
 -- What a step keeps, and why it is refused.
-use Rattle.std.proofs.Common.{◌≡◌, ◌≢◌, ℕ, ◌+◌, ◌<◌, ◌%◌, ◌^◌, Bool, true, false, cond, set, List, [], ◌∷◌, ◌++◌, length, get_or, refl, ap, sym, subst, ◌∙◌, ◌⊎◌, arith, inl, inr, Option, Some, None, Bor, length-set, replicate}
-use Rattle.std.specs.Prelude.{nat_eq, nat_lt, map, IfSome, IsTrue}
+use Rattle.std.proofs.Common.{◌≡◌, ◌≢◌, ℕ, ◌<◌, ◌%◌, ◌^◌, Bool, true, false, cond, set, List, [], ◌∷◌, ◌++◌, length, get_or, refl, ap, sym, subst, ◌∙◌, ◌⊎◌, arith, inl, inr, Option, Some, None, Bor, length-set, replicate}
+use Rattle.std.specs.Prelude.{nat_eq, map, IfSome, IsTrue}
 use Rattle.std.specs.Cmp.Lexicographic.{pointwise}
-use Rattle.std.proofs.lemmas.Bool.{cases_eq, cases_Bool, cases_lt, lt-ltb, or_parts, both_ways, eqb-true}
+use Rattle.std.proofs.lemmas.Bool.{cases_eq, cases_Bool, lt-ltb, or_parts, both_ways, eqb-true}
 use Rattle.std.proofs.lemmas.Bool.Decides.{nat_tests}
 use Rattle.std.proofs.lemmas.List.{get_or-set_same, get_or-set_other, set-get_or, get_or-replicate, length-replicate}
 use Rattle.std.specs.List.{AllByRecursion, list_any}
@@ -13,7 +13,7 @@ use Rattle.vclock.proofs.ClockLaws.{at_most_itself}
 use Rattle.vclock.specs.declared.format.Format.{Format}
 use Rattle.vclock.specs.declared.format.Format.TheVariants.{One, Two}
 use Rattle.vclock.specs.declared.refusal.Refusal.{Refusal}
-use Rattle.vclock.specs.declared.refusal.Refusal.TheVariants.{NoMemory, Crowded, JournalFull, OtherRange, StaleContext}
+use Rattle.vclock.specs.declared.refusal.Refusal.TheVariants.{NoMemory, OtherRange, StaleContext}
 use Rattle.version_set.specs.Kind.{value_fault}
 use Rattle.version_set.specs.declared.kind.Kind.{Kind}
 use Rattle.version_set.specs.declared.version.Version.{Version}
@@ -26,7 +26,7 @@ use Rattle.range_journal.specs.declared.journal.Source.TheVariants.{Partner}
 use Rattle.range_journal.specs.declared.journal.Source.{Source}
 use Rattle.range_journal.specs.Journal.{accepted, held, versions_of, AreNews}
 use Rattle.range_journal.proofs.JournalLaws.{AreNews-push, covered-held, Reserved}
-use Rattle.vclock.specs.Outcome.{Outcome, gives, refuses, is_given}
+use Rattle.vclock.specs.Outcome.{gives, refuses, is_given}
 use Rattle.vclock.proofs.OutcomeLaws.{bind_err}
 use Rattle.row_bytes.specs.Rows.{IsRow}
 use Rattle.row_bytes.proofs.LimitLaws.{no_fault, no_fault_else}

@@ -1,5 +1,5 @@
 -- Runs of the range machine: what each event may answer and leave.
-use Rattle.std.specs.Prelude.{◌≡◌, ⊤, Result, Option, List, [], ◌∷◌, ℕ, length}
+use Rattle.std.specs.Prelude.{◌≡◌, ⊤, Result, Option, List, [], ◌∷◌, ℕ}
 use Rattle.std.specs.Arc.{arc_value}
 use Rattle.std.specs.declared.alloc.Global.{Global}
 use Rattle.std.specs.declared.sync.Arc.{Arc}

@@ -1,4 +1,4 @@
-use Rattle.std.proofs.Common.{◌≡◌, Some, None, false, sym, ap, ◌∙◌, inr}
+use Rattle.std.proofs.Common.{◌≡◌, None, false, sym, ap, ◌∙◌}
 use Rattle.std.proofs.lemmas.Result.{err_from_is_err_and}
 use Rattle.version_set.specs.Version.{covered, offer_fault}
 use Rattle.range_journal.specs.Journal.{held}

@@ -1,4 +1,4 @@
-use Rattle.std.proofs.Common.{rules, ◌≡◌, ◌<◌, ◌+◌, ℕ, None, List, ◌++◌, length, cond, set, get_or, refl, sym, ap, subst, ◌∙◌, arith, slice_get, Ok, Err}
+use Rattle.std.proofs.Common.{rules, ◌≡◌, ◌<◌, ◌+◌, ℕ, List, ◌++◌, length, cond, set, get_or, refl, sym, ap, subst, ◌∙◌, arith, slice_get, Ok, Err}
 use Rattle.std.specs.Prelude.{nat_eq}
 use Rattle.std.proofs.lemmas.Result.{err_from_is_err_and}
 use Rattle.std.proofs.lemmas.List.{length-append}
