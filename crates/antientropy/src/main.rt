@@ -41,7 +41,9 @@ fn obey<R: Env + Input + Print + Eprint + AllocGlobal + Threads + Sync>(
 }
 
 /// Runs the script of standard input.
-fn run<R: Input + Print + Eprint + AllocGlobal + Threads + Sync>(rt: &R) -> Result<ExitCode, Fault> {
+fn run<R: Input + Print + Eprint + AllocGlobal + Threads + Sync>(
+    rt: &R,
+) -> Result<ExitCode, Fault> {
     let alloc = rt.alloc();
     let mut reader = rt.reader();
     let mut writer = BufWriter::new(alloc, io::writer(rt)).map_err(|_| Fault::NoMemory)?;

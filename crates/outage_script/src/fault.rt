@@ -12,7 +12,8 @@ const SHOWN: usize = 40;
 
 /// The names of the commands.
 const NAMES: [&str; 12] = [
-    "ring", "put", "get", "row", "down", "up", "deliver", "rehash", "sync", "node", "slot", "sample",
+    "ring", "put", "get", "row", "down", "up", "deliver", "rehash", "sync", "node", "slot",
+    "sample",
 ];
 
 /// Why a line is no command.
