@@ -1,11 +1,10 @@
 -- What one outcome tells a caller that says cause, reply and step one by one.
 use Rattle.std.proofs.Common.{◌≡◌, ℕ, Bool, true, false, List, Option, Some, None, refl, sym, ap, inl, inr, cond}
-use Rattle.std.specs.Prelude.{Result, Ok, Err, OnOk, OnErr, IsTrue}
+use Rattle.std.specs.Prelude.{Result, Ok, Err, OnOk, OnErr}
 use Rattle.vclock.specs.Answer.{AnswersOrNoMemory, first_fault}
 use Rattle.vclock.specs.Clock.{Pairs, raise_fault, raised}
-use Rattle.vclock.specs.Outcome.{Outcome, gives, refuses, is_given, Does, DoesOrNoMemory, ◌>>◌, ◌>>=◌}
+use Rattle.vclock.specs.Outcome.{Outcome, gives, Does, DoesOrNoMemory, ◌>>◌, ◌>>=◌}
 use Rattle.vclock.specs.declared.refusal.Refusal.{Refusal}
-use Rattle.vclock.specs.declared.refusal.Refusal.TheVariants.{NoMemory}
 use Rattle.version_set.specs.declared.kind.Kind.{Kind}
 use Rattle.version_set.specs.declared.version.Version.{Version}
 use Rattle.version_set.specs.Version.{offer_fault}
