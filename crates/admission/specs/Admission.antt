@@ -1,6 +1,7 @@
 -- Background work admitted by the latency of the foreground: the paper of 2007, section 6.5.
 use Rattle.std.specs.Prelude.{ℕ, ◌+◌, ◌-◌, ◌*◌, ◌/◌, ◌≤◌, List, [], ◌∷◌, ◌++◌, length, map, filter, count_by, max, min, nat_le, nat_lt, Contains, Option, Some, None, if◌then◌else◌}
 use Rattle.circular_buffer.specs.Buffer.{keep_last}
+use Rattle.vclock.specs.Outcome.{Outcome, gives, refuses}
 use Rattle.vclock.specs.declared.refusal.Refusal.{Refusal}
 use Rattle.vclock.specs.declared.refusal.Refusal.TheVariants.{NoSlot, ClockBack}
 
@@ -40,17 +41,15 @@ free_of a = a.target - a.slots
 abbrev pub allowance_of : Admission → ℕ
 allowance_of a = max a.target a.slots
 
--- why no slot is lent
-abbrev pub lend_fault : Admission → Option Refusal
-lend_fault a = if nat_lt a.slots a.target then None else Some NoSlot
+-- one more slot, within the target
+abbrev pub lend : Admission → Outcome (Unit {0}) Admission
+lend a = if nat_lt a.slots a.target then gives tt (record a { slots = a.slots + 1 }) else refuses NoSlot
 
--- why a moment is not accepted
-abbrev pub clock_fault : Admission → ℕ → Option Refusal
-clock_fault a moment = if nat_lt moment a.latest then Some ClockBack else None
-
--- the controller after a sample
-abbrev pub sampled : Admission → ℕ → ℕ → Admission
-sampled a moment micros = record a { samples = keep_last 1024 (a.samples ++ (moment, micros) ∷ []); latest = moment }
+-- how many samples are kept, and the controller with one more
+abbrev pub sample : Admission → ℕ → ℕ → Outcome ℕ Admission
+sample a moment micros =
+    if nat_lt moment a.latest then refuses ClockBack
+    else gives (min 1024 (length a.samples + 1)) (record a { samples = keep_last 1024 (a.samples ++ (moment, micros) ∷ []); latest = moment })
 
 -- the latencies of the samples of the last 60,000 milliseconds
 abbrev pub window_of : ℕ → List (ℕ × ℕ) → List ℕ
@@ -86,6 +85,8 @@ target_after a None = a.target
 target_after a (Some p) =
     if nat_lt a.threshold p then max a.floor (a.target / 2) else if nat_le (2 * p) a.threshold then min a.ceiling (a.target + 1) else a.target
 
--- the controller after an adjustment
-abbrev pub adjusted : Admission → ℕ → Admission
-adjusted a now = record a { target = target_after a (percentile (window_of now a.samples)); latest = now }
+-- the 99th percentile of the last minute, and the controller with the target after it
+abbrev pub adjust : Admission → ℕ → Outcome (Option ℕ) Admission
+adjust a now =
+    let found = percentile (window_of now a.samples) in
+    if nat_lt now a.latest then refuses ClockBack else gives found (record a { target = target_after a found; latest = now })

@@ -1,7 +1,8 @@
 //! A controller of slots.
 ghost use Rattle.std.specs.Prelude.{◌≡◌, ◌+◌, ◌-◌, ◌≤◌, min, length, IfOk, OnOk, OnErr, [], None, Some, MatchOption, ⊤};
-ghost use Rattle.vclock.specs.Answer.{Answers, AnswersAtOnce};
-ghost use Rattle.admission.specs.Admission.{IsAdmission, fresh, free_of, allowance_of, lend_fault, clock_fault, sampled, window_of, percentile, IsPercentile, target_after, adjusted};
+ghost use Rattle.vclock.specs.Answer.{Answers};
+ghost use Rattle.vclock.specs.Outcome.{DoesAtOnce, ChangesAtOnce};
+ghost use Rattle.admission.specs.Admission.{IsAdmission, fresh, free_of, allowance_of, lend, sample, adjust, window_of, percentile, IsPercentile, target_after};
 
 use crate::latency::{MOST, Sample, percentile, window};
 use crate::slot::Slot;
@@ -124,9 +125,7 @@ impl<L: Ledger> Controller<L> {
     ///
     /// Refused: NoSlot (as many slots as the target, or more, are lent).
     pub fn lend(&mut self) -> Result<Slot<L>, Refusal>
-        ensures answers { AnswersAtOnce result (lend_fault self.old) (λ _. ⊤) }
-        ensures ok { OnOk result (self.new ≡ record self.old { slots = self.old.slots + 1 }) }
-        ensures err { OnErr result (self.new ≡ self.old) }
+        ensures { ChangesAtOnce result self.old self.new (lend self.old) }
     {
         if self.lent >= self.target {
             return Err(Refusal::NoSlot);
@@ -173,9 +172,7 @@ impl<L: Ledger> Controller<L> {
     /// Refused: ClockBack (a later moment was accepted before). The controller is then as it was.
     #[tactic(auto, using(crate::proofs::Ranks::pairs_keep))]
     pub fn sample(&mut self, moment: u64, micros: u32) -> Result<u32, Refusal>
-        ensures answers { AnswersAtOnce result (clock_fault self.old moment) (λ kept. kept ≡ min 1024 (length self.old.samples + 1)) }
-        ensures ok { OnOk result (self.new ≡ sampled self.old moment micros) }
-        ensures err { OnErr result (self.new ≡ self.old) }
+        ensures { DoesAtOnce result self.old self.new (sample self.old moment micros) }
     {
         if moment < self.latest {
             return Err(Refusal::ClockBack);
@@ -194,10 +191,8 @@ impl<L: Ledger> Controller<L> {
     ///
     /// Refused: ClockBack (a later moment was accepted before). The controller is then as it was.
     pub fn adjust(&mut self, now: u64) -> Result<Option<u32>, Refusal>
-        ensures answers { AnswersAtOnce result (clock_fault self.old now) (λ found. found ≡ percentile (window_of now self.old.samples)) }
+        ensures adjusts { DoesAtOnce result self.old self.new (adjust self.old now) }
         ensures fact { IfOk result (λ found. MatchOption found (window_of now self.old.samples ≡ []) (IsPercentile (window_of now self.old.samples))) }
-        ensures ok { OnOk result (self.new ≡ adjusted self.old now) }
-        ensures err { OnErr result (self.new ≡ self.old) }
     {
         if now < self.latest {
             return Err(Refusal::ClockBack);

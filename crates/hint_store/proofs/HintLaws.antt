@@ -15,14 +15,15 @@ use Rattle.std.specs.Ordering.{is_eq}
 use Rattle.version_set.proofs.SetLaws.{version_total, is_same-exact}
 use Rattle.version_set.specs.declared.version.Version.{Version}
 use Rattle.version_set.specs.Version.{is_same}
-use Rattle.vclock.specs.declared.refusal.Refusal.TheVariants.{HintsFull}
+use Rattle.vclock.specs.Outcome.{Outcome, gives, refuses}
+use Rattle.vclock.specs.declared.refusal.Refusal.TheVariants.{HintsFull, UnknownHint}
 use Rattle.hint_store.specs.declared.hint.Hint.{Hint}
 use Rattle.hint_store.specs.declared.hint.Delivery.{Delivery}
 use Rattle.hint_store.specs.declared.hint.Fate.{Fate}
 use Rattle.hint_store.specs.declared.hint.Fate.TheVariants.{Pending, Taken, Known}
 use Rattle.hint_store.specs.declared.hint.Kept.{Kept}
 use Rattle.hint_store.specs.Waits.{lesser}
-use Rattle.hint_store.specs.Hints.{is_open, is_pending, pending_count, AreNumberedFrom, kept_at, keep_fault, is_due, next_hint, is_of, is_answered, IsAnswered, fate_of, answered, confirmed, answer_of, delivery_of}
+use Rattle.hint_store.specs.Hints.{is_open, is_pending, pending_count, AreNumberedFrom, kept_at, keep_fault, is_due, next_hint, is_of, is_answered, IsAnswered, fate_of, answered, confirm, confirmed, answer_of, delivery_of}
 
 pub get_or_same : {X : Type 0} (xs : List X) (i : ℕ) (d e : X) → i < length xs → get_or xs i d ≡ get_or xs i e
 get_or_same xs i d e h = same_Some (get_or xs i d) (get_or xs i e) (sym (slice_get-get_or xs i d h) ∙ slice_get-get_or xs i e h)
@@ -306,3 +307,11 @@ full_of_ids hints n is few =
       | inl less ↦ ap (λ b. cond b None (Some HintsFull)) (lt-ltb (length hints + 1) (2 ^ 32) (omega arith)) ∙ ap (λ b. cond b (Some HintsFull) None) (sym (lt-leb 4294967295 n less))
       | inr last ↦ ap (λ b. cond b None (Some HintsFull)) (le-ltb (length hints + 1) (2 ^ 32) (omega arith)) ∙ ap (λ b. cond b (Some HintsFull) None) (sym (le-leb 4294967295 n last))
     ]
+
+-- a delivery that was confirmed: the hints after it
+pub confirm_ok : (hs new : List Kept) (id : ℕ) (d : Delivery) → confirm hs id d ≡ gives tt new → new ≡ confirmed hs id d
+confirm_ok hs new id d e = pick (list_any (is_answered id d) hs) (confirmed hs id d) new e
+  where
+    pick : (b : Bool) (x y : List Kept) → ◌≡◌ {A = Outcome (Unit {0}) (List Kept)} (cond b (gives tt x) (refuses UnknownHint)) (gives tt y) → y ≡ x
+    pick true x y e = cc
+    pick false x y e = absurd (cc)

@@ -3,10 +3,12 @@ use Rattle.std.specs.Prelude.{◌≡◌, ℕ, ◌+◌, ◌-◌, ◌^◌, ◌<◌
 use Rattle.std.specs.Option.{option_map}
 use Rattle.std.specs.List.{list_any}
 use Rattle.std.specs.Str.{bytes_eq}
+use Rattle.vclock.specs.Outcome.{Outcome, gives, refuses, ◌>>◌}
 use Rattle.vclock.specs.declared.refusal.Refusal.{Refusal}
 use Rattle.vclock.specs.declared.refusal.Refusal.TheVariants.{HintsFull, UnknownHint}
 use Rattle.version_set.specs.declared.version.Version.{Version}
 use Rattle.version_set.specs.Version.{is_same}
+use Rattle.hint_store.specs.declared.store.TheConstants.{MOST_PENDING}
 use Rattle.hint_store.specs.declared.hint.Hint.{Hint}
 use Rattle.hint_store.specs.declared.hint.Delivery.{Delivery}
 use Rattle.hint_store.specs.declared.hint.Fate.{Fate}
@@ -40,7 +42,7 @@ AreNumberedFrom n (k ∷ ks) = (k.hint.id ≡ n) × AreNumberedFrom (n + 1) ks
 -- numbered from 1, at most 10,000 pending, and no number above 2^32 - 1
 pub record AreHints (hints : List Kept) : Type 0 where
   pub numbered : AreNumberedFrom 1 hints
-  pub few : pending_count hints ≤ 10000
+  pub few : pending_count hints ≤ MOST_PENDING
   pub small : length hints < 2 ^ 32
 
 -- the hint of a number
@@ -49,12 +51,18 @@ kept_at hints id = if nat_eq id 0 then None else slice_get hints (id - 1)
 
 -- why no hint can be kept
 abbrev pub keep_fault : List Kept → Option Refusal
-keep_fault hints = if nat_lt (pending_count hints) 10000 && nat_lt (length hints + 1) (2 ^ 32) then None else Some HintsFull
+keep_fault hints = if nat_lt (pending_count hints) MOST_PENDING && nat_lt (length hints + 1) (2 ^ 32) then None else Some HintsFull
 
 -- the hints with one more, which is pending
 abbrev pub with_hint : List Kept → ℕ → List ℕ → Version → List Kept
 with_hint hints owner key version =
     hints ++ record { hint = record { id = length hints + 1; owner = owner; key = key; version = version }; fate = Pending } ∷ []
+
+-- the next number, and the hints with one more of it
+abbrev pub keep : List Kept → ℕ → List ℕ → Version → Outcome ℕ (List Kept)
+keep hints owner key version = do
+  keep_fault hints
+  gives (length hints + 1) (with_hint hints owner key version)
 
 -- whether a hint is pending, its number over `after`, its owner one of these
 abbrev pub is_due : List ℕ → ℕ → Kept → Bool
@@ -71,10 +79,6 @@ is_of d h = nat_eq h.owner d.owner && bytes_eq h.key d.key && is_same h.version 
 -- whether a hint is pending, has that number, and the delivery is of it
 abbrev pub is_answered : ℕ → Delivery → Kept → Bool
 is_answered id d k = is_pending k && nat_eq k.hint.id id && is_of d k.hint
-
--- why a delivery confirms nothing
-abbrev pub confirm_fault : List Kept → ℕ → Delivery → Option Refusal
-confirm_fault hints id d = if list_any (is_answered id d) hints then None else Some UnknownHint
 
 -- the same as equations: a pending hint of that number has the delivery's owner, key and version
 pub record IsAnswered (id : ℕ) (d : Delivery) (k : Kept) : Type 0 where
@@ -95,6 +99,10 @@ answered id d k = if nat_eq k.hint.id id then record k { fate = fate_of d } else
 -- the hints after a delivery of one of them
 abbrev pub confirmed : List Kept → ℕ → Delivery → List Kept
 confirmed hints id d = map (answered id d) hints
+
+-- the hints after a delivery of a pending one
+abbrev pub confirm : List Kept → ℕ → Delivery → Outcome (Unit {0}) (List Kept)
+confirm hints id d = if list_any (is_answered id d) hints then gives tt (confirmed hints id d) else refuses UnknownHint
 
 -- the delivery of a hint, if it was delivered: it has the hint's own owner, key and version
 abbrev pub delivery_of : Kept → Option Delivery

@@ -3,8 +3,9 @@ ghost use Rattle.std.specs.Prelude.{◌≡◌, ◌+◌, ◌≤◌, ◌↔◌, []
 ghost use Rattle.std.specs.Option.{option_copied, option_map, option_and_then};
 ghost use Rattle.std.specs.List.{list_any};
 ghost use Rattle.std.specs.List.Sorted.{IsPartitionPoint};
-ghost use Rattle.vclock.specs.Answer.{Answers, AnswersAtOnce};
-ghost use Rattle.hint_store.specs.Hints.{AreHints, pending_count, kept_at, keep_fault, with_hint, next_hint, is_open, is_of, is_answered, IsAnswered, confirm_fault, confirmed, fate_of, delivery_of};
+ghost use Rattle.vclock.specs.Answer.{Answers};
+ghost use Rattle.vclock.specs.Outcome.{Does, DoesAtOnce};
+ghost use Rattle.hint_store.specs.Hints.{AreHints, pending_count, kept_at, keep_fault, keep, next_hint, is_open, is_of, is_answered, IsAnswered, confirm, fate_of, delivery_of};
 ghost use Rattle.hint_store.specs.Waits.{IsBefore, id_of, is_up_to, lesser};
 
 use crate::hint::{Delivery, Fate, Hint, Kept};
@@ -96,9 +97,7 @@ impl HintStore {
     /// Refused, in order: HintsFull (10,000 hints are pending, or the last id was used), NoMemory. The store is then as
     /// it was.
     pub fn keep(&mut self, owner: u16, key: Bytes, version: Version) -> Result<u32, Refusal>
-        ensures answers { Answers result (keep_fault self.old) (λ id. id ≡ length self.old + 1) }
-        ensures ok { OnOk result (self.new ≡ with_hint self.old owner key version) }
-        ensures err { OnErr result (self.new ≡ self.old) }
+        ensures { Does result self.old self.new (keep self.old owner key version) }
     {
         if self.is_full() {
             return Err(Refusal::HintsFull);
@@ -159,11 +158,9 @@ impl HintStore {
     ///
     /// Refused: UnknownHint (no pending hint has this id with this owner, key and version). The store is then as it was.
     pub fn confirm(&mut self, id: u32, delivery: Delivery) -> Result<(), Refusal>
-        ensures answers { AnswersAtOnce result (confirm_fault self.old id delivery) (λ _. ⊤) }
-        ensures ok { OnOk result (self.new ≡ confirmed self.old id delivery) }
+        ensures confirms { DoesAtOnce result self.old self.new (confirm self.old id delivery) }
         ensures fact { IsOk result ↔ Any (IsAnswered id delivery) self.old }
         ensures kept { OnOk result (option_and_then delivery_of (kept_at self.new id) ≡ Some delivery) }
-        ensures err { OnErr result (self.new ≡ self.old) }
     {
         if !self.awaits(id, &delivery) {
             return Err(Refusal::UnknownHint);

@@ -1,5 +1,6 @@
 use Rattle.std.proofs.Common.{◌≡◌, ℕ, ◌-◌, ap, sym, ◌∙◌, subst, arith, List, true, false, set, get_or}
 use Rattle.std.specs.Option.{option_and_then}
+use Rattle.vclock.specs.Outcome.{gives}
 use Rattle.hint_store.specs.declared.hint.Delivery.{Delivery}
 use Rattle.hint_store.specs.declared.hint.Fate.{Fate}
 use Rattle.std.specs.List.{list_any}
@@ -8,7 +9,7 @@ use Rattle.hint_store.specs.declared.hint.Kept.{Kept}
 use Rattle.hint_store.specs.declared.store.Waiting.{Waiting}
 use Rattle.hint_store.specs.Hints.{AreHints, AreNumberedFrom, is_answered, fate_of, confirmed, delivery_of, kept_at}
 use Rattle.hint_store.specs.Waits.{is_up_to, AreWaiting}
-use Rattle.hint_store.proofs.HintLaws.{get_or_same, IsFound, found_at, answered_fact, confirmed_at, kept_answered}
+use Rattle.hint_store.proofs.HintLaws.{get_or_same, IsFound, found_at, answered_fact, confirmed_at, confirm_ok, kept_answered}
 use Rattle.hint_store.proofs.WaitLaws.{IsItsEntry, its_entry, AreWaiting-confirm, AreHints-confirm}
 use Rattle.hint_store.proofs.store.HintStore.confirm.Goals as goal
 
@@ -57,17 +58,17 @@ invariant_of-self c =
       subst (λ (hs : List Kept). AreWaiting hs c.remove.new.self.items) new (subst (AreWaiting (set hints (c.args.id - 1) (record { hint = f.kept.hint; fate = fate_of c.args.delivery }))) (sym c.remove.ensures.items) (AreWaiting-confirm hints index c.args.id c.place_after-place.result c.args.delivery c.self.invariant.1 f e)),
     )
 
-pub returns-clause-ok : goal.returns-clause-ok
-returns-clause-ok c =
+pub returns-clause-confirms : goal.returns-clause-confirms
+returns-clause-confirms c =
     let hints = c.self.inside.hints.items in
     let f = inside_found hints c.args.self.now c.args.id c.args.delivery c.self.view_is c.self.invariant.0 c.if-not-awaits.ensures in
-    ap (λ (k : Kept). set hints (c.args.id - 1) k) (written hints c.args.id c.args.delivery f c.index_mut.result.now c.fate_of.result c.index_mut.ensures.value c.fate_of.ensures)
-    ∙ (sym (confirmed_at hints c.args.id c.args.delivery c.self.invariant.0.numbered f) ∙ ap (λ (hs : List Kept). confirmed hs c.args.id c.args.delivery) c.self.view_is)
+    rw (sym c.if-not-awaits.ensures) (ap (gives tt) (sym (ap (λ (k : Kept). set hints (c.args.id - 1) k) (written hints c.args.id c.args.delivery f c.index_mut.result.now c.fate_of.result c.index_mut.ensures.value c.fate_of.ensures)
+    ∙ (sym (confirmed_at hints c.args.id c.args.delivery c.self.invariant.0.numbered f) ∙ ap (λ (hs : List Kept). confirmed hs c.args.id c.args.delivery) c.self.view_is))))
 
 pub returns-clause-fact : goal.returns-clause-fact
 returns-clause-fact c = answered_fact true c.args.self.now c.args.id c.args.delivery c.if-not-awaits.ensures
 
 pub returns-clause-kept : goal.returns-clause-kept
 returns-clause-kept c =
-    ap (λ (hs : List Kept). option_and_then delivery_of (kept_at hs c.args.id)) (returns-clause-ok c)
+    ap (λ (hs : List Kept). option_and_then delivery_of (kept_at hs c.args.id)) (confirm_ok c.args.self.now _ c.args.id c.args.delivery (returns-clause-confirms c))
     ∙ kept_answered c.args.self.now c.args.id c.args.delivery (subst (AreNumberedFrom 1) c.self.view_is c.self.invariant.0.numbered) (sym c.if-not-awaits.ensures)
