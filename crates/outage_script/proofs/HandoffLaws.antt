@@ -1,20 +1,21 @@
 -- Hints: what a search for the next one skips, and what a loop over them does.
 use Rattle.std.proofs.Common.{◌≡◌, ℕ, zero, suc, ◌+◌, ◌-◌, ◌<◌, ◌≤◌, Bool, true, false, cond, List, [], ◌∷◌, drop, refl, ap, sym, subst, ◌∙◌, arith, Option, Some, None}
-use Rattle.std.specs.Prelude.{fold, find, nat_lt, nat_eq, ◌&&◌, ◌||◌, length, is_none}
+use Rattle.std.specs.Prelude.{IsTrue, fold, find, nat_lt, nat_eq, ◌&&◌, ◌||◌, length}
 use Rattle.std.specs.Option.{option_map}
 use Rattle.std.specs.List.{list_any}
 use Rattle.std.proofs.lemmas.Bool.{and_parts}
 use Rattle.std.proofs.lemmas.Bool.Decides.{nat_tests}
-use Rattle.hint_store.specs.Hints.{AreNumberedFrom, is_answered, is_due, is_open, is_pending, next_hint, answered, confirm_fault, confirmed}
+use Rattle.hint_store.specs.Hints.{AreNumberedFrom, is_answered, is_due, is_open, is_pending, next_hint, answered, confirm, confirmed}
 use Rattle.hint_store.specs.declared.hint.Delivery.{Delivery}
 use Rattle.hint_store.specs.declared.hint.Fate.{Fate}
 use Rattle.hint_store.specs.declared.hint.Fate.TheVariants.{Pending}
 use Rattle.hint_store.specs.declared.hint.Hint.{Hint}
 use Rattle.hint_store.specs.declared.hint.Kept.{Kept}
 use Rattle.hint_store.proofs.HintLaws.{answered_from, open_pending}
-use Rattle.range_state.specs.State as range
-use Rattle.outage_script.specs.Handoff.{Round, delivery_at, is_offered, offer_one, offered_to, owner_home, round_after}
-use Rattle.outage_script.specs.Offers.{after_offer, delivery_by, pending_of, round_at}
+use Rattle.range_state.specs.declared.event.Accepted.{Accepted}
+use Rattle.vclock.specs.Outcome.{Outcome, gives, refuses, is_given}
+use Rattle.outage_script.specs.Handoff.{Round, asked_in, delivery_by, is_offered, offer_one, offered_to, was_known}
+use Rattle.outage_script.specs.Offers.{after_offer, pending_of, round_at}
 use Rattle.outage_script.specs.State.{Replica}
 
 drop_none : {X : Type 0} (i : ℕ) (none : List X) → none ≡ [] → drop i none ≡ none
@@ -172,8 +173,8 @@ confirmed_rest (k ∷ ks) n id d numbered = here (confirmed_rest ks (n + 1) id d
 -- what the next hint is to a delivery
 pub record IsNext (up : List ℕ) (bits after : ℕ) (hs : List Kept) (r : Round) (hint : Hint) : Type 0 where
   pub ahead : after < hint.id
-  pub awaited : (known : Bool) → confirm_fault hs hint.id (delivery_by hint known) ≡ None
-  pub rest : fold (offer_one up bits) r (drop after hs) ≡ fold (offer_one up bits) (offered_to bits r (pending_of hint) (owner_home bits r.replicas (pending_of hint))) (drop hint.id hs)
+  pub awaited : (known : Bool) → IsTrue (is_given (confirm hs hint.id (delivery_by hint known)))
+  pub rest : fold (offer_one up bits) r (drop after hs) ≡ fold (offer_one up bits) (offered_to bits r hint (asked_in bits r.replicas hint)) (drop hint.id hs)
 
 one_less : (a : ℕ) → a + 1 - 1 ≡ a
 one_less a = omega arith
@@ -190,7 +191,7 @@ hint_of : (o : Option Kept) (hint : Hint) → option_map (λ (k : Kept). k.hint)
 hint_of None hint e = cc
 hint_of (Some k) hint e = record { kept = k; is = refl; same = cc }
 
-offered_here : (up : List ℕ) (bits : ℕ) (r : Round) (k : Kept) → is_offered up k ≡ true → offer_one up bits r k ≡ offered_to bits r k (owner_home bits r.replicas k)
+offered_here : (up : List ℕ) (bits : ℕ) (r : Round) (k : Kept) → is_offered up k ≡ true → offer_one up bits r k ≡ offered_to bits r k.hint (asked_in bits r.replicas k.hint)
 offered_here up bits r k e = rw e refl
 
 pub next_is : (up : List ℕ) (bits after : ℕ) (hs : List Kept) (r : Round) (hint : Hint) → AreNumberedFrom 1 hs → next_hint up after hs ≡ Some hint → IsNext up bits after hs r hint
@@ -217,21 +218,16 @@ last_is up bits after hs r numbered e = ap (λ (n : ℕ). fold (offer_one up bit
 
 -- ---- behind the hint that was offered nothing changed
 
-home_rest : (bits : ℕ) (r : Round) (hint : Hint) (o : Option range.State) → AreNumberedFrom 1 r.hints → drop hint.id (offered_to bits r (pending_of hint) o).hints ≡ drop hint.id r.hints
-home_rest bits r hint None numbered = refl
-home_rest bits r hint (Some h) numbered = pick (is_none (range.accept_fault h hint.key hint.version))
-  where
-    same : drop hint.id (confirmed r.hints hint.id (delivery_at (pending_of hint) h)) ≡ drop hint.id r.hints
-    same = ap (λ (n : ℕ). drop n (confirmed r.hints hint.id (delivery_at (pending_of hint) h))) (sym (one_less hint.id)) ∙ confirmed_rest r.hints 1 hint.id (delivery_at (pending_of hint) h) numbered ∙ ap (λ (n : ℕ). drop n r.hints) (one_less hint.id)
-
-    pick : (b : Bool) → drop hint.id (cond b (round_after bits r (pending_of hint) h) r).hints ≡ drop hint.id r.hints
-    pick true = same
-    pick false = refl
+home_rest : (bits : ℕ) (r : Round) (hint : Hint) (o : Outcome Accepted (List Replica)) → AreNumberedFrom 1 r.hints → drop hint.id (offered_to bits r hint o).hints ≡ drop hint.id r.hints
+home_rest bits r hint (refuses e) numbered = refl
+home_rest bits r hint (gives reply reps) numbered =
+    let d = delivery_by hint (was_known reply) in
+    ap (λ (n : ℕ). drop n (confirmed r.hints hint.id d)) (sym (one_less hint.id)) ∙ confirmed_rest r.hints 1 hint.id d numbered ∙ ap (λ (n : ℕ). drop n r.hints) (one_less hint.id)
 
 -- a step of the loop
-pub stepped : (up : List ℕ) (bits after : ℕ) (hs new : List Kept) (reps now : List (List Replica)) (taken known : ℕ) (o : Option Bool) (hint : Hint) (whole : Round) → AreNumberedFrom 1 hs → next_hint up after hs ≡ Some hint → fold (offer_one up bits) (round_at reps hs taken known) (drop after hs) ≡ whole → after_offer o now new taken known ≡ offered_to bits (round_at reps hs taken known) (pending_of hint) (owner_home bits reps (pending_of hint)) → (after_offer o now new taken known).hints ≡ new → fold (offer_one up bits) (after_offer o now new taken known) (drop hint.id new) ≡ whole
+pub stepped : (up : List ℕ) (bits after : ℕ) (hs new : List Kept) (reps now : List (List Replica)) (taken known : ℕ) (o : Option Bool) (hint : Hint) (whole : Round) → AreNumberedFrom 1 hs → next_hint up after hs ≡ Some hint → fold (offer_one up bits) (round_at reps hs taken known) (drop after hs) ≡ whole → after_offer o now new taken known ≡ offered_to bits (round_at reps hs taken known) hint (asked_in bits reps hint) → (after_offer o now new taken known).hints ≡ new → fold (offer_one up bits) (after_offer o now new taken known) (drop hint.id new) ≡ whole
 stepped up bits after hs new reps now taken known o hint whole numbered e so done its =
     let r = round_at reps hs taken known in
     let f = next_is up bits after hs r hint numbered e in
-    let behind : drop hint.id new ≡ drop hint.id hs = ap (drop hint.id) (sym its ∙ ap (λ (x : Round). x.hints) done) ∙ home_rest bits r hint (owner_home bits reps (pending_of hint)) numbered in
+    let behind : drop hint.id new ≡ drop hint.id hs = ap (drop hint.id) (sym its ∙ ap (λ (x : Round). x.hints) done) ∙ home_rest bits r hint (asked_in bits reps hint) numbered in
     ap (fold (offer_one up bits) (after_offer o now new taken known)) behind ∙ ap (λ (x : Round). fold (offer_one up bits) x (drop hint.id hs)) done ∙ sym f.rest ∙ so

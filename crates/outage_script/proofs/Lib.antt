@@ -1,5 +1,5 @@
 pub mod Known
-pub mod Told
+pub mod OutcomeSteps
 pub mod ReadLemmas
 pub mod AnswerLemmas
 pub mod ReplicaLaws

@@ -1,23 +1,24 @@
 -- A replica as the script's definition has it: without the records of its sessions.
-use Rattle.vclock.specs.Answer.{Answers, AnswersOrNoMemory}
-use Rattle.std.specs.Prelude.{⊤, Result, Ok, Err, IfOk, OnOk, OnErr}
-use Rattle.std.proofs.Common.{◌≡◌, ◌⊎◌, inl, inr, ℕ, ◌+◌, ◌-◌, false, cond, Option, Some, None, List, [], ◌∷◌, length, refl, sym, ap, ◌∙◌}
+use Rattle.vclock.specs.Answer.{Answers, AnswersOrNoMemory, first_fault}
+use Rattle.std.specs.Prelude.{⊤, Result, Ok, Err, IfOk, OnOk, OnErr, filter, nat_le, ◌||◌}
+use Rattle.std.proofs.Common.{◌≡◌, ◌⊎◌, inl, inr, ℕ, ◌+◌, ◌-◌, Bool, true, false, cond, Option, Some, None, List, [], ◌∷◌, length, refl, sym, ap, ◌∙◌}
 use Rattle.hash_tree.specs.Nodes.{are_clean}
 use Rattle.vclock.specs.declared.format.Format.{Format}
 use Rattle.vclock.specs.declared.format.Format.TheVariants.{One, Two}
 use Rattle.vclock.specs.declared.refusal.Refusal.{Refusal}
-use Rattle.vclock.specs.declared.refusal.Refusal.TheVariants.{Dirty}
+use Rattle.vclock.specs.declared.refusal.Refusal.TheVariants.{Dirty, NoMemory, OtherRange, SessionsFull}
 use Rattle.snapshot.specs.RowMaps.{RowMap}
 use Rattle.sync_session.specs.TreeNodes.{Node}
 use Rattle.range_state.specs.Config.{Config}
 use Rattle.range_state.specs.State as range
 use Rattle.range_state.specs.Trees.{digests_below, rehashed}
+use Rattle.range_state.specs.Records.{is_open_state}
 use Rattle.range_state.specs.Sessions.{taken_in, leaf_fault}
 use Rattle.range_state.specs.Syncs.{Progress, IsSyncedTo, IsPartWay, leaves_between, offers_at, known_in, taken_leaves, unless_refused}
 use Rattle.range_state.specs.declared.state.syncing.Synced.{Synced}
 use Rattle.range_state.proofs.SyncStepLaws.{config_stays, taken_beside, fault_beside}
 use Rattle.outage_script.specs.State.{Replica, keeping, range_in, replica_of, without_records}
-use Rattle.outage_script.specs.Syncs.{IsCounted, after_sync, synced_with}
+use Rattle.outage_script.specs.Syncs.{IsCounted, after_sync, synced_with, walk_fault}
 
 -- what holds of a result where it is not refused
 pub on_ok : {T E : Type 0} (r : Result T E) {P Q : Type 0} → (P → Q) → OnOk r P → OnOk r Q
@@ -106,3 +107,19 @@ sync_ok n s new other (Err e) is = tt
 pub sync_answers : (n : ℕ) (s new : range.State) (other : RowMap) (fault : Option Refusal) (r : Result Synced Refusal) → Answers r fault (λ _. ⊤) → IfOk r (λ a. IsSyncedTo s 0 other new a) → AnswersOrNoMemory r fault (IsCounted (replica_of n s) other)
 sync_answers n s new other fault (Ok a) answers is = (answers.0, counted n s new other a is)
 sync_answers n s new other fault (Err e) answers is = elim answers [ inl memory ↦ inl memory.1 | inr cause ↦ inr cause ]
+
+-- a sync is refused for a cause that is no want of memory
+pub walk_is_no_memory : (partner : Option range.State) (own : Option Replica) → walk_fault partner own ≡ Some NoMemory → ⊥
+walk_is_no_memory None own e = cc
+walk_is_no_memory (Some h) None e = dirty (are_clean h.marks) e
+  where
+    dirty : (clean : Bool) → first_fault (cond clean None (Some Dirty)) (Some OtherRange) ≡ Some NoMemory → ⊥
+    dirty true e = cc
+    dirty false e = cc
+walk_is_no_memory (Some h) (Some r) e = pick (are_clean h.marks) (nat_le 64 (length (filter is_open_state r.sessions)) || nat_le 1024 (length r.sessions)) (are_clean r.range.marks) e
+  where
+    pick : (clean many own : Bool) → first_fault (cond clean None (Some Dirty)) (first_fault (cond many (Some SessionsFull) None) (cond own None (Some Dirty))) ≡ Some NoMemory → ⊥
+    pick false many own e = cc
+    pick true true own e = cc
+    pick true false false e = cc
+    pick true false true e = cc

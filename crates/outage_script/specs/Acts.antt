@@ -1,10 +1,11 @@
 -- What the commands do to the state, and what they answer.
-use Rattle.std.specs.Prelude.{ℕ, ◌^◌, Bool, true, false, not, ◌==◌, ◌&&◌, ◌-◌, nat_le, nat_lt, slice_index_or, List, [], ◌∷◌, length, map, filter, if◌then◌else◌, Option, Some, None, is_none, is_some}
+use Rattle.std.specs.Prelude.{ℕ, ◌^◌, Bool, true, false, not, ◌==◌, ◌&&◌, ◌-◌, nat_le, nat_lt, slice_index_or, List, [], ◌∷◌, length, map, filter, if◌then◌else◌, Option, Some, None, is_some}
 use Rattle.std.specs.List.{list_any, list_all}
-use Rattle.serde_json.specs.Data.{Data, null}
+use Rattle.serde_json.specs.Data.{Data}
 use Rattle.vclock.specs.Answer.{first_fault}
 use Rattle.vclock.specs.Clock.{clock_of, pairs_fault}
 use Rattle.vclock.specs.Keys.{key_fault}
+use Rattle.vclock.specs.Outcome.{Outcome, gives, refuses, is_given, through, ◌>>◌, ◌>>=◌}
 use Rattle.vclock.specs.declared.format.Format.{Format}
 use Rattle.vclock.specs.declared.format.Format.TheVariants.{One, Two}
 use Rattle.vclock.specs.declared.refusal.Refusal.{Refusal}
@@ -14,22 +15,24 @@ use Rattle.version_set.specs.declared.kind.Kind.{Kind}
 use Rattle.version_set.specs.declared.kind.Kind.TheVariants.{Live, Tombstone}
 use Rattle.key_ring.specs.Places.{range_at}
 use Rattle.key_ring.specs.Ring.{Places, ring_fault}
-use Rattle.admission.specs.Admission.{Admission, lend_fault, clock_fault}
+use Rattle.admission.specs.Admission.{Admission, lend}
 use Rattle.range_journal.specs.Journal.{held}
 use Rattle.range_journal.specs.declared.journal.Entry.{Entry}
 use Rattle.range_journal.specs.declared.journal.Source.TheVariants.{Copy}
 use Rattle.range_state.specs.Config.{Config, config_of}
 use Rattle.range_state.specs.Rows.{rows_of}
+use Rattle.range_state.specs.Sessions.{crowd_fault}
 use Rattle.range_state.specs.State as range
 use Rattle.range_state.specs.Trees.{rehashed}
+use Rattle.range_state.specs.declared.event.Accepted.{Accepted}
 use Rattle.hash_tree.specs.Nodes.{tree_depth, place_at, digest_at, dirty_count}
 use Rattle.hash_tree.specs.Texts.{node_digest}
 use Rattle.outage_script.specs.Asks.{RingAsk, PutAsk, GetAsk, RehashAsk, SyncAsk, NodeAsk, Ask, ring, put, get, row, take_down, bring_up, deliver, rehash, sync, show_node, slot, sample}
-use Rattle.outage_script.specs.Answers.{ring_answer, put_answer, versions_answer, row_answer, up_answer, rehash_answer, node_answer, settled}
-use Rattle.outage_script.specs.State.{Cluster, State, Replica, first_slots, made, keeping, replica_at, at_node, replicas_of, with_range, with_replicas, home, with_home, is_member, is_down, taken_down, brought_up, hints_of}
-use Rattle.outage_script.specs.Handoff.{owners_of, carrier_of, hinted, deliver_done}
-use Rattle.outage_script.specs.Syncs.{session_fault, told, synced_with}
-use Rattle.outage_script.specs.Slots.{slot_fault, slot_done, sample_done, is_target}
+use Rattle.outage_script.specs.Answers.{ring_answer, put_answer, versions_answer, row_answer, up_answer, rehash_answer, node_answer}
+use Rattle.outage_script.specs.State.{Cluster, State, Replica, first_slots, made, in_replica, at_home, left, replica_at, at_node, replicas_of, with_range, with_replicas, home, is_member, is_down, taken_down, brought_up, hints_of}
+use Rattle.outage_script.specs.Handoff.{owners_of, carrier_of, hinted, deliver_at}
+use Rattle.outage_script.specs.Syncs.{told, synced_with}
+use Rattle.outage_script.specs.Slots.{slot_act, sample_act, is_target}
 
 -- ---- a ring
 
@@ -40,14 +43,14 @@ places_of r = record { bits = r.bits; nodes = r.nodes; copies = r.copies }
 abbrev pub ring_config : RingAsk → Option Config
 ring_config r = config_of r.format r.bits 0 r.limit
 
-abbrev pub new_ring_fault : RingAsk → Option Refusal
-new_ring_fault r = first_fault (if is_some (ring_config r) then None else Some BadRing) (ring_fault (places_of r))
+-- everything anew
+abbrev pub ring_act : RingAsk → Option Config → Outcome Data State
+ring_act r None = refuses BadRing
+ring_act r (Some c) = do
+  ring_fault (places_of r)
+  gives (ring_answer (length r.nodes) (2 ^ r.bits)) (record { cluster = made (places_of r) c; slots = first_slots })
 
-abbrev pub remade : RingAsk → Option Config → State → State
-remade r (Some c) s = record { cluster = made (places_of r) c; slots = first_slots }
-remade r None s = s
-
--- ---- a put
+-- ---- nodes
 
 -- why the nodes that a command names are refused: one is not on the ring
 abbrev pub ring_nodes_fault : Cluster → ℕ → List ℕ → Option Refusal
@@ -60,6 +63,18 @@ down_fault s node = if is_down s node then Some Down else None
 -- why nodes are refused: one is not on the ring, or the first is down
 abbrev pub nodes_fault : Cluster → ℕ → List ℕ → Option Refusal
 nodes_fault s node others = first_fault (ring_nodes_fault s node others) (down_fault s node)
+
+unfoldable pub down_act : ℕ → Cluster → Outcome Data Cluster
+down_act n s = do
+  ring_nodes_fault s n []
+  gives (up_answer n false) (taken_down s n)
+
+unfoldable pub up_act : ℕ → Cluster → Outcome Data Cluster
+up_act n s = do
+  ring_nodes_fault s n []
+  gives (up_answer n true) (brought_up s n)
+
+-- ---- a put
 
 -- null is a tombstone, whose value is empty
 abbrev pub kind_of : Option (List ℕ) → Kind
@@ -74,22 +89,9 @@ value_of None = []
 abbrev pub ask_fault : PutAsk → Cluster → Option Refusal
 ask_fault p s = first_fault (nodes_fault s p.node p.lose) (first_fault (pairs_fault p.context) (first_fault (key_fault p.key) (value_fault s.format (kind_of p.value) (value_of p.value))))
 
--- a fault of what a node keeps, where it keeps the range
-abbrev pub home_fault : (range.State → Option Refusal) → Option range.State → Option Refusal
-home_fault fault None = Some OtherRange
-home_fault fault (Some h) = fault h
-
--- why what a node keeps refuses a put
-abbrev pub put_fault_at : PutAsk → range.State → Option Refusal
-put_fault_at p h = range.put_fault h p.node p.key (clock_of p.context) (kind_of p.value) (value_of p.value)
-
--- the entry of a put: the script's seat is 0
-abbrev pub put_entry_at : PutAsk → range.State → Entry
-put_entry_at p h = range.put_entry h 0 p.node p.key (clock_of p.context) (kind_of p.value) (value_of p.value)
-
--- why a put is refused, in the order in which the causes are tested
-abbrev pub put_fault : PutAsk → Cluster → Option Refusal
-put_fault p s = first_fault (ask_fault p s) (home_fault (put_fault_at p) (home p.node (replicas_of s p.key)))
+-- a put with what its node keeps: the script's seat is 0
+unfoldable pub put_at : PutAsk → range.State → Outcome Entry range.State
+put_at p h = range.put h 0 p.node p.key (clock_of p.context) (kind_of p.value) (value_of p.value)
 
 -- whether a replica is to have a put: it is another node, and not one that is to get nothing
 abbrev pub is_sent_to : ℕ → List ℕ → ℕ → Bool
@@ -103,120 +105,158 @@ gets_copy down node lose n = is_sent_to node lose n && not (list_any (λ m. m ==
 abbrev pub gets_hint : List ℕ → ℕ → List ℕ → ℕ → Bool
 gets_hint down node lose n = is_sent_to node lose n && list_any (λ m. m == n) down
 
+-- a copy of an entry, sent to a replica
+unfoldable pub copied_to : Entry → Replica → Outcome Accepted Replica
+copied_to e r = in_replica r (range.accept r.range 0 Copy e.key e.version)
+
 -- whether a replica is sent a copy of an entry, and takes it or knows it
 abbrev pub takes : List ℕ → ℕ → List ℕ → Entry → Replica → Bool
-takes down node lose e r = gets_copy down node lose r.node && is_none (range.accept_fault r.range e.key e.version)
+takes down node lose e r = gets_copy down node lose r.node && is_given (copied_to e r)
 
 -- a replica after the copies were sent: one that refuses its copy is as it was
 abbrev pub after_copy : List ℕ → ℕ → List ℕ → Entry → Replica → Replica
-after_copy down node lose e r = if takes down node lose e r then keeping (range.accept_step r.range 0 Copy e.key e.version) r else r
+after_copy down node lose e r = if gets_copy down node lose r.node then left (copied_to e r) r else r
 
--- the replicas of the key's range with the entry of a put, before the copies are sent
-abbrev pub entered : PutAsk → range.State → List Replica → List Replica
-entered p h reps = with_home p.node (range.journaled h (put_entry_at p h)) reps
+-- a put and its copies: the entry, and how many replicas take a copy or know it
+unfoldable pub put_into : List ℕ → PutAsk → List Replica → Outcome (Entry × ℕ) (List Replica)
+put_into down p reps = do
+  at ← at_home p.node (put_at p) reps
+  gives (at.0, length (filter (takes down p.node p.lose at.0) at.1)) (map (after_copy down p.node p.lose at.0) at.1)
 
--- how many replicas take a copy or know it, and the replicas after it
-abbrev pub copied : List ℕ → PutAsk → range.State → List Replica → ℕ
-copied down p h reps = length (filter (takes down p.node p.lose (put_entry_at p h)) (entered p h reps))
+-- a put whose hints were kept
+abbrev pub put_told : Entry × ℕ → ℕ × Cluster → Outcome Data Cluster
+put_told e kept = gives (put_answer e.0.version.clock e.1 kept.0 e.0.number) kept.1
 
-abbrev pub sent : List ℕ → PutAsk → range.State → List Replica → List Replica
-sent down p h reps = map (after_copy down p.node p.lose (put_entry_at p h)) (entered p h reps)
+unfoldable pub put_act : PutAsk → Cluster → Outcome Data Cluster
+put_act p s = do
+  ask_fault p s
+  at ← put_into s.down p (replicas_of s p.key)
+  put_told at.0 (hinted at.0.0 (owners_of (gets_hint s.down p.node p.lose) (replicas_of s p.key)) (with_replicas s p.key at.1) (carrier_of s (range_at s.ring.bits p.key)))
 
--- ---- the commands
+-- ---- what a node keeps
 
--- what is done with what a node keeps; where it keeps nothing, the command is refused before
-abbrev pub done_at : {S : Type 0} → (range.State → Data × S) → Option range.State → S → Data × S
-done_at done None s = (null, s)
-done_at done (Some h) s = done h
+-- what is shown of what a node keeps
+abbrev pub shown : Cluster → (range.State → Data) → Option range.State → Outcome Data Cluster
+shown s show None = refuses OtherRange
+shown s show (Some h) = gives (show h) s
 
-abbrev pub put_answer_at : Entry → ℕ → ℕ × Cluster → Data × Cluster
-put_answer_at e copies d = (put_answer e.version.clock copies d.0 e.number, d.1)
+-- what is shown of a key at a node
+unfoldable pub key_act : (range.State → Data) → GetAsk → Cluster → Outcome Data Cluster
+key_act show g s = do
+  nodes_fault s g.node []
+  key_fault g.key
+  shown s show (home g.node (replicas_of s g.key))
 
-abbrev pub put_done : PutAsk → Cluster → range.State → Data × Cluster
-put_done p s h = put_answer_at (put_entry_at p h) (copied s.down p h (replicas_of s p.key)) (hinted (put_entry_at p h) (owners_of (gets_hint s.down p.node p.lose) (replicas_of s p.key)) (with_replicas s p.key (sent s.down p h (replicas_of s p.key))) (carrier_of s (range_at s.ring.bits p.key)))
+abbrev pub held_at : GetAsk → range.State → Data
+held_at g h = versions_answer (held h.entries g.key)
 
--- why a get or a row is refused
-abbrev pub get_fault : GetAsk → Cluster → Option Refusal
-get_fault g s = first_fault (nodes_fault s g.node []) (first_fault (key_fault g.key) (home_fault (λ _. None) (home g.node (replicas_of s g.key))))
+abbrev pub row_at : GetAsk → range.State → Data
+row_at g h = row_answer h.config.format g.key (held h.entries g.key)
 
-abbrev pub get_done : GetAsk → range.State → Data
-get_done g h = versions_answer (held h.entries g.key)
-
-abbrev pub row_done : GetAsk → range.State → Data
-row_done g h = row_answer h.config.format g.key (held h.entries g.key)
-
--- what a node keeps of the range of that number: nothing too where the ring has no such range
+-- what a node keeps of the range of that number: nothing too if the ring has no such range
 abbrev pub kept_at : Cluster → ℕ → ℕ → Option range.State
 kept_at s node r = home node (slice_index_or s.replicas r [])
 
+-- the digest of a node, shown if it is clean: that of the node's text for the rows now
+abbrev pub shown_digest : ℕ → ℕ → range.State → Option (List ℕ)
+shown_digest depth index h = if is_some (digest_at h.marks (place_at depth index)) then Some (node_digest h.config.format (range.leaf_in h.config) (rows_of h.entries) (tree_depth h.config.format - depth) index) else None
+
+abbrev pub node_at : NodeAsk → range.State → Data
+node_at q h = node_answer (shown_digest q.depth q.index h)
+
+unfoldable pub node_act : NodeAsk → Cluster → Outcome Data Cluster
+node_act q s = do
+  nodes_fault s q.node []
+  shown s (node_at q) (kept_at s q.node q.range)
+
+-- ---- background work
+
+-- why a node is refused that keeps nothing
+abbrev pub kept_fault : Option range.State → Option Refusal
+kept_fault None = Some OtherRange
+kept_fault (Some h) = None
+
 -- why a command on a range at a node is refused
 abbrev pub range_fault : Cluster → ℕ → ℕ → Option Refusal
-range_fault s node r = first_fault (nodes_fault s node []) (home_fault (λ _. None) (kept_at s node r))
+range_fault s node r = first_fault (nodes_fault s node []) (kept_fault (kept_at s node r))
 
-abbrev pub rehash_done : RehashAsk → Cluster → range.State → Data × Cluster
-rehash_done q s h = (rehash_answer (dirty_count h.marks), with_range s q.range (with_home q.node (rehashed h) (slice_index_or s.replicas q.range [])))
+-- all nodes of a range's tree made clean: how many were dirty
+abbrev pub clean_at : range.State → Outcome ℕ range.State
+clean_at h = gives (dirty_count h.marks) (rehashed h)
+
+unfoldable pub rehash_at : RehashAsk → Cluster → Outcome Data Cluster
+rehash_at q s = do
+  hashed ← at_home q.node clean_at (slice_index_or s.replicas q.range [])
+  gives (rehash_answer hashed.0) (with_range s q.range hashed.1)
 
 -- why a sync is refused for its nodes: one is not on the ring, one is down, or one does not keep the range
 abbrev pub pair_fault : SyncAsk → Cluster → Option Refusal
 pair_fault q s = first_fault (ring_nodes_fault s q.node (q.from ∷ [])) (first_fault (down_fault s q.node) (down_fault s q.from))
 
 abbrev pub keepers_fault : SyncAsk → Cluster → Option Refusal
-keepers_fault q s = first_fault (pair_fault q s) (first_fault (home_fault (λ _. None) (kept_at s q.node q.range)) (home_fault (λ _. None) (kept_at s q.from q.range)))
+keepers_fault q s = first_fault (pair_fault q s) (first_fault (kept_fault (kept_at s q.node q.range)) (kept_fault (kept_at s q.from q.range)))
 
 -- the replica at a node of the range of that number
 abbrev pub replica_in : Cluster → ℕ → ℕ → Option Replica
 replica_in s node r = replica_at node (slice_index_or s.replicas r [])
 
--- why a sync is refused for what the nodes keep: the other's tree has a dirty node, or no session is opened
-abbrev pub walk_fault : SyncAsk → Cluster → Option Refusal
-walk_fault q s = first_fault (home_fault range.dirty_fault (kept_at s q.from q.range)) (session_fault (replica_in s q.node q.range))
+-- a sync of a replica with what another node keeps
+abbrev pub synced_in : SyncAsk → Cluster → Option range.State → Option Replica → Outcome Data Cluster
+synced_in q s None own = refuses OtherRange
+synced_in q s (Some h) None = do
+  range.dirty_fault h
+  refuses OtherRange
+synced_in q s (Some h) (Some own) = do
+  range.dirty_fault h
+  crowd_fault own.sessions
+  range.dirty_fault own.range
+  gives (told own (range.rows_now h)) (with_range s q.range (at_node q.node (synced_with (range.rows_now h)) (slice_index_or s.replicas q.range [])))
 
--- why a sync is refused, in the order in which the causes are tested
-abbrev pub sync_fault : SyncAsk → State → Option Refusal
-sync_fault q s = first_fault (keepers_fault q s.cluster) (first_fault (lend_fault s.slots) (walk_fault q s.cluster))
+unfoldable pub sync_at : SyncAsk → Cluster → Outcome Data Cluster
+sync_at q s = synced_in q s (kept_at s q.from q.range) (replica_in s q.node q.range)
 
--- a sync of a replica with the rows of another
-abbrev pub sync_done : SyncAsk → Cluster → Option range.State → Option Replica → Data × Cluster
-sync_done q s partner None = (null, s)
-sync_done q s None (Some own) = (null, s)
-sync_done q s (Some h) (Some own) = (told own (range.rows_now h), with_range s q.range (at_node q.node (synced_with (range.rows_now h)) (slice_index_or s.replicas q.range [])))
+-- ---- the commands
 
--- the digest of a node, shown where it is clean: that of the node's text for the rows now
-abbrev pub shown_digest : ℕ → ℕ → range.State → Option (List ℕ)
-shown_digest depth index h = if is_some (digest_at h.marks (place_at depth index)) then Some (node_digest h.config.format (range.leaf_in h.config) (rows_of h.entries) (tree_depth h.config.format - depth) index) else None
+-- what is done in the cluster, or with the slots, as done with the state
+abbrev pub in_cluster : State → Outcome Data Cluster → Outcome Data State
+in_cluster s done = through (λ c. record s { cluster = c }) done
 
-abbrev pub node_done : NodeAsk → range.State → Data
-node_done q h = node_answer (shown_digest q.depth q.index h)
+abbrev pub in_slots : State → Outcome Data Admission → Outcome Data State
+in_slots s done = through (λ a. record s { slots = a }) done
 
--- what was done in the cluster, or with the slots, as a step of the state
-abbrev pub in_cluster : State → Data × Cluster → Data × State
-in_cluster s d = (d.0, record s { cluster = d.1 })
+-- background work, with a slot that is given back
+abbrev pub with_slot : State → Outcome Data Cluster → Outcome Data State
+with_slot s work = lend s.slots >>= (λ lent. in_cluster s work)
 
-abbrev pub in_slots : State → Data × Admission → Data × State
-in_slots s d = (d.0, record s { slots = d.1 })
+unfoldable pub deliver_act : ℕ → State → Outcome Data State
+deliver_act n s = do
+  nodes_fault s.cluster n []
+  with_slot s (deliver_at s.cluster n (hints_of s.cluster n))
 
--- what a command does with the slots, and its answer
-abbrev pub slots_act : Option Refusal → (Admission → Data × Admission) → State → Data × State
-slots_act fault done s = in_slots s (settled fault (done s.slots) s.slots)
+unfoldable pub rehash_act : RehashAsk → State → Outcome Data State
+rehash_act q s = do
+  range_fault s.cluster q.node q.range
+  with_slot s (rehash_at q s.cluster)
 
--- what a command does in the cluster, and its answer
-abbrev pub cluster_act : Option Refusal → (Cluster → Data × Cluster) → State → Data × State
-cluster_act fault done s = in_cluster s (settled fault (done s.cluster) s.cluster)
+unfoldable pub sync_act : SyncAsk → State → Outcome Data State
+sync_act q s = do
+  keepers_fault q s.cluster
+  with_slot s (sync_at q s.cluster)
 
--- a command's answer, and the state after it; a rehash, a sync and a delivery borrow a slot
-unfoldable pub act : Ask → State → Data × State
-act (ring r) s = settled (new_ring_fault r) (ring_answer (length r.nodes) (2 ^ r.bits), remade r (ring_config r) s) s
-act (put p) s = cluster_act (put_fault p s.cluster) (λ c. done_at (put_done p c) (home p.node (replicas_of c p.key)) c) s
-act (get g) s = cluster_act (get_fault g s.cluster) (λ c. done_at (λ h. (get_done g h, c)) (home g.node (replicas_of c g.key)) c) s
-act (row g) s = cluster_act (get_fault g s.cluster) (λ c. done_at (λ h. (row_done g h, c)) (home g.node (replicas_of c g.key)) c) s
-act (take_down n) s = cluster_act (ring_nodes_fault s.cluster n []) (λ c. (up_answer n false, taken_down c n)) s
-act (bring_up n) s = cluster_act (ring_nodes_fault s.cluster n []) (λ c. (up_answer n true, brought_up c n)) s
-act (deliver n) s = cluster_act (first_fault (nodes_fault s.cluster n []) (lend_fault s.slots)) (λ c. deliver_done c n (hints_of c n)) s
-act (rehash q) s = cluster_act (first_fault (range_fault s.cluster q.node q.range) (lend_fault s.slots)) (λ c. done_at (rehash_done q c) (kept_at c q.node q.range) c) s
-act (sync q) s = cluster_act (sync_fault q s) (λ c. sync_done q c (kept_at c q.from q.range) (replica_in c q.node q.range)) s
-act (show_node q) s = cluster_act (range_fault s.cluster q.node q.range) (λ c. done_at (λ h. (node_done q h, c)) (kept_at c q.node q.range) c) s
-act (slot x) s = slots_act (slot_fault x s.slots) (slot_done x) s
-act (sample q) s = slots_act (clock_fault s.slots q.moment) (sample_done q) s
+-- what a command tells, and the state after it
+unfoldable pub act : Ask → State → Outcome Data State
+act (ring r) s = ring_act r (ring_config r)
+act (put p) s = in_cluster s (put_act p s.cluster)
+act (get g) s = in_cluster s (key_act (held_at g) g s.cluster)
+act (row g) s = in_cluster s (key_act (row_at g) g s.cluster)
+act (take_down n) s = in_cluster s (down_act n s.cluster)
+act (bring_up n) s = in_cluster s (up_act n s.cluster)
+act (deliver n) s = deliver_act n s
+act (rehash q) s = rehash_act q s
+act (sync q) s = sync_act q s
+act (show_node q) s = in_cluster s (node_act q s.cluster)
+act (slot x) s = in_slots s (slot_act x s.slots)
+act (sample q) s = in_slots s (sample_act q s.slots)
 
 -- whether the tree of a range in a format has a node
 abbrev pub is_tree_node : Format → ℕ → ℕ → Bool

@@ -1,7 +1,11 @@
 -- What the commands answer.
-use Rattle.std.specs.Prelude.{ℕ, Bool, List, [], ◌∷◌, ◌++◌, codes, Option, Some, None}
+use Rattle.std.specs.Prelude.{ℕ, Bool, List, [], ◌∷◌, ◌++◌, codes, Option, Some, None, Result}
+use Rattle.std.specs.Result.{result_map_both}
 use Rattle.serde_json.specs.Data.{Data, Items, no_items, item, no_members, member, null, boolean, number, unsigned, string, array, object}
 use Rattle.serde_json.specs.Written.{compact_text}
+use Rattle.serde_json.specs.View.{view}
+use Rattle.serde_json.specs.declared.value.Value.{Value}
+use Rattle.vclock.specs.Outcome.{Outcome, gives, refuses, DoesOrBreaksOff}
 use Rattle.admission.specs.Admission.{Admission, allowance_of, free_of}
 use Rattle.hex.specs.Hex.{encode_lower}
 use Rattle.vclock.specs.Clock.{Pairs}
@@ -168,7 +172,11 @@ adjust_answer p a = adjust_members (allowance_of a) (free_of a) a.slots (maybe_n
 unfoldable pub sample_answer : ℕ → Data
 sample_answer kept = object (member (codes "samples") (number_data kept) no_members)
 
--- the answer of a command and what it leaves: one that is refused changes nothing
-abbrev pub settled : {S : Type 0} → Option Refusal → Data × S → S → Data × S
-settled (Some refusal) done s = (refusal_answer refusal, s)
-settled None done s = done
+-- what is answered: what the command tells, or why it is refused
+abbrev pub replied : {S : Type 0} → Outcome Data S → Data
+replied (gives answer s) = answer
+replied (refuses refusal) = refusal_answer refusal
+
+-- What a command does, and what it tells of it. If memory runs out, a part of it may be done.
+abbrev pub Tells : {S : Type 0} → Result Value Refusal → S → S → Outcome Data S → Type 0
+Tells result old new o = DoesOrBreaksOff (result_map_both view (λ e. e) result) old new o

@@ -2,10 +2,10 @@
 use Rattle.std.specs.Prelude.{◌≡◌, ℕ, ◌+◌, List, [], ◌∷◌, ◌++◌, length, nat_lt, if◌then◌else◌, Option, Some, None, option_map, option_and_then}
 use Rattle.std.specs.List.{list_all}
 use Rattle.outage_script.specs.Lines.{lines_of, is_space}
-use Rattle.outage_script.specs.State.{State, start}
+use Rattle.outage_script.specs.State.{State, start, left}
 use Rattle.outage_script.specs.Asks.{Ask}
 use Rattle.outage_script.specs.Acts.{act, suits}
-use Rattle.outage_script.specs.Answers.{answer_line, bad_line_answer}
+use Rattle.outage_script.specs.Answers.{answer_line, bad_line_answer, replied}
 use Rattle.outage_script.specs.Reading.{value_of}
 use Rattle.outage_script.specs.Commands.{command_of}
 
@@ -18,7 +18,7 @@ abbrev pub Turn : Type 0
 Turn = Option (List ℕ × State)
 
 abbrev pub turn_of : State → Ask → List ℕ × State
-turn_of s ask = (answer_line (act ask s).0, (act ask s).1)
+turn_of s ask = (answer_line (replied (act ask s)), left (act ask s) s)
 
 -- the command, if the ring in force has such a one
 abbrev pub suited : State → Ask → Option Ask

@@ -1,35 +1,31 @@
 -- What a script does with the slots for background work: the paper of 2007, section 6.5.
-use Rattle.std.specs.Prelude.{◌+◌, ◌-◌, Bool, true, ◌&&◌, nat_le, length, Option, None}
+use Rattle.std.specs.Prelude.{◌+◌, ◌-◌, Bool, true, ◌&&◌, nat_le}
 use Rattle.serde_json.specs.Data.{Data}
-use Rattle.admission.specs.Admission.{Admission, lend_fault, clock_fault, sampled, adjusted, percentile, window_of}
+use Rattle.vclock.specs.Outcome.{Outcome, gives, ◌>>=◌}
+use Rattle.admission.specs.Admission.{Admission, lend, sample, adjust}
 use Rattle.outage_script.specs.Asks.{SlotAsk, SampleAsk, lend_slot, give_slot_back, set_target, adjust_target}
-use Rattle.vclock.specs.declared.refusal.Refusal.{Refusal}
 use Rattle.outage_script.specs.Answers.{slot_answer, adjust_answer, sample_answer}
 
--- the controller after a slot was lent, or one given back: then nothing happens where none is lent
-abbrev pub lent : Admission → Admission
-lent a = record a { slots = a.slots + 1 }
-
+-- the controller after a slot is given back: nothing happens if none is lent
 abbrev pub given_back : Admission → Admission
 given_back a = record a { slots = a.slots - 1 }
 
--- why something is not done with the slots
-abbrev pub slot_fault : SlotAsk → Admission → Option Refusal
-slot_fault lend_slot a = lend_fault a
-slot_fault give_slot_back a = None
-slot_fault (set_target n) a = None
-slot_fault (adjust_target now) a = clock_fault a now
-
--- what is done with the slots, and its answer
-abbrev pub slot_done : SlotAsk → Admission → Data × Admission
-slot_done lend_slot a = (slot_answer (lent a), lent a)
-slot_done give_slot_back a = (slot_answer (given_back a), given_back a)
-slot_done (set_target n) a = (slot_answer (record a { target = n }), record a { target = n })
-slot_done (adjust_target now) a = (adjust_answer (percentile (window_of now a.samples)) (adjusted a now), adjusted a now)
+-- what is done with the slots, and what is told of them after it
+unfoldable pub slot_act : SlotAsk → Admission → Outcome Data Admission
+slot_act lend_slot a = do
+  lent ← lend a
+  gives (slot_answer lent.1) lent.1
+slot_act give_slot_back a = gives (slot_answer (given_back a)) (given_back a)
+slot_act (set_target n) a = gives (slot_answer (record a { target = n })) (record a { target = n })
+slot_act (adjust_target now) a = do
+  found ← adjust a now
+  gives (adjust_answer found.0 found.1) found.1
 
 -- a sample: how many are kept
-abbrev pub sample_done : SampleAsk → Admission → Data × Admission
-sample_done q a = (sample_answer (length (sampled a q.moment q.micros).samples), sampled a q.moment q.micros)
+unfoldable pub sample_act : SampleAsk → Admission → Outcome Data Admission
+sample_act q a = do
+  kept ← sample a q.moment q.micros
+  gives (sample_answer kept.0) kept.1
 
 -- whether the controller may have such a target
 abbrev pub is_target : Admission → SlotAsk → Bool

@@ -3,6 +3,8 @@ use Rattle.std.specs.Prelude.{ℕ, length, ◌^◌, ◌==◌, Bool, not, List, [
 use Rattle.std.specs.List.{list_any, range_with_len}
 use Rattle.vclock.specs.declared.format.Format.{Format}
 use Rattle.vclock.specs.declared.format.Format.TheVariants.{One}
+use Rattle.vclock.specs.declared.refusal.Refusal.TheVariants.{OtherRange}
+use Rattle.vclock.specs.Outcome.{Outcome, gives, refuses, through}
 use Rattle.admission.specs.Admission.{Admission, fresh}
 use Rattle.hint_store.specs.declared.hint.Kept.{Kept}
 use Rattle.key_ring.specs.Places.{range_at}
@@ -106,6 +108,23 @@ keeping h r = record { node = r.node; range = h; sessions = r.sessions }
 -- the replicas, of which the node keeps that now
 abbrev pub with_home : ℕ → range.State → List Replica → List Replica
 with_home n h reps = at_node n (keeping h) reps
+
+-- what is done with what a replica keeps, as done with the replica
+abbrev pub in_replica : {T : Type 0} → Replica → Outcome T range.State → Outcome T Replica
+in_replica r done = through (λ h. keeping h r) done
+
+-- what is done with what a node keeps, as done with the replicas of the range; it is refused if the node keeps nothing of it
+abbrev pub in_home : {T : Type 0} → ℕ → List Replica → (range.State → Outcome T range.State) → Option range.State → Outcome T (List Replica)
+in_home n reps call None = refuses OtherRange
+in_home n reps call (Some h) = through (λ new. with_home n new reps) (call h)
+
+abbrev pub at_home : {T : Type 0} → ℕ → (range.State → Outcome T range.State) → List Replica → Outcome T (List Replica)
+at_home n call reps = in_home n reps call (home n reps)
+
+-- the state after a call: one that is refused changes nothing
+abbrev pub left : {T S : Type 0} → Outcome T S → S → S
+left (gives x s) old = s
+left (refuses e) old = old
 
 -- whether a node is on the ring
 abbrev pub is_member : Cluster → ℕ → Bool

@@ -6,6 +6,7 @@ use Rattle.vclock.specs.declared.refusal.Refusal.{Refusal}
 use Rattle.vclock.specs.declared.refusal.Refusal.TheVariants.{OtherRange}
 use Rattle.snapshot.specs.RowMaps.{RowMap}
 use Rattle.sync_session.specs.Differing.{differ}
+use Rattle.range_state.specs.State as range
 use Rattle.range_state.specs.State.{dirty_fault, rows_now}
 use Rattle.range_state.specs.Sessions.{crowd_fault}
 use Rattle.range_state.specs.Syncs.{Progress, synced, ended}
@@ -17,6 +18,12 @@ use Rattle.outage_script.specs.State.{Replica}
 abbrev pub session_fault : Option Replica → Option Refusal
 session_fault None = Some OtherRange
 session_fault (Some r) = first_fault (crowd_fault r.sessions) (dirty_fault r.range)
+
+-- why a node does not take what another keeps: the other keeps nothing of the range, or a node of its tree is dirty; or this
+-- one opens no session
+abbrev pub walk_fault : Option range.State → Option Replica → Option Refusal
+walk_fault None own = Some OtherRange
+walk_fault (Some h) own = first_fault (dirty_fault h) (session_fault own)
 
 -- how far a replica comes that takes what another has, in the leaves where their trees differ, at the script's seat
 abbrev pub progress : RowMap → Replica → Progress

@@ -1,16 +1,17 @@
 // The cluster that a script changes: a ring, its nodes and their hints, and the replicas of its ranges.
-ghost use Rattle.std.specs.Prelude.{◌≡◌, ◌≢◌, ◌<◌, ◌≤◌, ◌^◌, ◌==◌, ⊤, [], length, filter, not, position, replicate, true, false, None, is_some, option_map, IsTrue, IfOk, IfErr, IfSome, OnOk, OnErr};
+ghost use Rattle.std.specs.Prelude.{◌≡◌, ◌<◌, ◌≤◌, ◌^◌, ◌==◌, ⊤, [], length, filter, not, position, replicate, None, is_some, option_map, IsTrue, IfOk, IfSome, OnOk};
 ghost use Rattle.std.specs.List.{list_any, list_all, AllByRecursion};
 ghost use Rattle.serde_json.specs.View.{view};
 ghost use Rattle.vclock.specs.Answer.{Answers, AnswersAtOnce, AnswersOrNoMemory};
 ghost use Rattle.vclock.specs.Clock.{clock_of};
+ghost use Rattle.vclock.specs.Outcome.{gives};
 ghost use Rattle.vclock.specs.Keys.{key_fault};
 ghost use Rattle.version_set.specs.Kind.{value_fault};
-ghost use Rattle.outage_script.specs.Acts.{ask_fault, done_at, down_fault, get_done, get_fault, is_tree_node, keepers_fault, kept_at, kind_of, node_done, nodes_fault, put_done, put_fault, range_fault, rehash_done, replica_in, ring_nodes_fault, row_done, sync_done, value_of, walk_fault};
-ghost use Rattle.outage_script.specs.Answers.{text_of, up_answer};
-ghost use Rattle.outage_script.specs.Handoff.{carrier_of, deliver_done, hinted, up_nodes};
+ghost use Rattle.outage_script.specs.Acts.{ask_fault, down_act, down_fault, held_at, is_tree_node, keepers_fault, kept_at, key_act, kind_of, node_act, nodes_fault, put_act, range_fault, rehash_at, ring_nodes_fault, row_at, sync_at, up_act, value_of};
+ghost use Rattle.outage_script.specs.Answers.{Tells, text_of};
+ghost use Rattle.outage_script.specs.Handoff.{carrier_of, deliver_at, hinted, up_nodes};
 ghost use Rattle.outage_script.specs.Orders.{get_ask, node_ask, put_ask, rehash_ask, sync_ask};
-ghost use Rattle.outage_script.specs.State.{brought_up, first_config, first_ring, hints_of, home, is_down, is_member, made, replicas_of, taken_down};
+ghost use Rattle.outage_script.specs.State.{first_config, first_ring, hints_of, home, is_down, is_member, made, replicas_of};
 
 use crate::answer::{
     deliver_answer, node_answer, put_answer, rehash_answer, row_answer, sync_answer, up_answer,
@@ -104,11 +105,7 @@ impl Cluster {
 
     /// Puts a value at a node, sends the copies and keeps the hints, and answers with the clock and the number.
     pub(crate) fn put(&mut self, alloc: Global, put: Put) -> Result<Value, Refusal>
-        ensures answers { AnswersOrNoMemory result (put_fault (put_ask put) self.old) (λ v. view v
-            ≡ (done_at (put_done (put_ask put) self.old) (home put.node (replicas_of self.old put.key)) self.old).0) }
-        ensures ok { OnOk result (self.new
-            ≡ (done_at (put_done (put_ask put) self.old) (home put.node (replicas_of self.old put.key)) self.old).1) }
-        ensures err { IfErr result (λ e. e ≢ Refusal.NoMemory → self.new ≡ self.old) }
+        ensures { Tells result self.old self.new (put_act (put_ask put) self.old) }
     {
         let context = self.check_put(alloc, &put)?;
         let range = self.ring.range_of(put.key.as_slice());
@@ -157,10 +154,9 @@ impl Cluster {
     }
 
     /// Takes a node down.
+    #[tactic(auto, unfolding(crate::specs::Acts::down_act))]
     pub(crate) fn take_down(&mut self, alloc: Global, node: u64) -> Result<Value, Refusal>
-        ensures answers { Answers result (ring_nodes_fault self.old node []) (λ v. view v ≡ up_answer node false) }
-        ensures ok { OnOk result (self.new ≡ taken_down self.old node) }
-        ensures err { OnErr result (self.new ≡ self.old) }
+        ensures { Tells result self.old self.new (down_act node self.old) }
     {
         self.check_ring_nodes(node, &[])?;
         let answer = up_answer(alloc, node, false)?;
@@ -171,10 +167,9 @@ impl Cluster {
     }
 
     /// Brings a node up.
+    #[tactic(auto, unfolding(crate::specs::Acts::up_act))]
     pub(crate) fn bring_up(&mut self, alloc: Global, node: u64) -> Result<Value, Refusal>
-        ensures answers { Answers result (ring_nodes_fault self.old node []) (λ v. view v ≡ up_answer node true) }
-        ensures ok { OnOk result (self.new ≡ brought_up self.old node) }
-        ensures err { OnErr result (self.new ≡ self.old) }
+        ensures { Tells result self.old self.new (up_act node self.old) }
     {
         self.check_ring_nodes(node, &[])?;
         let answer = up_answer(alloc, node, true)?;
@@ -212,8 +207,7 @@ impl Cluster {
     /// pending after it.
     pub(crate) fn deliver(&mut self, alloc: Global, node: u64) -> Result<Value, AllocError>
         requires { nodes_fault self.old node [] ≡ None }
-        ensures answer { IfOk result (λ v. view v ≡ (deliver_done self.old node (hints_of self.old node)).0) }
-        ensures ok { OnOk result (self.new ≡ (deliver_done self.old node (hints_of self.old node)).1) }
+        ensures { IfOk result (λ v. deliver_at self.old node (hints_of self.old node) ≡ gives (view v) self.new) }
     {
         let up = self.up_nodes(alloc)?;
         let Some(place) = self.place_of(node) else {
@@ -225,9 +219,9 @@ impl Cluster {
     }
 
     /// Answers with the versions that are held for a key.
+    #[tactic(auto, unfolding(crate::specs::Acts::key_act))]
     pub(crate) fn get(&self, alloc: Global, get: &Get) -> Result<Value, Refusal>
-        ensures { AnswersOrNoMemory result (get_fault (get_ask get.now) self.now) (λ v. view v
-            ≡ (done_at (λ h. (get_done (get_ask get.now) h, self.now)) (home get.now.node (replicas_of self.now get.now.key)) self.now).0) }
+        ensures { Tells result self.now self.now (key_act (held_at (get_ask get.now)) (get_ask get.now) self.now) }
     {
         self.check_nodes(get.node, &[])?;
         check_key(get.key.as_slice())?;
@@ -238,10 +232,9 @@ impl Cluster {
     }
 
     /// Answers with the text of the row of a key.
-    #[tactic(auto, unfolding(crate::specs::Answers::row_answer))]
+    #[tactic(auto, unfolding(crate::specs::Acts::key_act, crate::specs::Answers::row_answer))]
     pub(crate) fn row(&self, alloc: Global, get: Get) -> Result<Value, Refusal>
-        ensures { AnswersOrNoMemory result (get_fault (get_ask get) self.now) (λ v. view v
-            ≡ (done_at (λ h. (row_done (get_ask get) h, self.now)) (home get.node (replicas_of self.now get.key)) self.now).0) }
+        ensures { Tells result self.now self.now (key_act (row_at (get_ask get)) (get_ask get) self.now) }
     {
         self.check_nodes(get.node, &[])?;
         check_key(get.key.as_slice())?;
@@ -265,17 +258,14 @@ impl Cluster {
     }
 
     /// Makes every node of the tree of a range at a node clean, and answers with how many were dirty.
+    #[tactic(auto, unfolding(crate::specs::Acts::rehash_at))]
     pub(crate) fn rehash(
         &mut self,
         rt: &(impl Threads + Sync),
         alloc: Global,
         ask: &Rehash,
     ) -> Result<Value, Refusal>
-        requires { range_fault self.old ask.now.node ask.now.range ≡ None }
-        ensures answers { Answers result None (λ v. view v
-            ≡ (done_at (rehash_done (rehash_ask ask.now) self.old) (kept_at self.old ask.now.node ask.now.range) self.old).0) }
-        ensures ok { OnOk result (self.new
-            ≡ (done_at (rehash_done (rehash_ask ask.now) self.old) (kept_at self.old ask.now.node ask.now.range) self.old).1) }
+        ensures { Tells result self.old self.new (rehash_at (rehash_ask ask.now) self.old) }
     {
         if ask.range >= self.ranges.len() as u64 {
             return Err(Refusal::OtherRange);
@@ -300,13 +290,9 @@ impl Cluster {
     }
 
     /// Makes a node take what another has of a range, and answers with what came of it.
+    #[tactic(auto, unfolding(crate::specs::Acts::sync_at))]
     pub(crate) fn sync(&mut self, alloc: Global, ask: &SyncFrom) -> Result<Value, Refusal>
-        requires { keepers_fault (sync_ask ask.now) self.old ≡ None }
-        ensures answers { AnswersOrNoMemory result (walk_fault (sync_ask ask.now) self.old) (λ v. view v
-            ≡ (sync_done (sync_ask ask.now) self.old (kept_at self.old ask.now.from ask.now.range) (replica_in self.old ask.now.node ask.now.range)).0) }
-        ensures ok { OnOk result (self.new
-            ≡ (sync_done (sync_ask ask.now) self.old (kept_at self.old ask.now.from ask.now.range) (replica_in self.old ask.now.node ask.now.range)).1) }
-        ensures err { IfErr result (λ e. e ≢ Refusal.NoMemory → self.new ≡ self.old) }
+        ensures { Tells result self.old self.new (sync_at (sync_ask ask.now) self.old) }
     {
         if ask.range >= self.ranges.len() as u64 {
             return Err(Refusal::OtherRange);
@@ -316,10 +302,10 @@ impl Cluster {
     }
 
     /// Answers with the digest of a node of the tree of a range.
+    #[tactic(auto, unfolding(crate::specs::Acts::node_act))]
     pub(crate) fn node(&self, alloc: Global, ask: &ShowNode) -> Result<Value, Refusal>
         requires { IsTrue (is_tree_node self.now.format ask.now.depth ask.now.index) }
-        ensures { AnswersOrNoMemory result (range_fault self.now ask.now.node ask.now.range) (λ v. view v
-            ≡ (done_at (λ h. (node_done (node_ask ask.now) h, self.now)) (kept_at self.now ask.now.node ask.now.range) self.now).0) }
+        ensures { Tells result self.now self.now (node_act (node_ask ask.now) self.now) }
     {
         self.check_nodes(ask.node, &[])?;
         let Some(replica) = self.replica_at(ask.node, ask.range) else {

@@ -1,14 +1,11 @@
 // Hinted handoff: hints are kept for replicas that are down, and offered to them later.
-ghost use Rattle.std.specs.Prelude.{◌≡◌, ◌-◌, ◌^◌, ℕ, Bool, ⊤, length, fold, is_none, slice_index_or, slice_set, [], None, IfOk, IfSome, OnOk, OnErr};
-ghost use Rattle.vclock.specs.Answer.{AnswersOrNoMemory};
-ghost use Rattle.hint_store.specs.Hints.{AreHints, confirm_fault, keep_fault, next_hint, with_hint};
+ghost use Rattle.std.specs.Prelude.{◌≡◌, ◌-◌, ◌^◌, ℕ, Bool, length, fold, slice_index_or, slice_set, [], IfOk, IsTrue, OnOk};
+ghost use Rattle.vclock.specs.Outcome.{DoesOrNoMemory, is_given};
+ghost use Rattle.hint_store.specs.Hints.{AreHints, confirm, keep, next_hint};
 ghost use Rattle.key_ring.specs.Places.{range_at};
-ghost use Rattle.range_journal.specs.declared.journal.Source.{Source};
-ghost use Rattle.range_state.specs.State.{accept_fault, accept_reply, accept_step};
-ghost use Rattle.outage_script.specs.Acts.{home_fault};
-ghost use Rattle.outage_script.specs.Handoff.{first_round, kept_all, kept_for, offer_one, offered_to, owner_home};
-ghost use Rattle.outage_script.specs.Offers.{after_offer, answer_at, asked, delivery_by, pending_of, round_at};
-ghost use Rattle.outage_script.specs.State.{home, with_home};
+ghost use Rattle.outage_script.specs.Handoff.{asked, asked_in, delivery_by, first_round, kept_all, kept_for, offer_one, offered_to};
+ghost use Rattle.outage_script.specs.Offers.{after_offer, round_at, told_by};
+ghost use Rattle.outage_script.specs.State.{left};
 
 use crate::replicas::Replicas;
 use hint_store::hint::{Delivery, Hint};
@@ -45,7 +42,7 @@ pub(crate) fn keep_all(
 
 /// Keeps a hint of an entry for an owner, unless too many are pending, and answers whether it was kept.
 fn keep_one(hints: &mut HintStore, owner: u16, entry: &Receipt) -> Result<bool, AllocError>
-    ensures test { IfOk result (λ kept. kept ≡ is_none (keep_fault hints.old)) }
+    ensures test { IfOk result (λ kept. kept ≡ is_given (keep hints.old owner entry.now.key entry.now.version)) }
     ensures kept { OnOk result (hints.new ≡ kept_for entry.now hints.old owner) }
 {
     match keep(hints, owner, entry) {
@@ -57,9 +54,7 @@ fn keep_one(hints: &mut HintStore, owner: u16, entry: &Receipt) -> Result<bool, 
 
 /// Keeps a hint of an entry for an owner.
 fn keep(hints: &mut HintStore, owner: u16, entry: &Receipt) -> Result<u32, Refusal>
-    ensures answers { AnswersOrNoMemory result (keep_fault hints.old) (λ _. ⊤) }
-    ensures ok { OnOk result (hints.new ≡ with_hint hints.old owner entry.now.key entry.now.version) }
-    ensures err { OnErr result (hints.new ≡ hints.old) }
+    ensures { DoesOrNoMemory result hints.old hints.new (keep hints.old owner entry.now.key entry.now.version) }
 {
     let key = entry.key.try_clone()?;
     let version = entry.version.try_clone()?;
@@ -120,10 +115,10 @@ fn offer(
     hint: Hint,
 ) -> Result<Option<bool>, AllocError>
     requires ranges { length ranges.old ≡ 2 ^ ring.now.bits }
-    requires pending { (known : Bool) → confirm_fault hints.old hint.id (delivery_by hint known) ≡ None }
+    requires pending { (known : Bool) → IsTrue (is_given (confirm hints.old hint.id (delivery_by hint known))) }
     ensures same_ranges { length ranges.new ≡ length ranges.old }
     ensures done { IfOk result (λ o. (taken : ℕ) → (known : ℕ) → after_offer o ranges.new hints.new taken known
-        ≡ offered_to ring.now.bits (round_at ranges.old hints.old taken known) (pending_of hint) (owner_home ring.now.bits ranges.old (pending_of hint))) }
+        ≡ offered_to ring.now.bits (round_at ranges.old hints.old taken known) hint (asked_in ring.now.bits ranges.old hint)) }
 {
     let range = usize::from(ring.range_of(hint.key.as_slice()));
     let Some(known) = ask_owner(alloc, &mut ranges[range], &hint)? else {
@@ -145,8 +140,8 @@ fn ask_owner(
     replicas: &mut Replicas,
     hint: &Hint,
 ) -> Result<Option<bool>, AllocError>
-    ensures answer { IfOk result (λ o. o ≡ answer_at hint.now (home hint.now.owner replicas.old)) }
-    ensures after { OnOk result (replicas.new ≡ asked hint.now (home hint.now.owner replicas.old) replicas.old) }
+    ensures answer { IfOk result (λ o. o ≡ told_by (asked hint.now replicas.old)) }
+    ensures after { OnOk result (replicas.new ≡ left (asked hint.now replicas.old) replicas.old) }
 {
     match offer_copy(alloc, replicas, hint) {
         Ok(accepted) => Ok(Some(matches!(accepted, Accepted::Known))),
@@ -156,13 +151,9 @@ fn ask_owner(
 }
 
 /// Offers a copy of a hint's version to its owner.
+#[tactic(auto, unfolding(crate::specs::Handoff::asked))]
 fn offer_copy(alloc: Global, replicas: &mut Replicas, hint: &Hint) -> Result<Accepted, Refusal>
-    ensures answers { AnswersOrNoMemory result
-        (home_fault (λ h. accept_fault h hint.now.key hint.now.version) (home hint.now.owner replicas.old))
-        (λ reply. IfSome (home hint.now.owner replicas.old) (λ h. reply ≡ accept_reply h 0 Source.Hint hint.now.key hint.now.version)) }
-    ensures ok { OnOk result (IfSome (home hint.now.owner replicas.old) (λ h. replicas.new
-        ≡ with_home hint.now.owner (accept_step h 0 Source.Hint hint.now.key hint.now.version) replicas.old)) }
-    ensures err { OnErr result (replicas.new ≡ replicas.old) }
+    ensures { DoesOrNoMemory result replicas.old replicas.new (asked hint.now replicas.old) }
 {
     let version = hint.version.try_clone()?;
     replicas.offer(alloc, u64::from(hint.owner), hint.key.as_slice(), version)

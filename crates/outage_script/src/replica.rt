@@ -1,18 +1,17 @@
 // A replica of a range.
-ghost use Rattle.std.specs.Prelude.{◌≡◌, ◌≤◌, IsTrue, ⊤, [], not, ◌&&◌, ◌==◌, ◌≢◌, Some, IfOk, IfErr, OnOk, OnErr, None};
+ghost use Rattle.std.specs.Prelude.{◌≡◌, ◌≤◌, IsTrue, [], not, ◌&&◌, ◌==◌, ◌≢◌, Some, IfOk, IfErr, OnOk, None};
 ghost use Rattle.std.specs.List.{list_any, AllByRecursion};
 ghost use Rattle.vclock.specs.Answer.{Answers, AnswersOrNoMemory};
+ghost use Rattle.vclock.specs.Outcome.{DoesOrNoMemory, DoesOrBreaksOff};
 ghost use Rattle.version_set.specs.Kind.{value_fault};
 ghost use Rattle.range_journal.specs.Journal.{held};
 ghost use Rattle.range_journal.specs.declared.journal.Source.{Source};
-ghost use Rattle.hash_tree.specs.Nodes.{dirty_count};
 ghost use Rattle.range_state.specs.Sent.{is_sent};
 ghost use Rattle.range_state.specs.Syncs.{IsOfRange};
 ghost use Rattle.std.specs.Arc.{arc_value};
-ghost use Rattle.range_state.specs.Trees.{rehashed};
-ghost use Rattle.range_state.specs.State.{dirty_fault, rows_now, fresh, accept_fault, accept_reply, accept_step, put_entry, put_fault, journaled};
-ghost use Rattle.outage_script.specs.Acts.{takes, after_copy, gets_hint, is_sent_to, shown_digest};
-ghost use Rattle.outage_script.specs.State.{keeping, replica_of};
+ghost use Rattle.range_state.specs.State.{dirty_fault, rows_now, fresh, accept, put};
+ghost use Rattle.outage_script.specs.Acts.{takes, after_copy, clean_at, copied_to, gets_hint, is_sent_to, shown_digest};
+ghost use Rattle.outage_script.specs.State.{in_replica, replica_of};
 ghost use Rattle.outage_script.specs.Syncs.{IsCounted, session_fault, synced_with};
 
 use hash_tree::hashed::Digest;
@@ -115,12 +114,9 @@ impl Replica {
         kind: Kind,
         value: Bytes,
     ) -> Result<Receipt, Refusal>
-        ensures answers { AnswersOrNoMemory result
-            (put_fault self.old.range self.old.node key.now context.now kind value)
-            (λ receipt. receipt ≡ put_entry self.old.range 0 self.old.node key.now context.now kind value) }
-        ensures ok { OnOk result (self.new ≡ keeping (journaled self.old.range
-            (put_entry self.old.range 0 self.old.node key.now context.now kind value)) self.old) }
-        ensures err { OnErr result (self.new ≡ self.old) }
+        ensures puts { DoesOrNoMemory result self.old self.new (in_replica self.old
+            (put self.old.range 0 self.old.node key.now context.now kind value)) }
+        ensures config { self.new.range.config ≡ self.old.range.config }
     {
         if let Some(state) = &mut self.state {
             return state.put(alloc, SEAT, self.node, key, context, kind, value);
@@ -138,8 +134,7 @@ impl Replica {
         rt: &(impl Threads + Sync),
         alloc: Global,
     ) -> Result<u64, Refusal>
-        ensures answers { Answers result None (λ hashed. hashed ≡ dirty_count self.old.range.marks) }
-        ensures ok { OnOk result (self.new ≡ keeping (rehashed self.old.range) self.old) }
+        ensures cleans { DoesOrBreaksOff result self.old self.new (in_replica self.old (clean_at self.old.range)) }
         ensures config { self.new.range.config ≡ self.old.range.config }
     {
         if let Some(state) = &mut self.state {
@@ -214,11 +209,10 @@ impl Replica {
     }
 
     /// Takes in a copy of an entry's version, unless it is known.
+    #[tactic(auto, unfolding(crate::specs::Acts::copied_to))]
     fn take_copy(&mut self, alloc: Global, entry: &Receipt) -> Result<Accepted, Refusal>
-        ensures answers { AnswersOrNoMemory result (accept_fault self.old.range entry.now.key entry.now.version) (λ _. ⊤) }
-        ensures ok { OnOk result (self.new
-            ≡ keeping (accept_step self.old.range 0 Source.Copy entry.now.key entry.now.version) self.old) }
-        ensures err { OnErr result (self.new ≡ self.old) }
+        ensures copies { DoesOrNoMemory result self.old self.new (copied_to entry.now self.old) }
+        ensures config { self.new.range.config ≡ self.old.range.config }
     {
         let version = entry.version.try_clone()?;
         self.accept(alloc, Source::Copy, entry.key.as_slice(), version)
@@ -233,11 +227,9 @@ impl Replica {
         version: Version,
     ) -> Result<Accepted, Refusal>
         requires { IsTrue (is_sent source) }
-        ensures answers { AnswersOrNoMemory result (accept_fault self.old.range key.now version)
-            (λ reply. reply ≡ accept_reply self.old.range 0 source key.now version) }
-        ensures ok { OnOk result (self.new
-            ≡ keeping (accept_step self.old.range 0 source key.now version) self.old) }
-        ensures err { OnErr result (self.new ≡ self.old) }
+        ensures accepts { DoesOrNoMemory result self.old self.new (in_replica self.old
+            (accept self.old.range 0 source key.now version)) }
+        ensures config { self.new.range.config ≡ self.old.range.config }
     {
         if let Some(state) = &mut self.state {
             return state.accept(alloc, SEAT, source, key, version);

@@ -1,18 +1,18 @@
 // The replicas of a range, in the order of its preference list.
-ghost use Rattle.std.specs.Prelude.{◌≡◌, ◌≢◌, ◌≤◌, ◌<◌, ◌^◌, ◌++◌, ◌∷◌, [], if◌then◌else◌, length, filter, map, option_map, IfOk, IfErr, IfSome, IfNone, OnOk, OnErr, None};
-ghost use Rattle.vclock.specs.Answer.{Answers, AnswersOrNoMemory, first_fault};
+ghost use Rattle.std.specs.Prelude.{◌≡◌, ◌≢◌, ◌≤◌, ◌<◌, ◌^◌, ◌++◌, ◌∷◌, [], if◌then◌else◌, length, filter, map, option_map, IfOk, IfErr, IfSome, IfNone, OnOk, None};
+ghost use Rattle.std.specs.Result.{result_map_both};
+ghost use Rattle.vclock.specs.Answer.{AnswersOrNoMemory};
+ghost use Rattle.vclock.specs.Outcome.{DoesOrNoMemory, DoesOrBreaksOff};
 ghost use Rattle.vclock.specs.Clock.{clock_of};
-ghost use Rattle.outage_script.specs.Acts.{takes, after_copy, gets_hint, copied, sent, home_fault, put_fault_at, put_entry_at, kind_of, value_of};
+ghost use Rattle.outage_script.specs.Acts.{takes, after_copy, clean_at, gets_hint, put_into, kind_of, value_of};
 ghost use Rattle.outage_script.specs.Orders.{put_ask};
-ghost use Rattle.outage_script.specs.State.{home, with_home, replica_at, at_node, replicas_made};
+ghost use Rattle.outage_script.specs.State.{at_home, home, replica_at, at_node, replicas_made};
 ghost use Rattle.outage_script.specs.Homes.{AreOf, IsHome};
-ghost use Rattle.outage_script.specs.Syncs.{IsCounted, session_fault, synced_with};
+ghost use Rattle.outage_script.specs.Syncs.{IsCounted, walk_fault, synced_with};
 ghost use Rattle.range_state.specs.Config.{Config};
-ghost use Rattle.hash_tree.specs.Nodes.{dirty_count};
 ghost use Rattle.outage_script.specs.Handoff.{owners_of};
 ghost use Rattle.range_journal.specs.declared.journal.Source.{Source};
-ghost use Rattle.range_state.specs.State.{dirty_fault, rows_now, accept_fault, accept_reply, accept_step};
-ghost use Rattle.range_state.specs.Trees.{rehashed};
+ghost use Rattle.range_state.specs.State.{rows_now, accept};
 
 use crate::command::Put;
 use crate::replica::{Replica, gets_hint};
@@ -95,10 +95,7 @@ impl Replicas {
         alloc: Global,
         node: u64,
     ) -> Result<u64, Refusal>
-        ensures answers { Answers result (home_fault (λ _. None) (home node self.old))
-            (λ hashed. IfSome (home node self.old) (λ h. hashed ≡ dirty_count h.marks)) }
-        ensures ok { OnOk result (IfSome (home node self.old) (λ h. self.new ≡ with_home node (rehashed h) self.old)) }
-        ensures err { IfErr result (λ e. e ≢ Refusal.NoMemory → self.new ≡ self.old) }
+        ensures { DoesOrBreaksOff result self.old self.new (at_home node clean_at self.old) }
     {
         let Some(place) = place_of(&self.replicas, node) else {
             return Err(Refusal::OtherRange);
@@ -109,7 +106,7 @@ impl Replicas {
     /// Makes a node take what another has, in a session with it.
     pub(crate) fn sync(&mut self, alloc: Global, node: u64, from: u64) -> Result<Synced, Refusal>
         ensures answers { AnswersOrNoMemory result
-            (first_fault (home_fault dirty_fault (home from self.old)) (session_fault (replica_at node self.old)))
+            (walk_fault (home from self.old) (replica_at node self.old))
             (λ a. IfSome (home from self.old) (λ h. IfSome (replica_at node self.old) (λ r. IsCounted r (rows_now h) a))) }
         ensures ok { OnOk result (IfSome (home from self.old) (λ h.
             self.new ≡ at_node node (synced_with (rows_now h)) self.old)) }
@@ -144,12 +141,8 @@ impl Replicas {
         key: &[u8],
         version: Version,
     ) -> Result<Accepted, Refusal>
-        ensures answers { AnswersOrNoMemory result
-            (home_fault (λ h. accept_fault h key.now version) (home node self.old))
-            (λ reply. IfSome (home node self.old) (λ h. reply ≡ accept_reply h 0 Source.Hint key.now version)) }
-        ensures ok { OnOk result (IfSome (home node self.old) (λ h. self.new
-            ≡ with_home node (accept_step h 0 Source.Hint key.now version) self.old)) }
-        ensures err { OnErr result (self.new ≡ self.old) }
+        ensures { DoesOrNoMemory result self.old self.new (at_home node
+            (λ h. accept h 0 Source.Hint key.now version) self.old) }
     {
         let Some(place) = place_of(&self.replicas, node) else {
             return Err(Refusal::OtherRange);
@@ -167,13 +160,10 @@ impl Replicas {
         put: Put,
     ) -> Result<Sent, Refusal>
         requires { context.now ≡ clock_of put.context.items }
-        ensures answers { AnswersOrNoMemory result (home_fault (put_fault_at (put_ask put)) (home put.node self.old))
-            (λ done. IfSome (home put.node self.old) (λ h. (done.receipt ≡ put_entry_at (put_ask put) h)
-            × (done.copied ≡ copied down.now (put_ask put) h self.old))) }
+        ensures puts { DoesOrBreaksOff (result_map_both (λ done. (done.receipt, done.copied)) (λ e. e) result)
+            self.old self.new (put_into down.now (put_ask put) self.old) }
         ensures owners { IfOk result (λ done. done.owners.items
             ≡ owners_of (gets_hint down.now put.node put.lose.items) self.old) }
-        ensures ok { OnOk result (IfSome (home put.node self.old) (λ h. self.new ≡ sent down.now (put_ask put) h self.old)) }
-        ensures err { IfErr result (λ e. e ≢ Refusal.NoMemory → self.new ≡ self.old) }
     {
         let Some(place) = place_of(&self.replicas, put.node) else {
             return Err(Refusal::OtherRange);

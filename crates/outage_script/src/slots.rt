@@ -1,10 +1,11 @@
 // The slots of a script.
-ghost use Rattle.std.specs.Prelude.{◌≡◌, ◌≢◌, ◌≤◌, ⊤, None, IfOk, IfErr, IsTrue, OnOk, OnErr};
-ghost use Rattle.serde_json.specs.View.{view};
-ghost use Rattle.vclock.specs.Answer.{Answers, AnswersOrNoMemory};
-ghost use Rattle.admission.specs.Admission.{lend_fault, clock_fault};
+ghost use Rattle.std.specs.Prelude.{◌≡◌, ◌≤◌, None, IsTrue};
+ghost use Rattle.vclock.specs.Answer.{Answers};
+ghost use Rattle.vclock.specs.Outcome.{Does};
+ghost use Rattle.admission.specs.Admission.{lend};
+ghost use Rattle.outage_script.specs.Answers.{Tells};
 ghost use Rattle.outage_script.specs.Orders.{sample_ask, slot_ask};
-ghost use Rattle.outage_script.specs.Slots.{given_back, is_target, lent, sample_done, slot_done, slot_fault};
+ghost use Rattle.outage_script.specs.Slots.{given_back, is_target, sample_act, slot_act};
 ghost use Rattle.outage_script.specs.State.{first_slots};
 
 use crate::answer::{adjust_answer, sample_answer, slot_answer};
@@ -71,9 +72,7 @@ impl<L: Ledger> Slots<L> {
 
     /// Lends a slot. There is room for it before it is lent.
     pub(crate) fn lend(&mut self) -> Result<(), Refusal>
-        ensures answers { Answers result (lend_fault self.old) (λ _. ⊤) }
-        ensures ok { OnOk result (self.new ≡ lent self.old) }
-        ensures err { OnErr result (self.new ≡ self.old) }
+        ensures { Does result self.old self.new (lend self.old) }
     {
         if self.controller.free() == 0 {
             return Err(Refusal::NoSlot);
@@ -116,12 +115,10 @@ impl<L: Ledger> Slots<L> {
     }
 
     /// Does what a command says with the slots.
+    #[tactic(auto, unfolding(crate::specs::Slots::slot_act))]
     pub(crate) fn act(&mut self, alloc: Global, command: SlotCommand) -> Result<Value, Refusal>
         requires { IsTrue (is_target self.old (slot_ask command)) }
-        ensures answers { AnswersOrNoMemory result (slot_fault (slot_ask command) self.old)
-            (λ v. view v ≡ (slot_done (slot_ask command) self.old).0) }
-        ensures ok { OnOk result (self.new ≡ (slot_done (slot_ask command) self.old).1) }
-        ensures err { IfErr result (λ e. e ≢ Refusal.NoMemory → self.new ≡ self.old) }
+        ensures { Tells result self.old self.new (slot_act (slot_ask command) self.old) }
     {
         match command {
             SlotCommand::Lend => self.lend()?,
@@ -135,12 +132,10 @@ impl<L: Ledger> Slots<L> {
         Ok(slot_answer(alloc, &self.controller)?)
     }
 
-    /// Takes a sample, and answers how many are kept.
+    /// Takes a sample, and returns how many are kept.
+    #[tactic(auto, unfolding(crate::specs::Slots::sample_act))]
     pub(crate) fn sample(&mut self, alloc: Global, sample: Sample) -> Result<Value, Refusal>
-        ensures answers { AnswersOrNoMemory result (clock_fault self.old sample.moment)
-            (λ v. view v ≡ (sample_done (sample_ask sample) self.old).0) }
-        ensures ok { OnOk result (self.new ≡ (sample_done (sample_ask sample) self.old).1) }
-        ensures err { IfErr result (λ e. e ≢ Refusal.NoMemory → self.new ≡ self.old) }
+        ensures { Tells result self.old self.new (sample_act (sample_ask sample) self.old) }
     {
         let kept = self.controller.sample(sample.moment, sample.micros)?;
         Ok(sample_answer(alloc, kept)?)

@@ -1,13 +1,10 @@
 // The world that a script changes: a cluster, and the slots for background work.
-ghost use Rattle.std.specs.Prelude.{◌≡◌, ◌≢◌, ◌^◌, [], length, IsTrue, IfOk, IfErr, OnOk};
+ghost use Rattle.std.specs.Prelude.{◌≡◌, ◌≢◌, IsTrue, IfOk, IfErr, OnOk};
 ghost use Rattle.serde_json.specs.View.{view};
-ghost use Rattle.vclock.specs.Answer.{AnswersOrNoMemory, first_fault};
-ghost use Rattle.admission.specs.Admission.{lend_fault};
-ghost use Rattle.outage_script.specs.Acts.{act, done_at, kept_at, new_ring_fault, nodes_fault, range_fault, rehash_done, remade, replica_in, ring_config, suits, sync_done, sync_fault};
-ghost use Rattle.outage_script.specs.Handoff.{deliver_done};
-ghost use Rattle.outage_script.specs.Answers.{refusal_answer, ring_answer};
+ghost use Rattle.outage_script.specs.Acts.{act, deliver_act, rehash_act, ring_act, ring_config, suits, sync_act};
+ghost use Rattle.outage_script.specs.Answers.{Tells, refusal_answer, replied};
 ghost use Rattle.outage_script.specs.Orders.{ask_of, rehash_ask, ring_ask, sync_ask};
-ghost use Rattle.outage_script.specs.State.{hints_of, start};
+ghost use Rattle.outage_script.specs.State.{left, start};
 
 use crate::answer::{refusal_answer, ring_answer};
 use crate::cluster::{Cluster, tree_node};
@@ -93,8 +90,8 @@ impl<L: Ledger> World<L> {
         command: Command,
     ) -> Result<Value, AllocError>
         requires { IsTrue (suits self.old (ask_of command)) }
-        ensures reply { IfOk result (λ v. view v ≡ (act (ask_of command) self.old).0) }
-        ensures after { OnOk result (self.new ≡ (act (ask_of command) self.old).1) }
+        ensures reply { IfOk result (λ v. view v ≡ replied (act (ask_of command) self.old)) }
+        ensures after { OnOk result (self.new ≡ left (act (ask_of command) self.old) self.old) }
     {
         let answer = match command {
             Command::Ring(ring) => self.renew(alloc, &ring),
@@ -115,10 +112,7 @@ impl<L: Ledger> World<L> {
 
     /// Makes everything anew.
     fn renew(&mut self, alloc: Global, ask: &NewRing) -> Result<Value, Refusal>
-        ensures answers { AnswersOrNoMemory result (new_ring_fault (ring_ask ask.now))
-            (λ v. view v ≡ ring_answer (length ask.now.nodes.items) (2 ^ ask.now.bits)) }
-        ensures ok { OnOk result (self.new ≡ remade (ring_ask ask.now) (ring_config (ring_ask ask.now)) self.old) }
-        ensures err { IfErr result (λ e. e ≢ Refusal.NoMemory → self.new ≡ self.old) }
+        ensures { Tells result self.old self.new (ring_act (ring_ask ask.now) (ring_config (ring_ask ask.now))) }
     {
         let Some(config) = RangeConfig::new(ask.format, ask.bits, 0, ask.limit) else {
             return Err(Refusal::BadRing);
@@ -131,11 +125,9 @@ impl<L: Ledger> World<L> {
     }
 
     /// Delivers the hints that a node keeps, with a slot that is given back.
+    #[tactic(auto, unfolding(crate::specs::Acts::deliver_act))]
     fn deliver(&mut self, alloc: Global, node: u64) -> Result<Value, Refusal>
-        ensures answers { AnswersOrNoMemory result (first_fault (nodes_fault self.old.cluster node []) (lend_fault self.old.slots))
-            (λ v. view v ≡ (deliver_done self.old.cluster node (hints_of self.old.cluster node)).0) }
-        ensures ok { OnOk result (self.new ≡ record self.old { cluster = (deliver_done self.old.cluster node (hints_of self.old.cluster node)).1 }) }
-        ensures err { IfErr result (λ e. e ≢ Refusal.NoMemory → self.new ≡ self.old) }
+        ensures { Tells result self.old self.new (deliver_act node self.old) }
     {
         self.cluster.check_carrier(node)?;
         self.slots.lend()?;
@@ -145,16 +137,14 @@ impl<L: Ledger> World<L> {
     }
 
     /// Rehashes a range at a node, with a slot that is given back.
+    #[tactic(auto, unfolding(crate::specs::Acts::rehash_act))]
     fn rehash(
         &mut self,
         rt: &(impl Threads + Sync),
         alloc: Global,
         ask: &Rehash,
     ) -> Result<Value, Refusal>
-        ensures answers { AnswersOrNoMemory result (first_fault (range_fault self.old.cluster ask.now.node ask.now.range) (lend_fault self.old.slots))
-            (λ v. view v ≡ (done_at (rehash_done (rehash_ask ask.now) self.old.cluster) (kept_at self.old.cluster ask.now.node ask.now.range) self.old.cluster).0) }
-        ensures ok { OnOk result (self.new ≡ record self.old { cluster = (done_at (rehash_done (rehash_ask ask.now) self.old.cluster) (kept_at self.old.cluster ask.now.node ask.now.range) self.old.cluster).1 }) }
-        ensures err { IfErr result (λ e. e ≢ Refusal.NoMemory → self.new ≡ self.old) }
+        ensures { Tells result self.old self.new (rehash_act (rehash_ask ask.now) self.old) }
     {
         self.cluster.check_range(ask.node, ask.range)?;
         self.slots.lend()?;
@@ -164,14 +154,9 @@ impl<L: Ledger> World<L> {
     }
 
     /// Makes a node take what another has of a range, with a slot that is given back.
+    #[tactic(auto, unfolding(crate::specs::Acts::sync_act))]
     fn sync(&mut self, alloc: Global, ask: &SyncFrom) -> Result<Value, Refusal>
-        ensures answers { AnswersOrNoMemory result (sync_fault (sync_ask ask.now) self.old) (λ v. view v
-            ≡ (sync_done (sync_ask ask.now) self.old.cluster (kept_at self.old.cluster ask.now.from ask.now.range) (replica_in self.old.cluster ask.now.node ask.now.range)).0) }
-        ensures ok { OnOk result (self.new ≡ record self.old {
-          cluster
-              = (sync_done (sync_ask ask.now) self.old.cluster (kept_at self.old.cluster ask.now.from ask.now.range) (replica_in self.old.cluster ask.now.node ask.now.range)).1;
-        }) }
-        ensures err { IfErr result (λ e. e ≢ Refusal.NoMemory → self.new ≡ self.old) }
+        ensures { Tells result self.old self.new (sync_act (sync_ask ask.now) self.old) }
     {
         self.cluster.check_sync(ask)?;
         self.slots.lend()?;
