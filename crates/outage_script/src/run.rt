@@ -75,8 +75,8 @@ fn run_freed<L: Ledger, T: Threads + Sync, R: Read, W: Write>(
     end
 }
 
-/// Runs the script that the reader gives, with slots that are parts of that ledger, works out why the line that ended it
-/// is bad, and leaves what the replicas hold.
+/// Runs the script that the reader gives, with slots that are parts of that ledger, works out why a bad line ended it, and
+/// leaves what the replicas hold.
 fn run_left<L: Ledger, T: Threads + Sync, R: Read, W: Write>(
     blank: Blank,
     rt: &T,

@@ -130,7 +130,8 @@ impl<L: Ledger> Session<L> {
         requires inside { IsTrue (list_all is_inside bytes.now) }
         ensures number { self.new.number ≤ self.old.number + 1 }
         ensures feeds { Feeds (place_of self.old.number self.old.world self.old.line.items self.old.too_long)
-            (bytes.now ++ 10 ∷ []) (place_of self.new.number self.new.world self.new.line.items self.new.too_long) result
+            (bytes.now ++ 10 ∷ [])
+            (place_of self.new.number self.new.world self.new.line.items self.new.too_long) result
             (W.contents writer.old) (W.contents writer.new) }
     {
         if let Some(end) = self.take_part(alloc, bytes, writer) {
