@@ -41,7 +41,7 @@ IsAnswer (BadLine n) input written = IsBadAt n written (script_outcome input)
 IsAnswer Device input written = Begins (script_outcome input).text written
 IsAnswer NoMemory input written = Begins (script_outcome input).text written
 
--- the reason that comes with the end: it is that of the first bad line of the input, and no other end has one
+-- the reason that comes with the end: at a bad line it is that of the input's first bad line, and no other end has one
 abbrev pub Explains : ScriptEnd → Option LineFault → Option (List ℕ) → Type 0
 Explains Done why input = why ≡ None
 Explains (BadLine n) why None = ⊤

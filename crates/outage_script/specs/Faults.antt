@@ -31,7 +31,7 @@ IsWhy NoName line = IsFaultOf NoName line
 IsWhy (Unknown name nearest) line = IsFaultOf (Unknown name nearest) line
 IsWhy (Members members) line = IsFaultOf (Members members) line
 
--- the reason told for a bad line: there is none if memory ran out, and a line that is too long needs no memory
+-- the reason that is told of a bad line: there is none if memory ran out, but for a line that is too long it needs none
 abbrev pub IsExplained : Option LineFault → List ℕ → Type 0
 IsExplained None line = IsTrue (nat_le (length line) line_limit)
 IsExplained (Some fault) line = IsWhy fault line
