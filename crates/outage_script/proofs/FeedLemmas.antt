@@ -73,7 +73,7 @@ pub feeds_both : (a b c : Place) (x y : List ℕ) (end : Option ScriptEnd) (befo
 feeds_both a b c x y None before mid after old now =
     (old.0 ++ now.0, appends_both before mid after old.0 now.0 old.1 now.1, moves_both a b c x y old.0 now.0 old.2 now.2)
 feeds_both a b c x y (Some end) before mid after old now =
-    (old.0 ++ now.0, appends_both before mid after old.0 now.0 old.1 now.1, stops_later a b x y old.0 now.0 end old.2 now.2)
+    (old.0 ++ now.0, appends_both before mid after old.0 now.0 old.1 now.1, stops_later a b c x y old.0 now.0 end old.2 now.2)
 
 -- another part of the piece was taken, and at the most one line ended in it
 pub fed_next : (a b c : Place) (piece rest part more : List ℕ) (before mid after : Option (List ℕ)) → Fed a piece rest b before mid → rest ≡ part ++ more → 0 < length part → c.number ≤ b.number + 1 → Feeds b part c None mid after → Fed a piece more c before after
@@ -85,11 +85,11 @@ fed_next a b c piece rest part more before mid after old cut some next now = rec
 }
 
 -- the run ended in a part of the piece
-pub fed_stop : (a b c d : Place) (piece rest part more : List ℕ) (end : ScriptEnd) (before mid after : Option (List ℕ)) → Fed a piece rest b before mid → rest ≡ part ++ more → Feeds b part c (Some end) mid after → Feeds a piece d (Some end) before after
-fed_stop a b c d piece rest part more end before mid after old cut now =
+pub fed_stop : (a b c : Place) (piece rest part more : List ℕ) (end : ScriptEnd) (before mid after : Option (List ℕ)) → Fed a piece rest b before mid → rest ≡ part ++ more → Feeds b part c (Some end) mid after → Feeds a piece c (Some end) before after
+fed_stop a b c piece rest part more end before mid after old cut now =
     let fed : Feeds a (old.front ++ part) c (Some end) before after = feeds_both a b c old.front part (Some end) before mid after old.feeds now in
     let whole : (old.front ++ part) ++ more ≡ piece = append_assoc old.front part more ∙ (ap (λ t. old.front ++ t) (sym cut) ∙ sym old.whole) in
-    (fed.0, fed.1, rw whole at (stops_early a (old.front ++ part) more fed.0 end fed.2))
+    (fed.0, fed.1, rw whole at (stops_early a c (old.front ++ part) more fed.0 end fed.2))
 
 -- the last part of the piece was taken
 pub fed_last : (a b c : Place) (piece rest : List ℕ) (end : Option ScriptEnd) (before mid after : Option (List ℕ)) → Fed a piece rest b before mid → Feeds b rest c end mid after → Feeds a piece c end before after

@@ -1,5 +1,5 @@
 -- A whole run, from what the reader gave and the writer took.
-use Rattle.std.proofs.Common.{◌≡◌, ◌⊎◌, inl, inr, ℕ, List, [], ◌++◌, refl, sym, ap, ◌∙◌, Option, Some, None, append_assoc, append-nil, length, take, drop, arith}
+use Rattle.std.proofs.Common.{◌≡◌, ◌⊎◌, inl, inr, ℕ, List, [], ◌++◌, refl, sym, ap, ◌∙◌, false, Option, Some, None, append_assoc, append-nil, length, take, drop, arith}
 use Rattle.std.proofs.lemmas.Grind.{common_steps}
 use Rattle.std.specs.Io.KnownBytes.{Appends, Keeps, Consumes, IsAtEnd}
 use Rattle.outage_script.specs.declared.ScriptEnd.{ScriptEnd}
@@ -7,12 +7,12 @@ use Rattle.outage_script.specs.declared.ScriptEnd.TheVariants.{Done, BadLine, De
 use Rattle.outage_script.specs.Script.{script_outcome, preceded}
 use Rattle.outage_script.specs.State.{start}
 use Rattle.outage_script.specs.Ends.{Begins, IsRight, IsAnswer, Runs}
-use Rattle.outage_script.specs.Moves.{Place, place_of, to_come, Moves, Ends, Feeds, Finishes}
+use Rattle.outage_script.specs.Moves.{Place, place_of, to_come, Moves, Ends, Spoils, Holds, Feeds, Finishes}
 use Rattle.outage_script.proofs.Known.{appends_both, appends_none, appends_nothing}
 use Rattle.outage_script.proofs.LineLemmas.{ends_later, stops_later, moves_both, moves_none}
 
 -- a run begins with the whole script to come
-starts : (bytes : List ℕ) → to_come (place_of 1 start []) bytes ≡ script_outcome bytes
+starts : (bytes : List ℕ) → to_come (place_of 1 start [] false) bytes ≡ script_outcome bytes
 unfolding to_come script_outcome
 starts bytes = refl
 
@@ -22,7 +22,7 @@ pub record Progress (found left before after : Option (List ℕ)) (p : Place) : 
   pub written : List ℕ
   pub reads : Consumes found left bytes
   pub writes : Appends before after written
-  pub moves : Moves (place_of 1 start []) bytes p written
+  pub moves : Moves (place_of 1 start [] false) bytes p written
 
 -- two reads are one
 consumes_both : (a b c : Option (List ℕ)) (x y : List ℕ) → Consumes a b x → Consumes b c y → Consumes a c (x ++ y)
@@ -44,8 +44,8 @@ consumes_start None = tt
 consumes_start (Some a) = refl
 
 -- a run begins with nothing read and nothing written
-pub progress_start : (found before : Option (List ℕ)) → Progress found found before before (place_of 1 start [])
-progress_start found before = record { bytes = []; written = []; reads = consumes_start found; writes = appends_nothing before; moves = moves_none (place_of 1 start []) }
+pub progress_start : (found before : Option (List ℕ)) → Progress found found before before (place_of 1 start [] false)
+progress_start found before = record { bytes = []; written = []; reads = consumes_start found; writes = appends_nothing before; moves = moves_none (place_of 1 start [] false) }
 
 -- a piece was read and taken
 progress_next : (found left left' before after after' : Option (List ℕ)) (p q : Place) (piece : List ℕ) → Progress found left before after p → Consumes left left' piece → Feeds p piece q None after after' → Progress found left' before after' q
@@ -54,7 +54,7 @@ progress_next found left left' before after after' p q piece old reads fed = rec
   written = old.written ++ fed.0;
   reads = consumes_both found left left' old.bytes piece old.reads reads;
   writes = appends_both before after after' old.written fed.0 old.writes fed.1;
-  moves = moves_both (place_of 1 start []) p q old.bytes piece old.written fed.0 old.moves fed.2;
+  moves = moves_both (place_of 1 start [] false) p q old.bytes piece old.written fed.0 old.moves fed.2;
 }
 
 -- a piece was read and taken, and a flush changed nothing of what was written
@@ -119,35 +119,71 @@ runs_stopped found left left' before after after' after'' p q piece end result o
     (λ rest e. flushed_right end result (old.bytes ++ piece) rest (old.written ++ fed.0) ended (right_of end (old.bytes ++ piece) rest (old.written ++ fed.0) (rw (append-nil (old.bytes ++ piece)) at (cut [])) (cut rest)))
   where
     cut : (rest : List ℕ) → Ends end (script_outcome ((old.bytes ++ piece) ++ rest)) (old.written ++ fed.0)
-    cut rest = rw (← starts ((old.bytes ++ piece) ++ rest)) ((stops_later (place_of 1 start []) p old.bytes piece old.written fed.0 end old.moves fed.2).right rest)
+    cut rest = rw (← starts ((old.bytes ++ piece) ++ rest)) ((stops_later (place_of 1 start [] false) p q old.bytes piece old.written fed.0 end old.moves fed.2).right rest)
 
 -- how a run ends, once the end of the input was answered
 abbrev pub end_of : Option ScriptEnd → ScriptEnd
 end_of None = Done
 end_of (Some end) = end
 
+-- the outcome of what was read, at the end of the input
+at_end_of : (found left before after : Option (List ℕ)) (p : Place) (old : Progress found left before after p) → script_outcome old.bytes ≡ preceded old.written (to_come p [])
+at_end_of found left before after p old = sym (starts old.bytes) ∙ (ap (to_come (place_of 1 start [] false)) (sym (append-nil old.bytes)) ∙ old.moves.goes [])
+
+-- at the end of the input nothing is left
+none_left : (l : Option (List ℕ)) → IsAtEnd l → (rest : List ℕ) → l ≡ Some rest → rest ≡ []
+none_left None h rest e = cc
+none_left (Some l) h rest e = let same : l ≡ rest = cc in sym same ∙ h
+
 -- the input came to its end
-pub runs_finished : (found left left' before after after' after'' : Option (List ℕ)) (p : Place) (some : List ℕ) (end : Option ScriptEnd) (result : ScriptEnd) → Progress found left before after p → Consumes left left' [] → IsAtEnd left' → Appends after after' some → Finishes end (to_come p []) some → Keeps after' after'' → (result ≡ end_of end) ⊎ (result ≡ Device) → Runs result found left' before after''
-runs_finished found left left' before after after' after'' p some end result old reads at_end wrote last kept ended =
+pub runs_finished : (found left left' before after after' after'' : Option (List ℕ)) (p q : Place) (some : List ℕ) (end : Option ScriptEnd) (result : ScriptEnd) → Progress found left before after p → Consumes left left' [] → IsAtEnd left' → Appends after after' some → Finishes end q (to_come p []) some → Keeps after' after'' → (result ≡ end_of end) ⊎ (result ≡ Device) → Runs result found left' before after''
+runs_finished found left left' before after after' after'' p q some end result old reads at_end wrote last kept ended =
     runs result found left' before after'' old.bytes (old.written ++ some)
     (rw (append-nil old.bytes) at (consumes_both found left left' old.bytes [] old.reads reads))
     (appends_none before after' after'' (old.written ++ some) (appends_both before after after' old.written some old.writes wrote) kept)
-    (λ rest e. flushed_right (end_of end) result old.bytes rest (old.written ++ some) ended (by_end end last rest (by_left left' at_end rest e)))
+    (λ rest e. flushed_right (end_of end) result old.bytes rest (old.written ++ some) ended (by_end end last rest (none_left left' at_end rest e)))
   where
     whole : script_outcome old.bytes ≡ preceded old.written (to_come p [])
-    whole = sym (starts old.bytes) ∙ (ap (to_come (place_of 1 start [])) (sym (append-nil old.bytes)) ∙ old.moves.goes [])
+    whole = at_end_of found left before after p old
 
-    by_left : (l : Option (List ℕ)) → IsAtEnd l → (rest : List ℕ) → l ≡ Some rest → rest ≡ []
-    by_left None h rest e = cc
-    by_left (Some l) h rest e = let same : l ≡ rest = cc in sym same ∙ h
-
-    by_end : (f : Option ScriptEnd) → Finishes f (to_come p []) some → (rest : List ℕ) → rest ≡ [] → IsRight (end_of f) old.bytes rest (old.written ++ some)
+    by_end : (f : Option ScriptEnd) → Finishes f q (to_come p []) some → (rest : List ℕ) → rest ≡ [] → IsRight (end_of f) old.bytes rest (old.written ++ some)
     by_end None e rest none =
-        let is : script_outcome old.bytes ≡ record { text = old.written ++ some; bad = None } = whole ∙ ap (preceded old.written) e in
+        let is : script_outcome old.bytes ≡ record { text = old.written ++ some; bad = None; spoiled = None } = whole ∙ ap (preceded old.written) e in
         (none, record { text = ap (λ o. o.text) is; bad = ap (λ o. o.bad) is })
     by_end (Some f) e rest none =
-        let ends : Ends f (script_outcome old.bytes) (old.written ++ some) = rw whole (ends_later f (to_come p []) some old.written e) in
+        let ends : Ends f (script_outcome old.bytes) (old.written ++ some) = rw whole (ends_later f (to_come p []) some old.written e.0) in
         rw none (right_of f old.bytes [] (old.written ++ some) ends (rw (append-nil old.bytes) ends))
+
+-- ---- the bad line that a run ended at
+
+-- what is kept of the bad line of what was read is kept of the input's
+holds : (end : ScriptEnd) (p : Place) (found left : Option (List ℕ)) (bytes : List ℕ) → Consumes found left bytes → ((rest : List ℕ) → left ≡ Some rest → Spoils end p (script_outcome (bytes ++ rest)).spoiled) → Holds end p found
+holds Done p found left bytes c h = tt
+holds (BadLine n) p None left bytes c h = tt
+holds (BadLine n) p (Some input) None bytes c h = absurd c
+holds (BadLine n) p (Some input) (Some left) bytes c h = rw c (h left refl)
+holds Device p found left bytes c h = tt
+holds NoMemory p found left bytes c h = tt
+
+-- the same after the flush
+holds_flushed : (end result : ScriptEnd) (p : Place) (found : Option (List ℕ)) → (result ≡ end) ⊎ (result ≡ Device) → Holds end p found → Holds result p found
+holds_flushed end result p found (inl e) h = rw e h
+holds_flushed end result p found (inr e) h = rw e tt
+
+-- a run that ended within a piece keeps the bad line
+pub holds_stopped : (found left left' before after after' : Option (List ℕ)) (p q : Place) (piece : List ℕ) (end result : ScriptEnd) → Progress found left before after p → Consumes left left' piece → Feeds p piece q (Some end) after after' → (result ≡ end) ⊎ (result ≡ Device) → Holds result q found
+holds_stopped found left left' before after after' p q piece end result old reads fed ended =
+    holds_flushed end result q found ended
+    (holds end q found left' (old.bytes ++ piece) (consumes_both found left left' old.bytes piece old.reads reads)
+    (λ rest e. rw (← starts ((old.bytes ++ piece) ++ rest)) ((stops_later (place_of 1 start [] false) p q old.bytes piece old.written fed.0 end old.moves fed.2).keeps rest)))
+
+-- a run that ended at the end of the input keeps the bad line
+pub holds_finished : (found left left' before after : Option (List ℕ)) (p q : Place) (some : List ℕ) (end : Option ScriptEnd) (result : ScriptEnd) → Progress found left before after p → Consumes left left' [] → IsAtEnd left' → Finishes end q (to_come p []) some → (result ≡ end_of end) ⊎ (result ≡ Device) → Holds result q found
+holds_finished found left left' before after p q some None result old reads at_end last ended = holds_flushed Done result q found ended tt
+holds_finished found left left' before after p q some (Some end) result old reads at_end last ended =
+    holds_flushed end result q found ended
+    (holds end q found left' old.bytes (rw (append-nil old.bytes) at (consumes_both found left left' old.bytes [] old.reads reads))
+    (λ rest e. rw (no_more old.bytes rest (none_left left' at_end rest e), at_end_of found left before after p old) last.1))
 
 -- known bytes stay the same
 pub keeps_same : (a : Option (List ℕ)) → Keeps a a

@@ -3,7 +3,9 @@ use Rattle.std.specs.Prelude.{◌≡◌, ℕ, List, [], ◌++◌, Option, Some, 
 use Rattle.std.specs.Io.KnownBytes.{Appends}
 use Rattle.outage_script.specs.declared.ScriptEnd.{ScriptEnd}
 use Rattle.outage_script.specs.declared.ScriptEnd.TheVariants.{Done, BadLine, Device, NoMemory}
+use Rattle.outage_script.specs.declared.fault.LineFault.{LineFault}
 use Rattle.outage_script.specs.Script.{Outcome, script_outcome}
+use Rattle.outage_script.specs.Faults.{IsExplained}
 
 -- they begin with these
 abbrev pub Begins : List ℕ → List ℕ → Type 0
@@ -38,3 +40,11 @@ IsAnswer Done input written = IsDone written (script_outcome input)
 IsAnswer (BadLine n) input written = IsBadAt n written (script_outcome input)
 IsAnswer Device input written = Begins (script_outcome input).text written
 IsAnswer NoMemory input written = Begins (script_outcome input).text written
+
+-- the reason that comes with the end: at a bad line it is that of the input's first bad line, and no other end has one
+abbrev pub Explains : ScriptEnd → Option LineFault → Option (List ℕ) → Type 0
+Explains Done why input = why ≡ None
+Explains (BadLine n) why None = ⊤
+Explains (BadLine n) why (Some input) = (line : List ℕ) × ((script_outcome input).spoiled ≡ Some line) × IsExplained why line
+Explains Device why input = why ≡ None
+Explains NoMemory why input = why ≡ None

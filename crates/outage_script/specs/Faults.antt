@@ -1,8 +1,9 @@
 -- Why a line is no command.
-use Rattle.std.specs.Prelude.{◌≡◌, ℕ, List, codes, Bool, true, false, ◌||◌, None, Some}
+use Rattle.std.specs.Prelude.{◌≡◌, ℕ, List, length, codes, Bool, true, false, ◌||◌, Option, None, Some, IsTrue, nat_lt, nat_le}
 use Rattle.std.specs.Str.{bytes_eq}
 use Rattle.serde_json.specs.Data.{Data}
 use Rattle.outage_script.specs.Reading.{value_of, sole_member}
+use Rattle.outage_script.specs.Script.{line_limit}
 use Rattle.outage_script.specs.declared.fault.LineFault.{LineFault}
 use Rattle.outage_script.specs.declared.fault.LineFault.TheVariants.{TooLong, NoJson, NoName, Unknown, Members}
 
@@ -21,3 +22,16 @@ IsFaultOf (NoJson e) line = value_of line ≡ None
 IsFaultOf NoName line = (d : Data) × (value_of line ≡ Some d) × (sole_member d ≡ None)
 IsFaultOf (Unknown name nearest) line = (d : Data) × (value_of line ≡ Some d) × Names false d
 IsFaultOf (Members members) line = (d : Data) × (value_of line ≡ Some d) × Names true d
+
+-- what a fault says of a bad line
+abbrev pub IsWhy : LineFault → List ℕ → Type 0
+IsWhy TooLong line = IsTrue (nat_lt line_limit (length line))
+IsWhy (NoJson e) line = IsFaultOf (NoJson e) line
+IsWhy NoName line = IsFaultOf NoName line
+IsWhy (Unknown name nearest) line = IsFaultOf (Unknown name nearest) line
+IsWhy (Members members) line = IsFaultOf (Members members) line
+
+-- the reason that is told of a bad line: there is none if memory ran out, but for a line that is too long it needs none
+abbrev pub IsExplained : Option LineFault → List ℕ → Type 0
+IsExplained None line = IsTrue (nat_le (length line) line_limit)
+IsExplained (Some fault) line = IsWhy fault line

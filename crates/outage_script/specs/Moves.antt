@@ -1,21 +1,23 @@
 -- What a run in progress has written, and what it is still to write.
-use Rattle.std.specs.Prelude.{◌≡◌, ℕ, List, ◌++◌, Option, None, Some}
+use Rattle.std.specs.Prelude.{◌≡◌, ℕ, List, length, ◌++◌, Bool, true, false, Option, None, Some, IsTrue, nat_lt, nat_le, ⊤}
 use Rattle.std.specs.Io.KnownBytes.{Appends}
 use Rattle.outage_script.specs.declared.ScriptEnd.{ScriptEnd}
 use Rattle.outage_script.specs.declared.ScriptEnd.TheVariants.{Done, BadLine, Device, NoMemory}
 use Rattle.outage_script.specs.Lines.{lines_of}
 use Rattle.outage_script.specs.State.{State}
-use Rattle.outage_script.specs.Script.{Outcome, outcome_of, preceded}
+use Rattle.outage_script.specs.Script.{Outcome, outcome_of, preceded, script_outcome, line_limit}
 use Rattle.outage_script.specs.Ends.{Begins, IsBadAt}
 
--- where a run is: the number of the line that it reads, the state, and what has come of that line
+-- where a run is: the number of the line that it reads, the state, what has come of that line, and whether the run ended
+-- since the line is too long
 pub record Place : Type 0 where
   pub number : ℕ
   pub state : State
   pub line : List ℕ
+  pub long : Bool
 
-abbrev pub place_of : ℕ → State → List ℕ → Place
-place_of number state line = record { number = number; state = state; line = line }
+abbrev pub place_of : ℕ → State → List ℕ → Bool → Place
+place_of number state line long = record { number = number; state = state; line = line; long = long }
 
 -- the outcome that is still to come, where these bytes are still to come
 unfoldable pub to_come : Place → List ℕ → Outcome
@@ -32,16 +34,41 @@ Ends (BadLine n) whole some = IsBadAt n some whole
 Ends Device whole some = Begins whole.text some
 Ends NoMemory whole some = Begins whole.text some
 
+-- what is kept of a line: all of it, or that it is too long
+abbrev pub IsKept : Bool → List ℕ → List ℕ → Type 0
+IsKept true held line = IsTrue (nat_lt line_limit (length line))
+IsKept false held line = (held ≡ line) × IsTrue (nat_le (length line) line_limit)
+
+-- the place keeps the bad line
+abbrev pub KeepsLine : Place → Option (List ℕ) → Type 0
+KeepsLine p spoiled = (line : List ℕ) × (spoiled ≡ Some line) × IsKept p.long p.line line
+
+-- if the run ended at a bad line, the place keeps it
+abbrev pub Spoils : ScriptEnd → Place → Option (List ℕ) → Type 0
+Spoils Done p spoiled = ⊤
+Spoils (BadLine n) p spoiled = KeepsLine p spoiled
+Spoils Device p spoiled = ⊤
+Spoils NoMemory p spoiled = ⊤
+
+-- the same of a run over this input: it claims nothing if the reader does not tell its bytes
+abbrev pub Holds : ScriptEnd → Place → Option (List ℕ) → Type 0
+Holds Done p input = ⊤
+Holds (BadLine n) p None = ⊤
+Holds (BadLine n) p (Some input) = KeepsLine p (script_outcome input).spoiled
+Holds Device p input = ⊤
+Holds NoMemory p input = ⊤
+
 -- the run ended in this piece, whatever comes after it
-pub record Stops (old : Place) (piece : List ℕ) (end : ScriptEnd) (some : List ℕ) : Type 0 where
+pub record Stops (old : Place) (piece : List ℕ) (new : Place) (end : ScriptEnd) (some : List ℕ) : Type 0 where
   pub right : (rest : List ℕ) → Ends end (to_come old (piece ++ rest)) some
+  pub keeps : (rest : List ℕ) → Spoils end new (to_come old (piece ++ rest)).spoiled
 
 -- the piece was read; the run goes on, or ended so
 abbrev pub Feeds : Place → List ℕ → Place → Option ScriptEnd → Option (List ℕ) → Option (List ℕ) → Type 0
 Feeds old piece new None before after = (some : List ℕ) × Appends before after some × Moves old piece new some
-Feeds old piece new (Some end) before after = (some : List ℕ) × Appends before after some × Stops old piece end some
+Feeds old piece new (Some end) before after = (some : List ℕ) × Appends before after some × Stops old piece new end some
 
 -- the end of the input was answered: all is written, or the run ended early
-abbrev pub Finishes : Option ScriptEnd → Outcome → List ℕ → Type 0
-Finishes None whole some = whole ≡ record { text = some; bad = None }
-Finishes (Some end) whole some = Ends end whole some
+abbrev pub Finishes : Option ScriptEnd → Place → Outcome → List ℕ → Type 0
+Finishes None new whole some = whole ≡ record { text = some; bad = None; spoiled = None }
+Finishes (Some end) new whole some = Ends end whole some × Spoils end new whole.spoiled

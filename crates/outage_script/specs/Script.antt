@@ -31,24 +31,25 @@ step s line = if nat_lt line_limit (length line) then None else if list_all is_s
 unfoldable pub bad_line : ℕ → List ℕ
 bad_line n = answer_line (bad_line_answer n)
 
--- what is written, and the number of the first bad line, if there is one
+-- what is written, and the number and the text of the first bad line, if there is one
 pub record Outcome : Type 0 where
   pub text : List ℕ
   pub bad : Option ℕ
+  pub spoiled : Option (List ℕ)
 
 -- what was written, and then the outcome
 abbrev pub preceded : List ℕ → Outcome → Outcome
-preceded some rest = record { text = some ++ rest.text; bad = rest.bad }
+preceded some rest = record { text = some ++ rest.text; bad = rest.bad; spoiled = rest.spoiled }
 
 -- the outcome of line n and of the lines after it: a bad line ends the script
-abbrev pub goes_on : ℕ → Turn → (State → Outcome) → Outcome
-goes_on n None more = record { text = bad_line n; bad = Some n }
-goes_on n (Some t) more = preceded t.0 (more t.1)
+abbrev pub goes_on : ℕ → List ℕ → Turn → (State → Outcome) → Outcome
+goes_on n line None more = record { text = bad_line n; bad = Some n; spoiled = Some line }
+goes_on n line (Some t) more = preceded t.0 (more t.1)
 
 -- the outcome of the lines from number n on
 abbrev pub outcome_of : ℕ → State → List (List ℕ) → Outcome
-outcome_of n s [] = record { text = []; bad = None }
-outcome_of n s (line ∷ lines) = goes_on n (step s line) (λ next. outcome_of (n + 1) next lines)
+outcome_of n s [] = record { text = []; bad = None; spoiled = None }
+outcome_of n s (line ∷ lines) = goes_on n line (step s line) (λ next. outcome_of (n + 1) next lines)
 
 -- the outcome of a script: lines are counted from 1
 unfoldable pub script_outcome : List ℕ → Outcome

@@ -1,8 +1,8 @@
 // A script from its reader to its writer.
-ghost use Rattle.std.specs.Prelude.{◌≡◌, ◌⊎◌, ◌≤◌, ◌+◌, ◌*◌, [], vec_len, IfOk};
+ghost use Rattle.std.specs.Prelude.{false, ◌≡◌, ◌⊎◌, ◌≤◌, ◌+◌, ◌*◌, [], vec_len, IfOk};
 ghost use Rattle.std.specs.Io.KnownBytes.{Keeps};
-ghost use Rattle.outage_script.specs.Ends.{Runs};
-ghost use Rattle.outage_script.specs.Moves.{place_of};
+ghost use Rattle.outage_script.specs.Ends.{Explains, Runs};
+ghost use Rattle.outage_script.specs.Moves.{Holds, place_of};
 ghost use Rattle.outage_script.specs.State.{start};
 
 use crate::ScriptEnd;
@@ -35,51 +35,89 @@ pub fn run_script<T: Threads + Sync, R: Read, W: Write>(
         (W.contents writer.old) (W.contents writer.new) }
 {
     let blank = Blank::new(SLOTS);
-    run_with::<Brand, T, R, W>(blank, rt, alloc, reader, writer, AtEnd::Free).0
+    run_freed::<Brand, T, R, W>(blank, rt, alloc, reader, writer)
 }
 
 /// Runs the script that the reader gives, as the last thing that a process does: what the replicas hold is left to the
 /// system, which takes back all memory of a process at once when it ends. To free it here would take a quarter of a run.
-/// With the end comes why the last line that was read is no command, if it is none and there is memory to say so.
+/// With the end comes why the line is bad, if a bad line ended the run and there is memory to say so.
 pub fn run_last_script<T: Threads + Sync, R: Read, W: Write>(
     rt: &T,
     alloc: Global,
     reader: &mut R,
     writer: &mut W,
 ) -> (ScriptEnd, Option<LineFault>)
-    ensures { Runs result.0 (R.remaining reader.old) (R.remaining reader.new)
+    ensures runs { Runs result.0 (R.remaining reader.old) (R.remaining reader.new)
         (W.contents writer.old) (W.contents writer.new) }
+    ensures why { Explains result.0 result.1 (R.remaining reader.old) }
 {
     let blank = Blank::new(SLOTS);
-    run_with::<Brand, T, R, W>(blank, rt, alloc, reader, writer, AtEnd::Leave)
+    run_left::<Brand, T, R, W>(blank, rt, alloc, reader, writer)
 }
 
-/// Runs the script that the reader gives, with slots that are parts of that ledger.
-fn run_with<L: Ledger, T: Threads + Sync, R: Read, W: Write>(
+/// Runs the script that the reader gives, with slots that are parts of that ledger, and frees what the replicas hold.
+fn run_freed<L: Ledger, T: Threads + Sync, R: Read, W: Write>(
     blank: Blank,
     rt: &T,
     alloc: Global,
     reader: &mut R,
     writer: &mut W,
-    at_end: AtEnd,
-) -> (ScriptEnd, Option<LineFault>)
+) -> ScriptEnd
     requires ledger { (blank.name ≡ L.name) × (blank.parts ≡ L.parts) × (blank.parts ≡ 1024) }
-    ensures { Runs result.0 (R.remaining reader.old) (R.remaining reader.new)
+    ensures { Runs result (R.remaining reader.old) (R.remaining reader.new)
         (W.contents writer.old) (W.contents writer.new) }
 {
-    let Ok(buffer) = zeros(alloc, READ_SIZE) else {
-        return (ScriptEnd::NoMemory, None);
+    let Ok(mut session) = Session::<L>::new(blank, alloc) else {
+        return ScriptEnd::NoMemory;
     };
+    let end = run_in(rt, alloc, &mut session, reader, writer);
+    session.close(AtEnd::Free);
+    end
+}
+
+/// Runs the script that the reader gives, with slots that are parts of that ledger, works out why a bad line ended it, and
+/// leaves what the replicas hold.
+fn run_left<L: Ledger, T: Threads + Sync, R: Read, W: Write>(
+    blank: Blank,
+    rt: &T,
+    alloc: Global,
+    reader: &mut R,
+    writer: &mut W,
+) -> (ScriptEnd, Option<LineFault>)
+    requires ledger { (blank.name ≡ L.name) × (blank.parts ≡ L.parts) × (blank.parts ≡ 1024) }
+    ensures runs { Runs result.0 (R.remaining reader.old) (R.remaining reader.new)
+        (W.contents writer.old) (W.contents writer.new) }
+    ensures why { Explains result.0 result.1 (R.remaining reader.old) }
+{
     let Ok(mut session) = Session::<L>::new(blank, alloc) else {
         return (ScriptEnd::NoMemory, None);
     };
-    let end = drive(rt, alloc, &mut session, buffer, reader, writer);
-    let fault = match end {
-        ScriptEnd::BadLine(_) => session.fault(alloc).ok(),
-        _ => None,
-    };
-    session.close(at_end);
+    let end = run_in(rt, alloc, &mut session, reader, writer);
+    let fault = session.fault(alloc, end);
+    session.close(AtEnd::Leave);
     (end, fault)
+}
+
+/// Runs the script that the reader gives in a session that has read nothing.
+fn run_in<L: Ledger, T: Threads + Sync, R: Read, W: Write>(
+    rt: &T,
+    alloc: Global,
+    session: &mut Session<L>,
+    reader: &mut R,
+    writer: &mut W,
+) -> ScriptEnd
+    requires new { place_of session.old.number session.old.world session.old.line.items session.old.too_long
+        ≡ place_of 1 start [] false }
+    ensures runs { Runs result (R.remaining reader.old) (R.remaining reader.new)
+        (W.contents writer.old) (W.contents writer.new) }
+    ensures holds { Holds result
+        (place_of session.new.number session.new.world session.new.line.items session.new.too_long)
+        (R.remaining reader.old) }
+{
+    let Ok(buffer) = zeros(alloc, READ_SIZE) else {
+        return ScriptEnd::NoMemory;
+    };
+    drive(rt, alloc, session, buffer, reader, writer)
 }
 
 /// Feeds a session with what the reader gives. What it writes is flushed after each piece, for a caller who sends the next
@@ -92,10 +130,14 @@ fn drive<L: Ledger, T: Threads + Sync, R: Read, W: Write>(
     reader: &mut R,
     writer: &mut W,
 ) -> ScriptEnd
-    requires new { place_of session.old.number session.old.world session.old.line.items ≡ place_of 1 start [] }
+    requires new { place_of session.old.number session.old.world session.old.line.items session.old.too_long
+        ≡ place_of 1 start [] false }
     requires room { vec_len buffer ≡ 65536 }
-    ensures { Runs result (R.remaining reader.old) (R.remaining reader.new)
+    ensures runs { Runs result (R.remaining reader.old) (R.remaining reader.new)
         (W.contents writer.old) (W.contents writer.new) }
+    ensures holds { Holds result
+        (place_of session.new.number session.new.world session.new.line.items session.new.too_long)
+        (R.remaining reader.old) }
 {
     for calls in 0..READ_CALLS {
         let count = match reader.read(buffer.as_mut_slice()) {

@@ -1,10 +1,11 @@
 // A run in progress: the world, and what has come of the line that is not whole yet.
-ghost use Rattle.std.specs.Prelude.{Some, ◌≡◌, ◌≤◌, ◌+◌, ◌^◌, ◌<◌, ◌∷◌, ◌++◌, [], ℕ, List, IsTrue, length, vec_len, false, IfOk, IfNone, option_map, string_bytes};
+ghost use Rattle.std.specs.Prelude.{Some, Option, ◌≡◌, ◌≤◌, ◌+◌, ◌^◌, ◌<◌, ◌∷◌, ◌++◌, [], ℕ, List, IsTrue, length, vec_len, false, IfOk, IfNone, option_map, string_bytes};
 ghost use Rattle.std.specs.List.{list_all};
 ghost use Rattle.std.specs.Io.KnownBytes.{Appends};
 ghost use Rattle.serde_json.specs.View.{view};
+ghost use Rattle.outage_script.specs.Ends.{Explains};
 ghost use Rattle.outage_script.specs.Lines.{is_inside, is_space};
-ghost use Rattle.outage_script.specs.Moves.{Ends, Feeds, Finishes, place_of, to_come};
+ghost use Rattle.outage_script.specs.Moves.{Ends, Feeds, Finishes, Holds, place_of, to_come};
 ghost use Rattle.outage_script.specs.Script.{step, IsTurn, bad_line};
 ghost use Rattle.outage_script.specs.State.{start};
 
@@ -39,7 +40,7 @@ impl<L: Ledger> Session<L> {
     pub(crate) fn new(blank: Blank, alloc: Global) -> Result<Session<L>, AllocError>
         requires ledger { (blank.name ≡ L.name) × (blank.parts ≡ L.parts) × (blank.parts ≡ 1024) }
         ensures { IfOk result (λ session.
-            place_of session.number session.world session.line.items ≡ place_of 1 start []) }
+            place_of session.number session.world session.line.items session.too_long ≡ place_of 1 start [] false) }
     {
         Ok(Session {
             world: World::start(blank, alloc)?,
@@ -60,12 +61,19 @@ impl<L: Ledger> Session<L> {
         world.close(at_end);
     }
 
-    /// Why the line that ended the run is no command. It fails only if memory is needed.
-    pub(crate) fn fault(&self, alloc: Global) -> Result<LineFault, AllocError> {
+    /// Why the line that ended the run is no command, if the run ended so and there is memory to say it.
+    pub(crate) fn fault(&self, alloc: Global, end: ScriptEnd) -> Option<LineFault>
+        ensures { (input : Option (List ℕ))
+            → Holds end (place_of self.now.number self.now.world self.now.line.items self.now.too_long) input
+            → Explains end result input }
+    {
+        let ScriptEnd::BadLine(_) = end else {
+            return None;
+        };
         if self.too_long {
-            return Ok(LineFault::TooLong);
+            return Some(LineFault::TooLong);
         }
-        fault_of(alloc, self.line.as_slice())
+        fault_of(alloc, self.line.as_slice()).ok()
     }
 
     /// Takes the next bytes, up to the end of the run.
@@ -78,8 +86,8 @@ impl<L: Ledger> Session<L> {
     ) -> Option<ScriptEnd>
         requires { self.old.number + length piece.now < 2 ^ 64 }
         ensures number { self.new.number ≤ self.old.number + length piece.now }
-        ensures feeds { Feeds (place_of self.old.number self.old.world self.old.line.items)
-            piece.now (place_of self.new.number self.new.world self.new.line.items) result
+        ensures feeds { Feeds (place_of self.old.number self.old.world self.old.line.items self.old.too_long)
+            piece.now (place_of self.new.number self.new.world self.new.line.items self.new.too_long) result
             (W.contents writer.old) (W.contents writer.new) }
     {
         let mut rest = piece;
@@ -101,7 +109,8 @@ impl<L: Ledger> Session<L> {
     ) -> Option<ScriptEnd>
         requires { self.old.number + 1 < 2 ^ 64 }
         ensures { (some : List ℕ) × Appends (W.contents writer.old) (W.contents writer.new) some
-            × Finishes result (to_come (place_of self.old.number self.old.world self.old.line.items) []) some }
+            × Finishes result (place_of self.new.number self.new.world self.new.line.items self.new.too_long)
+            (to_come (place_of self.old.number self.old.world self.old.line.items self.old.too_long) []) some }
     {
         if self.line.is_empty() {
             return None;
@@ -120,8 +129,9 @@ impl<L: Ledger> Session<L> {
         requires number { self.old.number + 1 < 2 ^ 64 }
         requires inside { IsTrue (list_all is_inside bytes.now) }
         ensures number { self.new.number ≤ self.old.number + 1 }
-        ensures feeds { Feeds (place_of self.old.number self.old.world self.old.line.items)
-            (bytes.now ++ 10 ∷ []) (place_of self.new.number self.new.world self.new.line.items) result
+        ensures feeds { Feeds (place_of self.old.number self.old.world self.old.line.items self.old.too_long)
+            (bytes.now ++ 10 ∷ [])
+            (place_of self.new.number self.new.world self.new.line.items self.new.too_long) result
             (W.contents writer.old) (W.contents writer.new) }
     {
         if let Some(end) = self.take_part(alloc, bytes, writer) {
@@ -139,8 +149,8 @@ impl<L: Ledger> Session<L> {
     ) -> Option<ScriptEnd>
         requires { IsTrue (list_all is_inside bytes.now) }
         ensures number { self.new.number ≡ self.old.number }
-        ensures feeds { Feeds (place_of self.old.number self.old.world self.old.line.items)
-            bytes.now (place_of self.new.number self.new.world self.new.line.items) result
+        ensures feeds { Feeds (place_of self.old.number self.old.world self.old.line.items self.old.too_long)
+            bytes.now (place_of self.new.number self.new.world self.new.line.items self.new.too_long) result
             (W.contents writer.old) (W.contents writer.new) }
     {
         if bytes.len() > LINE_LIMIT - self.line.len() {
@@ -162,14 +172,18 @@ impl<L: Ledger> Session<L> {
     ) -> Option<ScriptEnd>
         requires { self.old.number + 1 < 2 ^ 64 }
         ensures number { self.new.number ≤ self.old.number + 1 }
-        ensures feeds { Feeds (place_of self.old.number self.old.world self.old.line.items)
-            (10 ∷ []) (place_of self.new.number self.new.world self.new.line.items) result
+        ensures feeds { Feeds (place_of self.old.number self.old.world self.old.line.items self.old.too_long)
+            (10 ∷ []) (place_of self.new.number self.new.world self.new.line.items self.new.too_long) result
             (W.contents writer.old) (W.contents writer.new) }
         ensures cleared { IfNone result (self.new.line.items ≡ []) }
     {
         let text = match turn(rt, alloc, &mut self.world, self.line.as_slice()) {
             Ok(Some(text)) => text,
-            Ok(None) => return Some(refuse(alloc, self.number, writer)),
+            Ok(None) => {
+                // All of the line is kept.
+                self.too_long = false;
+                return Some(refuse(alloc, self.number, writer));
+            }
             Err(_) => return Some(ScriptEnd::NoMemory),
         };
         if !write_whole(writer, text.as_bytes()) {
@@ -184,7 +198,8 @@ impl<L: Ledger> Session<L> {
 /// Writes that the line of that number is bad, and answers how the run ends.
 fn refuse<W: Write>(alloc: Global, number: u64, writer: &mut W) -> ScriptEnd
     ensures { (some : List ℕ) × Appends (W.contents writer.old) (W.contents writer.new) some
-        × Ends result (record { text = bad_line number; bad = Some number }) some }
+        × ((line : List ℕ)
+        → Ends result (record { text = bad_line number; bad = Some number; spoiled = Some line }) some) }
 {
     let Ok(text) = bad_line(alloc, number) else {
         return ScriptEnd::NoMemory;

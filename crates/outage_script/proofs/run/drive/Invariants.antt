@@ -8,5 +8,5 @@ abbrev pub invariant-loop-calls : goal.invariant-loop-calls
 invariant-loop-calls g l = record {
   size : vec_len l.buffer ≡ 65536;
   number : l.session.number ≤ 1 + 65536 * l.calls;
-  run : Progress (g.R.Read.remaining l.fn.reader) (g.R.Read.remaining l.reader) (g.W.Write.contents l.fn.writer) (g.W.Write.contents l.writer) (place_of l.session.number l.session.world l.session.line.items);
+  run : Progress (g.R.Read.remaining l.fn.reader) (g.R.Read.remaining l.reader) (g.W.Write.contents l.fn.writer) (g.W.Write.contents l.writer) (place_of l.session.number l.session.world l.session.line.items l.session.too_long);
 }

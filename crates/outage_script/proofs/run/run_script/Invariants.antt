@@ -1,4 +1,4 @@
 use Rattle.outage_script.proofs.run.run_script.Given as goal
 
-abbrev pub ghosts-run_with : goal.ghosts-run_with
-ghosts-run_with g a = record { name = a.blank.name; parts = a.blank.parts }
+abbrev pub ghosts-run_freed : goal.ghosts-run_freed
+ghosts-run_freed g a = record { name = a.blank.name; parts = a.blank.parts }

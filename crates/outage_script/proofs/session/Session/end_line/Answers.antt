@@ -1,4 +1,5 @@
-use Rattle.std.proofs.Common.{◌≡◌, [], string_bytes, sym, ◌∙◌}
+use Rattle.std.proofs.Common.{◌≡◌, ◌≤◌, length, [], string_bytes, sym, ◌∙◌, arith}
+use Rattle.outage_script.specs.Script.{line_limit}
 use Rattle.outage_script.specs.Moves.{place_of}
 use Rattle.outage_script.proofs.Known.{appends_nothing}
 use Rattle.outage_script.proofs.LineLemmas.{line_bad, line_cut, line_done, no_memory}
@@ -8,20 +9,21 @@ pub returns-in-Ok-None-clause-feeds : goal.returns-in-Ok-None-clause-feeds
 returns-in-Ok-None-clause-feeds g c =
     let said = c.refuse.ensures in
     let bad = rw (c.in-Ok-None.field-0-is, c.as_slice.ensures.value) at c.in-Ok-None.ensures in
-    (said.0, said.1, line_bad (place_of c.args.self.now.number c.args.self.now.world c.args.self.now.line.items) _ _ c.args.self.now.inside bad said.2)
+    let short : length c.args.self.now.line.items ≤ line_limit = omega (arith, c.args.self.now.line.ok.0, c.args.self.now.short) in
+    (said.0, said.1, line_bad (place_of c.args.self.now.number c.args.self.now.world c.args.self.now.line.items c.args.self.now.too_long) c.turn.new.world _ _ c.args.self.now.inside short bad (said.2 _))
 
 pub returns-in-Err-clause-feeds : goal.returns-in-Err-clause-feeds
-returns-in-Err-clause-feeds g c = ([], appends_nothing _, no_memory _ _)
+returns-in-Err-clause-feeds g c = ([], appends_nothing _, no_memory _ _ _)
 
 pub returns-then-not-write_whole-clause-feeds : goal.returns-then-not-write_whole-clause-feeds
 returns-then-not-write_whole-clause-feeds g c =
     let said = c.write_whole.ensures.written in
     let turn = rw (c.in-Ok-Some.field-0-is, c.as_slice.ensures.value) at c.in-Ok-Some.ensures in
-    (said.0, said.1, line_cut (place_of c.args.self.now.number c.args.self.now.world c.args.self.now.line.items) (string_bytes c.in-Ok-Some.text) c.turn.new.world _ c.args.self.now.inside turn (said.2.0, sym c.as_bytes.ensures.value ∙ said.2.1))
+    (said.0, said.1, line_cut (place_of c.args.self.now.number c.args.self.now.world c.args.self.now.line.items c.args.self.now.too_long) (string_bytes c.in-Ok-Some.text) c.turn.new.world _ c.args.self.now.inside turn (said.2.0, sym c.as_bytes.ensures.value ∙ said.2.1) (place_of c.args.self.now.number c.turn.new.world c.args.self.now.line.items c.args.self.now.too_long))
 
 pub returns-clause-feeds : goal.returns-clause-feeds
 returns-clause-feeds g c =
     let said = c.write_whole.ensures.written in
     let turn = rw (c.in-Ok-Some.field-0-is, c.as_slice.ensures.value) at c.in-Ok-Some.ensures in
     let whole : said.0 ≡ string_bytes c.in-Ok-Some.text = said.3 c.if-not-write_whole.false ∙ c.as_bytes.ensures.value in
-    (said.0, said.1, rw (c.clear.ensures.items, whole) (line_done (place_of c.args.self.now.number c.args.self.now.world c.args.self.now.line.items) (string_bytes c.in-Ok-Some.text) c.turn.new.world c.args.self.now.inside turn))
+    (said.0, said.1, rw (c.clear.ensures.items, whole) (line_done (place_of c.args.self.now.number c.args.self.now.world c.args.self.now.line.items c.args.self.now.too_long) (string_bytes c.in-Ok-Some.text) c.turn.new.world c.args.self.now.inside turn))

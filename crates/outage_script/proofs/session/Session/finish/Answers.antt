@@ -5,9 +5,9 @@ use Rattle.outage_script.proofs.LineLemmas.{nothing_to_come, finished}
 use Rattle.outage_script.proofs.session.Session.finish.Goals as goal
 
 pub returns-then-is_empty : goal.returns-then-is_empty
-returns-then-is_empty g c = ([], appends_nothing _, nothing_to_come (place_of c.args.self.now.number c.args.self.now.world c.args.self.now.line.items) (search rules))
+returns-then-is_empty g c = ([], appends_nothing _, nothing_to_come (place_of c.args.self.now.number c.args.self.now.world c.args.self.now.line.items c.args.self.now.too_long) (search rules))
 
 pub returns : goal.returns
 returns g c =
-    let p = place_of c.args.self.now.number c.args.self.now.world c.args.self.now.line.items in
-    finished p (place_of c.end_line.new.self.number c.end_line.new.self.world c.end_line.new.self.line.items) c.end_line.result _ _ (search rules) c.args.self.now.inside c.end_line.ensures.feeds c.end_line.ensures.cleared
+    let p = place_of c.args.self.now.number c.args.self.now.world c.args.self.now.line.items c.args.self.now.too_long in
+    finished p (place_of c.end_line.new.self.number c.end_line.new.self.world c.end_line.new.self.line.items c.end_line.new.self.too_long) c.end_line.result _ _ (search rules) c.args.self.now.inside c.end_line.ensures.feeds c.end_line.ensures.cleared

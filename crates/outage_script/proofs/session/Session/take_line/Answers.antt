@@ -6,7 +6,7 @@ use Rattle.outage_script.proofs.session.Session.take_line.Goals as goal
 pub returns-clause-feeds : goal.returns-clause-feeds
 returns-clause-feeds g c =
     feeds_both
-    (place_of c.args.self.now.number c.args.self.now.world c.args.self.now.line.items)
-    (place_of c.take_part.new.self.number c.take_part.new.self.world c.take_part.new.self.line.items)
-    (place_of c.end_line.new.self.number c.end_line.new.self.world c.end_line.new.self.line.items)
+    (place_of c.args.self.now.number c.args.self.now.world c.args.self.now.line.items c.args.self.now.too_long)
+    (place_of c.take_part.new.self.number c.take_part.new.self.world c.take_part.new.self.line.items c.take_part.new.self.too_long)
+    (place_of c.end_line.new.self.number c.end_line.new.self.world c.end_line.new.self.line.items c.end_line.new.self.too_long)
     c.args.bytes.now (10 ∷ []) c.end_line.result _ _ _ c.in_default.ensures.feeds c.end_line.ensures.feeds
