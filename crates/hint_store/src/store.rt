@@ -1,5 +1,5 @@
 //! The hints of a carrier.
-ghost use Rattle.std.specs.Prelude.{◌≡◌, ◌+◌, ◌≤◌, ◌↔◌, [], ◌∷◌, length, slice_get, None, Some, ⊤, true, false, Any, AllPairs, OnOk, OnErr, IsOk, if◌then◌else◌};
+ghost use Rattle.std.specs.Prelude.{◌≡◌, ◌+◌, ◌≤◌, ◌↔◌, [], ◌∷◌, length, slice_get, None, Some, true, false, Any, AllPairs, OnOk, IsOk, if◌then◌else◌};
 ghost use Rattle.std.specs.Option.{option_copied, option_map, option_and_then};
 ghost use Rattle.std.specs.List.{list_any};
 ghost use Rattle.std.specs.List.Sorted.{IsPartitionPoint};

@@ -1,5 +1,5 @@
 -- What an offer of a hint does to a delivery.
-use Rattle.std.proofs.Common.{◌≡◌, ℕ, Bool, true, false, List, [], refl, slice_index_or, slice_set, Option, Some, None}
+use Rattle.std.proofs.Common.{◌≡◌, ℕ, Bool, true, false, List, [], refl, slice_index_or, slice_set, Some, None}
 use Rattle.key_ring.specs.Places.{range_at}
 use Rattle.range_state.specs.declared.event.Accepted.{Accepted}
 use Rattle.vclock.specs.Outcome.{Outcome, gives, refuses}

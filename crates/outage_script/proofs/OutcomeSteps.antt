@@ -19,7 +19,7 @@ use Rattle.range_state.specs.State.{State, place_fault, knows, full_fault, stale
 use Rattle.range_state.specs.Trees.{rehashed}
 use Rattle.outage_script.specs.Acts.{clean_at}
 use Rattle.outage_script.specs.Homes.{IsHome}
-use Rattle.outage_script.specs.State.{Replica, keeping, replica_of, without_records, with_home, in_replica, in_home, at_home, home}
+use Rattle.outage_script.specs.State.{Replica, keeping, replica_of, without_records, with_home, in_replica, in_home, at_home}
 use Rattle.outage_script.proofs.SyncLaws.{rehash_kept}
 
 -- a call that wants memory for a cause says no more than one that does not

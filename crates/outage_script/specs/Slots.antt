@@ -1,5 +1,5 @@
 -- What a script does with the slots for background work: the paper of 2007, section 6.5.
-use Rattle.std.specs.Prelude.{◌+◌, ◌-◌, Bool, true, ◌&&◌, nat_le}
+use Rattle.std.specs.Prelude.{◌-◌, Bool, true, ◌&&◌, nat_le}
 use Rattle.serde_json.specs.Data.{Data}
 use Rattle.vclock.specs.Outcome.{Outcome, gives, ◌>>=◌}
 use Rattle.admission.specs.Admission.{Admission, lend, sample, adjust}

@@ -76,22 +76,11 @@ journaled s e = record { config = s.config; entries = s.entries ++ e ∷ []; mar
 abbrev pub full_fault : State → Option Refusal
 full_fault s = if nat_lt (length s.entries) s.config.limit then None else Some JournalFull
 
--- why a version that is not covered cannot be journaled
-abbrev pub admit_fault : State → List ℕ → Version → Option Refusal
-admit_fault s key v = first_fault (offer_fault v (held s.entries key)) (full_fault s)
-
 -- whether a version is covered by those accepted for its key
 abbrev pub knows : State → List ℕ → Version → Bool
 knows s key v = covered v (accepted s.entries key)
 
--- why a version that was made elsewhere is refused
-abbrev pub accept_fault : State → List ℕ → Version → Option Refusal
-accept_fault s key v = first_fault (place_fault s.config key v.kind v.value) (if knows s key v then None else admit_fault s key v)
-
--- what the range answers to it, and the state after it
-abbrev pub accept_reply : State → ℕ → Source → List ℕ → Version → Accepted
-accept_reply s seat source key v = if knows s key v then Known else Taken (entry_of s seat source key v)
-
+-- the state after a version that was made elsewhere was accepted, if it was not refused
 abbrev pub accept_step : State → ℕ → Source → List ℕ → Version → State
 accept_step s seat source key v = if knows s key v then s else journaled s (entry_of s seat source key v)
 
@@ -121,10 +110,6 @@ stale_fault versions clock = if list_any (λ v. at_most clock v.clock) versions 
 -- why a put is refused before its clock is compared with those held
 abbrev pub ask_fault : Config → ℕ → List ℕ → Pairs → Kind → List ℕ → Option Refusal
 ask_fault c at key context kind value = first_fault (place_fault c key kind value) (raise_fault context at)
-
--- why a put is refused, in the order in which the causes are tested
-abbrev pub put_fault : State → ℕ → List ℕ → Pairs → Kind → List ℕ → Option Refusal
-put_fault s at key context kind value = first_fault (ask_fault s.config at key context kind value) (first_fault (stale_fault (held s.entries key) (raised context at)) (admit_fault s key (put_version at context kind value)))
 
 -- the entry of a put
 abbrev pub put_entry : State → ℕ → ℕ → List ℕ → Pairs → Kind → List ℕ → Entry

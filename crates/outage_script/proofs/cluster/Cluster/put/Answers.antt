@@ -3,7 +3,7 @@ use Rattle.std.proofs.lemmas.List.{set-get_or}
 use Rattle.std.proofs.lemmas.Result.{err_from_is_err_and}
 use Rattle.hint_store.proofs.HintLaws.{get_or_same}
 use Rattle.key_ring.specs.Places.{range_at}
-use Rattle.vclock.specs.Outcome.{gives, refuses}
+use Rattle.vclock.specs.Outcome.{gives}
 use Rattle.outage_script.specs.Acts.{ask_fault, gets_hint, put_into}
 use Rattle.outage_script.specs.Handoff.{carrier_of, hinted, owners_of}
 use Rattle.outage_script.specs.Orders.{put_ask}
