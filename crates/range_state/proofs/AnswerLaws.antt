@@ -37,7 +37,7 @@ use Rattle.range_state.specs.Sessions.{offers_of, taken_in, crowded_in, walked_t
 use Rattle.range_state.specs.Batches.{IsRowFor, IsBatch, seen_count}
 use Rattle.range_state.proofs.RowLaws.{leaf-push}
 use Rattle.range_state.proofs.BatchLaws.{Offers}
-use Rattle.range_state.proofs.TakenLaws.{Reached, reached, taken_grown, record_kept, spelled_offers, spelled_rows, spelled_short, inner_canonical, leaf_right}
+use Rattle.range_state.proofs.TakenLaws.{Reached, reached, taken_grown, record_kept, format_now, spelled_offers, spelled_rows, spelled_short, inner_canonical, leaf_right}
 
 -- ---- the record of a number
 
@@ -106,13 +106,15 @@ inner_taken s seat id r t a w here read receipts known state is =
 -- it is a leaf of the session's own tree, and some rows spell the text
 pub leaf_due : (s : State) (id : ℕ) (r : Record) (t : TakenText) (rows : List Row) → IsRight s → id < length s.records → r ≡ get_or s.records id r → IsLeafRead s r t rows → (t.node.depth ≡ tree_depth r.session.own.format) × IsCanonical r.session.own t.node t.text
 leaf_due s id r t rows ok within was read =
-    let deep : t.node.depth ≡ tree_depth r.session.own.format = read.leaf ∙ sym (ap tree_depth (record_kept s id r ok within was).here.format) in
+    let format = format_now s.config s.entries r t (record_kept s id r ok within was) read.due in
+    let deep : t.node.depth ≡ tree_depth r.session.own.format = read.leaf ∙ sym (ap tree_depth format) in
     (deep, inr (deep, (rows, read.spelled)))
 
 pub rows_ready : (s : State) (id : ℕ) (t : TakenText) (rows : List Row) → IsRight s → MatchOption (slice_get s.records id) ⊥ (λ r. IsLeafRead s r t rows) → AllByRecursion (IsRowFor s.config t.node.index) rows × (length (offers_of rows) ≤ length t.text)
 rows_ready s id t rows ok h = with_record s.records id (λ r. IsLeafRead s r t rows) _ (λ r within was read.
     let kept = record_kept s id r ok within was in
-    (spelled_rows s.config r.session t.node t.text rows kept.here read.spelled, spelled_short r.session.own t.node t.text rows read.spelled)) h
+    let format = format_now s.config s.entries r t kept read.due in
+    (spelled_rows s.config r.session t.node t.text rows format kept.here read.spelled, spelled_short r.session.own t.node t.text rows read.spelled)) h
 
 crowded_cause : (v : Version) (S : List Version) (e : Refusal) → offer_fault v S ≡ Some e → e ≡ Crowded
 crowded_cause v S e h = by_case (covered v S) (nat_lt 64 (length (maximal (with_version v S)))) h
@@ -216,7 +218,7 @@ pub record IsAccepted (s : State) (seat id : ℕ) (r : Record) (t : TakenText) (
 homes : (s : State) (seat id : ℕ) (r : Record) (t : TakenText) (rows : List Row) (b : Batch) (entries : List Entry) (marks : List (Option (List ℕ))) (w : Walk) → IsRight s → IsAccepted s seat id r t rows b entries marks w → AllByRecursion (λ o. t.node.index ≡ leaf_in s.config o.0) (offers_of rows)
 homes s seat id r t rows b entries marks w ok is =
     let kept = record_kept s id r ok is.within is.was in
-    All-weaker _ _ (offers_of rows) (λ o x. x.leaf_is) (spelled_offers s.config r.session t.node t.text rows kept.here is.read.spelled)
+    All-weaker _ _ (offers_of rows) (λ o x. x.leaf_is) (spelled_offers s.config r.session t.node t.text rows (format_now s.config s.entries r t kept is.read.due) kept.here is.read.spelled)
 
 -- the state then
 pub accepted_is : (s : State) (seat id : ℕ) (r : Record) (t : TakenText) (rows : List Row) (b : Batch) (entries : List Entry) (marks : List (Option (List ℕ))) (w : Walk) → IsRight s → IsAccepted s seat id r t rows b entries marks w
@@ -297,8 +299,8 @@ Reads r t rows = ((t.node.depth < tree_depth r.session.own.format) × IsInnerTex
 
 pub leaf_read : (s : State) (id : ℕ) (r : Record) (t : TakenText) (rows : List Row) → IsRight s → slice_get s.records id ≡ Some r → IsDue r.session t → Reads r t rows → t.node.depth ≡ tree_depth s.config.format → IsLeafRead s r t rows
 leaf_read s id r t rows ok here due reads deep =
-    let kept = kept_at s id r ok here in
-    let depth : tree_depth r.session.own.format ≡ tree_depth s.config.format = ap tree_depth kept.here.format in
+    let format = format_now s.config s.entries r t (kept_at s id r ok here) due in
+    let depth : tree_depth r.session.own.format ≡ tree_depth s.config.format = ap tree_depth format in
     elim reads [
       | inl inner ↦ absurd (omega (arith, inner.0, depth, deep))
       | inr leaf ↦ record { due = due; leaf = deep; spelled = leaf.1 }
@@ -306,9 +308,9 @@ leaf_read s id r t rows ok here due reads deep =
 
 pub inner_read : (s : State) (id : ℕ) (r : Record) (t : TakenText) (rows : List Row) → IsRight s → slice_get s.records id ≡ Some r → IsDue r.session t → Reads r t rows → t.node.depth ≢ tree_depth s.config.format → IsInnerRead s r t
 inner_read s id r t rows ok here due reads other =
-    let kept = kept_at s id r ok here in
-    let depth : tree_depth r.session.own.format ≡ tree_depth s.config.format = ap tree_depth kept.here.format in
+    let format = format_now s.config s.entries r t (kept_at s id r ok here) due in
+    let depth : tree_depth r.session.own.format ≡ tree_depth s.config.format = ap tree_depth format in
     elim reads [
-      | inl inner ↦ record { due = due; inner = omega (arith, inner.0, depth); form = subst (λ (f : Format). IsInnerText f t.text) kept.here.format inner.1 }
+      | inl inner ↦ record { due = due; inner = omega (arith, inner.0, depth); form = subst (λ (f : Format). IsInnerText f t.text) format inner.1 }
       | inr leaf ↦ absurd (other (leaf.0 ∙ depth))
     ]

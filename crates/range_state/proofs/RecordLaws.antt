@@ -38,6 +38,7 @@ grows es fs v key h =
 kept_grows : (c : Config) (es fs : List Entry) (r : Record) → IsKept c es r → IsKept c (es ++ fs) r
 kept_grows c es fs r kept = record {
   here = kept.here;
+  format = kept.format;
   traced = kept.traced;
   ended = kept.ended;
   going = elim kept.going [

@@ -6,7 +6,6 @@ use Rattle.std.specs.Ordering.{is_eq}
 use Rattle.std.proofs.lemmas.Bool.{or_left, or_right, cases_eq, cases_lt, or_parts, both_ways, le-leb}
 use Rattle.std.proofs.lemmas.Cmp.{tied_itself}
 use Rattle.std.proofs.lemmas.List.{length-append, length-map, length-set, get_or_append_left, get_or_default, get_or-set_same, get_or-set_other}
-use Rattle.vclock.specs.declared.format.Format.{Format}
 use Rattle.vclock.specs.declared.refusal.Refusal.TheVariants.{SessionsFull}
 use Rattle.version_set.specs.declared.version.Version.{Version}
 use Rattle.version_set.specs.Version.{covered, is_same}
@@ -28,7 +27,7 @@ use Rattle.range_state.specs.declared.«record».Record.{Record}
 use Rattle.range_state.specs.Config.{Config}
 use Rattle.range_state.specs.Rows.{rows_of, keys_from}
 use Rattle.range_state.specs.Records.{IsKept, is_open_state, is_open, open_count}
-use Rattle.range_state.specs.State.{State, IsRight, IsLeafWith, rows_now}
+use Rattle.range_state.specs.State.{State, IsRight, HasTaken, rows_now}
 use Rattle.range_state.specs.Sessions.{standings, crowd_fault}
 use Rattle.row_bytes.proofs.LimitLaws.{no_fault}
 use Rattle.range_state.proofs.StateLaws.{IsSound}
@@ -114,9 +113,9 @@ open_set (x ∷ rs) (suc id) r new was stays =
 
 -- ---- a state with other records
 
--- each entry that is in a text of a session is in one of another
-abbrev pub Keeps : Format → Walk → Walk → Type 0
-Keeps f old new = (e : Entry) → Any (IsLeafWith f e) old.taken → Any (IsLeafWith f e) new.taken
+-- each entry that a session has taken another has too
+abbrev pub Keeps : Walk → Walk → Type 0
+Keeps old new = (e : Entry) → HasTaken old e → HasTaken new e
 
 -- one record more
 recorded_right : (s : State) (r : Record) → IsRight s → length s.records < 1024 → open_count s.records < 64 → IsKept s.config s.entries r → IsRight (record { config = s.config; entries = s.entries; marks = s.marks; records = s.records ++ r ∷ [] })
@@ -130,12 +129,12 @@ recorded_right s r ok room beside kept = record {
   records = all-push (IsKept s.config s.entries) s.records r ok.records kept;
   few = omega (arith, room, length-append s.records (r ∷ []));
   few_open = omega (arith, beside, open_push s.records r);
-  partners = All-weaker _ _ s.entries (λ e from source. any-append (λ (x : Record). Any (IsLeafWith s.config.format e) x.session.taken) s.records (r ∷ []) (from source)) ok.partners;
+  partners = All-weaker _ _ s.entries (λ e from source. any-append (λ (x : Record). HasTaken x.session e) s.records (r ∷ []) (from source)) ok.partners;
 }
 
 -- entries more, and a record in the place of another
 pub stepped_right : (s : State) (more : List Entry) (marks : List (Option (List ℕ))) (id : ℕ) (r new : Record) → IsRight s → IsSound (record { config = s.config; entries = s.entries ++ more; marks = marks; records = s.records })
-    → r ≡ get_or s.records id r → (is_open new ≡ true → is_open r ≡ true) → IsKept s.config (s.entries ++ more) new → Keeps s.config.format r.session new.session → AllByRecursion (λ (e : Entry). Any (λ (x : Record). Any (IsLeafWith s.config.format e) x.session.taken) (set s.records id new)) more
+    → r ≡ get_or s.records id r → (is_open new ≡ true → is_open r ≡ true) → IsKept s.config (s.entries ++ more) new → Keeps r.session new.session → AllByRecursion (λ (e : Entry). Any (λ (x : Record). HasTaken x.session e) (set s.records id new)) more
     → IsRight (record { config = s.config; entries = s.entries ++ more; marks = marks; records = set s.records id new })
 stepped_right s more marks id r new ok sound was stays kept keeps come = record {
   config = ok.config;
@@ -148,12 +147,12 @@ stepped_right s more marks id r new ok sound was stays kept keeps come = record 
   few = omega (arith, ok.few, length-set s.records id new);
   few_open = omega (arith, ok.few_open, open_set s.records id r new was stays);
   partners = all-append _ s.entries more
-      (All-weaker _ _ s.entries (λ e from source. any-set (λ (x : Record). Any (IsLeafWith s.config.format e) x.session.taken) s.records id r new was (keeps e) (from source)) ok.partners)
+      (All-weaker _ _ s.entries (λ e from source. any-set (λ (x : Record). HasTaken x.session e) s.records id r new was (keeps e) (from source)) ok.partners)
       (All-weaker _ _ more (λ e is source. is) come);
 }
 
 -- a record in the place of another
-pub replaced_right : (s : State) (id : ℕ) (r new : Record) → IsRight s → r ≡ get_or s.records id r → (is_open new ≡ true → is_open r ≡ true) → IsKept s.config s.entries new → Keeps s.config.format r.session new.session → IsRight (record { config = s.config; entries = s.entries; marks = s.marks; records = set s.records id new })
+pub replaced_right : (s : State) (id : ℕ) (r new : Record) → IsRight s → r ≡ get_or s.records id r → (is_open new ≡ true → is_open r ≡ true) → IsKept s.config s.entries new → Keeps r.session new.session → IsRight (record { config = s.config; entries = s.entries; marks = s.marks; records = set s.records id new })
 replaced_right s id r new ok was stays kept keeps = record {
   config = ok.config;
   own = ok.own;
@@ -164,7 +163,7 @@ replaced_right s id r new ok was stays kept keeps = record {
   records = all-set (IsKept s.config s.entries) s.records id new kept ok.records;
   few = omega (arith, ok.few, length-set s.records id new);
   few_open = omega (arith, ok.few_open, open_set s.records id r new was stays);
-  partners = All-weaker _ _ s.entries (λ e from source. any-set (λ (x : Record). Any (IsLeafWith s.config.format e) x.session.taken) s.records id r new was (keeps e) (from source)) ok.partners;
+  partners = All-weaker _ _ s.entries (λ e from source. any-set (λ (x : Record). HasTaken x.session e) s.records id r new was (keeps e) (from source)) ok.partners;
 }
 
 -- ---- opening
@@ -210,7 +209,8 @@ opened_right s partner root r ok room is =
     let walked = walked_started (held s.entries) (rows_now s) root (row_map_now s ok) (rows_held s.entries) in
     let orderly = orderly_started (rows_now s) root in
     let kept : IsKept s.config s.entries (record { partner = partner; session = started (rows_now s) root }) = record {
-      here = record { format = refl; bits = refl; range = refl };
+      here = record { bits = refl; range = refl };
+      format = λ opened. refl;
       traced = traced (held s.entries) (started (rows_now s) root) walked orderly;
       ended = none_left (first_asked (rows_now s) root);
       going = inr (record { walked = walked; orderly = orderly });
@@ -221,7 +221,8 @@ opened_right s partner root r ok room is =
 
 kept_cancelled : (c : Config) (es : List Entry) (r : Record) (w : Walk) (st : SessionState) → w.state ≡ st → IsKept c es (record { partner = r.partner; session = w }) → IsKept c es (record { partner = r.partner; session = cancelled_by w st })
 kept_cancelled c es r w Open is kept = record {
-  here = record { format = kept.here.format; bits = kept.here.bits; range = kept.here.range };
+  here = record { bits = kept.here.bits; range = kept.here.range };
+  format = λ off. kept.format is;
   traced = traced_cancelled w Open kept.traced;
   ended = λ off. refl;
   going = inl (inr refl);
@@ -230,11 +231,11 @@ kept_cancelled c es r w Finished is kept = kept
 kept_cancelled c es r w Failed is kept = kept
 kept_cancelled c es r w Cancelled is kept = kept
 
-keeps_cancelled : (f : Format) (w : Walk) (st : SessionState) → Keeps f w (cancelled_by w st)
-keeps_cancelled f w Open = λ e a. a
-keeps_cancelled f w Finished = λ e a. a
-keeps_cancelled f w Failed = λ e a. a
-keeps_cancelled f w Cancelled = λ e a. a
+keeps_cancelled : (w : Walk) (st : SessionState) → Keeps w (cancelled_by w st)
+keeps_cancelled w Open = λ e a. a
+keeps_cancelled w Finished = λ e a. a
+keeps_cancelled w Failed = λ e a. a
+keeps_cancelled w Cancelled = λ e a. a
 
 -- a session that is open after it was cancelled was open before
 still_open : (r : Record) (w : Walk) (st : SessionState) → is_open (record { partner = r.partner; session = cancelled_by w st }) ≡ true → is_open (record { partner = r.partner; session = w }) ≡ true
@@ -249,4 +250,4 @@ cancelled_right s id r new ok within was is =
     let kept = subst (IsKept s.config s.entries) (sym was) (all_get (IsKept s.config s.entries) s.records id r ok.records within) in
     let over = kept_cancelled s.config s.entries r r.session r.session.state refl kept in
     subst (λ (x : Record). IsRight (record { config = s.config; entries = s.entries; marks = s.marks; records = set s.records id x })) (sym is)
-    (replaced_right s id r (record { partner = r.partner; session = cancelled_by r.session r.session.state }) ok was (still_open r r.session r.session.state) over (keeps_cancelled s.config.format r.session r.session.state))
+    (replaced_right s id r (record { partner = r.partner; session = cancelled_by r.session r.session.state }) ok was (still_open r r.session r.session.state) over (keeps_cancelled r.session r.session.state))

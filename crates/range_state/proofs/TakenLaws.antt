@@ -24,7 +24,7 @@ use Rattle.range_journal.specs.Journal.{held, versions_of}
 use Rattle.range_journal.proofs.JournalLaws.{covered-held, versions_of-push, contains_later, any_later}
 use Rattle.key_ring.specs.Places.{range_at, leaf_at}
 use Rattle.row_bytes.specs.declared.row.Row.{Row}
-use Rattle.row_bytes.specs.Rows.{IsRow, IsVersion, AreRows, row_text}
+use Rattle.row_bytes.specs.Rows.{IsRow, IsVersion, row_text}
 use Rattle.hash_tree.specs.Nodes.{tree_depth, digest_at, is_on_path, dirtied}
 use Rattle.hash_tree.specs.Texts.{leaf_text}
 use Rattle.hash_tree.proofs.KeyLaws.{all_get}
@@ -42,7 +42,7 @@ use Rattle.sync_session.proofs.TraceLaws.{traced, traced_failed}
 use Rattle.range_state.specs.Config.{Config}
 use Rattle.range_state.specs.declared.«record».Record.{Record}
 use Rattle.range_state.specs.Records.{IsOver, IsHere, IsGoing, IsKept, is_open_state, is_open}
-use Rattle.range_state.specs.State.{State, IsRight, IsLeafWith, leaf_in, place_fault, knows, entry_of, journaled, accept_step}
+use Rattle.range_state.specs.State.{State, IsRight, IsLeafWith, HasTaken, leaf_in, place_fault, knows, entry_of, journaled, accept_step}
 use Rattle.range_state.specs.Sessions.{offers_in, offers_of, taken_in, crowded_in, walked_to, IsInnerRead, IsLeafRead}
 use Rattle.range_state.specs.Batches.{IsRowFor}
 use Rattle.range_state.proofs.StateLaws.{IsSound, sound_of, grown_sound, knows_held, first_none, later_none}
@@ -264,8 +264,8 @@ rows_for c m leaf (r ∷ rows) f b g each range home = (
   rows_for c m leaf rows f b g each.1 range.1 home.1,
 )
 
-pub spelled_offers : (c : Config) (w : Walk) (n : Node) (text : List ℕ) (rows : List Row) → IsHere c w → AreSpelled w.own n text rows → AllByRecursion (λ o. IsOfferFor c n.index o.0 o.1) (offers_of rows)
-spelled_offers c w n text rows here spelled = offers_all (IsOfferFor c n.index) rows (rows_for c w.own n.index rows here.format here.bits here.range spelled.are.each spelled.range spelled.leaf)
+pub spelled_offers : (c : Config) (w : Walk) (n : Node) (text : List ℕ) (rows : List Row) → w.own.format ≡ c.format → IsHere c w → AreSpelled w.own n text rows → AllByRecursion (λ o. IsOfferFor c n.index o.0 o.1) (offers_of rows)
+spelled_offers c w n text rows format here spelled = offers_all (IsOfferFor c n.index) rows (rows_for c w.own n.index rows format here.bits here.range spelled.are.each spelled.range spelled.leaf)
 
 -- a row has a version, so its key is of the leaf
 row_home : (c : Config) (m : RowMap) (leaf : ℕ) (rows : List Row) → m.format ≡ c.format → m.bits ≡ c.bits → AllByRecursion (λ (r : Row). maps.leaf_in m r.key ≡ leaf) rows
@@ -279,9 +279,9 @@ row_home c m leaf (r ∷ rows) f b home each = (
   row_home c m leaf rows f b home.1 each.1,
 )
 
-pub spelled_rows : (c : Config) (w : Walk) (n : Node) (text : List ℕ) (rows : List Row) → IsHere c w → AreSpelled w.own n text rows → AllByRecursion (IsRowFor c n.index) rows
-spelled_rows c w n text rows here spelled =
-    row_home c w.own n.index rows here.format here.bits spelled.leaf (rows_for c w.own n.index rows here.format here.bits here.range spelled.are.each spelled.range spelled.leaf)
+pub spelled_rows : (c : Config) (w : Walk) (n : Node) (text : List ℕ) (rows : List Row) → w.own.format ≡ c.format → IsHere c w → AreSpelled w.own n text rows → AllByRecursion (IsRowFor c n.index) rows
+spelled_rows c w n text rows format here spelled =
+    row_home c w.own n.index rows format here.bits spelled.leaf (rows_for c w.own n.index rows format here.bits here.range spelled.are.each spelled.range spelled.leaf)
 
 -- ---- the records afterwards
 
@@ -289,15 +289,22 @@ spelled_rows c w n text rows here spelled =
 awaits : (c : Config) (es : List Entry) (r : Record) (t : TakenText) → IsKept c es r → IsDue r.session t → (r.session.state ≢ Open) → ⊥
 awaits c es r t kept due off = both_ways (has_node t.node []) refl (ap (has_node t.node) (sym (kept.ended off)) ∙ due.asked)
 
-open_state : (state : SessionState) → ((state ≢ Open) → ⊥) → is_open_state state ≡ true
+open_state : (state : SessionState) → ((state ≢ Open) → ⊥) → state ≡ Open
 open_state Open h = refl
 open_state Finished h = absurd (h (λ e. let clash : Finished ≡ Open = e in cc))
 open_state Failed h = absurd (h (λ e. let clash : Failed ≡ Open = e in cc))
 open_state Cancelled h = absurd (h (λ e. let clash : Cancelled ≡ Open = e in cc))
 
+awaits_open : (c : Config) (es : List Entry) (r : Record) (t : TakenText) → IsKept c es r → IsDue r.session t → r.session.state ≡ Open
+awaits_open c es r t kept due = open_state r.session.state (awaits c es r t kept due)
+
 is_awaiting : (c : Config) (es : List Entry) (r : Record) (t : TakenText) → IsKept c es r → IsDue r.session t → is_open r ≡ true
 unfolding is_open
-is_awaiting c es r t kept due = open_state r.session.state (awaits c es r t kept due)
+is_awaiting c es r t kept due = ap is_open_state (awaits_open c es r t kept due)
+
+-- so its own rows are in the range's format
+pub format_now : (c : Config) (es : List Entry) (r : Record) (t : TakenText) → IsKept c es r → IsDue r.session t → r.session.own.format ≡ c.format
+format_now c es r t kept due = kept.format (awaits_open c es r t kept due)
 
 -- and it goes on
 pub not_open : (w : Walk) → IsOver w → w.state ≢ Open
@@ -322,28 +329,31 @@ kept_after c es more r t kept due canonical leaf =
     let walked = walked_after (held (es ++ more)) r.session t grown due canonical leaf in
     let orderly = orderly_after (held (es ++ more)) r.session t grown on.orderly due in
     record {
-      here = record { format = kept.here.format; bits = kept.here.bits; range = kept.here.range };
+      here = record { bits = kept.here.bits; range = kept.here.range };
+      format = λ still. format_now c es r t kept due;
       traced = traced (held (es ++ more)) (after r.session t) walked orderly;
       ended = none_left (left_after r.session t);
       going = inr (record { walked = walked; orderly = orderly });
     }
 
-keeps_after : (f : Format) (w : Walk) (t : TakenText) → Keeps f w (after w t)
-keeps_after f w t = λ e a. any-append (IsLeafWith f e) w.taken (t ∷ []) a
+keeps_after : (w : Walk) (t : TakenText) → Keeps w (after w t)
+keeps_after w t = λ e a. any-append (IsLeafWith w.own.format e) w.taken (t ∷ []) a
 
 -- ---- a text is taken
 
 -- of a node with children, which can have it
 pub inner_canonical : (s : State) (r : Record) (t : TakenText) → IsKept s.config s.entries r → IsInnerRead s r t → IsCanonical r.session.own t.node t.text
-inner_canonical s r t kept read = inl (omega (arith, ap tree_depth kept.here.format, read.inner), subst (λ (f : Format). IsInnerText f t.text) (sym kept.here.format) read.form)
+inner_canonical s r t kept read =
+    let format = format_now s.config s.entries r t kept read.due in
+    inl (omega (arith, ap tree_depth format, read.inner), subst (λ (f : Format). IsInnerText f t.text) (sym format) read.form)
 
 pub inner_right : (s : State) (id : ℕ) (r : Record) (t : TakenText) → IsRight s → id < length s.records → r ≡ get_or s.records id r → IsInnerRead s r t → IsRight (walked_to s id r (after r.session t))
 inner_right s id r t ok within was read =
     let old = record_kept s id r ok within was in
-    let depth : tree_depth r.session.own.format ≡ tree_depth s.config.format = ap tree_depth old.here.format in
+    let depth : tree_depth r.session.own.format ≡ tree_depth s.config.format = ap tree_depth (format_now s.config s.entries r t old read.due) in
     let kept = kept_after s.config s.entries [] r t old read.due (inner_canonical s r t old read) (λ leaf. absurd (omega (arith, leaf, depth, read.inner))) in
     let same : IsKept s.config s.entries (record { partner = r.partner; session = after r.session t }) = subst (λ (es : List Entry). IsKept s.config es (record { partner = r.partner; session = after r.session t })) (append-nil s.entries) kept in
-    replaced_right s id r (record { partner = r.partner; session = after r.session t }) ok was (λ e. is_awaiting s.config s.entries r t old read.due) same (keeps_after s.config.format r.session t)
+    replaced_right s id r (record { partner = r.partner; session = after r.session t }) ok was (λ e. is_awaiting s.config s.entries r t old read.due) same (keeps_after r.session t)
 
 -- of a leaf, whose versions are accepted
 pub leaf_right : (s : State) (seat id : ℕ) (r : Record) (t : TakenText) (rows : List Row) → IsRight s → id < length s.records → r ≡ get_or s.records id r → IsLeafRead s r t rows → crowded_in s seat (offers_of rows) ≡ None
@@ -352,30 +362,31 @@ leaf_right s seat id r t rows ok within was read none =
     let end = taken_in s seat (offers_of rows) in
     let new : Record = record { partner = r.partner; session = after r.session t } in
     let old = record_kept s id r ok within was in
-    let offers = spelled_offers s.config r.session t.node t.text rows old.here read.spelled in
+    let format = format_now s.config s.entries r t old read.due in
+    let offers = spelled_offers s.config r.session t.node t.text rows format old.here read.spelled in
     let moved = reached s s t.node.index seat (offers_of rows) (All-weaker _ _ (offers_of rows) (λ o is. is.leaf_is) offers) (inl refl) in
     let same = same_range s t.node.index end moved in
     let grown = taken_grown (IsAmong rows) s seat (offers_of rows) (offers_among rows) in
     let more = grown.more in
     let sound = taken_sound s.config s t.node.index seat (offers_of rows) refl (sound_of s ok) offers none in
     let here : end ≡ record { config = s.config; entries = s.entries ++ more; marks = end.marks; records = s.records } = λ i. record { config = same.0 i; entries = grown.entries i; marks = end.marks; records = same.1 i } in
-    let depth : tree_depth r.session.own.format ≡ tree_depth s.config.format = ap tree_depth old.here.format in
+    let depth : tree_depth r.session.own.format ≡ tree_depth s.config.format = ap tree_depth format in
     let canonical : IsCanonical r.session.own t.node t.text = inr (omega (arith, depth, read.leaf), (rows, read.spelled)) in
     let covers = all_offers (λ key v. covered v (held (s.entries ++ more) key) ≡ true) rows (subst (λ (es : List Entry). AllByRecursion (λ o. covered o.1 (held es o.0) ≡ true) (offers_of rows)) grown.entries (taken_held s seat (offers_of rows))) in
     let leaf = spelled_held (held (s.entries ++ more)) r.session.own t rows read.spelled covers in
     let kept = kept_after s.config s.entries more r t old read.due canonical leaf in
-    let come = come_of s id r t rows more within old.here read.leaf read.spelled grown.all in
-    let made = stepped_right s more end.marks id r new ok (subst IsSound here sound) was (λ e. is_awaiting s.config s.entries r t old read.due) kept (keeps_after s.config.format r.session t) come in
+    let come = come_of s id r t rows more within (read.leaf ∙ sym depth) read.spelled grown.all in
+    let made = stepped_right s more end.marks id r new ok (subst IsSound here sound) was (λ e. is_awaiting s.config s.entries r t old read.due) kept (keeps_after r.session t) come in
     subst IsRight (λ i. record { config = sym same.0 i; entries = sym grown.entries i; marks = end.marks; records = set (sym same.1 i) id new }) made
   where
     same_range : (u : State) (n : ℕ) (v : State) → Reached u n v → (v.config ≡ u.config) × (v.records ≡ u.records)
     same_range u n v (inl e) = (ap (λ (x : State). x.config) e, ap (λ (x : State). x.records) e)
     same_range u n v (inr news) = (news.config, news.records)
 
-    come_of : (s : State) (id : ℕ) (r : Record) (t : TakenText) (rows : List Row) (more : List Entry) → id < length s.records → IsHere s.config r.session → t.node.depth ≡ tree_depth s.config.format → AreSpelled r.session.own t.node t.text rows
+    come_of : (s : State) (id : ℕ) (r : Record) (t : TakenText) (rows : List Row) (more : List Entry) → id < length s.records → t.node.depth ≡ tree_depth r.session.own.format → AreSpelled r.session.own t.node t.text rows
         → AllByRecursion (λ (e : Entry). IsAmong rows e.key e.version) more
-        → AllByRecursion (λ (e : Entry). Any (λ (x : Record). Any (IsLeafWith s.config.format e) x.session.taken) (set s.records id (record { partner = r.partner; session = after r.session t }))) more
-    come_of s id r t rows more within here deep spelled all =
+        → AllByRecursion (λ (e : Entry). Any (λ (x : Record). HasTaken x.session e) (set s.records id (record { partner = r.partner; session = after r.session t }))) more
+    come_of s id r t rows more within deep spelled all =
         let new : Record = record { partner = r.partner; session = after r.session t } in
         All-weaker _ _ more (λ e among. (
           id,
@@ -390,8 +401,8 @@ leaf_right s seat id r t rows ok within was read none =
             record {
               leaf = deep;
               rows = rows;
-              are = subst (λ (f : Format). AreRows f rows) here.format spelled.are;
-              text = spelled.text_is ∙ ap (λ (f : Format). leaf_text f rows) here.format;
+              are = spelled.are;
+              text = spelled.text_is;
               has = among;
             },
           ),
@@ -400,7 +411,8 @@ leaf_right s seat id r t rows ok within was read none =
 -- that no node can have
 kept_failed : (c : Config) (es : List Entry) (r : Record) → IsKept c es r → IsKept c es (record { partner = r.partner; session = failed r.session })
 kept_failed c es r kept = record {
-  here = record { format = kept.here.format; bits = kept.here.bits; range = kept.here.range };
+  here = record { bits = kept.here.bits; range = kept.here.range };
+  format = λ e. absurd (let clash : Failed ≡ Open = e in cc);
   traced = traced_failed r.session kept.traced;
   ended = λ off. refl;
   going = inl (inl refl);
@@ -414,7 +426,7 @@ is_closed r e = absurd (let clash : false ≡ true = e in cc)
 pub failed_right : (s : State) (id : ℕ) (r : Record) → IsRight s → id < length s.records → r ≡ get_or s.records id r → IsRight (walked_to s id r (failed r.session))
 failed_right s id r ok within was =
     let kept = kept_failed s.config s.entries r (record_kept s id r ok within was) in
-    replaced_right s id r (record { partner = r.partner; session = failed r.session }) ok was (is_closed r) kept (keeps_failed s.config.format r.session)
+    replaced_right s id r (record { partner = r.partner; session = failed r.session }) ok was (is_closed r) kept (keeps_failed r.session)
   where
-    keeps_failed : (f : Format) (w : Walk) → Keeps f w (failed w)
-    keeps_failed f w = λ e a. a
+    keeps_failed : (w : Walk) → Keeps w (failed w)
+    keeps_failed w = λ e a. a

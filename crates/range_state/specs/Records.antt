@@ -28,9 +28,8 @@ open_count records = length (filter is_open records)
 abbrev pub IsOver : Walk → Type 0
 IsOver w = (w.state ≡ Failed) ⊎ (w.state ≡ Cancelled)
 
--- the own rows of a session are of this range, in its format
+-- the own rows of a session are of this range
 pub record IsHere (c : Config) (w : Walk) : Type 0 where
-  pub format : w.own.format ≡ c.format
   pub bits : w.own.bits ≡ c.bits
   pub range : w.own.range ≡ c.range
 
@@ -40,10 +39,12 @@ pub record IsGoing (entries : List Entry) (w : Walk) : Type 0 where
   pub walked : Walked (held entries) w
   pub orderly : IsOrderly w
 
--- A record that is right for the entries: its own rows are of this range; what it asked and took agree; if it is not open, nothing
--- is outstanding; and it was ended early, or all that it has seen is held.
+-- A record that is right for the entries: its own rows are of this range, and while it is open in the range's format, since what
+-- it takes is accepted; what it asked and took agree; if it is not open, nothing is outstanding; and it was ended early, or all that
+-- it has seen is held.
 pub record IsKept (c : Config) (entries : List Entry) (r : Record) : Type 0 where
   pub here : IsHere c r.session
+  pub format : r.session.state ≡ Open → r.session.own.format ≡ c.format
   pub traced : IsTraced r.session
   pub ended : r.session.state ≢ Open → r.session.outstanding ≡ []
   pub going : IsOver r.session ⊎ IsGoing entries r.session

@@ -32,7 +32,7 @@ use Rattle.range_state.specs.declared.«record».Record.{Record}
 use Rattle.range_state.specs.declared.event.Accepted.{Accepted}
 use Rattle.range_state.specs.declared.event.Accepted.TheVariants.{Taken, Known}
 use Rattle.range_state.specs.Config.{Config, is_config}
-use Rattle.sync_session.specs.Walks.{TakenText}
+use Rattle.sync_session.specs.Walks.{Walk, TakenText}
 use Rattle.range_state.specs.Records.{IsKept, open_count}
 use Rattle.range_state.specs.Rows.{rows_of}
 
@@ -182,7 +182,7 @@ pub record IsOwn (c : Config) (e : Entry) : Type 0 where
 abbrev pub tree_of : State → Tree
 tree_of s = record { format = s.config.format; digests = s.marks }
 
--- a text of a leaf that spells some rows of the format, and one of them has the entry's key and version
+-- a text of a leaf in a tree of the format that spells some rows of it, and one of them has the entry's key and version
 pub record IsLeafWith (format : Format) (e : Entry) (t : TakenText) : Type 0 where
   pub leaf : t.node.depth ≡ tree_depth format
   pub rows : List Row
@@ -190,9 +190,13 @@ pub record IsLeafWith (format : Format) (e : Entry) (t : TakenText) : Type 0 whe
   pub text : t.text ≡ leaf_text format rows
   pub has : Any (λ (r : Row). (r.key ≡ e.key) × Contains r.versions e.version) rows
 
+-- a session took a leaf's text, in the format of its own rows, that has the entry's version
+abbrev pub HasTaken : Walk → Entry → Type 0
+HasTaken w e = Any (IsLeafWith w.own.format e) w.taken
+
 -- some session took a leaf's text that has the entry's version
 abbrev pub IsFromPartner : State → Entry → Type 0
-IsFromPartner s e = Any (λ (r : Record). Any (IsLeafWith s.config.format e) r.session.taken) s.records
+IsFromPartner s e = Any (λ (r : Record). HasTaken r.session e) s.records
 
 -- what holds of each state: the entries are of the range, each was news, no key ever held over 64 versions, each row has a text,
 -- the children of a clean node are clean, each clean node has the digest of its text for the rows now, each record is right for

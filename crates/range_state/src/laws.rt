@@ -31,20 +31,23 @@ pub fn rows_ascend()
 {}
 
 /// After a finished session each version that the partner's rows had is held or is below one that is: of any rows of the
-/// range whose root is the one that was offered, provided that no two different texts among those compared share a digest.
-/// It holds from then on, whatever else the range accepts, and nothing is supposed of the answers.
+/// range, in the format of the session's own rows, whose root is the one that was offered, provided that no two different
+/// texts among those compared share a digest. It holds from then on, whatever else the range accepts, and nothing is
+/// supposed of the answers.
 pub fn finished_sessions_are_held()
     ensures { (s : State) → IsRight s → (r : Record) → Contains s.records r → r.session.state ≡ Finished
         → (other : RowMap) → IsPartners r.session other → NoTwoShareADigest r.session.own other r.session.taken
         → Held other.rows (held s.entries) }
 {}
 
-/// What came from a partner is in a leaf's text that some session took.
+/// What came from a partner is in a leaf's text that some session took, which spells rows in the format of that session's
+/// own rows.
 pub fn partners_versions_were_taken()
     ensures { (s : State) → IsRight s → (e : Entry) → Contains s.entries e → e.source ≡ Partner → IsFromPartner s e }
 {}
 
-/// Each text that a session took can be its node's, and had the digest that was expected there. A session asks no node
+/// Each text that a session took can be its node's, and had the digest that was expected there. Nodes, texts and partners
+/// are in the format of the session's own rows, which is that of the range while the session is open. A session asks no node
 /// twice, and by depth, and then by index, if the texts came in the order of the asks. If each text that it took is the
 /// partner's own, it asks nodes where the trees differ and no others, and the partner's text of an outstanding node is never
 /// refused. All that holds of a session that failed or was cancelled as well. One that was not asks all the nodes where the
