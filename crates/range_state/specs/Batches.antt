@@ -16,7 +16,7 @@ pub record IsRowFor (c : Config) (leaf : ℕ) (r : Row) : Type 0 where
 
 -- the state with the entries that are prepared
 abbrev pub ahead : State → Batch → State
-ahead s b = record { config = s.config; entries = s.entries ++ b.entries.items; marks = s.marks; records = s.records }
+ahead s b = record s { entries = s.entries ++ b.entries.items }
 
 -- the leaf has its rows with the entries that are prepared; they have the next numbers, and each has its receipt
 pub record IsBatch (s : State) (leaf : ℕ) (b : Batch) : Type 0 where

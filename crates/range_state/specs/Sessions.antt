@@ -20,6 +20,7 @@ use Rattle.sync_session.specs.declared.state.SessionState.{SessionState}
 use Rattle.range_state.specs.Config.{Config}
 use Rattle.range_state.specs.Records.{is_open_state}
 use Rattle.range_state.specs.declared.«record».Record.{Record}
+use Rattle.range_state.specs.declared.state.sessions.TheConstants.{MOST_OPEN, MOST_RECORDS}
 use Rattle.range_state.specs.declared.event.AnswerTaken.{AnswerTaken}
 use Rattle.range_state.specs.State.{State, rows_now, dirty_fault, accept_step}
 
@@ -40,11 +41,11 @@ standings records = map (λ (r : Record). r.session.state) records
 
 -- why no session can be opened beside those that stand so: 64 are open, or there are 1,024
 abbrev pub crowd_fault : List SessionState → Option Refusal
-crowd_fault states = if nat_le 64 (length (filter is_open_state states)) || nat_le 1024 (length states) then Some refusals.SessionsFull else None
+crowd_fault states = if nat_le MOST_OPEN (length (filter is_open_state states)) || nat_le MOST_RECORDS (length states) then Some refusals.SessionsFull else None
 
 -- the state with one more record: a session that compares the rows now with those of an offered root
 abbrev pub opened : State → ℕ → Offer → State
-opened s partner offer = record { config = s.config; entries = s.entries; marks = s.marks; records = s.records ++ (record { partner = partner; session = started (rows_now s) offer.root }) ∷ [] }
+opened s partner offer = record s { records = s.records ++ (record { partner = partner; session = started (rows_now s) offer.root }) ∷ [] }
 
 -- the number of a new session, and the state with its record
 abbrev pub open_session : State → ℕ → Offer → Outcome ℕ State
@@ -58,7 +59,7 @@ open_session s partner offer = do
 
 -- the state with the session of a record at another point
 abbrev pub walked_to : State → ℕ → Record → Walk → State
-walked_to s id r w = record { config = s.config; entries = s.entries; marks = s.marks; records = slice_set s.records id (record { partner = r.partner; session = w }) }
+walked_to s id r w = record s { records = slice_set s.records id (record r { session = w }) }
 
 -- the session of a record is cancelled, if there is one
 abbrev pub cancel_record : State → ℕ → Option Record → Outcome (Unit {0}) State

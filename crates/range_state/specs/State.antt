@@ -29,6 +29,7 @@ use Rattle.hash_tree.specs.declared.node.NodeAt.{NodeAt}
 use Rattle.rehash.specs.Jobs.{NodeText}
 use Rattle.snapshot.specs.RowMaps.{RowMap}
 use Rattle.range_state.specs.declared.«record».Record.{Record}
+use Rattle.range_state.specs.declared.state.sessions.TheConstants.{MOST_OPEN, MOST_RECORDS}
 use Rattle.range_state.specs.declared.event.Accepted.{Accepted}
 use Rattle.range_state.specs.declared.event.Accepted.TheVariants.{Taken, Known}
 use Rattle.range_state.specs.Config.{Config, is_config}
@@ -70,7 +71,7 @@ entry_of s seat source key v = record { number = length s.entries; seat = seat; 
 
 -- the state with an entry at the end: the leaf of its key is dirty, and so is each node above
 abbrev pub journaled : State → Entry → State
-journaled s e = record { config = s.config; entries = s.entries ++ e ∷ []; marks = dirtied s.config.format (leaf_in s.config e.key) s.marks; records = s.records }
+journaled s e = record s { entries = s.entries ++ e ∷ []; marks = dirtied s.config.format (leaf_in s.config e.key) s.marks }
 
 -- why no entry can come
 abbrev pub full_fault : State → Option Refusal
@@ -158,7 +159,7 @@ is_current s node text = has_node s.config node && are_clean (children_of s.mark
 
 -- the state with the digest of a text
 abbrev pub installed : State → NodeAt → List ℕ → State
-installed s node text = record { config = s.config; entries = s.entries; marks = slice_set s.marks (place_of node) (Some (sha256 text)); records = s.records }
+installed s node text = record s { marks = slice_set s.marks (place_of node) (Some (sha256 text)) }
 
 -- a text's digest is installed
 abbrev pub install : State → NodeAt → List ℕ → Outcome (Unit {0}) State
@@ -182,7 +183,7 @@ pub record IsOwn (c : Config) (e : Entry) : Type 0 where
 abbrev pub tree_of : State → Tree
 tree_of s = record { format = s.config.format; digests = s.marks }
 
--- a text of a leaf in a tree of the format that spells some rows of it, and one of them has the entry's key and version
+-- a leaf's text, of a tree in the format, that spells some rows; one of them has the entry's key and version
 pub record IsLeafWith (format : Format) (e : Entry) (t : TakenText) : Type 0 where
   pub leaf : t.node.depth ≡ tree_depth format
   pub rows : List Row
@@ -210,8 +211,8 @@ pub record IsRight (s : State) : Type 0 where
   pub rows : AllByRecursion (IsRow s.config.format) (rows_of s.entries)
   pub marks : IsTreeFor (leaf_in s.config) (rows_of s.entries) (tree_of s)
   pub records : AllByRecursion (IsKept s.config s.entries) s.records
-  pub few : length s.records ≤ 1024
-  pub few_open : open_count s.records ≤ 64
+  pub few : length s.records ≤ MOST_RECORDS
+  pub few_open : open_count s.records ≤ MOST_OPEN
   pub partners : AllByRecursion (λ (e : Entry). e.source ≡ Partner → IsFromPartner s e) s.entries
 
 -- the rows of a leaf

@@ -17,7 +17,7 @@ digests_below s depth (suc height) = level_digests s depth (suc height) ++ diges
 
 -- the state with every node clean
 abbrev pub rehashed : State → State
-rehashed s = record { config = s.config; entries = s.entries; marks = digests_below s 0 (tree_depth s.config.format); records = s.records }
+rehashed s = record s { marks = digests_below s 0 (tree_depth s.config.format) }
 
 -- only the digests of nodes differ, and no node lost its digest
 pub record IsSameRange (s t : State) : Type 0 where
