@@ -125,10 +125,10 @@ fresh_right c h = record {
   partners = tt;
 }
 
-abbrev no_bucket : Config → Bucket
+abbrev pub no_bucket : Config → Bucket
 no_bucket c = record { format = c.format; rows = [] }
 
-fresh_leaves : (c : Config) (leaves : List Bucket) → leaves ≡ replicate (leaf_count c) (no_bucket c) → AreLeaves c [] leaves
+pub fresh_leaves : (c : Config) (leaves : List Bucket) → leaves ≡ replicate (leaf_count c) (no_bucket c) → AreLeaves c [] leaves
 fresh_leaves c leaves is = record {
   all = ap length is ∙ length-replicate (leaf_count c) (no_bucket c);
   each = λ i d lt.
@@ -271,7 +271,7 @@ grown-right s e ok other here unknown clock fits =
       partners = all-push (λ (x : Entry). x.source ≡ Partner → IsFromPartner s x) s.entries e ok.partners (λ from. absurd (other from));
     }
 
-grown-leaves : (s : State) (leaves : List Bucket) (e : Entry) (new : Bucket) → AreLeaves s.config s.entries leaves
+pub grown-leaves : (s : State) (leaves : List Bucket) (e : Entry) (new : Bucket) → AreLeaves s.config s.entries leaves
     → new ≡ record { format = s.config.format; rows = with_offer e.key e.version (rows_at (leaf_in s.config) (leaf_in s.config e.key) (rows_of s.entries)) }
     → AreLeaves s.config (s.entries ++ e ∷ []) (set leaves (leaf_in s.config e.key) new)
 grown-leaves s leaves e new ok is = record {

@@ -305,7 +305,7 @@ impl RangeState {
 }
 
 /// The leaves of a range without rows.
-fn empty_leaves(alloc: Global, format: Format) -> Result<Vec<SharedLeaf>, Refusal>
+pub(crate) fn empty_leaves(alloc: Global, format: Format) -> Result<Vec<SharedLeaf>, Refusal>
     ensures { Answers result None (λ leaves. leaves.items
         ≡ replicate (2 ^ leaf_bits format) (record { format = format; rows = [] })) }
 {
