@@ -1,6 +1,6 @@
 // Journals.
 use crate::versions::version;
-use range_journal::journal::{Journal, Source};
+use range_journal::journal::{Journal, Source, held_in};
 use std::alloc::Global;
 use std::test::Fail;
 use vclock::bytes::Bytes;
@@ -61,9 +61,9 @@ fn held_versions_are_the_latest(rt: HostRuntime) -> Result<(), Fail> {
     let mut journal = Journal::new(alloc, 2);
     append(alloc, &mut journal, 1)?;
     append(alloc, &mut journal, 2)?;
-    let held = journal.held_set(alloc, b"a")?;
+    let held = held_in(alloc, journal.entries(), b"a")?;
     assert_eq!(rt; held.len(), 1);
     assert!(rt; held.covers(&version(alloc, (1, 2), Kind::Live, b"x")?));
-    assert!(rt; journal.held_set(alloc, b"b")?.is_empty());
+    assert!(rt; held_in(alloc, journal.entries(), b"b")?.is_empty());
     Ok(())
 }

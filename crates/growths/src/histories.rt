@@ -1,7 +1,7 @@
 // Journals.
 use crate::versions::version;
 use crate::{show, unchanged};
-use range_journal::journal::{Journal, Source};
+use range_journal::journal::{Journal, Source, held_in};
 use std::alloc::Global;
 use std::io;
 use vclock::bytes::Bytes;
@@ -12,7 +12,7 @@ pub(crate) fn show_all<R: Print + AllocGlobal>(rt: &R) -> io::Result<()> {
     let alloc = rt.alloc();
     show(rt, "append", append(alloc))?;
     show(rt, "reserve", reserve(alloc))?;
-    show(rt, "held_set", held_set(alloc))
+    show(rt, "held_in", held(alloc))
 }
 
 /// Appends entries until the journal has had to grow.
@@ -40,6 +40,7 @@ fn reserve(alloc: Global) -> Result<u64, Refusal> {
     }
 }
 
-fn held_set(alloc: Global) -> Result<u64, Refusal> {
-    Ok(journal(alloc)?.held_set(alloc, b"a")?.len() as u64)
+fn held(alloc: Global) -> Result<u64, Refusal> {
+    let journal = journal(alloc)?;
+    Ok(held_in(alloc, journal.entries(), b"a")?.len() as u64)
 }

@@ -1,5 +1,5 @@
 //! A journal of accepted versions.
-ghost use Rattle.std.specs.Prelude.{◌≡◌, ◌≤◌, ◌⊎◌, [], length, max, ⊤, None, OnOk, OnErr, IfOk, IfErr, slice_get};
+ghost use Rattle.std.specs.Prelude.{◌≡◌, ◌≤◌, ◌↔◌, ◌⊎◌, [], length, max, ⊤, None, OnOk, OnErr, IfOk, IfErr, slice_get, IsTrue};
 ghost use Rattle.std.specs.Option.{option_copied};
 ghost use Rattle.vclock.specs.Answer.{Answers};
 ghost use Rattle.vclock.specs.Outcome.{Does};
@@ -39,6 +39,19 @@ pub struct Entry {
     pub key: Bytes,
     /// The version.
     pub version: Version,
+}
+
+impl Entry {
+    /// Whether both entries are equal, in each field.
+    pub fn same(&self, other: &Entry) -> bool
+        ensures { IsTrue result ↔ (self.now ≡ other.now) }
+    {
+        self.number == other.number
+            && self.seat == other.seat
+            && self.source == other.source
+            && self.key.as_slice() == other.key.as_slice()
+            && self.version.same(&other.version)
+    }
 }
 
 /// The accepted versions in order, up to a limit. Entries are never changed, nor taken out.
@@ -93,6 +106,14 @@ impl Journal {
         ensures { option_copied result ≡ slice_get self.now.entries number }
     {
         self.entries.get(number as usize)
+    }
+
+    /// The entries in order. It takes no memory.
+    pub fn entries(&self) -> &[Entry]
+        ensures value { result.now ≡ self.now.entries }
+        ensures valid { IsLog self.now }
+    {
+        &self.entries
     }
 
     /// Makes room for so many more entries, so that they can be added without memory.
@@ -153,23 +174,23 @@ impl Journal {
         self.room -= 1;
         number
     }
+}
 
-    /// The versions that are held for a key: those accepted that are below no other. They are found by offering the
-    /// accepted ones, in order, to an empty set.
-    ///
-    /// Refused: Crowded, where the entries up to some number hold over 64 versions; NoMemory.
-    pub fn held_set(&self, alloc: Global, key: &[u8]) -> Result<VersionSet, Refusal>
-        ensures held { IfOk result (λ set. set ≡ held self.now.entries key.now) }
-        ensures answers { NeverCrowded self.now.entries key.now
-            → Answers result None (λ set. set ≡ held self.now.entries key.now) }
-        ensures refused { IfErr result (λ e. (e ≡ Refusal.NoMemory) ⊎ (e ≡ Refusal.Crowded)) }
-    {
-        let mut set = VersionSet::empty(alloc);
-        for entry in &self.entries {
-            if entry.key.as_slice() == key {
-                set.offer(entry.version.try_clone()?)?;
-            }
+/// The versions that some entries hold for a key: those accepted that are below no other. They are found by offering the
+/// accepted ones, in order, to an empty set.
+///
+/// Refused: Crowded, where the entries up to some number hold over 64 versions; NoMemory.
+pub fn held_in(alloc: Global, entries: &[Entry], key: &[u8]) -> Result<VersionSet, Refusal>
+    ensures held { IfOk result (λ set. set ≡ held entries.now key.now) }
+    ensures answers { NeverCrowded entries.now key.now
+        → Answers result None (λ set. set ≡ held entries.now key.now) }
+    ensures refused { IfErr result (λ e. (e ≡ Refusal.NoMemory) ⊎ (e ≡ Refusal.Crowded)) }
+{
+    let mut set = VersionSet::empty(alloc);
+    for entry in entries {
+        if entry.key.as_slice() == key {
+            set.offer(entry.version.try_clone()?)?;
         }
-        Ok(set)
     }
+    Ok(set)
 }

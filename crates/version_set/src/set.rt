@@ -119,6 +119,13 @@ impl VersionSet {
         Ok(clocks)
     }
 
+    /// Whether both sets have the same members.
+    pub fn same(&self, other: &VersionSet) -> bool
+        ensures { IsTrue result ↔ (self.now ≡ other.now) }
+    {
+        are_same(&self.versions, &other.versions)
+    }
+
     /// Whether the version is a member or below one.
     pub fn covers(&self, version: &Version) -> bool
         ensures test { result ≡ covered version.now self.now }
@@ -161,6 +168,21 @@ impl VersionSet {
         insert(&mut self.versions, version);
         Ok(Offered::Added)
     }
+}
+
+// Whether two lists have equal versions, in the same order.
+fn are_same(versions: &[Version], others: &[Version]) -> bool
+    ensures { IsTrue result ↔ (versions.now ≡ others.now) }
+{
+    if versions.len() != others.len() {
+        return false;
+    }
+    for i in 0..versions.len() {
+        if !versions[i].same(&others[i]) {
+            return false;
+        }
+    }
+    true
 }
 
 fn is_covered(versions: &[Version], version: &Version) -> bool

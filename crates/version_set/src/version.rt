@@ -33,6 +33,13 @@ impl Version {
         })
     }
 
+    /// Whether both versions are equal: clock, kind and value.
+    pub fn same(&self, other: &Version) -> bool
+        ensures { IsTrue result ↔ (self.now ≡ other.now) }
+    {
+        self.text_order(other).is_eq()
+    }
+
     /// Whether the other's clock is later: each counter is at most the other's, and the clocks differ.
     pub fn is_below(&self, other: &Version) -> bool
         ensures test { result ≡ is_below self.now other.now }
