@@ -3,7 +3,9 @@ pub mod Config
 pub mod Rows
 pub mod Records
 pub mod State
+pub mod Fitting
 pub mod Sessions
+pub mod Told
 pub mod Syncs
 pub mod Batches
 pub mod Trees

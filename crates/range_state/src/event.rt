@@ -41,6 +41,17 @@ pub struct AnswerTaken {
     pub state: SessionState,
 }
 
+/// What became of a text that a session took, where the receipts went to a list.
+#[derive(Clone, Copy, Debug)]
+pub struct AnswerCounted {
+    /// How many receipts there are: none for a node with children.
+    pub receipts: u64,
+    /// How many versions were covered by those accepted before: none of them was journaled.
+    pub known: u64,
+    /// How the session stands.
+    pub state: SessionState,
+}
+
 /// A value put at a node.
 #[derive(Debug, Drop)]
 pub struct PutEvent {

@@ -1,5 +1,5 @@
 //! The state of a range.
-ghost use Rattle.std.specs.Prelude.{◌≡◌, ◌<◌, ◌≤◌, ◌^◌, ⊤, [], false, if◌then◌else◌, None, Some, unwrap_or, option_map, replicate, IsTrue, IfOk, IfErr, OnOk, OnErr};
+ghost use Rattle.std.specs.Prelude.{◌≡◌, ◌<◌, ◌≤◌, ◌^◌, ⊤, [], false, if◌then◌else◌, None, Some, unwrap_or, option_map, replicate, MatchOption, true, IsTrue, IfOk, IfErr, OnOk, OnErr};
 ghost use Rattle.std.specs.List.{list_any, AllByRecursion};
 ghost use Rattle.vclock.specs.Answer.{Answers, AnswersAtOnce, AnswersOrNoMemory};
 ghost use Rattle.vclock.specs.Outcome.{Does, DoesOrNoMemory};
@@ -12,6 +12,7 @@ ghost use Rattle.key_ring.specs.Places.{leaf_bits};
 ghost use Rattle.hash_tree.specs.Leaves.{rows_at};
 ghost use Rattle.range_state.specs.Sent.{is_sent};
 ghost use Rattle.range_state.specs.Rows.{rows_of};
+ghost use Rattle.range_state.specs.Fitting.{IsFitting, made_fault, sent_fault};
 ghost use Rattle.range_state.specs.State.{IsRight, fresh, leaf_in, leaf_count, place_fault, ask_fault, stale_fault, full_fault, entry_of, put_entry, put_version, journaled, knows, admit, accept, put};
 
 use crate::config::RangeConfig;
@@ -38,6 +39,7 @@ mod preparing;
 mod sessions;
 pub mod syncing;
 mod taking;
+mod telling;
 mod tree;
 
 /// One replica of a range: the journal of the versions that it accepted; its rows, which are exactly the maximal versions
@@ -135,7 +137,6 @@ impl RangeState {
     /// Refused, in order: BadKey, BadValue (of the range's format), OtherRange (the key is of another range); then, where
     /// the version is not known, Crowded (the key would hold over 64 versions), JournalFull, NoMemory. The state is then
     /// as it was.
-    #[tactic(auto, using(crate::proofs::StateLaws::knows_held))]
     pub fn accept(
         &mut self,
         alloc: Global,
@@ -147,14 +148,9 @@ impl RangeState {
         requires { IsTrue (is_sent source) }
         ensures { Does result self.old self.new (accept self.old seat source key.now version) }
     {
-        let leaf = self.home(key, version.kind, version.value.as_slice())?;
-        let set = self.find(leaf, key);
-        if covers(set, &version) {
+        let Some(leaf) = self.home_of_news(key, &version)? else {
             return Ok(Accepted::Known);
-        }
-        if crowds(set, &version) {
-            return Err(Refusal::Crowded);
-        }
+        };
         let receipt = self.admit(alloc, leaf, seat, source, key, version)?;
         Ok(Accepted::Taken(receipt))
     }
@@ -183,6 +179,26 @@ impl RangeState {
         ensures early { IfErr result (λ e. e ≡ Refusal.NoMemory
             → ask_fault self.old.config at key.now context.now kind value ≡ None) }
     {
+        let (leaf, version) = self.make_put(alloc, at, key, context, kind, value)?;
+        self.admit(alloc, leaf, seat, Source::Client, key, version)
+    }
+
+    /// The version of a put with the leaf of its key, where a put that has room in the journal is not refused.
+    fn make_put(
+        &self,
+        alloc: Global,
+        at: u16,
+        key: &[u8],
+        context: &Clock,
+        kind: Kind,
+        value: Bytes,
+    ) -> Result<(u16, Version), Refusal>
+        requires { 1 ≤ at }
+        ensures made { AnswersOrNoMemory result (made_fault self.now at key.now context.now kind value)
+            (λ made. IsFitting self.now made.0 key.now made.1 × (made.1 ≡ put_version at context.now kind value)) }
+        ensures early { IfErr result (λ e. e ≡ Refusal.NoMemory
+            → ask_fault self.now.config at key.now context.now kind value ≡ None) }
+    {
         let leaf = self.home(key, kind, value.as_slice())?;
         let clock = context.raise(alloc, at)?;
         // Called for its clause alone: the pairs are those of a clock.
@@ -193,7 +209,24 @@ impl RangeState {
         if crowds(set, &version) {
             return Err(Refusal::Crowded);
         }
-        self.admit(alloc, leaf, seat, Source::Client, key, version)
+        Ok((leaf, version))
+    }
+
+    /// The leaf of a version that another node sent, or none where the version is known.
+    fn home_of_news(&self, key: &[u8], version: &Version) -> Result<Option<u16>, Refusal>
+        ensures { AnswersAtOnce result (sent_fault self.now key.now version.now)
+            (λ home. MatchOption home (knows self.now key.now version.now ≡ true)
+            (λ leaf. IsFitting self.now leaf key.now version.now)) }
+    {
+        let leaf = self.home(key, version.kind, version.value.as_slice())?;
+        let set = self.find(leaf, key);
+        if covers(set, version) {
+            return Ok(None);
+        }
+        if crowds(set, version) {
+            return Err(Refusal::Crowded);
+        }
+        Ok(Some(leaf))
     }
 
     /// The leaf of a key.
@@ -227,6 +260,14 @@ impl RangeState {
         self.leaves[usize::from(leaf)].find(key)
     }
 
+    /// Makes room for an entry. Refused, in order: JournalFull, NoMemory.
+    fn reserve_entry(&mut self) -> Result<(), Refusal>
+        ensures answers { Answers result (full_fault self.old) (λ _. ⊤) }
+        ensures same { self.new ≡ self.old }
+    {
+        self.journal.reserve(1)
+    }
+
     /// Journals a version that is not known, whose key is of that leaf. Every cause is tested before any growth, and every
     /// growth is made before anything changes.
     fn admit(
@@ -239,10 +280,7 @@ impl RangeState {
         version: Version,
     ) -> Result<Receipt, Refusal>
         requires own { ¬ (source ≡ Source.Partner) }
-        requires leaf { leaf ≡ leaf_in self.old.config key.now }
-        requires here { place_fault self.old.config key.now version.kind version.value ≡ None }
-        requires news { knows self.old key.now version ≡ false }
-        requires fits { offer_fault version (held self.old.entries key.now) ≡ None }
+        requires fits { IsFitting self.old leaf key.now version }
         ensures { Does result self.old self.new
             (admit self.old (entry_of self.old seat source key.now version)) }
     {

@@ -1,6 +1,7 @@
 //! Preparing the versions of a leaf, so that they are accepted all or none.
-ghost use Rattle.std.specs.Prelude.{◌≡◌, ◌+◌, ◌<◌, ◌^◌, ◌∷◌, ◌++◌, ⊤, [], length, None, OnOk};
+ghost use Rattle.std.specs.Prelude.{◌≡◌, ◌+◌, ◌<◌, ◌≤◌, ◌^◌, ◌∷◌, ◌++◌, ◌⊎◌, ⊤, [], length, None, OnOk, IfOk};
 ghost use Rattle.std.specs.List.{AllByRecursion};
+ghost use Rattle.std.specs.Vec.{vec_len, vec_capacity};
 ghost use Rattle.vclock.specs.Answer.{Answers, AnswersOrNoMemory};
 ghost use Rattle.range_journal.specs.declared.journal.Source.TheVariants as sources;
 ghost use Rattle.range_state.specs.State.{leaf_in, leaf_count, place_fault};
@@ -56,6 +57,33 @@ impl RangeState {
         };
         for row in rows {
             self.prepare_row(alloc, seat, leaf, row, &mut batch)?;
+        }
+        Ok(batch)
+    }
+
+    /// Prepares the versions of rows that lie in a leaf, and makes room for their receipts in a list that has some.
+    pub(super) fn prepare_beside(
+        &self,
+        alloc: Global,
+        told: &mut Vec<Receipt>,
+        seat: u16,
+        leaf: u16,
+        rows: &[Row],
+    ) -> Result<Batch, Refusal>
+        requires inside { leaf < leaf_count self.now.config }
+        requires here { AllByRecursion (IsRowFor self.now.config leaf) rows.now }
+        requires few { length (offers_of rows.now) < 2 ^ 64 }
+        ensures answers { AnswersOrNoMemory result (crowded_in self.now seat (offers_of rows.now))
+            (λ batch. IsBatch self.now leaf batch
+            × (self.now.entries ++ batch.entries.items ≡ (taken_in self.now seat (offers_of rows.now)).entries)
+            × (seen_count batch ≡ length (offers_of rows.now))) }
+        ensures same { told.new.items ≡ told.old.items }
+        ensures room { IfOk result (λ batch. (told.new.items ≡ [])
+            ⊎ (vec_len told.new + vec_len batch.receipts ≤ vec_capacity told.new)) }
+    {
+        let batch = self.prepare_rows(alloc, seat, leaf, rows)?;
+        if !told.is_empty() {
+            told.reserve(batch.receipts.len())?;
         }
         Ok(batch)
     }

@@ -1,13 +1,15 @@
 //! Sessions of a range with its partners.
-ghost use Rattle.std.specs.Prelude.{◌≡◌, ⊤};
+ghost use Rattle.std.specs.Prelude.{◌≡◌, ◌<◌, ⊤, length, slice_get, MatchOption};
 ghost use Rattle.vclock.specs.Answer.{AnswersAtOnce};
 ghost use Rattle.vclock.specs.Outcome.{Does, DoesAtOnce};
 ghost use Rattle.range_state.specs.State.{IsRight};
 ghost use Rattle.range_state.specs.Records.{is_open, open_count};
-ghost use Rattle.range_state.specs.Sessions.{number_of, foreign_fault, standings, crowd_fault, open_session, cancel_session};
+ghost use Rattle.range_state.specs.Sessions.{number_of, foreign_fault, standings, crowd_fault, unknown_fault, open_session, cancel_session};
+ghost use Rattle.range_state.specs.Syncs.{IsFirstOf};
 
 use crate::record::Record;
 use crate::state::RangeState;
+use hash_tree::node::NodeAt;
 use std::alloc::Global;
 use sync_session::session::Session;
 use sync_session::state::SessionState;
@@ -62,6 +64,33 @@ impl RangeState {
         }
         self.records[id as usize].session.cancel();
         Ok(())
+    }
+
+    /// The first node that a session has outstanding, if any is. It takes no memory. Refused: UnknownSession (there is no
+    /// record of that number).
+    pub fn outstanding(&self, id: u64) -> Result<Option<NodeAt>, Refusal>
+        ensures { AnswersAtOnce result (unknown_fault self.now id)
+            (λ first. MatchOption (slice_get self.now.records id) ⊥
+            (λ r. IsFirstOf r.session.outstanding first)) }
+    {
+        if id >= self.records.len() as u64 {
+            return Err(Refusal::UnknownSession);
+        }
+        Ok(self.first_outstanding(id))
+    }
+
+    /// The same of a session that has a record.
+    pub(super) fn first_outstanding(&self, id: u64) -> Option<NodeAt>
+        requires { id < length self.now.records }
+        ensures first { MatchOption (slice_get self.now.records id) ⊥ (λ r. IsFirstOf r.session.outstanding result) }
+        ensures valid { IsRight self.now }
+    {
+        let outstanding = self.records[id as usize].session.outstanding();
+        if outstanding.is_empty() {
+            None
+        } else {
+            Some(outstanding[0])
+        }
     }
 
     /// Whether an offer is of this range, in its format.

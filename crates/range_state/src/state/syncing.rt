@@ -65,20 +65,6 @@ impl RangeState {
         Ok(self.synced(before, id, known, None))
     }
 
-    /// The first node that a session has outstanding, if any is.
-    fn first_outstanding(&self, id: u64) -> Option<NodeAt>
-        requires { id < length self.now.records }
-        ensures first { MatchOption (slice_get self.now.records id) ⊥ (λ r. IsFirstOf r.session.outstanding result) }
-        ensures valid { IsRight self.now }
-    {
-        let outstanding = self.records[id as usize].session.outstanding();
-        if outstanding.is_empty() {
-            None
-        } else {
-            Some(outstanding[0])
-        }
-    }
-
     /// Answers a node of a session from a snapshot.
     fn answer_from(
         &mut self,

@@ -1,5 +1,6 @@
 //! Texts that partners send.
-ghost use Rattle.std.specs.Prelude.{ℕ, ◌≡◌, ◌<◌, ◌≤◌, ◌^◌, ◌++◌, nat_eq, length, slice_get, MatchOption, if◌then◌else◌};
+ghost use Rattle.std.specs.Prelude.{ℕ, ◌≡◌, ◌+◌, ◌<◌, ◌≤◌, ◌^◌, ◌++◌, ◌⊎◌, [], nat_eq, length, slice_get, MatchOption, IfOk, if◌then◌else◌};
+ghost use Rattle.std.specs.Vec.{vec_len, vec_capacity};
 ghost use Rattle.range_journal.specs.Log.{AreNumberedFrom};
 ghost use Rattle.hash_tree.specs.Nodes.{dirtied, tree_depth};
 ghost use Rattle.sync_session.specs.TreeNodes.{node_of};
@@ -7,7 +8,7 @@ ghost use Rattle.sync_session.specs.Steps.{failed, IsDue};
 ghost use Rattle.sync_session.specs.Walks.{TakenText, IsCanonical};
 ghost use Rattle.range_state.specs.Sessions.{walked_to, IsInnerRead, IsLeafRead, TakesAnswer};
 
-use crate::event::AnswerTaken;
+use crate::event::{AnswerTaken, Receipt};
 use crate::state::RangeState;
 use crate::state::preparing::Batch;
 use hash_tree::hashed::Hashed;
@@ -37,13 +38,33 @@ impl RangeState {
         ensures { TakesAnswer self.old seat id
             (record { node = node_of node; text = text }) result self.new }
     {
+        let mut told = Vec::new(alloc);
+        self.take_answer_beside(alloc, &mut told, seat, id, node, text)
+    }
+
+    /// Does the same, and makes room for the receipts in a list that has some.
+    pub(super) fn take_answer_beside(
+        &mut self,
+        alloc: Global,
+        told: &mut Vec<Receipt>,
+        seat: u16,
+        id: u64,
+        node: NodeAt,
+        text: Hashed,
+    ) -> Result<AnswerTaken, Refusal>
+        ensures answers { TakesAnswer self.old seat id
+            (record { node = node_of node; text = text }) result self.new }
+        ensures same { told.new.items ≡ told.old.items }
+        ensures room { IfOk result (λ taken. (told.new.items ≡ [])
+            ⊎ (vec_len told.new + vec_len taken.receipts ≤ vec_capacity told.new)) }
+    {
         let Some(record) = self.records.get(id as usize) else {
             return Err(Refusal::UnknownSession);
         };
         match record.session.rows_of(alloc, node, &text) {
             Ok(rows) => {
                 if node.depth == tree_depth(self.config.format()) {
-                    self.take_leaf(alloc, seat, id, node, text, rows.as_slice())
+                    self.take_leaf(alloc, told, seat, id, node, text, rows.as_slice())
                 } else {
                     self.take_inner(alloc, id, node, text)
                 }
@@ -66,8 +87,9 @@ impl RangeState {
     ) -> Result<AnswerTaken, Refusal>
         requires { MatchOption (slice_get self.old.records id) ⊥
             (λ r. IsInnerRead self.old r (record { node = node_of node; text = text })) }
-        ensures { (seat : ℕ) → TakesAnswer self.old seat id
+        ensures answers { (seat : ℕ) → TakesAnswer self.old seat id
             (record { node = node_of node; text = text }) result self.new }
+        ensures none { IfOk result (λ taken. vec_len taken.receipts ≡ 0) }
     {
         let session = &mut self.records[id as usize].session;
         session.take(alloc, node, text)?;
@@ -78,10 +100,12 @@ impl RangeState {
         })
     }
 
-    /// Takes a text of a leaf that has these rows. Every growth is made before anything changes.
+    /// Takes a text of a leaf that has these rows, with room for the receipts in a list that has some. Every growth is made
+    /// before anything changes.
     fn take_leaf(
         &mut self,
         alloc: Global,
+        told: &mut Vec<Receipt>,
         seat: u16,
         id: u64,
         node: NodeAt,
@@ -90,12 +114,15 @@ impl RangeState {
     ) -> Result<AnswerTaken, Refusal>
         requires { MatchOption (slice_get self.old.records id) ⊥
             (λ r. IsLeafRead self.old r (record { node = node_of node; text = text }) rows.now) }
-        ensures { TakesAnswer self.old seat id
+        ensures answers { TakesAnswer self.old seat id
             (record { node = node_of node; text = text }) result self.new }
+        ensures same { told.new.items ≡ told.old.items }
+        ensures room { IfOk result (λ taken. (told.new.items ≡ [])
+            ⊎ (vec_len told.new + vec_len taken.receipts ≤ vec_capacity told.new)) }
     {
         // Called for its clause alone: the digest is the text's.
         let _bytes = text.text();
-        let batch = self.prepare_rows(alloc, seat, node.index, rows)?;
+        let batch = self.prepare_beside(alloc, told, seat, node.index, rows)?;
         self.journal.reserve(batch.entries.len() as u64)?;
         let session = &mut self.records[id as usize].session;
         session.take_leaf(node, text)?;

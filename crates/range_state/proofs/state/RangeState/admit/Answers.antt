@@ -15,20 +15,20 @@ use Rattle.range_state.proofs.state.RangeState.admit.Goals as goal
 pub index_mut-requires : goal.index_mut-requires
 index_mut-requires c =
     let ok = subst (λ (s : State). AreLeaves s.config s.entries c.self.inside.leaves.items) c.self.view_is c.self.invariant.1 in
-    let within = leaf_within c.args.self.now c.self.inside.leaves.items c.args.leaf c.args.key.now ok c.requires.leaf in
+    let within = leaf_within c.args.self.now c.self.inside.leaves.items c.args.leaf c.args.key.now ok c.requires.fits.leaf_is in
     omega (arith, within, c.from.ensures, c.self.inside.leaves.ok)
 
 pub offer-requires-clause-key : goal.offer-requires-clause-key
-offer-requires-clause-key c = (in_limits c.args.self.now.config c.args.key.now c.args.version.kind c.args.version.value c.requires.here).0
+offer-requires-clause-key c = (in_limits c.args.self.now.config c.args.key.now c.args.version.kind c.args.version.value c.requires.fits.here).0
 
 pub offer-requires-clause-value : goal.offer-requires-clause-value
 offer-requires-clause-value c =
     let s = c.args.self.now in
     let ok = subst (λ (s : State). AreLeaves s.config s.entries c.self.inside.leaves.items) c.self.view_is c.self.invariant.1 in
-    let at = c.from.ensures ∙ c.requires.leaf in
+    let at = c.from.ensures ∙ c.requires.fits.leaf_is in
     let rows = rows_here s c.self.inside.leaves.items c.from.result c.args.key.now c.index_mut.result.now ok at c.index_mut.ensures.value in
     let copy = c.in_ok-row_version.ensures.1 in
-    (λ i. value_fault (rows i).format (copy i).kind (copy i).value) ∙ (in_limits s.config c.args.key.now c.args.version.kind c.args.version.value c.requires.here).1
+    (λ i. value_fault (rows i).format (copy i).kind (copy i).value) ∙ (in_limits s.config c.args.key.now c.args.version.kind c.args.version.value c.requires.fits.here).1
 
 pub invariant_of-self-in_err-offer : goal.invariant_of-self-in_err-offer
 invariant_of-self-in_err-offer c =
@@ -40,15 +40,15 @@ pub returns-in_err-offer : goal.returns-in_err-offer
 returns-in_err-offer c =
     let s : State = record { config = c.self.inside.config; entries = c.self.inside.journal.entries; marks = c.self.inside.marks.digests; records = c.self.inside.records.items } in
     let ok = subst (λ (s : State). AreLeaves s.config s.entries c.self.inside.leaves.items) c.self.view_is c.self.invariant.1 in
-    let at = c.from.ensures ∙ c.requires.leaf in
+    let at = c.from.ensures ∙ c.requires.fits.leaf_is in
     let room = subst (λ (s : State). full_fault s ≡ None) c.self.view_is (room_left s c.self.inside.journal _ (λ i. s.entries) c.self.invariant.2 (reserve_ok c.self.inside.journal _ 1 c.in_ok-reserve.ensures.reserves)) in
     let p = err_from_is_err_and c.from_residual-in_err-offer.result c.from_residual-in_err-offer.ensures.1 in
-    rw (p.1, p.2) (search rules, admit_err c.args.self.now c.self.inside.leaves.items c.from.result (entry_of c.args.self.now c.args.seat c.args.source c.args.key.now c.args.version) c.args.version c.in_ok-row_version.row_version c.index_mut.result.now c.in_err-offer.field-0.0 ok at c.index_mut.ensures.value c.in_ok-row_version.ensures.1 room c.requires.fits c.in_err-offer.ensures.answers)
+    rw (p.1, p.2) (search rules, admit_err c.args.self.now c.self.inside.leaves.items c.from.result (entry_of c.args.self.now c.args.seat c.args.source c.args.key.now c.args.version) c.args.version c.in_ok-row_version.row_version c.index_mut.result.now c.in_err-offer.field-0.0 ok at c.index_mut.ensures.value c.in_ok-row_version.ensures.1 room c.requires.fits.fits c.in_err-offer.ensures.answers)
 
 pub dirty-requires : goal.dirty-requires
 dirty-requires c =
     let format = c.self.invariant.3 in
-    let leaf = c.requires.leaf in
+    let leaf = c.requires.fits.leaf_is in
     let within = leaf_in_tree c.args.self.now.config c.args.key.now in
     let same = ap (λ (s : State). tree_depth s.config.format) c.self.view_is in
     let depth = ap (λ (f : Format). tree_depth f) format in
@@ -60,10 +60,10 @@ invariant_of-self-2 c =
     let e : Entry = record { number = length c.reserve.new.self.entries; seat = c.args.seat; source = c.args.source; key = c.in_ok-entry_key.entry_key; version = c.args.version } in
     let key : c.args.key.now ≡ c.in_ok-entry_key.entry_key = sym c.in_ok-entry_key.ensures.1 in
     let back : c.args.self.now ≡ s = sym c.self.view_is in
-    let leaf : c.from.result ≡ leaf_in s.config e.key = c.from.ensures ∙ c.requires.leaf ∙ (λ i. leaf_in (back i).config (key i)) in
-    let here : place_fault s.config e.key e.version.kind e.version.value ≡ None = sym (λ i. place_fault (back i).config (key i) c.args.version.kind c.args.version.value) ∙ c.requires.here in
-    let news : knows s e.key e.version ≡ false = sym (λ i. knows (back i) (key i) c.args.version) ∙ c.requires.news in
-    let fits : offer_fault e.version (held s.entries e.key) ≡ None = sym (λ i. offer_fault c.args.version (held (back i).entries (key i))) ∙ c.requires.fits in
+    let leaf : c.from.result ≡ leaf_in s.config e.key = c.from.ensures ∙ c.requires.fits.leaf_is ∙ (λ i. leaf_in (back i).config (key i)) in
+    let here : place_fault s.config e.key e.version.kind e.version.value ≡ None = sym (λ i. place_fault (back i).config (key i) c.args.version.kind c.args.version.value) ∙ c.requires.fits.here in
+    let news : knows s e.key e.version ≡ false = sym (λ i. knows (back i) (key i) c.args.version) ∙ c.requires.fits.news in
+    let fits : offer_fault e.version (held s.entries e.key) ≡ None = sym (λ i. offer_fault c.args.version (held (back i).entries (key i))) ∙ c.requires.fits.fits in
     let log = c.append_reserved.ensures.added in
     let entries = ap (λ (t : Log). t.entries) log ∙ ap (λ (t : Log). t.entries ++ e ∷ []) (reserve_ok c.self.inside.journal _ 1 c.in_ok-reserve.ensures.reserves).is in
     let format : c.dirty.new.self.format ≡ s.config.format = ap (λ (t : Tree). t.format) c.dirty.ensures.path ∙ c.self.invariant.3 in

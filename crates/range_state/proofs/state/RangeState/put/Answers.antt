@@ -1,11 +1,15 @@
-use Rattle.std.proofs.Common.{◌≡◌, List, None, subst}
-use Rattle.version_set.specs.declared.version.Version.{Version}
-use Rattle.range_state.specs.State.{stale_fault}
-use Rattle.range_state.proofs.StateLaws.{news}
+use Rattle.std.proofs.Common.{refl, inl, inr}
+use Rattle.std.proofs.lemmas.Result.{err_from_is_err_and}
+use Rattle.range_state.proofs.FittingLaws.{put_refused}
 use Rattle.range_state.proofs.state.RangeState.put.Goals as goal
 
-pub admit-requires-clause-news : goal.admit-requires-clause-news
-admit-requires-clause-news c =
-    news c.args.self.now c.args.key.now (record { clock = c.in_ok-clock.clock; kind = c.args.kind; value = c.args.value })
-    c.pairs-valid.ensures.valid.rising
-    (subst (λ (S : List Version). stale_fault S c.in_ok-clock.clock ≡ None) c.find-set.ensures.set c.in_ok-check_context.ensures.0)
+pub returns-in_err-leaf-clause-puts : goal.returns-in_err-leaf-clause-puts
+returns-in_err-leaf-clause-puts c =
+    let p = err_from_is_err_and c.from_residual.result c.from_residual.ensures.1 in
+    rw (p.1, p.2) (
+      refl,
+      elim c.in_err-leaf.ensures.made [
+        | inl none ↦ inl none
+        | inr fault ↦ inr (put_refused c.args.self.now c.args.seat c.args.at c.args.key.now c.args.context.now c.args.kind c.args.value c.in_err-leaf.field-0.0 fault)
+      ],
+    )

@@ -22,8 +22,8 @@ invariant_of-self c =
     let told = inner_refused s c.args.id r t c.in_err-take.field-0.0 c.take.new.self c.self.invariant.0 within c.index_mut.ensures.value read c.in_err-take.ensures.0 c.in_err-take.ensures.1 in
     (subst IsRight (stayed s c.args.id r c.take.new.self c.index_mut.ensures.value told.1) c.self.invariant.0, c.self.invariant.1, c.self.invariant.2, c.self.invariant.3)
 
-pub returns-in_err-take : goal.returns-in_err-take
-returns-in_err-take c = λ seat.
+pub returns-in_err-take-clause-answers : goal.returns-in_err-take-clause-answers
+returns-in_err-take-clause-answers c = λ seat.
     let s : State = record { config = c.self.inside.config; entries = c.self.inside.journal.entries; marks = c.self.inside.marks.digests; records = c.self.inside.records.items } in
     let r : Record = c.index_mut.result.now in
     let t : TakenText = record { node = node_of c.args.node; text = c.args.text } in
@@ -49,8 +49,8 @@ invariant_of-self-2 c =
     let right = inner_right s c.args.id r t c.self.invariant.0 within c.index_mut.ensures.value read in
     (subst (λ (w : Walk). IsRight (walked_to s c.args.id r w)) (sym c.in_ok-take.ensures.2) right, c.self.invariant.1, c.self.invariant.2, c.self.invariant.3)
 
-pub returns : goal.returns
-returns c = λ seat.
+pub returns-clause-answers : goal.returns-clause-answers
+returns-clause-answers c = λ seat.
     let s : State = record { config = c.self.inside.config; entries = c.self.inside.journal.entries; marks = c.self.inside.marks.digests; records = c.self.inside.records.items } in
     let r : Record = c.index_mut.result.now in
     let t : TakenText = record { node = node_of c.args.node; text = c.args.text } in

@@ -15,36 +15,36 @@ use Rattle.range_state.specs.Sessions.{offers_of, IsLeafRead, TakesFor, taken_in
 use Rattle.range_state.proofs.AnswerLaws.{IsAccepted, rows_ready, not_prepared, no_memory, no_room, has_record, the_record, stayed, accepted_right, accepted_leaves, leaf_taken, leaf_inside, leaf_due}
 use Rattle.range_state.proofs.state.RangeState.take_leaf.Goals as goal
 
-pub prepare_rows-requires-clause-here : goal.prepare_rows-requires-clause-here
-prepare_rows-requires-clause-here c =
+pub prepare_beside-requires-clause-here : goal.prepare_beside-requires-clause-here
+prepare_beside-requires-clause-here c =
     let t : TakenText = record { node = node_of c.args.node; text = c.args.text } in
     (rows_ready c.args.self.now c.args.id t c.args.rows.now (subst IsRight c.self.view_is c.self.invariant.0) c.requires).0
 
-pub prepare_rows-requires-clause-few : goal.prepare_rows-requires-clause-few
-prepare_rows-requires-clause-few c =
+pub prepare_beside-requires-clause-few : goal.prepare_beside-requires-clause-few
+prepare_beside-requires-clause-few c =
     let t : TakenText = record { node = node_of c.args.node; text = c.args.text } in
     let short = (rows_ready c.args.self.now c.args.id t c.args.rows.now (subst IsRight c.self.view_is c.self.invariant.0) c.requires).1 in
     omega (arith, short, c.text-bytes.type_inv.0, ap length c.text-bytes.ensures)
 
-pub returns-in_err-batch : goal.returns-in_err-batch
-returns-in_err-batch c =
+pub returns-in_err-batch-clause-answers : goal.returns-in_err-batch-clause-answers
+returns-in_err-batch-clause-answers c =
     let t : TakenText = record { node = node_of c.args.node; text = c.args.text } in
     let p = err_from_is_err_and c.from_residual.result c.from_residual.ensures.1 in
-    let told = not_prepared c.args.self.now c.args.seat c.args.id t c.args.rows.now c.in_err-batch.field-0.0 (subst IsRight c.self.view_is c.self.invariant.0) c.requires c.in_err-batch.ensures in
+    let told = not_prepared c.args.self.now c.args.seat c.args.id t c.args.rows.now c.in_err-batch.field-0.0 (subst IsRight c.self.view_is c.self.invariant.0) c.requires c.in_err-batch.ensures.answers in
     rw (p.1, p.2) told
 
-pub returns-in_err-reserve : goal.returns-in_err-reserve
-returns-in_err-reserve c =
+pub returns-in_err-reserve-clause-answers : goal.returns-in_err-reserve-clause-answers
+returns-in_err-reserve-clause-answers c =
     let s : State = record { config = c.self.inside.config; entries = c.self.inside.journal.entries; marks = c.self.inside.marks.digests; records = c.self.inside.records.items } in
     let now = c.args.self.now in
     let b = c.in_ok-batch.batch in
     let t : TakenText = record { node = node_of c.args.node; text = c.args.text } in
     let p = err_from_is_err_and c.from_residual-in_err-reserve.result c.from_residual-in_err-reserve.ensures.1 in
-    let ready = c.in_ok-batch.ensures.1 in
+    let ready = c.in_ok-batch.ensures.answers.1 in
     let count : length (taken_in now c.args.seat (offers_of c.args.rows.now)).entries ≡ length now.entries + c.len.result = omega (arith, ap length ready.1, length-append now.entries b.entries.items, c.len.ensures) in
     let es : c.self.inside.journal.entries ≡ now.entries = ap (λ (u : State). u.entries) c.self.view_is in
     let limit : c.self.inside.journal.limit ≡ now.config.limit = c.self.invariant.2 ∙ ap (λ (u : State). u.config.limit) c.self.view_is in
-    let told = no_room now c.args.seat c.args.id t c.args.rows.now c.in_err-reserve.field-0.0 c.self.inside.journal c.len.result (subst IsRight c.self.view_is c.self.invariant.0) c.requires c.in_ok-batch.ensures.0 count es limit c.in_err-reserve.ensures.reserves.1 in
+    let told = no_room now c.args.seat c.args.id t c.args.rows.now c.in_err-reserve.field-0.0 c.self.inside.journal c.len.result (subst IsRight c.self.view_is c.self.invariant.0) c.requires c.in_ok-batch.ensures.answers.0 count es limit c.in_err-reserve.ensures.reserves.1 in
     let same : now ≡ record { config = s.config; entries = c.reserve.new.self.entries; marks = s.marks; records = s.records } =
     sym c.self.view_is ∙ ap (λ (l : Log). record { config = s.config; entries = l.entries; marks = s.marks; records = s.records }) (sym c.in_err-reserve.ensures.reserves.0) in
     rw (p.1, p.2) (subst (λ (u : State). TakesFor now c.args.seat c.args.id (slice_get now.records c.args.id) t (Err c.in_err-reserve.field-0.0) u) same told)
@@ -97,8 +97,8 @@ invariant_of-self-in_err-take_leaf c =
       c.self.invariant.3,
     )
 
-pub returns-in_err-take_leaf : goal.returns-in_err-take_leaf
-returns-in_err-take_leaf c =
+pub returns-in_err-take_leaf-clause-answers : goal.returns-in_err-take_leaf-clause-answers
+returns-in_err-take_leaf-clause-answers c =
     let s : State = record { config = c.self.inside.config; entries = c.self.inside.journal.entries; marks = c.self.inside.marks.digests; records = c.self.inside.records.items } in
     let now = c.args.self.now in
     let r : Record = c.index_mut.result.now in
@@ -138,10 +138,10 @@ is_accepted c =
       within = there.0;
       was = there.1;
       read = the_record now.records c.args.id r (λ x. IsLeafRead now x t c.args.rows.now) there.0 there.1 c.requires;
-      fits = c.in_ok-batch.ensures.0;
-      batch = c.in_ok-batch.ensures.1.0;
-      taken = c.in_ok-batch.ensures.1.1;
-      seen = c.in_ok-batch.ensures.1.2;
+      fits = c.in_ok-batch.ensures.answers.0;
+      batch = c.in_ok-batch.ensures.answers.1.0;
+      taken = c.in_ok-batch.ensures.answers.1.1;
+      seen = c.in_ok-batch.ensures.answers.1.2;
       entries_are = es;
       marks_are = marks;
       walk = c.in_ok-take_leaf.ensures.ok;
@@ -166,8 +166,8 @@ invariant_of-self-2 c =
       ap (λ (x : Tree). x.format) c.mark_news.ensures ∙ c.self.invariant.3,
     )
 
-pub returns : goal.returns
-returns c =
+pub returns-clause-answers : goal.returns-clause-answers
+returns-clause-answers c =
     let now = c.args.self.now in
     let r : Record = c.index_mut.result.now in
     let b = c.in_ok-batch.batch in

@@ -12,7 +12,7 @@ use Rattle.range_state.specs.declared.«record».Record.{Record}
 use Rattle.range_state.specs.State.{State, IsRight}
 use Rattle.range_state.specs.Sessions.{walked_to, IsInnerRead, IsLeafRead}
 use Rattle.range_state.proofs.AnswerLaws.{got_record, leaf_read, inner_read, refused, refused_for_good}
-use Rattle.range_state.proofs.state.RangeState.take_answer.Goals as goal
+use Rattle.range_state.proofs.state.RangeState.take_answer_beside.Goals as goal
 
 pub take_leaf-requires : goal.take_leaf-requires
 take_leaf-requires c =
@@ -49,8 +49,8 @@ fail_session-requires c =
     let told = rw c.in-Err-NotCanonical.field-0-is at c.in-Err-NotCanonical.ensures in
     subst (λ (o : Option Record). MatchOption o ⊥ (λ x. (u : TakenText) × IsDue x.session u × (IsCanonical x.session.own u.node u.text → ⊥))) (sym here) (t, told.0, told.1)
 
-pub returns-in-Err-NotCanonical : goal.returns-in-Err-NotCanonical
-returns-in-Err-NotCanonical c =
+pub returns-in-Err-NotCanonical-clause-answers : goal.returns-in-Err-NotCanonical-clause-answers
+returns-in-Err-NotCanonical-clause-answers c =
     let now = c.args.self.now in
     let new = c.fail_session.new.self in
     let r : Record = c.in-Some.record.now in
@@ -62,8 +62,8 @@ returns-in-Err-NotCanonical c =
     let is : new ≡ walked_to now c.args.id r (failed r.session) = subst (λ (o : Option Record). MatchOption o ⊥ (λ x. new ≡ walked_to now c.args.id x (failed x.session))) here c.fail_session.ensures in
     refused_for_good now new c.args.seat c.args.id r t here told is
 
-pub returns : goal.returns
-returns c =
+pub returns-clause-answers : goal.returns-clause-answers
+returns-clause-answers c =
     let now = c.args.self.now in
     let r : Record = c.in-Some.record.now in
     let t : TakenText = record { node = node_of c.args.node; text = c.args.text } in

@@ -1,0 +1,4 @@
+pub mod PassLaws
+pub mod GrowthLaws
+pub mod LockLaws
+pub mod Walk

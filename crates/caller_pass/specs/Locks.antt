@@ -1,0 +1,106 @@
+-- The range that a lock keeps, and what its calls do to it and to the pass that they are lent.
+use Rattle.std.specs.Prelude.{◌≡◌, ℕ, ◌<◌, Bool, ◌&&◌, not, nat_lt, List, [], ◌∷◌, length, Option, Some, None, Result, Ok, Err, bytes_eq, if◌then◌else◌}
+use Rattle.std.specs.List.{AllByRecursion}
+use Rattle.vclock.specs.Clock.{Pairs}
+use Rattle.vclock.specs.Outcome.{Outcome, gives, refuses, ◌>>=◌, ◌>>◌}
+use Rattle.vclock.specs.declared.refusal.Refusal.{Refusal}
+use Rattle.vclock.specs.declared.refusal.Refusal.TheVariants.{Behind}
+use Rattle.version_set.specs.Version.{covered}
+use Rattle.version_set.specs.declared.kind.Kind.{Kind}
+use Rattle.version_set.specs.declared.version.Version.{Version}
+use Rattle.range_journal.specs.declared.journal.Entry.{Entry}
+use Rattle.range_journal.specs.declared.journal.Source.{Source}
+use Rattle.range_journal.specs.Journal.{held}
+use Rattle.sync_session.specs.Walks.{TakenText}
+use Rattle.range_state.specs.declared.event.Accepted.{Accepted}
+use Rattle.range_state.specs.declared.event.Accepted.TheVariants.{Taken, Known}
+use Rattle.range_state.specs.declared.event.AnswerTaken.{AnswerTaken}
+use Rattle.range_state.specs.declared.event.AnswerCounted.{AnswerCounted}
+use Rattle.range_state.specs.State.{State, IsRight, put, accept}
+use Rattle.range_state.specs.Sessions.{TakesAnswer}
+use Rattle.range_state.specs.Told.{count_of}
+use Rattle.caller_pass.specs.Passes.{PassView, BookView, counted, with_receipts, with_reading}
+
+-- a range and its book
+pub record Locked : Type 0 where
+  pub state : State
+  pub book : BookView
+
+-- What holds whenever the lock is free: the state is right, the book's count is the journal's length, and each entry came by a
+-- seat.
+pub record IsLocked (seats : ℕ) (l : Locked) : Type 0 where
+  pub right : IsRight l.state
+  pub counted : l.book.number ≡ length l.state.entries
+  pub seated : AllByRecursion (λ (e : Entry). e.seat < seats) l.state.entries
+
+-- the range with another state to which no entry came
+abbrev pub moved : Locked → State → Locked
+moved l s = record l { state = s }
+
+-- the range with another state to which these entries came, and the pass that was told of them
+abbrev pub told : Locked → PassView → State → List Entry → Locked × PassView
+told l p s es = (record { state = s; book = counted l.book (length es) }, with_receipts p (length s.entries) es)
+
+-- a put by the pass: it is told of the entry
+abbrev pub put_in : Locked → PassView → ℕ → List ℕ → Pairs → Kind → List ℕ → Outcome Entry (Locked × PassView)
+put_in l p at key context kind value = do
+  entry ← put l.state p.seat at key context kind value
+  gives entry.0 (told l p entry.1 (entry.0 ∷ []))
+
+-- range and pass after a version of another node: the pass is told where it was taken
+abbrev pub after_sent : Locked → PassView → Accepted → State → Locked × PassView
+after_sent l p (Taken e) s = told l p s (e ∷ [])
+after_sent l p Known s = (l, p)
+
+-- a version of another node by the pass
+abbrev pub accept_in : Locked → PassView → Source → List ℕ → Version → Outcome Accepted (Locked × PassView)
+accept_in l p source key v = do
+  reply ← accept l.state p.seat source key v
+  gives reply.0 (after_sent l p reply.0 reply.1)
+
+-- whether an entry is of a key, and the versions do not cover its version
+unfoldable pub is_missing : Entry → List ℕ → List Version → Bool
+is_missing e key versions = bytes_eq e.key key && not (covered e.version versions)
+
+-- the number of the first entry of a key that the versions do not cover
+abbrev pub first_missing : List Entry → List ℕ → List Version → Option ℕ
+first_missing [] key versions = None
+first_missing (e ∷ es) key versions = if is_missing e key versions then Some e.number else first_missing es key versions
+
+abbrev pub missing_fault : ℕ → ℕ → Option ℕ → Option Refusal
+missing_fault seen journal None = None
+missing_fault seen journal (Some number) = Some (Behind seen journal (Some number))
+
+-- why a pass is not told what a key holds: the journal is shorter than what it has seen, or it was told of a version of the key
+-- that is not covered
+abbrev pub behind_fault : List Entry → PassView → List ℕ → Option Refusal
+behind_fault entries p key = if nat_lt (length entries) p.seen then Some (Behind p.seen (length entries) None) else missing_fault p.seen (length entries) (first_missing p.receipts key (held entries key))
+
+-- a pass is told what a key holds, and keeps it as a reading
+abbrev pub get_in : Locked → PassView → List ℕ → Outcome (List Version) PassView
+get_in l p key = do
+  behind_fault l.state.entries p key
+  gives (held l.state.entries key) (with_reading p (record { front = length l.state.entries; key = key; versions = held l.state.entries key }))
+
+-- the refusal of a read by a pass of that seat
+pub record UnreadView : Type 0 where
+  pub seat : ℕ
+  pub refusal : Refusal
+
+-- the same result with the plain refusal
+abbrev pub plainly : {T : Type 0} → Result T UnreadView → Result T Refusal
+plainly (Ok x) = Ok x
+plainly (Err u) = Err u.refusal
+
+-- a text was taken: the book counts its receipts, and the pass has them
+pub record IsToldOf (l : Locked) (p : PassView) (id : ℕ) (t : TakenText) (a : AnswerCounted) (m : Locked) (q : PassView) : Type 0 where
+  pub taken : AnswerTaken
+  pub takes : TakesAnswer l.state p.seat id t (Ok taken) m.state
+  pub count : a ≡ count_of taken
+  pub range : m ≡ (told l p m.state taken.receipts.items).0
+  pub pass : q ≡ (told l p m.state taken.receipts.items).1
+
+-- what a partner's text for a session is answered, and range and pass afterwards
+abbrev pub TellsAnswer : Locked → PassView → ℕ → TakenText → Result AnswerCounted Refusal → Locked → PassView → Type 0
+TellsAnswer l p id t (Ok a) m q = IsToldOf l p id t a m q
+TellsAnswer l p id t (Err e) m q = TakesAnswer l.state p.seat id t (Err e) m.state × (m ≡ moved l m.state) × (q ≡ p)

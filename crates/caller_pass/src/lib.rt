@@ -1,0 +1,15 @@
+//! What a range told each of its callers, and the range that a lock keeps.
+//!
+//! - [`reading`], [`pass`]: what one caller was told.
+//! - [`book`]: the count of a range's entries, and the passes of its seats.
+//! - [`locked`]: a range with its book; its calls tell the pass that they are lent.
+//! - [`unread`]: why a pass was not told what a key holds.
+//! - [`closing`]: a range that is closed, once each pass was told what the journal has.
+#![tactic(auto)]
+
+pub mod book;
+pub mod closing;
+pub mod locked;
+pub mod pass;
+pub mod reading;
+pub mod unread;

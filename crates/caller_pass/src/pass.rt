@@ -1,0 +1,73 @@
+//! Passes.
+ghost use Rattle.std.specs.Prelude.{◌≡◌};
+ghost use Rattle.caller_pass.specs.Passes.{IsPass};
+
+use crate::reading::Reading;
+use range_state::event::Receipt;
+use std::marker::Model;
+use std::sync::ledger::{Ledger, Share};
+
+/// What a range told one of its callers: the entries that the caller brought, and the readings that it was given. Only the
+/// range's own calls add to it. It has one share of the book's count, which is the number of its receipts.
+#[derive(Drop)]
+pub struct Pass<L: Ledger> {
+    pub(crate) seat: u16,
+    pub(crate) seen: u64,
+    pub(crate) receipts: Vec<Receipt>,
+    pub(crate) readings: Vec<Reading>,
+    pub(crate) share: Share<L>,
+}
+
+impl<L: Ledger> Model for Pass<L> {
+    ghost use Rattle.std.specs.Prelude.{◌≡◌};
+    ghost use Rattle.caller_pass.specs.Passes.{PassView, IsPass};
+
+    ghost Value = { PassView };
+
+    ghost view = { λ p. record {
+      seat = p.seat;
+      seen = p.seen;
+      share = p.share.amount;
+      receipts = p.receipts.items;
+      readings = p.readings.items;
+    } };
+
+    ghost invariant = { λ p. (p.share.parts ≡ 1) × IsPass L.parts (record {
+      seat = p.seat;
+      seen = p.seen;
+      share = p.share.amount;
+      receipts = p.receipts.items;
+      readings = p.readings.items;
+    }) };
+}
+
+impl<L: Ledger> Pass<L> {
+    /// The number of the caller, from 0.
+    pub fn seat(&self) -> u16
+        ensures value { result ≡ self.now.seat }
+        ensures valid { IsPass L.parts self.now }
+    {
+        self.seat
+    }
+
+    /// How many entries of the journal the caller has seen.
+    pub fn seen(&self) -> u64
+        ensures { result ≡ self.now.seen }
+    {
+        self.seen
+    }
+
+    /// The entries that the caller brought, in order. It takes no memory.
+    pub fn receipts(&self) -> &[Receipt]
+        ensures { result.now ≡ self.now.receipts }
+    {
+        &self.receipts
+    }
+
+    /// What the caller was told that keys hold, in order. It takes no memory.
+    pub fn readings(&self) -> &[Reading]
+        ensures { result.now ≡ self.now.readings }
+    {
+        &self.readings
+    }
+}

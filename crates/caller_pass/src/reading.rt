@@ -1,0 +1,14 @@
+//! What a caller was told that a key holds.
+use vclock::bytes::Bytes;
+use version_set::set::VersionSet;
+
+/// What a caller was told that a key held, when the journal had so many entries.
+#[derive(Debug, Drop)]
+pub struct Reading {
+    /// How many entries the journal had.
+    pub front: u64,
+    /// The key.
+    pub key: Bytes,
+    /// The versions that were held for it.
+    pub versions: VersionSet,
+}

@@ -1,0 +1,49 @@
+//! Why a pass was not told what a key holds.
+ghost use Rattle.std.specs.Prelude.{◌≡◌};
+
+use std::marker::{Model, PhantomData};
+use std::sync::ledger::Ledger;
+use vclock::refusal::Refusal;
+
+/// Why a read was refused. Only a read of the range of this ledger makes one, for the pass that it was lent.
+#[derive(Drop)]
+pub struct Unread<L: Ledger> {
+    seat: u16,
+    refusal: Refusal,
+    of: PhantomData<L>,
+}
+
+impl<L: Ledger> Model for Unread<L> {
+    ghost use Rattle.caller_pass.specs.Locks.{UnreadView};
+
+    ghost Value = { UnreadView };
+
+    ghost view = { λ u. record { seat = u.seat; refusal = u.refusal } };
+}
+
+impl<L: Ledger> Unread<L> {
+    /// Why a read by the pass of that seat was refused.
+    pub(crate) fn new(seat: u16, refusal: Refusal) -> Unread<L>
+        ensures { result ≡ record { seat = seat; refusal = refusal } }
+    {
+        Unread {
+            seat,
+            refusal,
+            of: PhantomData,
+        }
+    }
+
+    /// The seat of the pass.
+    pub fn seat(&self) -> u16
+        ensures { result ≡ self.now.seat }
+    {
+        self.seat
+    }
+
+    /// The refusal.
+    pub fn into_refusal(self) -> Refusal
+        ensures { result ≡ self.refusal }
+    {
+        self.refusal
+    }
+}

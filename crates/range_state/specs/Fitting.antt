@@ -1,0 +1,25 @@
+-- Versions that come to a range if its journal has room.
+use Rattle.std.specs.Prelude.{◌≡◌, ℕ, false, List, Option, None}
+use Rattle.vclock.specs.Answer.{first_fault}
+use Rattle.vclock.specs.Clock.{raised, Pairs}
+use Rattle.vclock.specs.declared.refusal.Refusal.{Refusal}
+use Rattle.version_set.specs.Version.{offer_fault}
+use Rattle.version_set.specs.declared.kind.Kind.{Kind}
+use Rattle.version_set.specs.declared.version.Version.{Version}
+use Rattle.range_journal.specs.Journal.{held}
+use Rattle.range_state.specs.State.{State, leaf_in, place_fault, ask_fault, stale_fault, put_version, knows}
+
+-- a version that has its place in that leaf of the range, is not known, and is not one too many for its key
+pub record IsFitting (s : State) (leaf : ℕ) (key : List ℕ) (v : Version) : Type 0 where
+  pub leaf_is : leaf ≡ leaf_in s.config key
+  pub here : place_fault s.config key v.kind v.value ≡ None
+  pub news : knows s key v ≡ false
+  pub fits : offer_fault v (held s.entries key) ≡ None
+
+-- why a put does not come to its entry
+abbrev pub made_fault : State → ℕ → List ℕ → Pairs → Kind → List ℕ → Option Refusal
+made_fault s at key context kind value = first_fault (ask_fault s.config at key context kind value) (first_fault (stale_fault (held s.entries key) (raised context at)) (offer_fault (put_version at context kind value) (held s.entries key)))
+
+-- why a version that another node sent neither is known nor comes to its entry
+abbrev pub sent_fault : State → List ℕ → Version → Option Refusal
+sent_fault s key v = first_fault (place_fault s.config key v.kind v.value) (offer_fault v (held s.entries key))

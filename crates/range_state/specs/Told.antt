@@ -1,0 +1,38 @@
+-- What a caller is told who keeps receipts in a list.
+use Rattle.std.specs.Prelude.{◌≡◌, ℕ, List, [], ◌∷◌, ◌++◌, length, Result, Ok, Err}
+use Rattle.vclock.specs.declared.refusal.Refusal.{Refusal}
+use Rattle.range_journal.specs.declared.journal.Entry.{Entry}
+use Rattle.sync_session.specs.Walks.{TakenText}
+use Rattle.range_state.specs.declared.event.Accepted.{Accepted}
+use Rattle.range_state.specs.declared.event.Accepted.TheVariants.{Taken, Known}
+use Rattle.range_state.specs.declared.event.AnswerTaken.{AnswerTaken}
+use Rattle.range_state.specs.declared.event.AnswerCounted.{AnswerCounted}
+use Rattle.range_state.specs.State.{State}
+use Rattle.range_state.specs.Sessions.{TakesAnswer}
+
+-- the receipts after a put: with its receipt at the end, unless it was refused
+abbrev pub with_put : List Entry → Result Entry Refusal → List Entry
+with_put es (Ok e) = es ++ e ∷ []
+with_put es (Err e) = es
+
+-- the receipts after a version of another node: with its receipt at the end, where it was taken
+abbrev pub with_sent : List Entry → Result Accepted Refusal → List Entry
+with_sent es (Ok (Taken e)) = es ++ e ∷ []
+with_sent es (Ok Known) = es
+with_sent es (Err e) = es
+
+-- the same answer with the number of the receipts in their place
+abbrev pub count_of : AnswerTaken → AnswerCounted
+count_of a = record { receipts = length a.receipts.items; known = a.known; state = a.state }
+
+-- a text was taken, its receipts are counted, and they are at the end of the list
+pub record IsCounted (s : State) (seat id : ℕ) (t : TakenText) (a : AnswerCounted) (new : State) (before now : List Entry) : Type 0 where
+  pub taken : AnswerTaken
+  pub takes : TakesAnswer s seat id t (Ok taken) new
+  pub count : a ≡ count_of taken
+  pub told : now ≡ before ++ taken.receipts.items
+
+-- what a text for a session is answered where the receipts go to a list, and state and list afterwards
+abbrev pub CountsAnswer : State → ℕ → ℕ → TakenText → Result AnswerCounted Refusal → State → List Entry → List Entry → Type 0
+CountsAnswer s seat id t (Ok a) new before now = IsCounted s seat id t a new before now
+CountsAnswer s seat id t (Err e) new before now = TakesAnswer s seat id t (Err e) new × (now ≡ before)
