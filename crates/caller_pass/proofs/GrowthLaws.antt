@@ -4,6 +4,7 @@ use Rattle.std.specs.Prelude.{slice_get, Ok, Err}
 use Rattle.std.specs.List.{AllByRecursion}
 use Rattle.vclock.specs.Clock.{Pairs, raised, raise_fault}
 use Rattle.vclock.specs.Outcome.{Outcome, gives, refuses, ◌>>=◌, ◌>>◌}
+use Rattle.vclock.proofs.OutcomeLaws.{passed}
 use Rattle.vclock.specs.declared.refusal.Refusal.{Refusal}
 use Rattle.version_set.proofs.ListLaws.{all-push}
 use Rattle.version_set.specs.Version.{offer_fault}
@@ -34,8 +35,7 @@ pub record IsGrownBy (n : ℕ) (s : State) (es : List Entry) (new : State) : Typ
 
 -- no cause stood
 past : {T S : Type 0} (c : Option Refusal) (o : Outcome T S) (x : T) (s : S) → (c >> o) ≡ gives x s → o ≡ gives x s
-past None o x s h = h
-past (Some e) o x s h = absurd (let no : refuses e ≡ gives x s = h in cc)
+past c o x s h = (passed c o x s h).1
 
 admitted : (s : State) (e x : Entry) (t : State) → admit s e ≡ gives x t → (x ≡ e) × (t ≡ journaled s e)
 admitted s e x t h = let g : gives e (journaled s e) ≡ gives x t = past (full_fault s) (gives e (journaled s e)) x t h in (cc, cc)

@@ -28,6 +28,12 @@ pass_told n p journal es ok = record {
   seen = all_below p.readings p.seen (seen_after p.seen journal (length es)) (seen_rises p.seen journal (length es)) ok.seen;
 }
 
+-- the same of what a call left in a pass
+pub pass_after : (n : ℕ) (p : PassView) (journal seen share : ℕ) (receipts es : List Entry) → IsPass n p → seen ≡ seen_after p.seen journal (length es) → share ≡ p.share + length es → receipts ≡ p.receipts ++ es
+    → IsPass n (record p { seen = seen; share = share; receipts = receipts })
+pass_after n p journal seen share receipts es ok seen_is share_is receipts_are =
+    subst (IsPass n) (λ i. record p { seen = sym seen_is i; share = sym share_is i; receipts = sym receipts_are i }) (pass_told n p journal es ok)
+
 in_order_push : (rs : List Reading) (r : Reading) → AreInOrder rs → AllByRecursion (λ (s : Reading). s.front ≤ r.front) rs → AreInOrder (rs ++ r ∷ [])
 in_order_push [] r ordered below = (tt, tt)
 in_order_push (s ∷ rs) r ordered below = (all-push (λ (x : Reading). s.front ≤ x.front) rs r ordered.0 below.0, in_order_push rs r ordered.1 below.1)

@@ -23,13 +23,11 @@ use Rattle.range_state.specs.Rows.{rows_of}
 no_member : IsVersionSet []
 no_member = record { ascending = tt; own_maximum = refl; short = omega arith; valid = tt }
 
--- a set of versions after an offer that it has room for
-set_offered : (v : Version) (S : List Version) → IsClock v.clock → IsVersionSet S → offer_fault v S ≡ None → IsVersionSet (offered v S)
-set_offered v S clock set fits = elim (cases_Bool (covered v S)) [
-  | inl known ↦ rw known set
-  | inr news ↦
-      let room : length (maximal (with_version v S)) ≤ 64 = few (length (maximal (with_version v S))) (rw news at fits) in
-      rw news (rw (maximal-with_version v S set.ascending set.own_maximum news) (grown v S clock set news (omega (arith, room, length-grown v S set news))))
+-- no more versions than may be are held after an offer that there is room for
+pub offered_short : (v : Version) (S : List Version) → length S ≤ 64 → offer_fault v S ≡ None → length (offered v S) ≤ 64
+offered_short v S short fits = elim (cases_Bool (covered v S)) [
+  | inl known ↦ rw known short
+  | inr news ↦ rw news (few (length (maximal (with_version v S))) (rw news at fits))
 ]
   where
     few : (n : ℕ) → cond (nat_lt 64 n) (Some Crowded) None ≡ None → n ≤ 64
@@ -37,6 +35,15 @@ set_offered v S clock set fits = elim (cases_Bool (covered v S)) [
       | inl more ↦ absurd (let no : Some Crowded ≡ None = rw (lt-ltb 64 n more) at h in cc)
       | inr fine ↦ fine
     ]
+
+-- a set of versions after an offer that it has room for
+set_offered : (v : Version) (S : List Version) → IsClock v.clock → IsVersionSet S → offer_fault v S ≡ None → IsVersionSet (offered v S)
+set_offered v S clock set fits = elim (cases_Bool (covered v S)) [
+  | inl known ↦ rw known set
+  | inr news ↦
+      let room : length (maximal (with_version v S)) ≤ 64 = rw news at (offered_short v S set.short fits) in
+      rw news (rw (maximal-with_version v S set.ascending set.own_maximum news) (grown v S clock set news (omega (arith, room, length-grown v S set news))))
+]
 
 -- a row after an offer to its set
 row_offered : (format : Format) (k : List ℕ) (v : Version) (S : List Version) → key_fault k ≡ None → value_fault format v.kind v.value ≡ None → IsClock v.clock → offer_fault v S ≡ None

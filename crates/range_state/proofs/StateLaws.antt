@@ -1,10 +1,11 @@
 -- What a step keeps, and why it is refused.
-use Rattle.std.proofs.Common.{◌≡◌, ◌≢◌, ℕ, ◌<◌, ◌%◌, ◌^◌, Bool, true, false, cond, set, List, [], ◌∷◌, ◌++◌, length, get_or, refl, ap, sym, subst, ◌∙◌, ◌⊎◌, arith, inl, inr, Option, Some, None, Bor, length-set, replicate}
+use Rattle.std.proofs.Common.{◌≡◌, ◌≢◌, ℕ, zero, suc, ◌<◌, ◌≤◌, ◌%◌, ◌^◌, Bool, true, false, cond, set, List, [], ◌∷◌, ◌++◌, length, get_or, take, refl, ap, sym, subst, ◌∙◌, ◌⊎◌, arith, inl, inr, Option, Some, None, Bor, Decides, length-set, replicate}
 use Rattle.std.specs.Prelude.{nat_eq, map, IfSome, IsTrue}
 use Rattle.std.specs.Cmp.Lexicographic.{pointwise}
-use Rattle.std.proofs.lemmas.Bool.{cases_eq, cases_Bool, lt-ltb, or_parts, both_ways, eqb-true}
+use Rattle.std.proofs.lemmas.Bool.{cases_eq, cases_Bool, cases_lt, lt-ltb, or_parts, both_ways, eqb-true}
 use Rattle.std.proofs.lemmas.Bool.Decides.{nat_tests}
-use Rattle.std.proofs.lemmas.List.{get_or-set_same, get_or-set_other, set-get_or, get_or-replicate, length-replicate}
+use Rattle.std.proofs.lemmas.Slice.Eq.{bytes_eq-Decides}
+use Rattle.std.proofs.lemmas.List.{take_all, take-append-le, length-append, get_or-set_same, get_or-set_other, set-get_or, get_or-replicate, length-replicate}
 use Rattle.std.specs.List.{AllByRecursion, list_any}
 use Rattle.vclock.specs.Answer.{first_fault}
 use Rattle.vclock.specs.Clock.{at_most, Pairs, Rises, IsClock}
@@ -17,15 +18,15 @@ use Rattle.vclock.specs.declared.refusal.Refusal.TheVariants.{NoMemory, OtherRan
 use Rattle.version_set.specs.Kind.{value_fault}
 use Rattle.version_set.specs.declared.kind.Kind.{Kind}
 use Rattle.version_set.specs.declared.version.Version.{Version}
-use Rattle.version_set.specs.Version.{covered, offer_fault, is_below, is_same, with_version, set_from}
+use Rattle.version_set.specs.Version.{covered, offer_fault, offered, is_below, is_same, with_version, set_from}
 use Rattle.version_set.proofs.SetLaws.{covered-maximal, is_same-exact, all-with_version}
 use Rattle.version_set.proofs.ListLaws.{all-filter, all-push}
 use Rattle.range_journal.specs.declared.journal.Entry.{Entry}
 use Rattle.range_journal.specs.Log.{Log}
 use Rattle.range_journal.specs.declared.journal.Source.TheVariants.{Partner}
 use Rattle.range_journal.specs.declared.journal.Source.{Source}
-use Rattle.range_journal.specs.Journal.{accepted, held, versions_of, AreNews}
-use Rattle.range_journal.proofs.JournalLaws.{AreNews-push, covered-held, Reserved}
+use Rattle.range_journal.specs.Journal.{accepted, held, versions_of, AreNews, NeverCrowded}
+use Rattle.range_journal.proofs.JournalLaws.{AreNews-push, covered-held, held-push, Reserved}
 use Rattle.vclock.specs.Outcome.{gives, refuses, is_given}
 use Rattle.vclock.proofs.OutcomeLaws.{bind_err}
 use Rattle.row_bytes.specs.Rows.{IsRow}
@@ -43,7 +44,7 @@ use Rattle.range_state.specs.declared.«record».Record.{Record}
 use Rattle.range_state.proofs.RecordLaws.{all_kept}
 use Rattle.range_state.specs.declared.event.Accepted.TheVariants.{Taken}
 use Rattle.range_state.proofs.RowLaws.{leaf_holds, leaf-push, rows_of-push, rows_of-ascend, versions_in-rows_of}
-use Rattle.range_state.proofs.RowTexts.{rows_offered, no_row}
+use Rattle.range_state.proofs.RowTexts.{offered_short, rows_offered, no_row}
 
 -- ---- leaves
 
@@ -105,12 +106,17 @@ leaf_of_none : (leaf : List ℕ → ℕ) (i : ℕ) → no_rows ≡ rows_at leaf 
 unfolding rows_of
 leaf_of_none leaf i = refl
 
+none_crowded : (key : List ℕ) → NeverCrowded [] key
+none_crowded key zero = omega arith
+none_crowded key (suc n) = omega arith
+
 fresh_right : (c : Config) → IsTrue (is_config c) → IsRight (fresh c)
 unfolding all_dirty
 fresh_right c h = record {
   config = h;
   own = tt;
   news = tt;
+  short = none_crowded;
   rows = no_row c.format;
   marks = record { tree = tree_fresh c.format; digests = true_fresh c.format (leaf_in c) (rows_of []) (node_count c.format) };
   records = tt;
@@ -119,10 +125,10 @@ fresh_right c h = record {
   partners = tt;
 }
 
-abbrev no_bucket : Config → Bucket
+abbrev pub no_bucket : Config → Bucket
 no_bucket c = record { format = c.format; rows = [] }
 
-fresh_leaves : (c : Config) (leaves : List Bucket) → leaves ≡ replicate (leaf_count c) (no_bucket c) → AreLeaves c [] leaves
+pub fresh_leaves : (c : Config) (leaves : List Bucket) → leaves ≡ replicate (leaf_count c) (no_bucket c) → AreLeaves c [] leaves
 fresh_leaves c leaves is = record {
   all = ap length is ∙ length-replicate (leaf_count c) (no_bucket c);
   each = λ i d lt.
@@ -206,20 +212,39 @@ leaf_in_tree c key = within c.format (leaf_in c key) (leaf_below c key)
     within One n h = h
     within Two n h = h
 
+-- no key ever held too many, with an entry more whose offer fits
+never_more : (es : List Entry) (e : Entry) (key : List ℕ) → NeverCrowded es key → offer_fault e.version (held es e.key) ≡ None → NeverCrowded (es ++ e ∷ []) key
+never_more es e key short fits n = elim (cases_lt (length es) n) [
+  | inl all ↦
+      let whole : take n (es ++ e ∷ []) ≡ es ++ e ∷ [] = take_all n (es ++ e ∷ []) (omega (arith, length-append es (e ∷ []))) in
+      subst (λ (xs : List Entry). length (held xs key) ≤ 64) (sym whole)
+      (subst (λ (S : List Version). length S ≤ 64) (sym (held-push es e key)) (by_key (pointwise nat_eq e.key key) (bytes_eq-Decides e.key key)))
+  | inr part ↦ subst (λ (xs : List Entry). length (held xs key) ≤ 64) (sym (take-append-le n es (e ∷ []) part)) (short n)
+]
+  where
+    few : length (held es key) ≤ 64
+    few = subst (λ (xs : List Entry). length (held xs key) ≤ 64) (take_all (length es) es (omega arith)) (short (length es))
+
+    by_key : (b : Bool) → Decides b (e.key ≡ key) → length (cond b (offered e.version (held es key)) (held es key)) ≤ 64
+    by_key true is = offered_short e.version (held es key) few (ap (λ (k : List ℕ). offer_fault e.version (held es k)) (sym (is.0 refl)) ∙ fits)
+    by_key false is = few
+
 -- what holds of journal, rows and tree, whatever the sessions are
 pub record IsSound (s : State) : Type 0 where
   pub own : AllByRecursion (IsOwn s.config) s.entries
   pub news : AreNews s.entries
+  pub short : (key : List ℕ) → NeverCrowded s.entries key
   pub rows : AllByRecursion (IsRow s.config.format) (rows_of s.entries)
   pub marks : IsTreeFor (leaf_in s.config) (rows_of s.entries) (tree_of s)
 
 pub sound_of : (s : State) → IsRight s → IsSound s
-sound_of s ok = record { own = ok.own; news = ok.news; rows = ok.rows; marks = ok.marks }
+sound_of s ok = record { own = ok.own; news = ok.news; short = ok.short; rows = ok.rows; marks = ok.marks }
 
 pub grown_sound : (s : State) (e : Entry) → IsSound s → place_fault s.config e.key e.version.kind e.version.value ≡ None → covered e.version (held s.entries e.key) ≡ false → IsClock e.version.clock → offer_fault e.version (held s.entries e.key) ≡ None → IsSound (journaled s e)
 grown_sound s e ok here unknown clock fits = record {
   own = all-push (IsOwn s.config) s.entries e ok.own (own s.config e here);
   news = AreNews-push s.entries e ok.news (sym (covered-held e.version s.entries e.key) ∙ unknown);
+  short = λ key. never_more s.entries e key (ok.short key) fits;
   rows = subst (AllByRecursion (IsRow s.config.format)) (sym (rows_of-push s.entries e))
       (rows_offered s.config.format e.key e.version (rows_of s.entries) (in_limits s.config e.key e.version.kind e.version.value here).0 (in_limits s.config e.key e.version.kind e.version.value here).1 clock
       (ap (offer_fault e.version) (versions_in-rows_of s.entries e.key) ∙ fits) ok.rows);
@@ -237,6 +262,7 @@ grown-right s e ok other here unknown clock fits =
       config = ok.config;
       own = sound.own;
       news = sound.news;
+      short = sound.short;
       rows = sound.rows;
       marks = sound.marks;
       records = all_kept s.config s.entries (e ∷ []) s.records ok.records;
@@ -245,7 +271,7 @@ grown-right s e ok other here unknown clock fits =
       partners = all-push (λ (x : Entry). x.source ≡ Partner → IsFromPartner s x) s.entries e ok.partners (λ from. absurd (other from));
     }
 
-grown-leaves : (s : State) (leaves : List Bucket) (e : Entry) (new : Bucket) → AreLeaves s.config s.entries leaves
+pub grown-leaves : (s : State) (leaves : List Bucket) (e : Entry) (new : Bucket) → AreLeaves s.config s.entries leaves
     → new ≡ record { format = s.config.format; rows = with_offer e.key e.version (rows_at (leaf_in s.config) (leaf_in s.config e.key) (rows_of s.entries)) }
     → AreLeaves s.config (s.entries ++ e ∷ []) (set leaves (leaf_in s.config e.key) new)
 grown-leaves s leaves e new ok is = record {

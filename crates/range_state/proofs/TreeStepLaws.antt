@@ -113,6 +113,7 @@ cleaned_right s node text tree ok current is valid =
       config = ok.config;
       own = ok.own;
       news = ok.news;
+      short = ok.short;
       rows = ok.rows;
       marks = record { tree = subst IsTree is valid; digests = right };
       records = ok.records;

@@ -10,3 +10,4 @@ pub mod Syncs
 pub mod Batches
 pub mod Trees
 pub mod Run
+pub mod Replays

@@ -18,7 +18,7 @@ use Rattle.version_set.specs.declared.version.Version.{Version}
 use Rattle.range_journal.specs.declared.journal.Entry.{Entry}
 use Rattle.range_journal.specs.declared.journal.Source.{Source}
 use Rattle.range_journal.specs.declared.journal.Source.TheVariants.{Client, Partner}
-use Rattle.range_journal.specs.Journal.{accepted, held, AreNews}
+use Rattle.range_journal.specs.Journal.{accepted, held, AreNews, NeverCrowded}
 use Rattle.key_ring.specs.Places.{range_at, leaf_at, leaf_bits}
 use Rattle.row_bytes.specs.Rows.{IsRow, AreRows}
 use Rattle.row_bytes.specs.declared.row.Row.{Row}
@@ -194,13 +194,15 @@ pub record IsLeafWith (format : Format) (e : Entry) (t : TakenText) : Type 0 whe
 abbrev pub IsFromPartner : State → Entry → Type 0
 IsFromPartner s e = Any (λ (r : Record). Any (IsLeafWith s.config.format e) r.session.taken) s.records
 
--- what holds of each state: the entries are of the range, each was news, each row has a text, the children of a clean node are
--- clean, each clean node has the digest of its text for the rows now, each record is right for the entries, there are at most
--- 1,024 records, at most 64 of their sessions are open, and what came from a partner was in a text that a session took
+-- what holds of each state: the entries are of the range, each was news, no key ever held over 64 versions, each row has a text,
+-- the children of a clean node are clean, each clean node has the digest of its text for the rows now, each record is right for
+-- the entries, there are at most 1,024 records, at most 64 of their sessions are open, and what came from a partner was in a text
+-- that a session took
 pub record IsRight (s : State) : Type 0 where
   pub config : IsTrue (is_config s.config)
   pub own : AllByRecursion (IsOwn s.config) s.entries
   pub news : AreNews s.entries
+  pub short : (key : List ℕ) → NeverCrowded s.entries key
   pub rows : AllByRecursion (IsRow s.config.format) (rows_of s.entries)
   pub marks : IsTreeFor (leaf_in s.config) (rows_of s.entries) (tree_of s)
   pub records : AllByRecursion (IsKept s.config s.entries) s.records

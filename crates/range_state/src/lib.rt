@@ -6,6 +6,7 @@
 //!   `digest_at`, `rehash` and `snapshot`; for sessions with partners `open_session`, `take_answer`, `cancel_session` and
 //!   `records`, and `sync_with` for a whole session.
 //! - [`record`]: a session of a range, and with whom.
+//! - [`replay`]: the rows that a range had at each length of its journal.
 //! - [`event`], [`run`]: the same calls as events, and lists of them.
 //! - [`laws`]: what the definitions say: a range that finished a session holds what the partner had.
 #![tactic(auto)]
@@ -14,5 +15,6 @@ pub mod config;
 pub mod event;
 pub mod laws;
 pub mod record;
+pub mod replay;
 pub mod run;
 pub mod state;

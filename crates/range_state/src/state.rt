@@ -90,8 +90,8 @@ impl RangeState {
         self.config
     }
 
-    /// The journal. Its entries are of this range, and each was news when it came; the rows that it makes have texts; and
-    /// the marks of the tree are right for them. It takes no memory.
+    /// The journal. Its entries are of this range, and each was news when it came; no key ever held over 64 versions; the
+    /// rows that it makes have texts; and the marks of the tree are right for them. It takes no memory.
     pub fn journal(&self) -> &Journal
         ensures entries { result.now.entries ≡ self.now.entries }
         ensures limit { result.now.limit ≡ self.now.config.limit }
@@ -305,7 +305,7 @@ impl RangeState {
 }
 
 /// The leaves of a range without rows.
-fn empty_leaves(alloc: Global, format: Format) -> Result<Vec<SharedLeaf>, Refusal>
+pub(crate) fn empty_leaves(alloc: Global, format: Format) -> Result<Vec<SharedLeaf>, Refusal>
     ensures { Answers result None (λ leaves. leaves.items
         ≡ replicate (2 ^ leaf_bits format) (record { format = format; rows = [] })) }
 {

@@ -1,0 +1,97 @@
+//! Journals that are replayed.
+ghost use Rattle.std.specs.Prelude.{◌≡◌, ◌+◌, ◌<◌, ◌≤◌, ◌↔◌, length, take, None, IsTrue};
+ghost use Rattle.vclock.specs.Answer.{Answers};
+ghost use Rattle.vclock.specs.Outcome.{Does, DoesOrBreaksOff, gives};
+ghost use Rattle.range_journal.specs.Journal.{held};
+ghost use Rattle.range_state.specs.State.{leaf_in};
+
+use crate::config::RangeConfig;
+use crate::state::{RangeState, empty_leaves};
+use hash_tree::shared::SharedLeaf;
+use key_ring::places::place;
+use range_journal::journal::Entry;
+use std::alloc::Global;
+use std::marker::Model;
+use vclock::refusal::Refusal;
+use version_set::set::VersionSet;
+
+/// The rows that a range had when its journal had so many entries: at first none, and then as many as are asked for.
+#[derive(Drop)]
+pub struct Replay<'a> {
+    config: RangeConfig,
+    entries: &'a [Entry],
+    front: u64,
+    leaves: Vec<SharedLeaf>,
+}
+
+impl<'a> Model for Replay<'a> {
+    ghost use Rattle.std.specs.Prelude.{take};
+    ghost use Rattle.range_state.specs.State.{AreLeaves};
+    ghost use Rattle.range_state.specs.Replays.{Replayed, IsReplay};
+
+    ghost Value = { Replayed };
+
+    ghost view = { λ r. record { config = r.config; entries = r.entries.now; front = r.front } };
+
+    ghost invariant = { λ r. IsReplay (record { config = r.config; entries = r.entries.now; front = r.front })
+        × AreLeaves r.config (take r.front r.entries.now) r.leaves.items };
+}
+
+impl<'a> Replay<'a> {
+    /// The replay of a range's journal, from no entry on. Refused: NoMemory.
+    pub fn new(alloc: Global, state: &'a RangeState) -> Result<Replay<'a>, Refusal>
+        ensures { Answers result None (λ replay. replay
+            ≡ record { config = state.now.config; entries = state.now.entries; front = 0 }) }
+    {
+        let config = state.config();
+        Ok(Replay {
+            config,
+            entries: state.journal().entries(),
+            front: 0,
+            leaves: empty_leaves(alloc, config.format())?,
+        })
+    }
+
+    /// Goes on until as many entries are replayed. Refused: NoMemory, and then fewer may be.
+    pub fn advance(&mut self, alloc: Global, front: u64) -> Result<(), Refusal>
+        requires later { self.old.front ≤ front }
+        requires within { front ≤ length self.old.entries }
+        ensures advances { DoesOrBreaksOff result self.old self.new (gives tt (record self.old { front = front })) }
+    {
+        while self.front < front {
+            self.step(alloc)?;
+        }
+        Ok(())
+    }
+
+    /// Whether these versions were held for a key. It takes no memory.
+    pub fn holds(&self, key: &[u8], versions: &VersionSet) -> bool
+        ensures { IsTrue result ↔ (held (take self.now.front self.now.entries) key.now ≡ versions.now) }
+    {
+        match self.leaves[self.leaf_of(key)].find(key) {
+            Some(held) => held.same(versions),
+            None => versions.is_empty(),
+        }
+    }
+
+    /// Replays the next entry.
+    fn step(&mut self, alloc: Global) -> Result<(), Refusal>
+        requires { self.old.front < length self.old.entries }
+        ensures { Does result self.old self.new (gives tt (record self.old { front = self.old.front + 1 })) }
+    {
+        let entry = &self.entries[self.front as usize];
+        let version = entry.version.try_clone()?;
+        let key = entry.key.as_slice();
+        let leaf = self.leaf_of(key);
+        self.leaves[leaf].offer(alloc, key, version)?;
+        self.front += 1;
+        Ok(())
+    }
+
+    /// The leaf of a key.
+    fn leaf_of(&self, key: &[u8]) -> usize
+        ensures { result ≡ leaf_in self.now.config key.now }
+    {
+        usize::from(place(self.config.format(), self.config.bits(), key).leaf)
+    }
+}
