@@ -1,5 +1,5 @@
 -- By what entries a range grows.
-use Rattle.std.proofs.Common.{◌≡◌, ℕ, ◌+◌, ◌<◌, Bool, true, false, cond, Option, Some, None, List, [], ◌∷◌, ◌++◌, length, refl, sym, ap, subst, ◌∙◌, inl, inr, append-nil}
+use Rattle.std.proofs.Common.{◌≡◌, ℕ, ◌<◌, Bool, true, false, cond, Option, Some, None, List, [], ◌∷◌, ◌++◌, refl, sym, ap, subst, ◌∙◌, inl, inr, append-nil}
 use Rattle.std.specs.Prelude.{slice_get, Ok, Err}
 use Rattle.std.specs.List.{AllByRecursion}
 use Rattle.vclock.specs.Clock.{Pairs, raised, raise_fault}

@@ -1,4 +1,5 @@
 pub mod PassLaws
 pub mod GrowthLaws
 pub mod LockLaws
+pub mod ReplayLaws
 pub mod Walk

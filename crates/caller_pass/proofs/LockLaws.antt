@@ -1,5 +1,5 @@
 -- What a locked range keeps.
-use Rattle.std.proofs.Common.{◌≡◌, ℕ, List, ◌++◌, length, ap, arith}
+use Rattle.std.proofs.Common.{◌≡◌, ℕ, List, length, ap, arith}
 use Rattle.std.proofs.lemmas.List.{length-append}
 use Rattle.range_journal.specs.declared.journal.Entry.{Entry}
 use Rattle.range_state.specs.State.{State, IsRight}

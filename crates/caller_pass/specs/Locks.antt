@@ -2,7 +2,7 @@
 use Rattle.std.specs.Prelude.{◌≡◌, ℕ, ◌<◌, Bool, ◌&&◌, not, nat_lt, List, [], ◌∷◌, length, Option, Some, None, Result, Ok, Err, bytes_eq, if◌then◌else◌}
 use Rattle.std.specs.List.{AllByRecursion}
 use Rattle.vclock.specs.Clock.{Pairs}
-use Rattle.vclock.specs.Outcome.{Outcome, gives, refuses, ◌>>=◌, ◌>>◌}
+use Rattle.vclock.specs.Outcome.{Outcome, gives, ◌>>=◌, ◌>>◌}
 use Rattle.vclock.specs.declared.refusal.Refusal.{Refusal}
 use Rattle.vclock.specs.declared.refusal.Refusal.TheVariants.{Behind}
 use Rattle.version_set.specs.Version.{covered}

@@ -147,12 +147,7 @@ impl<L: Ledger> LockedRange<L> {
     ///
     /// Refused, in order: Behind (the journal is shorter than what the pass has seen; or what is held does not cover a receipt
     /// of the pass for the key: then with the number of the first such receipt), NoMemory. The pass is then as it was.
-    pub fn get(
-        &self,
-        alloc: Global,
-        pass: &mut Pass<L>,
-        key: &[u8],
-    ) -> Result<VersionSet, Refusal>
+    pub fn get(&self, alloc: Global, pass: &mut Pass<L>, key: &[u8]) -> Result<VersionSet, Refusal>
         ensures { Does result pass.old pass.new (get_in self.now pass.old key.now) }
     {
         let Pass {

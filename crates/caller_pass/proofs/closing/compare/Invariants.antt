@@ -1,5 +1,5 @@
-use Rattle.std.proofs.Common.{◌≡◌, ℕ, ◌<◌, length, get_or}
-use Rattle.caller_pass.specs.Closings.{IsSettled, AllThere}
+use Rattle.std.proofs.Common.{ℕ, ◌<◌, length, get_or}
+use Rattle.caller_pass.specs.Closings.{IsSettled}
 use Rattle.caller_pass.specs.Passes.{PassView}
 use Rattle.caller_pass.proofs.closing.compare.Given as goal
 

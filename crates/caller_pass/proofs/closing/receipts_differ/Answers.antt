@@ -1,4 +1,4 @@
-use Rattle.std.proofs.Common.{◌≡◌, ◌≤◌, ◌<◌, ℕ, List, Bool, true, false, Some, None, get_or, length, take, drop, subst, sym, ap, ◌∙◌, arith, eq-eqb, eqb, true≢false}
+use Rattle.std.proofs.Common.{◌≡◌, ℕ, List, true, false, Some, get_or, take, subst, sym, ap, ◌∙◌, arith, eq-eqb, eqb, true≢false}
 use Rattle.std.specs.Prelude.{slice_get}
 use Rattle.std.proofs.lemmas.List.{take_all}
 use Rattle.range_journal.specs.declared.journal.Entry.{Entry}

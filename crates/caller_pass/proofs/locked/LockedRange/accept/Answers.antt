@@ -1,4 +1,4 @@
-use Rattle.std.proofs.Common.{rules, ◌≡◌, ℕ, ◌∷◌, [], length, max, refl, sym, ap, subst, ◌∙◌}
+use Rattle.std.proofs.Common.{rules, ◌≡◌, ◌∷◌, [], max, refl, sym, subst, ◌∙◌}
 use Rattle.std.specs.Prelude.{Ok}
 use Rattle.vclock.specs.Outcome.{gives}
 use Rattle.range_state.specs.declared.event.Accepted.TheVariants.{Taken, Known}

@@ -1,5 +1,5 @@
-use Rattle.std.proofs.Common.{rules, ◌≡◌, ℕ, ◌∷◌, [], length, max, refl, ap, ◌∙◌}
-use Rattle.range_state.specs.State.{State, put_entry}
+use Rattle.std.proofs.Common.{rules, ◌≡◌, ◌∷◌, [], max, refl, ◌∙◌}
+use Rattle.range_state.specs.State.{put_entry}
 use Rattle.caller_pass.specs.Locks.{Locked}
 use Rattle.caller_pass.specs.Passes.{PassView}
 use Rattle.caller_pass.proofs.GrowthLaws.{put_gives, grown_by_one}

@@ -1,11 +1,9 @@
-use Rattle.std.proofs.Common.{◌≡◌, ℕ, ◌+◌, ◌++◌, length, sym, ap, subst, ◌∙◌}
+use Rattle.std.proofs.Common.{◌≡◌, ℕ, ◌+◌, length, ap, subst, ◌∙◌}
 use Rattle.sync_session.specs.Walks.{TakenText}
 use Rattle.sync_session.specs.TreeNodes.{node_of}
-use Rattle.range_journal.specs.Log.{Log}
 use Rattle.range_state.specs.declared.event.AnswerCounted.{AnswerCounted}
-use Rattle.range_state.specs.State.{State}
 use Rattle.caller_pass.specs.Locks.{Locked, IsToldOf}
-use Rattle.caller_pass.specs.Passes.{PassView, BookView, counted, seen_after}
+use Rattle.caller_pass.specs.Passes.{PassView, counted, seen_after}
 use Rattle.caller_pass.proofs.GrowthLaws.{grown_by_text}
 use Rattle.caller_pass.proofs.LockLaws.{locked_grown}
 use Rattle.caller_pass.proofs.PassLaws.{pass_after}
