@@ -7,5 +7,8 @@
 #![tactic(auto)]
 
 pub mod controller;
+pub mod delivery;
 pub mod gate;
 pub mod hints;
+pub mod range;
+pub mod rehasher;
