@@ -56,15 +56,15 @@ enum Answered {
     Refused,
 }
 
-/// Delivers the pending hints of an owner to its range, one in each turn, by rising id from 1, until none is left or the
-/// turns are used. The pass is told of what the owner journals.
+/// Delivers the pending hints of an owner to its range, one in each turn, by rising id from 1, until none is left or
+/// the turns are used. The pass is told of what the owner journals.
 ///
-/// The owner is offered each version as a hint, and the hint is confirmed where it journals the version or knows it, even if
-/// somebody else confirmed it meanwhile. A hint that the owner refuses by another cause than NoMemory is kept: it stays
-/// pending, and is passed over. No two locks are held at once. The slot is the leave to do so.
+/// The owner is offered each version as a hint, and the hint is confirmed where it journals the version or knows it,
+/// even if somebody else confirmed it meanwhile. A hint that the owner refuses by another cause than NoMemory is kept:
+/// it stays pending, and is passed over. No two locks are held at once. The slot is the leave to do so.
 ///
-/// Refused: Stranger (the owner isn't the range's node: then nothing is done), NoMemory. What was delivered until then stays
-/// so.
+/// Refused: Stranger (the owner isn't the range's node: then nothing is done), NoMemory. What was delivered until then
+/// stays so.
 #[tactic(auto, using(crate::proofs::GainLaws::gains_none, crate::proofs::GainLaws::gains_more))]
 pub fn deliver<R: Wait, C: Ledger, L: Ledger>(
     rt: &R,
@@ -102,8 +102,8 @@ pub fn deliver<R: Wait, C: Ledger, L: Ledger>(
     Ok(report)
 }
 
-/// Offers the owner of a hint its version, and confirms the hint unless the version is refused. The copy is made before the
-/// version is offered.
+/// Offers the owner of a hint its version, and confirms the hint unless the version is refused. The copy is made before
+/// the version is offered.
 #[tactic(auto, using(crate::proofs::GainLaws::gains_same))]
 fn offer<R: Wait, L: Ledger>(
     rt: &R,

@@ -34,8 +34,8 @@ use version_set::version::Version;
 
 /// A range of which a node is a replica, that threads share: a [`LockedRange`] in a lock.
 ///
-/// Contracts see the node. A caller has a pass of the range's own ledger, so a pass of another range doesn't compile here.
-/// No call holds two locks, and none hashes, encodes or waits for anything while it holds one.
+/// Contracts see the node. A caller has a pass of the range's own ledger, so a pass of another range doesn't compile
+/// here. No call holds two locks, and none hashes, encodes or waits for anything while it holds one.
 #[derive(Drop)]
 pub struct SharedRange<L: Ledger> {
     node: u16,
@@ -63,7 +63,8 @@ pub struct NotClosed<L: Ledger> {
 }
 
 impl<L: Ledger> SharedRange<L> {
-    /// A range that has accepted nothing, of a node, 1 to 65,535, with a book that has counted nothing. It takes no memory.
+    /// A range that has accepted nothing, of a node, 1 to 65,535, with a book that has counted nothing. It takes no
+    /// memory.
     pub fn new(node: u16, state: RangeState, book: Book<L>) -> SharedRange<L>
         requires node { 1 ≤ node }
         requires empty { state.entries ≡ [] }
@@ -85,8 +86,8 @@ impl<L: Ledger> SharedRange<L> {
     /// Puts a value at the range's node, or a tombstone, as [`LockedRange::put`]. The pass is told of the entry.
     ///
     /// Refused as [`LockedRange::put`], in order: BadKey, BadValue (of the range's format), OtherRange, ClockFull,
-    /// CounterFull, StaleContext (with the clocks that are held), Crowded, JournalFull, NoMemory. Range and pass are then as
-    /// they were. From StaleContext on NoMemory may stand in place of the cause.
+    /// CounterFull, StaleContext (with the clocks that are held), Crowded, JournalFull, NoMemory. Range and pass are
+    /// then as they were. From StaleContext on NoMemory may stand in place of the cause.
     pub fn put<R: Wait>(
         &self,
         rt: &R,
@@ -114,8 +115,8 @@ impl<L: Ledger> SharedRange<L> {
         range.put(alloc, pass, node, key, context, kind, value)
     }
 
-    /// Takes in a version that another node sent, as a copy or as a hint, as [`LockedRange::accept`]. The pass is told of the
-    /// entry, where the version was not known.
+    /// Takes in a version that another node sent, as a copy or as a hint, as [`LockedRange::accept`]. The pass is told
+    /// of the entry, where the version was not known.
     ///
     /// Refused as [`LockedRange::accept`], in order: BadKey, BadValue (of the range's format), OtherRange, Crowded,
     /// JournalFull, NoMemory. Range and pass are then as they were.
@@ -142,12 +143,12 @@ impl<L: Ledger> SharedRange<L> {
         range.accept(alloc, pass, source, key, version)
     }
 
-    /// The versions that are held for a key, in the order of their texts, as [`LockedRange::read`]: they cover each receipt
-    /// of the pass for the key. The pass keeps them as a reading.
+    /// The versions that are held for a key, in the order of their texts, as [`LockedRange::read`]: they cover each
+    /// receipt of the pass for the key. The pass keeps them as a reading.
     ///
     /// Refused, in order: Behind (the journal is shorter than what the pass has seen; or what is held does not cover a
-    /// receipt of the pass for the key: then with the number of the first such receipt), NoMemory. The pass is then as it
-    /// was. Only a read of this range makes the refusal.
+    /// receipt of the pass for the key: then with the number of the first such receipt), NoMemory. The pass is then as
+    /// it was. Only a read of this range makes the refusal.
     pub fn get<R: Wait>(
         &self,
         rt: &R,

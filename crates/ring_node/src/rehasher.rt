@@ -27,12 +27,12 @@ pub struct RehashReport {
 }
 
 impl<L: Ledger> SharedRange<L> {
-    /// Hashes dirty nodes, one in each turn, until a job is asked for and no node is dirty, which uses a turn as well, or
-    /// until the turns are used. `skip` is as in [`LockedRange::take_job`], so that workers take different nodes.
+    /// Hashes dirty nodes, one in each turn, until a job is asked for and no node is dirty, which uses a turn as well,
+    /// or until the turns are used. `skip` is as in [`LockedRange::take_job`], so that workers take different nodes.
     ///
     /// A node's text is written and hashed with no lock held, so puts go on meanwhile. A digest that comes too late is
-    /// counted, and its node is hashed again in a later turn. The worker passes the gate after it took a job (step 1) and
-    /// after it hashed the text (step 2), with no lock held. The slot is the leave to do so.
+    /// counted, and its node is hashed again in a later turn. The worker passes the gate after it took a job (step 1)
+    /// and after it hashed the text (step 2), with no lock held. The slot is the leave to do so.
     ///
     /// Refused: NoMemory. What was installed until then stays.
     pub fn rehash_worker<R: Wait, C: Ledger, G: Gate>(
