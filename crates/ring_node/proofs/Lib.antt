@@ -1,0 +1,5 @@
+pub mod DueHints
+pub mod OutcomeLaws
+pub mod CauseLaws
+pub mod TellLaws
+pub mod GainLaws

@@ -1,0 +1,287 @@
+-- What a pass is told by a call that a lock let through.
+use Rattle.std.proofs.Common.{◌≡◌, inl, inr, ℕ, ◌+◌, ◌≤◌, Bool, true, false, cond, List, [], ◌∷◌, length, Option, Some, None, Result, Ok, Err, refl, sym, ap, subst, ◌∙◌, length-append}
+use Rattle.std.specs.Prelude.{IfOk, IfErr, OnOk, OnErr, IsTrue, nat_lt}
+use Rattle.std.proofs.lemmas.Bool.{ltb-true, ltb-false}
+use Rattle.vclock.specs.Clock.{raised, raise_fault, Pairs}
+use Rattle.vclock.specs.Keys.{key_fault}
+use Rattle.vclock.specs.Outcome.{Outcome, gives, refuses, is_given, Does, DoesOrNoMemory, ◌>>=◌, ◌>>◌}
+use Rattle.vclock.specs.declared.refusal.Refusal.{Refusal}
+use Rattle.vclock.specs.declared.refusal.Refusal.TheVariants.{Behind, NoMemory}
+use Rattle.vclock.proofs.OutcomeLaws.{passed}
+use Rattle.version_set.specs.Version.{offer_fault}
+use Rattle.version_set.specs.declared.kind.Kind.{Kind}
+use Rattle.version_set.specs.declared.version.Version.{Version}
+use Rattle.range_journal.specs.declared.journal.Entry.{Entry}
+use Rattle.range_journal.specs.declared.journal.Source.{Source}
+use Rattle.range_journal.specs.declared.journal.Source.TheVariants.{Client}
+use Rattle.range_journal.specs.Journal.{held}
+use Rattle.range_state.specs.declared.event.Accepted.{Accepted}
+use Rattle.range_state.specs.declared.event.Accepted.TheVariants.{Taken, Known}
+use Rattle.range_state.specs.State.{State, place_fault, ask_fault, full_fault, stale_fault, put_entry, put_version, entry_of, journaled, knows, admit, accept, put}
+use Rattle.range_state.proofs.StateLaws.{first_none, later_none}
+use Rattle.caller_pass.specs.Passes.{PassView, with_receipts, with_reading}
+use Rattle.caller_pass.specs.Locks.{Locked, told, put_in, accept_in, after_sent, first_missing, missing_fault, behind_fault, get_in}
+use Rattle.ring_node.specs.Passes.{IsReceiptOf, IsToldOf, IsSent, IsPutRefusal, IsSentRefusal, IsRead, IsBehind}
+use Rattle.ring_node.proofs.OutcomeLaws.{given, refused, first_cause}
+use Rattle.ring_node.proofs.CauseLaws.{of_key, of_value, of_range, place_cause, clock_cause, crowd_cause, where_holds, where_fails}
+
+-- an entry that came, and the pass that was told of it
+record Admitted (l : Locked) (p : PassView) (x e : Entry) (s : State) : Type 0 where
+  pub entry : e ≡ x
+  pub told_of : (told l p s (e ∷ [])).1 ≡ with_receipts p (e.number + 1) (e ∷ [])
+
+admitted : (l : Locked) (p : PassView) (x e : Entry) (s : State) → x.number ≡ length l.state.entries → admit l.state x ≡ gives e s → Admitted l p x e s
+admitted l p x e s number is =
+    let full = passed (full_fault l.state) _ e s is in
+    let same : e ≡ x = let h = full.1 in cc in
+    let grown : s ≡ journaled l.state x = let h = full.1 in cc in
+    let long : length s.entries ≡ e.number + 1 = ap (λ (t : State). length t.entries) grown ∙ (length-append l.state.entries (x ∷ []) ∙ ap (λ n. n + 1) (sym number ∙ ap (λ (y : Entry). y.number) (sym same))) in
+    record { entry = same; told_of = ap (λ n. with_receipts p n (e ∷ [])) long }
+
+-- what a put told
+pub record PutTold (p q : PassView) (at : ℕ) (key : List ℕ) (context : Pairs) (kind : Kind) (value : List ℕ) (e : Entry) : Type 0 where
+  pub receipt : IsReceiptOf p.seat Client key (put_version at context kind value) e
+  pub told_of : IsToldOf p q e
+  pub fits : (key_fault key ≡ None) × (raise_fault context at ≡ None)
+
+put_told : (l m : Locked) (p q : PassView) (at : ℕ) (key : List ℕ) (context : Pairs) (kind : Kind) (value : List ℕ) (e : Entry) → put_in l p at key context kind value ≡ gives e (m, q) → PutTold p q at key context kind value e
+put_told l m p q at key context kind value e is =
+    let g = given (put l.state p.seat at key context kind value) (λ entry. gives entry.0 (told l p entry.1 (entry.0 ∷ []))) e (m, q) is in
+    let place = passed (place_fault l.state.config key kind value) _ g.first g.between g.gave in
+    let clock = passed (raise_fault context at) _ g.first g.between place.1 in
+    let stale = passed (stale_fault (held l.state.entries key) (raised context at)) _ g.first g.between clock.1 in
+    let crowd = passed (offer_fault (put_version at context kind value) (held l.state.entries key)) _ g.first g.between stale.1 in
+    let a = admitted l p (put_entry l.state p.seat at key context kind value) g.first g.between refl crowd.1 in
+    let same : g.first ≡ e = let h = g.then_gave in cc in
+    let pass : q ≡ (told l p g.between (g.first ∷ [])).1 = let h = g.then_gave in cc in
+    let whole : e ≡ put_entry l.state p.seat at key context kind value = sym same ∙ a.entry in
+    record {
+      receipt = record {
+        seat_is = ap (λ (x : Entry). x.seat) whole;
+        source_is = ap (λ (x : Entry). x.source) whole;
+        key_is = ap (λ (x : Entry). x.key) whole;
+        version_is = ap (λ (x : Entry). x.version) whole;
+      };
+      told_of = pass ∙ (a.told_of ∙ ap (λ (x : Entry). with_receipts p (x.number + 1) (x ∷ [])) same);
+      fits = (first_none (key_fault key) _ place.0, clock.0);
+    }
+
+put_refused : (l : Locked) (p : PassView) (at : ℕ) (key : List ℕ) (context : Pairs) (kind : Kind) (value : List ℕ) (e : Refusal) → put_in l p at key context kind value ≡ refuses e → IsPutRefusal at key context kind value e
+put_refused l p at key context kind value e is =
+    let Why : Refusal → Type 0 = IsPutRefusal at key context kind value in
+    let r = refused (put l.state p.seat at key context kind value) (λ entry. gives entry.0 (told l p entry.1 (entry.0 ∷ []))) e (λ x. refl) is in
+    elim (first_cause (place_fault l.state.config key kind value) _ e r) as (λ _. Why e) [
+      | inl place ↦
+          elim (place_cause l.state.config key kind value e place) as (λ _. Why e) [
+            | of_key same k ↦ subst Why (sym same) k
+            | of_value same k odd ↦ subst Why (sym same) (k, odd)
+            | of_range same k ↦ subst Why (sym same) k
+          ]
+      | inr placed ↦
+          let k : key_fault key ≡ None = first_none (key_fault key) _ placed.0 in
+          elim (first_cause (raise_fault context at) _ e placed.1) as (λ _. Why e) [
+            | inl clock ↦
+                elim (clock_cause context at e clock) as (λ _. Why e) [
+                  | inl same ↦ subst Why (sym same) (k, clock ∙ ap (λ x. Some x) same)
+                  | inr same ↦ subst Why (sym same) (k, clock ∙ ap (λ x. Some x) same)
+                ]
+            | inr raised_at ↦
+                elim (first_cause (stale_fault (held l.state.entries key) (raised context at)) _ e raised_at.1) as (λ _. Why e) [
+                  | inl stale ↦ subst Why (sym (where_holds _ _ e stale)) (k, raised_at.0)
+                  | inr fresh ↦
+                      elim (first_cause (offer_fault (put_version at context kind value) (held l.state.entries key)) _ e fresh.1) as (λ _. Why e) [
+                        | inl crowd ↦ subst Why (sym (crowd_cause (put_version at context kind value) (held l.state.entries key) e crowd)) (k, raised_at.0)
+                        | inr fits ↦
+                            elim (first_cause (full_fault l.state) _ e fits.1) as (λ _. Why e) [
+                              | inl full ↦ subst Why (sym (where_fails _ _ e full)) (k, raised_at.0)
+                              | inr room ↦ absurd (let h = room.1 in cc)
+                            ]
+                      ]
+                ]
+          ]
+    ]
+
+-- what a put says of pass and result
+pub record PutTells (p q : PassView) (at : ℕ) (key : List ℕ) (context : Pairs) (kind : Kind) (value : List ℕ) (r : Result Entry Refusal) : Type 0 where
+  pub receipt : IfOk r (IsReceiptOf p.seat Client key (put_version at context kind value))
+  pub told_of : IfOk r (IsToldOf p q)
+  pub fits : OnOk r ((key_fault key ≡ None) × (raise_fault context at ≡ None))
+  pub refusal : IfErr r (IsPutRefusal at key context kind value)
+  pub same : OnErr r (q ≡ p)
+
+pub put_tells : (l m : Locked) (p q : PassView) (at : ℕ) (key : List ℕ) (context : Pairs) (kind : Kind) (value : List ℕ) (r : Result Entry Refusal) → DoesOrNoMemory r (l, p) (m, q) (put_in l p at key context kind value)
+    → IfErr r (λ e. e ≡ NoMemory → ask_fault l.state.config at key context kind value ≡ None) → PutTells p q at key context kind value r
+put_tells l m p q at key context kind value (Ok e) does early =
+    let t = put_told l m p q at key context kind value e does in
+    record { receipt = t.receipt; told_of = t.told_of; fits = t.fits; refusal = tt; same = tt }
+put_tells l m p q at key context kind value (Err e) does early =
+    let Why : Refusal → Type 0 = IsPutRefusal at key context kind value in
+    record {
+      receipt = tt;
+      told_of = tt;
+      fits = tt;
+      refusal =
+          elim does.1 as (λ _. Why e) [
+            | inl short ↦
+                let ask = early short in
+                subst Why (sym short) (
+                  first_none (key_fault key) _ (first_none (place_fault l.state.config key kind value) _ ask),
+                  later_none (place_fault l.state.config key kind value) (raise_fault context at) ask,
+                )
+            | inr is ↦ put_refused l p at key context kind value e is
+          ];
+      same = ap (λ (x : Locked × PassView). x.1) does.0;
+    }
+
+-- news that came
+news_told : (l : Locked) (p q : PassView) (source : Source) (key : List ℕ) (v : Version) (e : Entry) (s : State) (known : Bool) → cond known (gives Known l.state) (offer_fault v (held l.state.entries key) >> (admit l.state (entry_of l.state p.seat source key v) >>= (λ taken. gives (Taken taken.0) taken.1))) ≡ gives (Taken e) s
+    → q ≡ (told l p s (e ∷ [])).1 → IsReceiptOf p.seat source key v e × IsToldOf p q e
+news_told l p q source key v e s true is pass = absurd (let no : Known ≡ Taken e = cc in cc)
+news_told l p q source key v e s false is pass =
+    let crowd = passed (offer_fault v (held l.state.entries key)) _ (Taken e) s is in
+    let g = given (admit l.state (entry_of l.state p.seat source key v)) (λ taken. gives (Taken taken.0) taken.1) (Taken e) s crowd.1 in
+    let taken : Taken g.first ≡ Taken e = let h = g.then_gave in cc in
+    let same : g.first ≡ e = cc in
+    let between : g.between ≡ s = let h = g.then_gave in cc in
+    let a = admitted l p (entry_of l.state p.seat source key v) e s refl (let h = g.gave in cc) in (
+      record {
+        seat_is = ap (λ (x : Entry). x.seat) a.entry;
+        source_is = ap (λ (x : Entry). x.source) a.entry;
+        key_is = ap (λ (x : Entry). x.key) a.entry;
+        version_is = ap (λ (x : Entry). x.version) a.entry;
+      },
+      pass ∙ a.told_of,
+    )
+
+by_reply : (l : Locked) (p q : PassView) (source : Source) (key : List ℕ) (v : Version) (a : Accepted) (s : State) → cond (knows l.state key v) (gives Known l.state) (offer_fault v (held l.state.entries key) >> (admit l.state (entry_of l.state p.seat source key v) >>= (λ taken. gives (Taken taken.0) taken.1))) ≡ gives a s
+    → q ≡ (after_sent l p a s).1 → IsSent p source key v q a
+by_reply l p q source key v (Taken e) s is pass = news_told l p q source key v e s (knows l.state key v) is pass
+by_reply l p q source key v Known s is pass = pass
+
+-- a version of another node that was not refused
+sent_told : (l m : Locked) (p q : PassView) (source : Source) (key : List ℕ) (v : Version) (a : Accepted) → accept_in l p source key v ≡ gives a (m, q) → (key_fault key ≡ None) × IsSent p source key v q a
+sent_told l m p q source key v a is =
+    let g = given (accept l.state p.seat source key v) (λ reply. gives reply.0 (after_sent l p reply.0 reply.1)) a (m, q) is in
+    let place = passed (place_fault l.state.config key v.kind v.value) _ g.first g.between g.gave in
+    let same : g.first ≡ a = let h = g.then_gave in cc in
+    let pass : q ≡ (after_sent l p g.first g.between).1 = let h = g.then_gave in cc in (
+      first_none (key_fault key) _ place.0,
+      subst (λ (b : Accepted). IsSent p source key v q b) same (by_reply l p q source key v g.first g.between place.1 pass),
+    )
+
+-- why news do not come
+news_refused : (l : Locked) (p : PassView) (source : Source) (key : List ℕ) (v : Version) (e : Refusal) (known : Bool) → key_fault key ≡ None
+    → cond known (gives Known l.state) (offer_fault v (held l.state.entries key) >> (admit l.state (entry_of l.state p.seat source key v) >>= (λ taken. gives (Taken taken.0) taken.1))) ≡ refuses e → IsSentRefusal key v e
+news_refused l p source key v e true k is = absurd (cc)
+news_refused l p source key v e false k is =
+    let Why : Refusal → Type 0 = IsSentRefusal key v in
+    elim (first_cause (offer_fault v (held l.state.entries key)) _ e is) as (λ _. Why e) [
+      | inl crowd ↦ subst Why (sym (crowd_cause v (held l.state.entries key) e crowd)) k
+      | inr fits ↦
+          let r = refused (admit l.state (entry_of l.state p.seat source key v)) (λ taken. gives (Taken taken.0) taken.1) e (λ x. refl) fits.1 in
+          elim (first_cause (full_fault l.state) _ e r) as (λ _. Why e) [
+            | inl full ↦ subst Why (sym (where_fails _ _ e full)) k
+            | inr room ↦ absurd (let h = room.1 in cc)
+          ]
+    ]
+
+sent_refused : (l : Locked) (p : PassView) (source : Source) (key : List ℕ) (v : Version) (e : Refusal) → accept_in l p source key v ≡ refuses e → IsSentRefusal key v e
+sent_refused l p source key v e is =
+    let Why : Refusal → Type 0 = IsSentRefusal key v in
+    let r = refused (accept l.state p.seat source key v) (λ reply. gives reply.0 (after_sent l p reply.0 reply.1)) e (λ x. refl) is in
+    elim (first_cause (place_fault l.state.config key v.kind v.value) _ e r) as (λ _. Why e) [
+      | inl place ↦
+          elim (place_cause l.state.config key v.kind v.value e place) as (λ _. Why e) [
+            | of_key same k ↦ subst Why (sym same) k
+            | of_value same k odd ↦ subst Why (sym same) (k, odd)
+            | of_range same k ↦ subst Why (sym same) k
+          ]
+      | inr placed ↦ news_refused l p source key v e (knows l.state key v) (first_none (key_fault key) _ placed.0) placed.1
+    ]
+
+-- what a version of another node says of pass and result
+pub record SentTells (p q : PassView) (source : Source) (key : List ℕ) (v : Version) (r : Result Accepted Refusal) : Type 0 where
+  pub reply : IfOk r (IsSent p source key v q)
+  pub fits : OnOk r (key_fault key ≡ None)
+  pub refusal : IfErr r (IsSentRefusal key v)
+  pub same : OnErr r (q ≡ p)
+
+-- an outcome of a step after a cause that gives something
+given_first : {A B R S : Type 0} (cause : Option Refusal) (o : Outcome A R) (rest : A × R → Outcome B S) → IsTrue (is_given ((cause >> o) >>= rest)) → cause ≡ None
+given_first None o rest all = refl
+given_first (Some e) o rest all = absurd (cc)
+
+given_key : (l : Locked) (p : PassView) (source : Source) (key : List ℕ) (v : Version) → IsTrue (is_given (accept_in l p source key v)) → key_fault key ≡ None
+given_key l p source key v all = first_none (key_fault key) _ (given_first (place_fault l.state.config key v.kind v.value) _ _ all)
+
+pub sent_tells : (l m : Locked) (p q : PassView) (source : Source) (key : List ℕ) (v : Version) (r : Result Accepted Refusal) → Does r (l, p) (m, q) (accept_in l p source key v) → SentTells p q source key v r
+sent_tells l m p q source key v (Ok a) does =
+    let t = sent_told l m p q source key v a does in
+    record { reply = t.1; fits = t.0; refusal = tt; same = tt }
+sent_tells l m p q source key v (Err e) does =
+    let Why : Refusal → Type 0 = IsSentRefusal key v in
+    record {
+      reply = tt;
+      fits = tt;
+      refusal =
+          elim does.1 as (λ _. Why e) [
+            | inl short ↦ subst Why (sym short.0) (given_key l p source key v short.1)
+            | inr is ↦ sent_refused l p source key v e is
+          ];
+      same = ap (λ (x : Locked × PassView). x.1) does.0;
+    }
+
+-- what a read says of pass and result
+pub record ReadTells (p q : PassView) (key : List ℕ) (r : Result (List Version) Refusal) : Type 0 where
+  pub reading : IfOk r (IsRead p key q)
+  pub behind : IfErr r (IsBehind p key)
+  pub same : OnErr r (q ≡ p)
+
+-- whether a journal of that length is as long as the pass has seen, and covers its receipts
+record Fine (p : PassView) (journal : ℕ) (missing : Option ℕ) : Type 0 where
+  pub seen : p.seen ≤ journal
+  pub covers : missing ≡ None
+
+fine : (p : PassView) (journal : ℕ) (missing : Option ℕ) (short : Bool) → nat_lt journal p.seen ≡ short → cond short (Some (Behind p.seen journal None)) (missing_fault p.seen journal missing) ≡ None → Fine p journal missing
+fine p journal missing true is none = absurd (cc)
+fine p journal (Some number) false is none = absurd (cc)
+fine p journal None false is none = record { seen = ltb-false journal p.seen is; covers = refl }
+
+-- a read that was let through
+read_told : (l : Locked) (p q : PassView) (key : List ℕ) (versions : List Version) → get_in l p key ≡ gives versions q → IsRead p key q versions
+read_told l p q key versions is =
+    let through = passed (behind_fault l.state.entries p key) _ versions q is in
+    let f = fine p (length l.state.entries) (first_missing p.receipts key (held l.state.entries key)) (nat_lt (length l.state.entries) p.seen) refl through.0 in
+    let same : versions ≡ held l.state.entries key = let h = through.1 in cc in
+    let pass : q ≡ with_reading p (record { front = length l.state.entries; key = key; versions = held l.state.entries key }) = let h = through.1 in cc in
+    record {
+      journal = length l.state.entries;
+      seen = f.seen;
+      covers = ap (λ vs. first_missing p.receipts key vs) same ∙ f.covers;
+      pass = pass ∙ ap (λ vs. with_reading p (record { front = length l.state.entries; key = key; versions = vs })) (sym same);
+    }
+
+-- why the pass is behind
+behind_by : (p : PassView) (key : List ℕ) (journal : ℕ) (versions : List Version) (e : Refusal) (short : Bool) (missing : Option ℕ) → nat_lt journal p.seen ≡ short → first_missing p.receipts key versions ≡ missing
+    → cond short (Some (Behind p.seen journal None)) (missing_fault p.seen journal missing) ≡ Some e → IsBehind p key e
+behind_by p key journal versions e true missing is what why = subst (IsBehind p key) (let same : Behind p.seen journal None ≡ e = cc in same) (refl, ltb-true journal p.seen is)
+behind_by p key journal versions e false None is what why = absurd (cc)
+behind_by p key journal versions e false (Some number) is what why =
+    subst (IsBehind p key) (let same : Behind p.seen journal (Some number) ≡ e = cc in same) (refl, (ltb-false journal p.seen is, (versions, what)))
+
+pub read_tells : (l : Locked) (p q : PassView) (key : List ℕ) (r : Result (List Version) Refusal) → Does r p q (get_in l p key) → ReadTells p q key r
+read_tells l p q key (Ok versions) does = record { reading = read_told l p q key versions does; behind = tt; same = tt }
+read_tells l p q key (Err e) does =
+    record {
+      reading = tt;
+      behind =
+          elim does.1 as (λ _. IsBehind p key e) [
+            | inl short ↦ subst (IsBehind p key) (sym short.0) tt
+            | inr is ↦
+                elim (first_cause (behind_fault l.state.entries p key) _ e is) as (λ _. IsBehind p key e) [
+                  | inl why ↦ behind_by p key (length l.state.entries) (held l.state.entries key) e (nat_lt (length l.state.entries) p.seen) (first_missing p.receipts key (held l.state.entries key)) refl refl why
+                  | inr fine_rest ↦ absurd (let h = fine_rest.1 in cc)
+                ]
+          ];
+      same = does.0;
+    }

@@ -1,0 +1,10 @@
+-- What the owner of a hint answers.
+use Rattle.std.specs.Prelude.{ℕ}
+use Rattle.ring_node.specs.declared.delivery.Answered.{Answered}
+use Rattle.ring_node.specs.declared.delivery.Answered.TheVariants.{Taken, Known, Refused}
+
+-- how many entries come by it
+abbrev pub count_of : Answered → ℕ
+count_of Taken = 1
+count_of Known = 0
+count_of Refused = 0

@@ -1,0 +1,169 @@
+//! Deliveries of hints.
+ghost use Rattle.std.specs.Prelude.{◌≡◌, ◌≢◌, ◌⊎◌, ◌+◌, ◌<◌, ◌≤◌, Err, IfOk, IfErr, OnErr};
+ghost use Rattle.range_journal.specs.declared.journal.Source.{Source};
+ghost use Rattle.ring_node.specs.Answered.{count_of};
+ghost use Rattle.ring_node.specs.Gains.{Gains, GainsSome};
+
+use crate::hints::SharedHints;
+use crate::range::SharedRange;
+use admission::slot::Slot;
+use caller_pass::pass::Pass;
+use hint_store::hint::{Delivery, Hint};
+use range_journal::journal::Source;
+use range_state::event::Accepted;
+use std::alloc::Global;
+use std::sync::Wait;
+use std::sync::ledger::Ledger;
+use vclock::refusal::Refusal;
+use version_set::version::Version;
+
+/// What became of the hints of a delivery.
+#[derive(Clone, Copy, Debug, PartialEq, Eq)]
+pub struct DeliverReport {
+    /// How many versions the owner journaled.
+    pub delivered: u64,
+    /// How many were known there.
+    pub known: u64,
+    /// How many hints the owner refused: they stay pending.
+    pub kept: u64,
+}
+
+impl DeliverReport {
+    /// The report with one answer more.
+    fn with(self, answered: Answered) -> DeliverReport
+        requires { self.delivered + self.known + self.kept < u64.MAX }
+        ensures delivered { result.delivered ≡ self.delivered + count_of answered }
+        ensures turns { result.delivered + result.known + result.kept ≡ self.delivered + self.known + self.kept + 1 }
+    {
+        let mut report = self;
+        match answered {
+            Answered::Taken => report.delivered += 1,
+            Answered::Known => report.known += 1,
+            Answered::Refused => report.kept += 1,
+        }
+        report
+    }
+}
+
+/// What the owner of a hint answered to it.
+#[derive(Clone, Copy, Debug, PartialEq, Eq)]
+enum Answered {
+    /// It journaled the version.
+    Taken,
+    /// It knew the version.
+    Known,
+    /// It refused the version, as where its journal is full.
+    Refused,
+}
+
+/// Delivers the pending hints of an owner to its range, one in each turn, by rising id from 1, until none is left or
+/// the turns are used. The pass is told of what the owner journals.
+///
+/// The owner is offered each version as a hint, and the hint is confirmed where it journals the version or knows it,
+/// even if somebody else confirmed it meanwhile. A hint that the owner refuses by another cause than NoMemory is kept:
+/// it stays pending, and is passed over. No two locks are held at once. The slot is the leave to do so.
+///
+/// Refused: Stranger (the owner isn't the range's node: then nothing is done), NoMemory. What was delivered until then
+/// stays so.
+#[tactic(auto, using(crate::proofs::GainLaws::gains_none, crate::proofs::GainLaws::gains_more))]
+pub fn deliver<R: Wait, C: Ledger, L: Ledger>(
+    rt: &R,
+    alloc: Global,
+    _slot: &Slot<C>,
+    hints: &SharedHints,
+    range: &SharedRange<L>,
+    pass: &mut Pass<L>,
+    owner: u16,
+    turns: u64,
+) -> Result<DeliverReport, Refusal>
+    ensures gains { IfOk result (λ report. Gains pass.old pass.new Source.Hint report.delivered) }
+    ensures turns { IfOk result (λ report. report.delivered + report.known + report.kept ≤ turns) }
+    ensures some { OnErr result (GainsSome pass.old pass.new Source.Hint) }
+    ensures refusal { IfErr result (λ e. (e ≡ Refusal.Stranger) ⊎ (e ≡ Refusal.NoMemory)) }
+    ensures stranger { owner ≢ range.now → (result ≡ Err Refusal.Stranger) × (pass.new ≡ pass.old) }
+    ensures here { owner ≡ range.now → IfErr result (λ e. e ≡ Refusal.NoMemory) }
+{
+    if owner != range.node() {
+        return Err(Refusal::Stranger);
+    }
+    let mut report = DeliverReport {
+        delivered: 0,
+        known: 0,
+        kept: 0,
+    };
+    let mut after = 0;
+    for _ in 0..turns {
+        let Some(hint) = hints.next(rt, alloc, owner, after)? else {
+            break;
+        };
+        after = hint.id;
+        report = report.with(offer(rt, alloc, hints, range, pass, hint)?);
+    }
+    Ok(report)
+}
+
+/// Offers the owner of a hint its version, and confirms the hint unless the version is refused. The copy is made before
+/// the version is offered.
+#[tactic(auto, using(crate::proofs::GainLaws::gains_same))]
+fn offer<R: Wait, L: Ledger>(
+    rt: &R,
+    alloc: Global,
+    hints: &SharedHints,
+    range: &SharedRange<L>,
+    pass: &mut Pass<L>,
+    hint: Hint,
+) -> Result<Answered, Refusal>
+    ensures gains { IfOk result (λ answered. Gains pass.old pass.new Source.Hint (count_of answered)) }
+    ensures same { OnErr result (pass.new ≡ pass.old) }
+    ensures refusal { IfErr result (λ e. e ≡ Refusal.NoMemory) }
+{
+    let copy = hint.version.try_clone()?;
+    let answered = send(rt, alloc, range, pass, hint.key.as_slice(), copy)?;
+    confirm(rt, hints, hint, answered);
+    Ok(answered)
+}
+
+/// Sends the owner of a hint the hint's key and version.
+#[tactic(auto, using(crate::proofs::GainLaws::gains_same))]
+fn send<R: Wait, L: Ledger>(
+    rt: &R,
+    alloc: Global,
+    range: &SharedRange<L>,
+    pass: &mut Pass<L>,
+    key: &[u8],
+    version: Version,
+) -> Result<Answered, Refusal>
+    ensures gains { IfOk result (λ answered. Gains pass.old pass.new Source.Hint (count_of answered)) }
+    ensures same { OnErr result (pass.new ≡ pass.old) }
+    ensures refusal { IfErr result (λ e. e ≡ Refusal.NoMemory) }
+{
+    match range.copy(rt, alloc, pass, Source::Hint, key, version) {
+        Ok(Accepted::Taken(_)) => Ok(Answered::Taken),
+        Ok(Accepted::Known) => Ok(Answered::Known),
+        Err(Refusal::NoMemory) => Err(Refusal::NoMemory),
+        Err(_) => Ok(Answered::Refused),
+    }
+}
+
+/// Confirms a hint that its owner has answered, and has not refused.
+fn confirm<R: Wait>(rt: &R, hints: &SharedHints, hint: Hint, answered: Answered) {
+    let known = match answered {
+        Answered::Taken => false,
+        Answered::Known => true,
+        Answered::Refused => return,
+    };
+    let Hint {
+        id,
+        owner,
+        key,
+        version,
+    } = hint;
+    let delivery = Delivery {
+        owner,
+        key,
+        version,
+        known,
+    };
+    // UnknownHint: somebody else confirmed the hint meanwhile. Its owner has answered all the same.
+    let _ = hints.confirm(rt, id, delivery);
+}

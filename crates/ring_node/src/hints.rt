@@ -1,0 +1,79 @@
+//! Hints that threads share.
+ghost use Rattle.std.specs.Prelude.{◌≡◌, ◌<◌, [], ◌∷◌, None, IfOk, IfSome};
+ghost use Rattle.vclock.specs.Answer.{Answers};
+ghost use Rattle.vclock.specs.Outcome.{Does, DoesAtOnce};
+ghost use Rattle.hint_store.specs.Hints.{AreHints, keep, next_hint, confirm};
+ghost use Rattle.ring_node.specs.Moments.{FoundAtSomeMoment, ChangedAtSomeMoment};
+
+use hint_store::hint::{Delivery, Hint};
+use hint_store::store::HintStore;
+use std::alloc::Global;
+use std::sync::{Mutex, Wait};
+use vclock::bytes::Bytes;
+use vclock::refusal::Refusal;
+use version_set::version::Version;
+
+/// The hints of a carrier, that threads share.
+#[derive(Drop)]
+pub struct SharedHints {
+    hints: Mutex<HintStore>,
+}
+
+impl SharedHints {
+    /// No hint. It takes no memory.
+    pub fn new(alloc: Global) -> SharedHints {
+        SharedHints {
+            hints: Mutex::new(HintStore::new(alloc)),
+        }
+    }
+
+    /// Keeps a version for a replica that is down, and gives the hint's id, as [`HintStore::keep`].
+    ///
+    /// Refused, in order: HintsFull (10,000 hints are pending, or the last id was used), NoMemory. Nothing is then
+    /// kept.
+    pub fn keep<R: Wait>(
+        &self,
+        rt: &R,
+        owner: u16,
+        key: Bytes,
+        version: Version,
+    ) -> Result<u32, Refusal>
+        ensures { ChangedAtSomeMoment AreHints
+            (λ before after. Does result before after (keep before owner key version)) }
+    {
+        let mut hints = self.hints.lock(rt);
+        let _valid = hints.pending();
+        hints.keep(owner, key, version)
+    }
+
+    /// A copy of the pending hint of an owner with the least id over `after`, as [`HintStore::next`].
+    ///
+    /// Refused: NoMemory.
+    pub fn next<R: Wait>(
+        &self,
+        rt: &R,
+        alloc: Global,
+        owner: u16,
+        after: u32,
+    ) -> Result<Option<Hint>, Refusal>
+        ensures found { IfOk result (λ found. IfSome found (λ h. (h.owner ≡ owner) × (after < h.id))) }
+        ensures moment { FoundAtSomeMoment AreHints
+            (λ hints. Answers result None (λ found. found ≡ next_hint (owner ∷ []) after hints)) }
+    {
+        let hints = self.hints.lock(rt);
+        let _valid = hints.pending();
+        hints.next(alloc, owner, after)
+    }
+
+    /// Takes down that the owner of a hint answered, as [`HintStore::confirm`]. It takes no memory.
+    ///
+    /// Refused: UnknownHint (no pending hint has this id with this owner, key and version). Nothing is then taken down.
+    pub fn confirm<R: Wait>(&self, rt: &R, id: u32, delivery: Delivery) -> Result<(), Refusal>
+        ensures { ChangedAtSomeMoment AreHints
+            (λ before after. DoesAtOnce result before after (confirm before id delivery)) }
+    {
+        let mut hints = self.hints.lock(rt);
+        let _valid = hints.pending();
+        hints.confirm(id, delivery)
+    }
+}

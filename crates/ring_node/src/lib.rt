@@ -1,0 +1,14 @@
+//! What the threads of a node share: its hints, the controller of its slots, and the ranges of which it is a replica.
+//!
+//! Each of these is a lock round a value that is proved. A call takes the lock once, for one call of the value, and
+//! lets it go. So threads see whole calls alone, in some order, and what the types of the values promise holds of
+//! running threads. Nothing outside can name the value behind a lock. So a contract says what the call returned, and
+//! that at some moment there was a right value of which it is the outcome.
+#![tactic(auto)]
+
+pub mod controller;
+pub mod delivery;
+pub mod gate;
+pub mod hints;
+pub mod range;
+pub mod rehasher;

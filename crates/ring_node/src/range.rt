@@ -1,0 +1,229 @@
+//! A range that threads share.
+ghost use Rattle.std.specs.Prelude.{◌≡◌, ◌⊎◌, ◌≤◌, [], None, IfOk, IfErr, OnOk, OnErr, IsTrue, All};
+ghost use Rattle.std.specs.Arc.{arc_value};
+ghost use Rattle.vclock.specs.Answer.{Answers};
+ghost use Rattle.vclock.specs.Clock.{raise_fault};
+ghost use Rattle.vclock.specs.Keys.{key_fault};
+ghost use Rattle.vclock.specs.Outcome.{Does, DoesOrNoMemory};
+ghost use Rattle.range_state.specs.Sent.{is_sent};
+ghost use Rattle.range_state.specs.State.{put_version, dirty_fault, rows_now};
+ghost use Rattle.caller_pass.specs.Closings.{AllThere, IsSettled, IsUnclosed};
+ghost use Rattle.caller_pass.specs.Locks.{IsLocked, put_in, accept_in, get_in, plainly};
+ghost use Rattle.ring_node.specs.Moments.{FoundAtSomeMoment, ChangedAtSomeMoment};
+ghost use Rattle.ring_node.specs.Passes.{IsReceiptOf, IsToldOf, IsSent, IsPutRefusal, IsSentRefusal, IsRead, IsBehind};
+
+use caller_pass::book::Book;
+use caller_pass::closing::{Closed, Unclosed};
+use caller_pass::locked::LockedRange;
+use caller_pass::pass::Pass;
+use caller_pass::unread::Unread;
+use range_journal::journal::Source;
+use range_state::event::{Accepted, Receipt};
+use range_state::state::RangeState;
+use snapshot::snapshot::Snapshot;
+use std::alloc::Global;
+use std::marker::Model;
+use std::sync::ledger::Ledger;
+use std::sync::{Arc, Mutex, Wait};
+use vclock::bytes::Bytes;
+use vclock::clock::Clock;
+use vclock::refusal::Refusal;
+use version_set::kind::Kind;
+use version_set::set::VersionSet;
+use version_set::version::Version;
+
+/// A range of which a node is a replica, that threads share: a [`LockedRange`] in a lock.
+///
+/// Contracts see the node. A caller has a pass of the range's own ledger, so a pass of another range doesn't compile
+/// here. No call holds two locks, and none hashes, encodes or waits for anything while it holds one.
+#[derive(Drop)]
+pub struct SharedRange<L: Ledger> {
+    node: u16,
+    pub(crate) range: Mutex<LockedRange<L>>,
+    ghost valid: { 1 ≤ node },
+}
+
+impl<L: Ledger> Model for SharedRange<L> {
+    ghost use Rattle.std.specs.Prelude.{ℕ};
+
+    ghost Value = { ℕ };
+
+    ghost view = { λ s. s.node };
+}
+
+/// A range that was not closed, with all that was handed in.
+#[derive(Drop)]
+pub struct NotClosed<L: Ledger> {
+    /// The range.
+    pub range: SharedRange<L>,
+    /// The passes.
+    pub passes: Vec<Pass<L>>,
+    /// Why: Stranger, Unsettled or NoMemory.
+    pub refusal: Refusal,
+}
+
+impl<L: Ledger> SharedRange<L> {
+    /// A range that has accepted nothing, of a node, 1 to 65,535, with a book that has counted nothing. It takes no
+    /// memory.
+    pub fn new(node: u16, state: RangeState, book: Book<L>) -> SharedRange<L>
+        requires node { 1 ≤ node }
+        requires empty { state.entries ≡ [] }
+        requires none { book.number ≡ 0 }
+        ensures { result ≡ node }
+    {
+        let range = Mutex::new(LockedRange::new(state, book));
+        SharedRange { node, range }
+    }
+
+    /// The node, 1 to 65,535.
+    pub fn node(&self) -> u16
+        ensures value { result ≡ self.now }
+        ensures valid { 1 ≤ self.now }
+    {
+        self.node
+    }
+
+    /// Puts a value at the range's node, or a tombstone, as [`LockedRange::put`]. The pass is told of the entry.
+    ///
+    /// Refused as [`LockedRange::put`], in order: BadKey, BadValue (of the range's format), OtherRange, ClockFull,
+    /// CounterFull, StaleContext (with the clocks that are held), Crowded, JournalFull, NoMemory. Range and pass are
+    /// then as they were. From StaleContext on NoMemory may stand in place of the cause.
+    pub fn put<R: Wait>(
+        &self,
+        rt: &R,
+        alloc: Global,
+        pass: &mut Pass<L>,
+        key: &[u8],
+        context: &Clock,
+        kind: Kind,
+        value: Bytes,
+    ) -> Result<Receipt, Refusal>
+        ensures receipt { IfOk result (IsReceiptOf pass.old.seat Source.Client key.now
+            (put_version self.now context.now kind value)) }
+        ensures told { IfOk result (IsToldOf pass.old pass.new) }
+        ensures fits { OnOk result ((key_fault key.now ≡ None) × (raise_fault context.now self.now ≡ None)) }
+        ensures refusal { IfErr result (IsPutRefusal self.now key.now context.now kind value) }
+        ensures same { OnErr result (pass.new ≡ pass.old) }
+        ensures moment { ChangedAtSomeMoment (IsLocked L.parts) (λ before after.
+            DoesOrNoMemory result (before, pass.old) (after, pass.new)
+            (put_in before pass.old self.now key.now context.now kind value)) }
+    {
+        let node = self.node();
+        let mut range = self.range.lock(rt);
+        // Called for its clause `valid` alone: the range is right.
+        let _valid = range.config();
+        range.put(alloc, pass, node, key, context, kind, value)
+    }
+
+    /// Takes in a version that another node sent, as a copy or as a hint, as [`LockedRange::accept`]. The pass is told
+    /// of the entry, where the version was not known.
+    ///
+    /// Refused as [`LockedRange::accept`], in order: BadKey, BadValue (of the range's format), OtherRange, Crowded,
+    /// JournalFull, NoMemory. Range and pass are then as they were.
+    pub fn copy<R: Wait>(
+        &self,
+        rt: &R,
+        alloc: Global,
+        pass: &mut Pass<L>,
+        source: Source,
+        key: &[u8],
+        version: Version,
+    ) -> Result<Accepted, Refusal>
+        requires { IsTrue (is_sent source) }
+        ensures reply { IfOk result (IsSent pass.old source key.now version pass.new) }
+        ensures fits { OnOk result (key_fault key.now ≡ None) }
+        ensures refusal { IfErr result (IsSentRefusal key.now version) }
+        ensures same { OnErr result (pass.new ≡ pass.old) }
+        ensures moment { ChangedAtSomeMoment (IsLocked L.parts) (λ before after.
+            Does result (before, pass.old) (after, pass.new) (accept_in before pass.old source key.now version)) }
+    {
+        let mut range = self.range.lock(rt);
+        // Called for its clause `valid` alone: the range is right.
+        let _valid = range.config();
+        range.accept(alloc, pass, source, key, version)
+    }
+
+    /// The versions that are held for a key, in the order of their texts, as [`LockedRange::read`]: they cover each
+    /// receipt of the pass for the key. The pass keeps them as a reading.
+    ///
+    /// Refused, in order: Behind (the journal is shorter than what the pass has seen; or what is held does not cover a
+    /// receipt of the pass for the key: then with the number of the first such receipt), NoMemory. The pass is then as
+    /// it was. Only a read of this range makes the refusal.
+    pub fn get<R: Wait>(
+        &self,
+        rt: &R,
+        alloc: Global,
+        pass: &mut Pass<L>,
+        key: &[u8],
+    ) -> Result<VersionSet, Unread<L>>
+        ensures reading { IfOk result (IsRead pass.old key.now pass.new) }
+        ensures behind { IfErr result (λ unread. (unread.seat ≡ pass.old.seat)
+            × IsBehind pass.old key.now unread.refusal) }
+        ensures same { OnErr result (pass.new ≡ pass.old) }
+        ensures moment { FoundAtSomeMoment (IsLocked L.parts)
+            (λ locked. Does (plainly result) pass.old pass.new (get_in locked pass.old key.now)) }
+    {
+        let range = self.range.lock(rt);
+        // Called for its clause `valid` alone: the range is right.
+        let _valid = range.config();
+        range.read(alloc, pass, key)
+    }
+
+    /// The rows at one moment with the digests of their tree, as [`LockedRange::snapshot`].
+    ///
+    /// Refused, in order: Dirty (some node of the tree has no digest), NoMemory.
+    pub fn snapshot<R: Wait>(&self, rt: &R, alloc: Global) -> Result<Arc<Snapshot, Global>, Refusal>
+        ensures refusal { IfErr result (λ e. (e ≡ Refusal.Dirty) ⊎ (e ≡ Refusal.NoMemory)) }
+        ensures moment { FoundAtSomeMoment (IsLocked L.parts) (λ locked.
+            Answers result (dirty_fault locked.state) (λ snapshot. arc_value snapshot ≡ rows_now locked.state)) }
+    {
+        let range = self.range.lock(rt);
+        // Called for its clause `valid` alone: the range is right.
+        let _valid = range.config();
+        range.snapshot(alloc)
+    }
+
+    /// Closes the range, if each of its seats has a pass and each pass was told what the journal has, as
+    /// [`LockedRange::close`]. It takes no lock, since nobody else has the range any more.
+    ///
+    /// Refused as [`LockedRange::close`]: Stranger, Unsettled, NoMemory. Range and passes are then handed back.
+    pub fn close(self, alloc: Global, passes: Vec<Pass<L>>) -> Result<Closed<L>, NotClosed<L>>
+        ensures back { IfOk result (λ closed. closed.passes.items ≡ passes.items) }
+        ensures there { OnOk result (AllThere L.parts passes.items) }
+        ensures settled { IfOk result (λ closed. All (IsSettled closed.state.entries) passes.items) }
+        ensures right { IfOk result (λ closed. FoundAtSomeMoment (IsLocked L.parts)
+            (λ locked. closed.state ≡ locked.state)) }
+        ensures handed_back { IfErr result (λ refused. (refused.range ≡ self) × (refused.passes.items ≡ passes.items)) }
+        ensures refusal { IfErr result (λ refused. FoundAtSomeMoment (IsLocked L.parts)
+            (λ locked. IsUnclosed L.parts locked.state.entries passes.items refused.refusal)) }
+    {
+        let SharedRange { node, range } = self;
+        let range = range.into_inner();
+        // Called for its clause `valid` alone: the range is right.
+        let _valid = range.config();
+        match range.close(alloc, passes) {
+            Ok(closed) => Ok(closed),
+            Err(unclosed) => Err(not_closed(node, unclosed)),
+        }
+    }
+}
+
+/// A range that was not closed, with its node.
+fn not_closed<L: Ledger>(node: u16, unclosed: Unclosed<L>) -> NotClosed<L>
+    requires { 1 ≤ node }
+    ensures range { result.range ≡ node }
+    ensures passes { result.passes.items ≡ unclosed.passes.items }
+    ensures refusal { result.refusal ≡ unclosed.refusal }
+{
+    let Unclosed {
+        range,
+        passes,
+        refusal,
+    } = unclosed;
+    let range = Mutex::new(range);
+    NotClosed {
+        range: SharedRange { node, range },
+        passes,
+        refusal,
+    }
+}

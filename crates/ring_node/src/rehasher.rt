@@ -1,0 +1,90 @@
+//! Workers that hash a range's tree while puts go on.
+ghost use Rattle.std.specs.Prelude.{◌≡◌, ◌+◌, ◌<◌, IfOk, IfErr, IsTrue};
+ghost use Rattle.hash_tree.specs.Nodes.{are_clean};
+ghost use Rattle.range_state.specs.State.{GivesJob};
+ghost use Rattle.caller_pass.specs.Locks.{IsLocked};
+ghost use Rattle.ring_node.specs.Moments.{FoundAtSomeMoment};
+ghost use Rattle.ring_node.specs.Reports.{IsRehashReport};
+
+use crate::gate::Gate;
+use crate::range::SharedRange;
+use admission::slot::Slot;
+use rehash::job::{Job, run_job};
+use std::alloc::Global;
+use std::sync::Wait;
+use std::sync::ledger::Ledger;
+use vclock::refusal::Refusal;
+
+/// What a rehash worker did.
+#[derive(Clone, Copy, Debug, PartialEq, Eq)]
+pub struct RehashReport {
+    /// How many digests it installed.
+    pub installed: u64,
+    /// How many digests were too late: the node had another text by then, or a child of it was dirty.
+    pub stale: u64,
+    /// Whether it ended because no node was dirty.
+    pub clean: bool,
+}
+
+impl<L: Ledger> SharedRange<L> {
+    /// Hashes dirty nodes, one in each turn, until a job is asked for and no node is dirty, which uses a turn as well,
+    /// or until the turns are used. `skip` is as in [`LockedRange::take_job`], so that workers take different nodes.
+    ///
+    /// A node's text is written and hashed with no lock held, so puts go on meanwhile. A digest that comes too late is
+    /// counted, and its node is hashed again in a later turn. The worker passes the gate after it took a job (step 1)
+    /// and after it hashed the text (step 2), with no lock held. The slot is the leave to do so.
+    ///
+    /// Refused: NoMemory. What was installed until then stays.
+    pub fn rehash_worker<R: Wait, C: Ledger, G: Gate>(
+        &self,
+        rt: &R,
+        alloc: Global,
+        _slot: &Slot<C>,
+        gate: &G,
+        skip: u64,
+        turns: u64,
+    ) -> Result<RehashReport, Refusal>
+        ensures turns { IfOk result (IsRehashReport turns) }
+        ensures clean { IfOk result (λ report. IsTrue report.clean
+            → FoundAtSomeMoment (IsLocked L.parts) (λ locked. IsTrue (are_clean locked.state.marks))) }
+        ensures refusal { IfErr result (λ e. e ≡ Refusal.NoMemory) }
+    {
+        let mut report = RehashReport {
+            installed: 0,
+            stale: 0,
+            clean: false,
+        };
+        for _ in 0..turns {
+            let Some(job) = self.take_job(rt, alloc, skip)? else {
+                report.clean = true;
+                break;
+            };
+            if self.hash(rt, gate, job) {
+                report.installed += 1;
+            } else {
+                report.stale += 1;
+            }
+        }
+        Ok(report)
+    }
+
+    /// A job for a dirty node with clean children, or none where no node is dirty.
+    fn take_job<R: Wait>(&self, rt: &R, alloc: Global, skip: u64) -> Result<Option<Job>, Refusal>
+        ensures refusal { IfErr result (λ e. e ≡ Refusal.NoMemory) }
+        ensures moment { FoundAtSomeMoment (IsLocked L.parts) (λ locked. IfOk result (GivesJob locked.state)) }
+    {
+        let range = self.range.lock(rt);
+        // Called for its clause `valid` alone: the range is right.
+        let _valid = range.config();
+        range.take_job(alloc, skip)
+    }
+
+    /// Hashes the text of a job, and installs its digest unless it is too late: whether it was installed.
+    fn hash<R: Wait, G: Gate>(&self, rt: &R, gate: &G, job: Job) -> bool {
+        gate.pass(rt, 1);
+        let node = job.node();
+        let hashed = run_job(job);
+        gate.pass(rt, 2);
+        self.range.lock(rt).install(node, &hashed).is_ok()
+    }
+}
