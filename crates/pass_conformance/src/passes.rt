@@ -63,7 +63,10 @@ fn write<L: Ledger>(
     assert_eq!(rt; put(alloc, range, one)?, 0);
     let held = range.get(alloc, one, b"a")?;
     assert_eq!(rt; held.len(), 1);
-    assert_eq!(rt; (one.seen(), one.receipts().len(), one.readings().len()), (1, 1, 1));
+    assert_eq!(rt;
+        (one.seen(), one.receipts().len(), one.readings().len()),
+        (1, 1, 1)
+    );
     Ok(())
 }
 
