@@ -18,7 +18,7 @@ use vclock::refusal::Refusal;
 use version_set::kind::Kind;
 
 /// How often each thread puts its key and sends a copy of the common one.
-const ROUNDS: u64 = 20;
+const ROUNDS: u32 = 20;
 
 /// Puts a key of the thread's own, takes in a copy of a key that all write, and reads both.
 fn round<L: Ledger, R: Wait>(
@@ -26,13 +26,18 @@ fn round<L: Ledger, R: Wait>(
     alloc: Global,
     range: &SharedRange<L>,
     pass: &mut Pass<L>,
-    count: u64,
+    count: u32,
 ) -> Result<(), Refusal> {
     let seat = pass.seat();
     let own = seat.to_be_bytes();
-    let (context, x) = (counted(alloc, count)?, value(alloc)?);
+    let (context, x) = (counted(alloc, u64::from(count))?, value(alloc)?);
     range.put(rt, alloc, pass, &own, &context, Kind::Live, x)?;
-    let copy = version(alloc, (10 + u64::from(seat), count + 1), Kind::Live, b"x")?;
+    let copy = version(
+        alloc,
+        (10 + u64::from(seat), u64::from(count) + 1),
+        Kind::Live,
+        b"x",
+    )?;
     range.copy(rt, alloc, pass, Source::Copy, b"common", copy)?;
     for key in [own.as_slice(), b"common".as_slice()] {
         if let Err(unread) = range.get(rt, alloc, pass, key) {

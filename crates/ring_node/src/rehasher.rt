@@ -85,6 +85,7 @@ impl<L: Ledger> SharedRange<L> {
         let node = job.node();
         let hashed = run_job(job);
         gate.pass(rt, 2);
-        self.range.lock(rt).install(node, &hashed).is_ok()
+        let installed = self.range.lock(rt).install(node, &hashed);
+        installed.is_ok()
     }
 }
