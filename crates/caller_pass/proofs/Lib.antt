@@ -3,3 +3,4 @@ pub mod GrowthLaws
 pub mod LockLaws
 pub mod ReplayLaws
 pub mod Walk
+pub mod CallerLaws

@@ -3,6 +3,7 @@ use Rattle.std.proofs.Common.{◌≡◌, ℕ, zero, suc, ◌+◌, ◌<◌, ◌�
 use Rattle.std.specs.Prelude.{nat_eq}
 use Rattle.std.specs.List.{AllByRecursion}
 use Rattle.std.proofs.lemmas.List.{length-append}
+use Rattle.std.proofs.lemmas.List.Elements.{All-from_recursion}
 use Rattle.version_set.proofs.ListLaws.{all-push}
 use Rattle.range_journal.specs.declared.journal.Entry.{Entry}
 use Rattle.caller_pass.specs.declared.reading.Reading.{Reading}
@@ -47,15 +48,10 @@ pass_read n p r ok later =
       seen = all-push (λ (s : Reading). s.front ≤ r.front) p.readings r below (omega arith);
     }
 
-all_at : {X : Type 0} (P : X → Type 0) (xs : List X) (k : ℕ) (d : X) → AllByRecursion P xs → k < length xs → P (get_or xs k d)
-all_at P [] k d all below = absurd (omega arith)
-all_at P (x ∷ xs) zero d all below = all.0
-all_at P (x ∷ xs) (suc k) d all below = all_at P xs k d all.1 (omega arith)
-
 -- a reading's front is at most those of the readings after it
 pub fronts_rise : (rs : List Reading) (i k : ℕ) (d e : Reading) → AreInOrder rs → i ≤ k → k < length rs → (get_or rs i d).front ≤ (get_or rs k e).front
 fronts_rise [] i k d e ordered le below = absurd (omega arith)
 fronts_rise (r ∷ rs) zero zero d e ordered le below = omega arith
-fronts_rise (r ∷ rs) zero (suc k) d e ordered le below = all_at (λ (s : Reading). r.front ≤ s.front) rs k e ordered.0 (omega arith)
+fronts_rise (r ∷ rs) zero (suc k) d e ordered le below = All-from_recursion (λ (s : Reading). r.front ≤ s.front) rs ordered.0 k e (omega arith)
 fronts_rise (r ∷ rs) (suc i) zero d e ordered le below = absurd (omega arith)
 fronts_rise (r ∷ rs) (suc i) (suc k) d e ordered le below = fronts_rise rs i k d e ordered.1 (omega arith) (omega arith)

@@ -5,10 +5,12 @@
 //! - [`locked`]: a range with its book; its calls tell the pass that they are lent.
 //! - [`unread`]: why a pass was not told what a key holds.
 //! - [`closing`]: a range that is closed, once each pass was told what the journal has.
+//! - [`laws`]: what the definitions say: a caller reads its own writes, and what it reads never goes back.
 #![tactic(auto)]
 
 pub mod book;
 pub mod closing;
+pub mod laws;
 pub mod locked;
 pub mod pass;
 pub mod reading;

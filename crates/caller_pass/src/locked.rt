@@ -67,8 +67,8 @@ impl<L: Ledger> LockedRange<L> {
         LockedRange { state, book }
     }
 
-    /// Which range it is, in which format, and the limit of its journal. What holds whenever the lock is free is this clause
-    /// `valid`: state and book are right.
+    /// Which range it is, in which format, and the limit of its journal. The clause `valid` is what holds whenever the lock
+    /// is free.
     pub fn config(&self) -> RangeConfig
         ensures value { result ≡ self.now.state.config }
         ensures valid { IsLocked L.parts self.now }

@@ -1,0 +1,37 @@
+//! What the definitions say of what callers are told.
+ghost use Rattle.std.specs.Prelude.{◌≡◌, ◌<◌, ◌≤◌, ℕ, List, None, Some, All, Any, Contains, IsTrue, length, slice_get};
+ghost use Rattle.version_set.specs.Version.{covered};
+ghost use Rattle.range_journal.specs.declared.journal.Entry.{Entry};
+ghost use Rattle.range_journal.specs.Journal.{held};
+ghost use Rattle.caller_pass.specs.declared.reading.Reading.{Reading};
+ghost use Rattle.caller_pass.specs.Passes.{PassView, new_pass, new_passes};
+ghost use Rattle.caller_pass.specs.Locks.{Locked, IsLocked, behind_fault};
+ghost use Rattle.caller_pass.specs.Closings.{IsTrueReading, IsSettled, AllThere};
+
+/// A caller reads its own writes: where a read is not Behind, the journal is at least as long as what the caller has seen, and
+/// what is held for the key covers each receipt of the caller for it.
+pub fn reads_cover_receipts()
+    ensures { (entries : List Entry) (pass : PassView) (key : List ℕ) → behind_fault entries pass key ≡ None
+        → (pass.seen ≤ length entries)
+        × All (λ e. e.key ≡ key → IsTrue (covered e.version (held entries key))) pass.receipts }
+{}
+
+/// What callers read of a key never goes back: a true reading covers each version of an earlier one.
+pub fn readings_never_go_back()
+    ensures { (entries : List Entry) (r s : Reading) → IsTrueReading entries r → IsTrueReading entries s
+        → r.key ≡ s.key → r.front ≤ s.front
+        → All (λ v. IsTrue (covered v s.versions)) r.versions }
+{}
+
+/// Each entry of a range that was closed is a receipt of a pass.
+pub fn settled_passes_have_each_entry()
+    ensures { (seats : ℕ) (range : Locked) (passes : List PassView) → IsLocked seats range → AllThere seats passes
+        → All (IsSettled range.state.entries) passes
+        → (entry : Entry) → Contains range.state.entries entry → Any (λ p. Contains p.receipts entry) passes }
+{}
+
+/// The passes of a new book have its seats in order, from 0.
+pub fn new_passes_have_the_seats()
+    ensures { (seats : ℕ) → (length (new_passes seats) ≡ seats)
+        × ((seat : ℕ) → seat < seats → slice_get (new_passes seats) seat ≡ Some (new_pass seat)) }
+{}

@@ -1,0 +1,30 @@
+// A range with two passes.
+ghost use Rattle.std.specs.Prelude.{◌≡◌};
+
+use caller_pass::book::open_passes;
+use caller_pass::locked::LockedRange;
+use caller_pass::pass::Pass;
+use range_state::config::RangeConfig;
+use range_state::state::RangeState;
+use std::alloc::Global;
+use std::sync::ledger::{Blank, Ledger};
+use std::test::Fail;
+use std::thread::Threads;
+
+/// A range of format 1 that has accepted nothing, whose nodes are all clean, and the passes of the seats 1 and 0.
+pub(crate) fn range<L: Ledger>(
+    rt: &(impl Threads + Sync),
+    alloc: Global,
+    blank: Blank,
+) -> Result<(LockedRange<L>, Pass<L>, Pass<L>), Fail>
+    requires name { blank.name ≡ L.name }
+    requires parts { (blank.parts ≡ L.parts) × (L.parts ≡ 2) }
+{
+    let config = RangeConfig::new(1, 0, 0, 1_000).ok_or("no such range")?;
+    let mut state = RangeState::new(alloc, config)?;
+    state.rehash(rt, alloc)?;
+    let (book, mut passes) = open_passes::<L>(blank, alloc, 2)?;
+    let one = passes.pop().ok_or("no pass")?;
+    let zero = passes.pop().ok_or("one pass")?;
+    Ok((LockedRange::new(state, book), one, zero))
+}
