@@ -44,9 +44,10 @@ static void refuse(int error) {
     *__errno_location() = error;
 }
 
+// (threads grow memory side by side, and each growth has a number of its own)
 static int is_refused(void) {
-    allocs++;
-    if (allocs != alloc_at && (!allocs_from || allocs < allocs_from))
+    size number = __atomic_add_fetch(&allocs, 1, __ATOMIC_RELAXED);
+    if (number != alloc_at && (!allocs_from || number < allocs_from))
         return 0;
     refuse(no_memory);
     return 1;

@@ -2,18 +2,25 @@
 #![tactic(auto)]
 
 mod fault;
+mod progress;
 mod status;
 mod words;
 
 use clap::Error;
 use fault::Fault;
 use outage_script::{LineFault, ScriptEnd, run_last_script};
-use status::{code_of, code_of_refusal, fault_code, usage_code};
+use progress::Teller;
+use ring_node::gate::OpenGate;
+use status::{code_of, code_of_refusal, code_of_storm, fault_code, usage_code};
 use std::env::Env;
 use std::io;
 use std::io::BufWriter;
 use std::process::ExitCode;
+use std::sync::Wait;
 use std::thread::Threads;
+use storm::storm::{MOST_PUTS, StormEnd, run_storm};
+use storm::tally::Tallies;
+use vclock::refusal::Refusal;
 use words::{Task, task_in, words_of};
 
 fn main(rt: HostRuntime) -> ExitCode {
@@ -27,7 +34,7 @@ fn main(rt: HostRuntime) -> ExitCode {
 }
 
 /// Does what the words of the command line ask for.
-fn obey<R: Env + Input + Print + Eprint + AllocGlobal + Threads + Sync>(
+fn obey<R: Env + Input + Print + Eprint + AllocGlobal + Threads + Wait + Sync>(
     rt: &R,
 ) -> Result<ExitCode, Fault> {
     let Some(words) = words_of(rt)? else {
@@ -36,6 +43,7 @@ fn obey<R: Env + Input + Print + Eprint + AllocGlobal + Threads + Sync>(
     };
     match task_in(rt.alloc(), words.as_slice()) {
         Ok(Task::Run) => run(rt),
+        Ok(Task::Storm { puts, progress }) => storm(rt, puts, progress),
         Err(refusal) => show(rt, &refusal),
     }
 }
@@ -60,6 +68,38 @@ fn explain<R: Eprint>(rt: &R, number: u64, fault: Option<&LineFault>) {
         Some(fault) => eprintln!(rt; "antientropy: line {number}: {fault}"),
         None => eprintln!(rt; "antientropy: line {number} is no command"),
     };
+}
+
+/// Runs a storm, and prints how it ended.
+fn storm<R: Print + Eprint + AllocGlobal + Threads + Wait + Sync>(
+    rt: &R,
+    puts: u64,
+    progress: bool,
+) -> Result<ExitCode, Fault> {
+    let tallies = Tallies::new();
+    let end = if progress {
+        let teller = Teller::new(rt, &tallies, puts);
+        let end = run_storm(rt, rt.alloc(), puts.min(MOST_PUTS), &teller, &tallies);
+        teller.tell_end(rt);
+        end
+    } else {
+        run_storm(rt, rt.alloc(), puts.min(MOST_PUTS), &OpenGate, &tallies)
+    };
+    match &end {
+        Ok(end) => print_end(rt, end)?,
+        Err(Refusal::NoMemory) => {}
+        Err(refusal) => {
+            let _ = eprintln!(rt; "antientropy: the storm was refused: {}", refusal.name());
+        }
+    }
+    code_of_storm(&end)
+}
+
+/// Prints how a storm ended.
+fn print_end<R: Print>(rt: &R, end: &StormEnd) -> Result<(), Fault> {
+    let roots = if end.equal { "equal" } else { "differ" };
+    let settled = if end.settled { "settled" } else { "unsettled" };
+    println!(rt; "puts {}, roots {roots}, {settled}", end.puts).map_err(|_| Fault::Device)
 }
 
 /// Shows the help or the version, or what is wrong with the words.

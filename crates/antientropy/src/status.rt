@@ -1,5 +1,5 @@
 // Which status belongs to which end of the program.
-ghost use Rattle.std.specs.Prelude.{◌≡◌, ◌≢◌, ℕ, Err, IsOkAnd, ◌⊎◌};
+ghost use Rattle.std.specs.Prelude.{◌≡◌, ◌≢◌, ℕ, Ok, Err, true, false, IsOkAnd, ◌⊎◌};
 ghost use Rattle.std.specs.Process.{exit_status};
 ghost use Rattle.clap.specs.Values.{kind_of};
 
@@ -8,12 +8,17 @@ use clap::Error;
 use clap::error::ErrorKind;
 use outage_script::ScriptEnd;
 use std::process::ExitCode;
+use storm::storm::StormEnd;
+use vclock::refusal::Refusal;
 
 /// All was read and answered, or the help was shown.
 const DONE: u8 = 0;
 
 /// A line of the script is no command.
 const BAD_LINE: u8 = 1;
+
+/// A storm did not end with equal roots and all settled.
+const BAD_STORM: u8 = 1;
 
 /// The words of the command line ask for nothing that the program does.
 const USAGE: u8 = 2;
@@ -34,6 +39,25 @@ pub(crate) fn code_of(end: ScriptEnd) -> Result<ExitCode, Fault>
         ScriptEnd::BadLine(_) => Ok(ExitCode::from(BAD_LINE)),
         ScriptEnd::Device => Err(Fault::Device),
         ScriptEnd::NoMemory => Err(Fault::NoMemory),
+    }
+}
+
+/// The status that belongs to a storm's end, or the fault that ended it.
+pub(crate) fn code_of_storm(end: &Result<StormEnd, Refusal>) -> Result<ExitCode, Fault>
+    ensures done { (e : StormEnd) → end.now ≡ Ok e → e.equal ≡ true → e.settled ≡ true
+        → IsOkAnd result (λ code. exit_status code ≡ 0) }
+    ensures differ { (e : StormEnd) → end.now ≡ Ok e → e.equal ≡ false
+        → IsOkAnd result (λ code. exit_status code ≡ 1) }
+    ensures unsettled { (e : StormEnd) → end.now ≡ Ok e → e.settled ≡ false
+        → IsOkAnd result (λ code. exit_status code ≡ 1) }
+    ensures no_memory { end.now ≡ Err Refusal.NoMemory → result ≡ Err Fault.NoMemory }
+    ensures refused { (e : Refusal) → end.now ≡ Err e → e ≢ Refusal.NoMemory
+        → IsOkAnd result (λ code. exit_status code ≡ 1) }
+{
+    match end {
+        Ok(end) if end.equal && end.settled => Ok(ExitCode::from(DONE)),
+        Err(Refusal::NoMemory) => Err(Fault::NoMemory),
+        _ => Ok(ExitCode::from(BAD_STORM)),
     }
 }
 

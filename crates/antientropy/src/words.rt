@@ -1,11 +1,12 @@
 // The words of the command line.
 
 use crate::fault::Fault;
-use clap::{Command, Error};
+use clap::{Arg, ArgAction, ArgMatches, Command, Error, value_parser};
 use std::alloc::Global;
 use std::env;
 use std::env::Env;
 use std::io::ErrorKind;
+use storm::storm::MOST_PUTS;
 
 /// What the program is.
 const ABOUT: &str =
@@ -13,7 +14,10 @@ const ABOUT: &str =
 
 Its word `run` reads a script from standard input. A script is JSON lines: each line is one command,
 and each command is answered by one line on standard output, as soon as it is read. It acts on a
-ring that is empty at the start of the script and is gone at its end.";
+ring that is empty at the start of the script and is gone at its end.
+
+Its word `storm` has two nodes write, rehash, and sync with each other, all at once in threads, and
+prints whether they agree in the end.";
 
 /// The commands, and what a script looks like.
 const SCRIPTS: &str = r#"Commands, each with its members; ? marks one that may be left out:
@@ -50,11 +54,34 @@ Blank lines are skipped. docs/SCRIPTS.md has each command with its answers and r
 Exit status: 0 if each line was answered, 1 at a bad line, 2 for wrong words on the command line, 3
 if a device failed or there is no memory."#;
 
+/// What a storm prints, and when.
+const STORMS: &str =
+    "Node 1 and node 2 are replicas of one range. Each has a writer, a rehash worker, a sync worker and
+a server, in threads of their own. When all have ended, both nodes are rehashed, synced both ways,
+rehashed and closed. The storm prints one line:
+  puts 200, roots equal, settled
+
+The number is that of all puts. It prints `roots differ` where the trees are not equal in the end,
+and `unsettled` where a caller was told something else than the journals have.
+
+Exit status: 0 if the roots are equal and all is settled, 1 if not or if a call was refused, 2 for
+wrong words on the command line, 3 if a device failed or there is no memory.";
+
+/// How many puts a writer does unless it is told another number.
+const PUTS: u64 = 100;
+
 /// What the words ask for.
 #[derive(Clone, Copy, Debug, PartialEq, Eq)]
 pub(crate) enum Task {
     /// `run`: run a script.
     Run,
+    /// `storm`: run a storm of so many puts at each node.
+    Storm {
+        /// How many, 1 to 10,000.
+        puts: u64,
+        /// Whether to tell how far it is.
+        progress: bool,
+    },
 }
 
 /// The words of the command line, the program's name first. `None` if a word is no text.
@@ -79,7 +106,39 @@ pub(crate) fn task_in(alloc: Global, words: &[String]) -> Result<Task, Error> {
         .about(ABOUT)
         .after_help(SCRIPTS)
         .subcommand_required(true)
-        .subcommand(run)?;
-    command.try_get_matches_from(words)?;
-    Ok(Task::Run)
+        .subcommand(run)?
+        .subcommand(storm_command(alloc)?)?;
+    let matches = command.try_get_matches_from(words)?;
+    match matches.subcommand() {
+        Some(("storm", storm)) => Ok(storm_in(storm)),
+        _ => Ok(Task::Run),
+    }
+}
+
+/// The words of a storm.
+fn storm_command<'a>(alloc: Global) -> Result<Command<'a>, Error> {
+    let puts = Arg::new(alloc, "puts")
+        .long("puts")
+        .value_name("N")
+        .help("How many puts each writer does, 1 to 10000")
+        .default_value("100")
+        .value_parser(value_parser!(u64).range(1..=MOST_PUTS as i64));
+    let progress = Arg::new(alloc, "progress")
+        .long("progress")
+        .help("Tells on standard error how far it is")
+        .action(ArgAction::SetTrue);
+    let storm = Command::new(alloc, "storm")
+        .about("Runs a storm, and prints how it ended")
+        .after_help(STORMS)
+        .arg(puts)?
+        .arg(progress)?;
+    Ok(storm)
+}
+
+/// The storm that the words ask for.
+fn storm_in(matches: &ArgMatches<'_>) -> Task {
+    Task::Storm {
+        puts: matches.get_one::<u64>("puts").unwrap_or(PUTS),
+        progress: matches.get_flag("progress"),
+    }
 }

@@ -13,7 +13,7 @@ use std::thread::Threads;
 use sync_session::session::Session;
 use vclock::bytes::Bytes;
 use vclock::refusal::Refusal;
-use walk_messages::message::{Ask, Offer};
+use walk_messages::message::Ask;
 
 /// Shows the calls on snapshots and sessions.
 pub(crate) fn show_all<R: Print + AllocGlobal + Threads + Sync>(rt: &R) -> io::Result<()> {
@@ -77,23 +77,13 @@ fn session(rt: &(impl Threads + Sync), alloc: Global) -> Result<u64, Refusal> {
     Ok(session.asked().len() as u64)
 }
 
-/// The offer of a snapshot.
-fn offer_of(partner: &Snapshot) -> Offer {
-    Offer {
-        offer: 1,
-        format: 1,
-        range: 0,
-        root: partner.root(),
-    }
-}
-
 /// Opens sessions of a range until its records have had to grow.
 fn open_session(rt: &(impl Threads + Sync), alloc: Global) -> Result<u64, Refusal> {
     let partner = partner(rt, alloc)?;
     let mut state = clean_range(rt, alloc)?;
     for _ in 0..6 {
         let records = state.records().len();
-        if let Err(refusal) = state.open_session(alloc, 2, offer_of(&partner)) {
+        if let Err(refusal) = state.open_session(alloc, 2, partner.offer(1)) {
             return Err(unchanged(refusal, state.records().len() == records));
         }
     }
@@ -120,7 +110,7 @@ fn take_first(alloc: Global, state: &mut RangeState, partner: &Snapshot) -> Resu
 fn take_answer(rt: &(impl Threads + Sync), alloc: Global) -> Result<u64, Refusal> {
     let partner = partner(rt, alloc)?;
     let mut state = clean_range(rt, alloc)?;
-    state.open_session(alloc, 2, offer_of(&partner))?;
+    state.open_session(alloc, 2, partner.offer(1))?;
     for _ in 0..7 {
         take_first(alloc, &mut state, &partner)?;
     }

@@ -1,12 +1,12 @@
 //! Tests of what the threads of a node share.
 #![tactic(auto)]
 
+pub mod barrier;
 #[cfg(test)]
 mod deliveries;
 #[cfg(test)]
 mod hints;
-#[cfg(test)]
-mod opening;
+pub mod opening;
 #[cfg(test)]
 mod ranges;
 #[cfg(test)]

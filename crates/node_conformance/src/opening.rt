@@ -1,4 +1,4 @@
-// Shared ranges and slots for tests.
+//! Shared ranges and slots for tests.
 ghost use Rattle.std.specs.Prelude.{◌≡◌, ◌≤◌};
 
 use admission::controller::Controller;

@@ -1,6 +1,7 @@
 // Rehash workers, and puts that pass them.
 ghost use Rattle.std.specs.Prelude.{◌≡◌};
 
+use crate::barrier::Barrier;
 use crate::opening::{counted, last_pass, open_range, open_slots, value};
 use caller_pass::pass::Pass;
 use range_state::event::Receipt;
@@ -11,56 +12,12 @@ use ring_node::rehasher::RehashReport;
 use std::alloc::Global;
 use std::marker::Brand;
 use std::sync::Wait;
-use std::sync::atomic::{AtomicU64, Ordering};
 use std::sync::ledger::{Blank, Ledger};
 use std::test::Fail;
 use std::thread;
 use std::thread::Threads;
 use vclock::refusal::Refusal;
 use version_set::kind::Kind;
-
-/// How often a thread looks whether it may go on.
-const MOST_LOOKS: u64 = 10_000_000;
-
-/// A gate that holds a worker at one step until it is opened.
-#[derive(Drop)]
-struct Barrier {
-    step: u32,
-    arrived: AtomicU64,
-    opened: AtomicU64,
-    gave_up: AtomicU64,
-}
-
-impl Barrier {
-    fn new(step: u32) -> Barrier {
-        Barrier {
-            step,
-            arrived: AtomicU64::new(0),
-            opened: AtomicU64::new(0),
-            gave_up: AtomicU64::new(0),
-        }
-    }
-
-    /// Waits until the word is set, or gives up.
-    fn wait_for(&self, word: &AtomicU64) {
-        for _ in 0..MOST_LOOKS {
-            if word.load(Ordering::SeqCst) > 0 {
-                return;
-            }
-            thread::yield_now();
-        }
-        self.gave_up.store(1, Ordering::SeqCst);
-    }
-}
-
-impl Gate for Barrier {
-    fn pass<R: Wait>(&self, _rt: &R, step: u32) {
-        if step == self.step {
-            self.arrived.store(1, Ordering::SeqCst);
-            self.wait_for(&self.opened);
-        }
-    }
-}
 
 /// Puts `a` with a context in which node 1 has counted so often.
 fn put_a<L: Ledger, R: Wait>(
@@ -96,12 +53,12 @@ fn put_beside<L: Ledger, M: Ledger, R: Wait>(
     one: (&SharedRange<L>, Pass<L>),
     other: (&SharedRange<M>, Pass<M>),
 ) -> Result<(u64, u64), Refusal> {
-    gate.wait_for(&gate.arrived);
+    gate.wait_for_arrival();
     let (range, mut pass) = one;
     let first = put_a(rt, alloc, range, &mut pass, 1);
     let (range, mut pass) = other;
     let second = put_a(rt, alloc, range, &mut pass, 0);
-    gate.opened.store(1, Ordering::SeqCst);
+    gate.open();
     Ok((first?.number, second?.number))
 }
 
@@ -142,7 +99,7 @@ fn put_at_a_gate<
         first,
         report: report?,
         numbers: numbers?,
-        gave_up: gate.gave_up.load(Ordering::SeqCst) > 0,
+        gave_up: gate.gave_up(),
     })
 }
 

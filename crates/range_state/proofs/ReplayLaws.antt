@@ -1,7 +1,7 @@
 -- What a replay keeps.
-use Rattle.std.proofs.Common.{◌≡◌, ℕ, zero, suc, ◌+◌, ◌<◌, List, [], ◌∷◌, ◌++◌, length, get_or, take, set, replicate, None, refl, sym, ap, subst, ◌∙◌, arith}
-use Rattle.std.specs.List.{AllByRecursion}
+use Rattle.std.proofs.Common.{◌≡◌, ℕ, ◌+◌, ◌<◌, List, [], ◌∷◌, ◌++◌, length, get_or, take, set, replicate, None, refl, sym, ap, subst, ◌∙◌, arith}
 use Rattle.std.proofs.lemmas.List.{take_more}
+use Rattle.std.proofs.lemmas.List.Elements.{All-from_recursion}
 use Rattle.std.proofs.lemmas.Slice.Eq.{bytes_eq-Decides}
 use Rattle.version_set.specs.declared.version.Version.{Version}
 use Rattle.version_set.specs.Version.{offer_fault}
@@ -36,14 +36,9 @@ leaf_holds_key c es leaves leaf key b are at is = set_here (of_entries c es) lea
 pub leaf_format : (c : Config) (es : List Entry) (leaves : List Bucket) (leaf : ℕ) (key : List ℕ) (b : Bucket) → AreLeaves c es leaves → leaf ≡ leaf_in c key → b ≡ get_or leaves leaf b → b.format ≡ c.format
 leaf_format c es leaves leaf key b are at is = ap (λ (x : Bucket). x.format) (rows_here (of_entries c es) leaves leaf key b are at is)
 
-all_at : {X : Type 0} (P : X → Type 0) (xs : List X) (n : ℕ) (x : X) → AllByRecursion P xs → n < length xs → x ≡ get_or xs n x → P x
-all_at P [] n x all below is = absurd (omega arith)
-all_at P (y ∷ ys) zero x all below is = subst P (sym is) all.0
-all_at P (y ∷ ys) (suc n) x all below is = all_at P ys n x all.1 (omega arith) is
-
 -- the next entry is of the range
 pub next_own : (r : Replayed) (e : Entry) → IsReplay r → r.front < length r.entries → e ≡ get_or r.entries r.front e → IsOwn r.config e
-next_own r e ok below is = all_at (IsOwn r.config) r.entries r.front e ok.own below is
+next_own r e ok below is = subst (IsOwn r.config) (sym is) (All-from_recursion (IsOwn r.config) r.entries ok.own r.front e below)
 
 -- its offer is not refused
 pub next_fits : (r : Replayed) (e : Entry) (v : Version) (old : List Version) → IsReplay r → r.front < length r.entries → e ≡ get_or r.entries r.front e → v ≡ e.version → old ≡ held (take r.front r.entries) e.key → offer_fault v old ≡ None

@@ -2,9 +2,8 @@
 use Rattle.std.specs.Prelude.{◌≡◌, ◌⊎◌, ℕ, ◌+◌, ◌<◌, nat_le, ◌==◌, ◌||◌, ◌++◌, List, [], ◌∷◌, length, slice_get, map, slice_set, Option, Some, None, Result, Ok, Err, if◌then◌else◌}
 use Rattle.std.specs.List.{filter, flat_map}
 use Rattle.vclock.specs.Answer.{first_fault}
+use Rattle.vclock.specs.Format.{number_of}
 use Rattle.vclock.specs.Outcome.{Outcome, gives, refuses, ◌>>◌}
-use Rattle.vclock.specs.declared.format.Format.{Format}
-use Rattle.vclock.specs.declared.format.Format.TheVariants.{One, Two}
 use Rattle.vclock.specs.declared.refusal.Refusal.{Refusal}
 use Rattle.vclock.specs.declared.refusal.Refusal.TheVariants as refusals
 use Rattle.version_set.specs.Version.{offer_fault}
@@ -25,11 +24,6 @@ use Rattle.range_state.specs.declared.event.AnswerTaken.{AnswerTaken}
 use Rattle.range_state.specs.State.{State, rows_now, dirty_fault, accept_step}
 
 -- ---- opening
-
--- the number of a format, as it stands in an offer
-abbrev pub number_of : Format → ℕ
-number_of One = 1
-number_of Two = 2
 
 -- why an offer is none for this range
 abbrev pub foreign_fault : Config → Offer → Option Refusal

@@ -9,7 +9,7 @@ use Rattle.caller_pass.specs.Passes.{PassView}
 use Rattle.range_state.specs.declared.event.Accepted.{Accepted}
 use Rattle.range_state.specs.declared.event.Accepted.TheVariants.{Taken}
 use Rattle.ring_node.specs.Passes.{IsReceiptOf, IsToldOf, IsSent}
-use Rattle.ring_node.specs.Gains.{IsGain, Gains}
+use Rattle.ring_node.specs.Gains.{IsGain, Gains, GainsSome}
 
 -- nothing
 pub gains_none : (p : PassView) (source : Source) → Gains p p source 0
@@ -46,12 +46,12 @@ gains_taken p q source key v a e is sent =
     let both : IsReceiptOf p.seat source key v e × IsToldOf p q e = subst (IsSent p source key v q) is sent in
     gains_one p q source key v e both.0 both.1
 
-still : (seat other : ℕ) (source : Source) (seen more : ℕ) (es : List Entry) → seat ≡ other → seen ≤ more → AllByRecursion (IsGain seat source seen) es → AllByRecursion (IsGain other source more) es
+pub still : (seat other : ℕ) (source : Source) (seen more : ℕ) (es : List Entry) → seat ≡ other → seen ≤ more → AllByRecursion (IsGain seat source seen) es → AllByRecursion (IsGain other source more) es
 still seat other source seen more [] same up all = tt
 still seat other source seen more (e ∷ es) same up all =
     (record { seat_is = all.0.seat_is ∙ same; source_is = all.0.source_is; seen_is = let h = all.0.seen_is in omega arith }, still seat other source seen more es same up all.1)
 
-both : (seat : ℕ) (source : Source) (seen : ℕ) (xs ys : List Entry) → AllByRecursion (IsGain seat source seen) xs → AllByRecursion (IsGain seat source seen) ys → AllByRecursion (IsGain seat source seen) (xs ++ ys)
+pub both : (seat : ℕ) (source : Source) (seen : ℕ) (xs ys : List Entry) → AllByRecursion (IsGain seat source seen) xs → AllByRecursion (IsGain seat source seen) ys → AllByRecursion (IsGain seat source seen) (xs ++ ys)
 both seat source seen [] ys a b = b
 both seat source seen (x ∷ xs) ys a b = (a.0, both seat source seen xs ys a.1 b)
 
@@ -67,3 +67,13 @@ gains_more p q r source m n a b = record {
   seat = b.seat ∙ a.seat;
   readings = b.readings ∙ a.readings;
 }
+
+-- some number of entries
+pub some_none : (p : PassView) (source : Source) → GainsSome p p source
+some_none p source = (0, gains_none p source)
+
+pub some_more : (p q r : PassView) (source : Source) → GainsSome p q source → GainsSome q r source → GainsSome p r source
+some_more p q r source a b = (a.0 + b.0, gains_more p q r source a.0 b.0 a.1 b.1)
+
+pub some_same : (p q : PassView) (source : Source) → q ≡ p → GainsSome p q source
+some_same p q source same = (0, gains_same p q source same)

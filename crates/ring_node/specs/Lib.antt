@@ -4,3 +4,8 @@ pub mod Passes
 pub mod Reports
 pub mod Gains
 pub mod Answered
+pub mod Offers
+pub mod Links
+pub mod Replies
+pub mod Deeds
+pub mod Walks

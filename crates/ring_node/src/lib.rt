@@ -6,9 +6,17 @@
 //! that at some moment there was a right value of which it is the outcome.
 #![tactic(auto)]
 
+pub mod channel;
 pub mod controller;
+pub mod deed;
 pub mod delivery;
 pub mod gate;
 pub mod hints;
+pub mod link;
+pub mod memory;
+pub mod offers;
 pub mod range;
 pub mod rehasher;
+pub mod scripted;
+mod serving;
+pub mod syncer;

@@ -2,6 +2,7 @@
 ghost use Rattle.std.specs.Prelude.{◌≡◌, ◌<◌, ◌≤◌, ◌^◌, None};
 ghost use Rattle.std.specs.Arc.{arc_value};
 ghost use Rattle.vclock.specs.Answer.{Answers};
+ghost use Rattle.vclock.specs.Format.{number_of};
 ghost use Rattle.key_ring.specs.Places.{leaf_bits};
 ghost use Rattle.hash_tree.specs.Leaves.{rows_at};
 ghost use Rattle.hash_tree.specs.Nodes.{tree_depth};
@@ -19,7 +20,7 @@ use std::sync::Arc;
 use vclock::bytes::Bytes;
 use vclock::format::Format;
 use vclock::refusal::Refusal;
-use walk_messages::message::Ask;
+use walk_messages::message::{Ask, Offer};
 
 /// All rows of a range at one moment, with the digest of each node of the tree over them. It shares the leaves with the
 /// range, which copies a leaf before it changes one that is shared, so a snapshot stays as it was made.
@@ -94,6 +95,22 @@ impl Snapshot {
         ensures { result ≡ root_of self.now }
     {
         self.digests[0]
+    }
+
+    /// What a replica that has these rows offers to another one, with the number that tells its offers apart.
+    pub fn offer(&self, number: u32) -> Offer
+        ensures number { result.offer ≡ number }
+        ensures format { result.format ≡ number_of self.now.format }
+        ensures range { result.range ≡ self.now.range }
+        ensures root { result.root ≡ root_of self.now }
+        ensures valid { IsRowMap self.now }
+    {
+        Offer {
+            offer: number,
+            format: self.format.number(),
+            range: self.range as u8,
+            root: self.root(),
+        }
     }
 
     /// The digest of a node, which the tree has.

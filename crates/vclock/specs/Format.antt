@@ -11,3 +11,8 @@ value_limit Two = 65536
 -- the format of a number: 1 or 2
 abbrev pub format_of : ℕ → Option Format
 format_of n = if n == 1 then Some One else if n == 2 then Some Two else None
+
+-- the number of a format
+abbrev pub number_of : Format → ℕ
+number_of One = 1
+number_of Two = 2

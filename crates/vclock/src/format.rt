@@ -11,7 +11,7 @@ pub enum Format {
 
 impl Format {
     ghost use Rattle.std.specs.Prelude.{◌≡◌};
-    ghost use Rattle.vclock.specs.Format.{format_of, value_limit};
+    ghost use Rattle.vclock.specs.Format.{format_of, number_of, value_limit};
 
     /// The format of a number, 1 or 2, as it stands in a ring's line and in an offer.
     pub fn of_number(number: u64) -> Option<Format>
@@ -21,6 +21,16 @@ impl Format {
             1 => Some(Format::One),
             2 => Some(Format::Two),
             _ => None,
+        }
+    }
+
+    /// The number of the format, 1 or 2.
+    pub fn number(self) -> u8
+        ensures { result ≡ number_of self }
+    {
+        match self {
+            Format::One => 1,
+            Format::Two => 2,
         }
     }
 

@@ -4,7 +4,7 @@ ghost use Rattle.vclock.specs.Answer.{AnswersAtOnce};
 ghost use Rattle.vclock.specs.Outcome.{Does, DoesAtOnce};
 ghost use Rattle.range_state.specs.State.{IsRight};
 ghost use Rattle.range_state.specs.Records.{is_open, open_count};
-ghost use Rattle.range_state.specs.Sessions.{number_of, foreign_fault, standings, crowd_fault, unknown_fault, open_session, cancel_session};
+ghost use Rattle.range_state.specs.Sessions.{foreign_fault, standings, crowd_fault, unknown_fault, open_session, cancel_session};
 ghost use Rattle.range_state.specs.Syncs.{IsFirstOf};
 
 use crate::record::Record;
@@ -13,7 +13,6 @@ use hash_tree::node::NodeAt;
 use std::alloc::Global;
 use sync_session::session::Session;
 use sync_session::state::SessionState;
-use vclock::format::Format;
 use vclock::refusal::Refusal;
 use walk_messages::message::Offer;
 
@@ -97,7 +96,7 @@ impl RangeState {
     fn check_offer(&self, offer: &Offer) -> Result<(), Refusal>
         ensures { AnswersAtOnce result (foreign_fault self.now.config offer.now) (λ _. ⊤) }
     {
-        if offer.format != number_of(self.config.format()) {
+        if offer.format != self.config.format().number() {
             return Err(Refusal::OtherFormat);
         }
         if u16::from(offer.range) != self.config.range() {
@@ -138,15 +137,5 @@ fn is_open(kept: &Record) -> bool
     match kept.session.state() {
         SessionState::Open => true,
         SessionState::Finished | SessionState::Failed | SessionState::Cancelled => false,
-    }
-}
-
-/// The number of a format, as it stands in an offer.
-pub(super) fn number_of(format: Format) -> u8
-    ensures { result ≡ number_of format }
-{
-    match format {
-        Format::One => 1,
-        Format::Two => 2,
     }
 }

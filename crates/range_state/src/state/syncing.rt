@@ -2,20 +2,18 @@
 ghost use Rattle.std.specs.Prelude.{◌≡◌, ◌≢◌, ◌⊎◌, ◌+◌, ◌<◌, ◌≤◌, ⊤, None, length, slice_get, MatchOption, IfOk, IfErr, OnOk, OnErr, Err};
 ghost use Rattle.vclock.specs.Answer.{Answers, AnswersOrNoMemory, first_fault};
 ghost use Rattle.hash_tree.specs.Nodes.{tree_depth};
-ghost use Rattle.snapshot.specs.RowMaps.{IsRowMap, root_of};
 ghost use Rattle.sync_session.specs.TreeNodes.{node_of, text_of};
 ghost use Rattle.range_state.specs.State.{IsRight, dirty_fault};
-ghost use Rattle.range_state.specs.Sessions.{number_of, standings, crowd_fault, TakesFor};
+ghost use Rattle.range_state.specs.Sessions.{standings, crowd_fault, TakesFor};
 ghost use Rattle.range_state.specs.Syncs.{IsOfRange, HasAskedAll, IsSyncedTo, IsPartWay, IsFirstOf};
 
 use crate::event::AnswerTaken;
 use crate::state::RangeState;
-use crate::state::sessions::number_of;
 use hash_tree::node::NodeAt;
 use snapshot::snapshot::Snapshot;
 use std::alloc::Global;
 use vclock::refusal::Refusal;
-use walk_messages::message::{Ask, Offer};
+use walk_messages::message::Ask;
 
 /// What a session with a partner that answers truly came to.
 #[derive(Debug, Drop)]
@@ -53,7 +51,7 @@ impl RangeState {
         ensures late { OnErr result ((self.new ≡ self.old) ⊎ IsPartWay self.old seat partner other.now self.new) }
     {
         let before = self.journal.len();
-        let id = self.open_session(alloc, partner, offer_of(other))?;
+        let id = self.open_session(alloc, partner, other.offer(0))?;
         let mut known = 0;
         while let Some(node) = self.first_outstanding(id) {
             match self.answer_from(alloc, seat, id, node, other) {
@@ -98,21 +96,6 @@ impl RangeState {
             asked: self.records[id as usize].session.asked().len() as u64,
             fault,
         }
-    }
-}
-
-/// The offer of a snapshot.
-fn offer_of(snapshot: &Snapshot) -> Offer
-    ensures format { result.format ≡ number_of snapshot.now.format }
-    ensures range { result.range ≡ snapshot.now.range }
-    ensures root { result.root ≡ root_of snapshot.now }
-    ensures valid { IsRowMap snapshot.now }
-{
-    Offer {
-        offer: 0,
-        format: number_of(snapshot.format()),
-        range: snapshot.range() as u8,
-        root: snapshot.root(),
     }
 }
 

@@ -18,11 +18,11 @@ on_err (Err e) P p = p
 
 pub loop-node-init : goal.loop-node-init
 loop-node-init c =
-    let begin = begun c.args.self.now c.open_session.new.self c.args.seat c.args.partner c.offer_of.result c.args.other.now c.offer_of.ensures.root (open_ok c.args.self.now _ c.args.partner _ c.offer_of.result c.in_ok-id.ensures).1 in
+    let begin = begun c.args.self.now c.open_session.new.self c.args.seat c.args.partner c.offer.result c.args.other.now c.offer.ensures.root (open_ok c.args.self.now _ c.args.partner _ c.offer.result c.in_ok-id.ensures).1 in
     record {
       under = begin.under;
       partner = begin.partner_is;
-      at = (open_ok c.args.self.now _ c.args.partner _ c.offer_of.result c.in_ok-id.ensures).0;
+      at = (open_ok c.args.self.now _ c.args.partner _ c.offer.result c.in_ok-id.ensures).0;
       before = search rules;
     }
 
@@ -32,7 +32,7 @@ answer_from-requires c =
     let s = c.args.self.now in
     let other = c.args.other.now in
     let u = at.invariant.under in
-    let is = true_walk s at.self c.args.seat at.known other u c.in-Some.ensures.valid c.requires c.offer_of.ensures.valid in
+    let is = true_walk s at.self c.args.seat at.known other u c.in-Some.ensures.valid c.requires c.offer.ensures.valid in
     let first = first_is s at.self c.args.seat at.known c.in_ok-id.id other u at.invariant.at (Some c.in-Some.node) c.in-Some.ensures.first in
     shallow s at.self c.args.seat at.known other u (node_of c.in-Some.node) first.0 is first.1
 
@@ -44,7 +44,7 @@ loop-node-smaller c =
     let id = c.in_ok-id.id in
     let n = node_of c.in-Some.node in
     let u = at.invariant.under in
-    let is = true_walk s at.self c.args.seat at.known other u c.in-Some.ensures.valid c.requires c.offer_of.ensures.valid in
+    let is = true_walk s at.self c.args.seat at.known other u c.in-Some.ensures.valid c.requires c.offer.ensures.valid in
     let first = first_is s at.self c.args.seat at.known id other u at.invariant.at (Some c.in-Some.node) c.in-Some.ensures.first in
     let took : TakesFor at.self c.args.seat id (slice_get at.self.records id) (entry n (text_of other n)) (Ok c.in-Ok.taken) c.answer_from.new.self = elim c.in-Ok.ensures [
       | inl memory ↦ absurd (let clash = memory.0 in cc)
@@ -63,7 +63,7 @@ loop-node-preserved c =
     let id = c.in_ok-id.id in
     let n = node_of c.in-Some.node in
     let u = at.invariant.under in
-    let is = true_walk s at.self c.args.seat at.known other u c.in-Some.ensures.valid c.requires c.offer_of.ensures.valid in
+    let is = true_walk s at.self c.args.seat at.known other u c.in-Some.ensures.valid c.requires c.offer.ensures.valid in
     let first = first_is s at.self c.args.seat at.known id other u at.invariant.at (Some c.in-Some.node) c.in-Some.ensures.first in
     let took : TakesFor at.self c.args.seat id (slice_get at.self.records id) (entry n (text_of other n)) (Ok c.in-Ok.taken) c.answer_from.new.self = elim c.in-Ok.ensures [
       | inl memory ↦ absurd (let clash = memory.0 in cc)
@@ -85,7 +85,7 @@ synced-requires c =
     let id = c.in_ok-id.id in
     let n = node_of c.in-Some.node in
     let u = at.invariant.under in
-    let is = true_walk s at.self c.args.seat at.known other u c.in-Some.ensures.valid c.requires c.offer_of.ensures.valid in
+    let is = true_walk s at.self c.args.seat at.known other u c.in-Some.ensures.valid c.requires c.offer.ensures.valid in
     let first = first_is s at.self c.args.seat at.known id other u at.invariant.at (Some c.in-Some.node) c.in-Some.ensures.first in
     let memory : c.in-Err.fault ≡ NoMemory → ⊥ = search rules in
     let took : TakesFor at.self c.args.seat id (slice_get at.self.records id) (entry n (text_of other n)) (Err c.in-Err.fault) c.answer_from.new.self = elim c.in-Err.ensures [
@@ -106,7 +106,7 @@ returns-in-Err c =
     let id = c.in_ok-id.id in
     let n = node_of c.in-Some.node in
     let u = at.invariant.under in
-    let is = true_walk s at.self c.args.seat at.known other u c.in-Some.ensures.valid c.requires c.offer_of.ensures.valid in
+    let is = true_walk s at.self c.args.seat at.known other u c.in-Some.ensures.valid c.requires c.offer.ensures.valid in
     let first = first_is s at.self c.args.seat at.known id other u at.invariant.at (Some c.in-Some.node) c.in-Some.ensures.first in
     let memory : c.in-Err.fault ≡ NoMemory → ⊥ = search rules in
     let took : TakesFor at.self c.args.seat id (slice_get at.self.records id) (entry n (text_of other n)) (Err c.in-Err.fault) c.answer_from.new.self = elim c.in-Err.ensures [
@@ -135,7 +135,7 @@ returns-clause-ok c =
     let other = c.args.other.now in
     let id = c.in_ok-id.id in
     let u = at.invariant.under in
-    let is = true_walk s at.self c.args.seat at.known other u c.first_outstanding.ensures.valid c.requires c.offer_of.ensures.valid in
+    let is = true_walk s at.self c.args.seat at.known other u c.first_outstanding.ensures.valid c.requires c.offer.ensures.valid in
     let first = first_is s at.self c.args.seat at.known id other u at.invariant.at None c.in_default.ensures.first in
     let told : IsTold s at.self id at.known None c.synced-2.result = record {
       accepted = ap (λ k. k + c.synced-2.result.accepted) (sym at.invariant.before) ∙ c.synced-2.ensures.accepted;
@@ -151,7 +151,7 @@ returns-clause-session c =
     let s = c.args.self.now in
     let other = c.args.other.now in
     let u = at.invariant.under in
-    let is = true_walk s at.self c.args.seat at.known other u c.first_outstanding.ensures.valid c.requires c.offer_of.ensures.valid in
+    let is = true_walk s at.self c.args.seat at.known other u c.first_outstanding.ensures.valid c.requires c.offer.ensures.valid in
     let first = first_is s at.self c.args.seat at.known c.in_ok-id.id other u at.invariant.at None c.in_default.ensures.first in
     all_asked s at.self c.args.seat c.args.partner at.known other u is first at.invariant.partner
 
@@ -163,7 +163,7 @@ returns-in_err-known-in-Ok-clause-late c =
     let id = c.in_ok-id.id in
     let n = node_of c.in-Some.node in
     let u = at.invariant.under in
-    let is = true_walk s at.self c.args.seat at.known other u c.in-Some.ensures.valid c.requires c.offer_of.ensures.valid in
+    let is = true_walk s at.self c.args.seat at.known other u c.in-Some.ensures.valid c.requires c.offer.ensures.valid in
     let first = first_is s at.self c.args.seat at.known id other u at.invariant.at (Some c.in-Some.node) c.in-Some.ensures.first in
     let took : TakesFor at.self c.args.seat id (slice_get at.self.records id) (entry n (text_of other n)) (Ok c.in-Ok.taken) c.answer_from.new.self = elim c.in-Ok.ensures [
       | inl memory ↦ absurd (let clash = memory.0 in cc)
@@ -182,7 +182,7 @@ returns-in-Err-NoMemory-clause-late c =
     let id = c.in_ok-id.id in
     let n = node_of c.in-Some.node in
     let u = at.invariant.under in
-    let is = true_walk s at.self c.args.seat at.known other u c.in-Some.ensures.valid c.requires c.offer_of.ensures.valid in
+    let is = true_walk s at.self c.args.seat at.known other u c.in-Some.ensures.valid c.requires c.offer.ensures.valid in
     let first = first_is s at.self c.args.seat at.known id other u at.invariant.at (Some c.in-Some.node) c.in-Some.ensures.first in
     let told = rw c.in-Err-NoMemory.field-0-is at c.in-Err-NoMemory.ensures in
     let same : c.answer_from.new.self ≡ at.self = elim told [

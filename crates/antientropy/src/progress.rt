@@ -1,0 +1,81 @@
+// How far a storm is, on standard error.
+ghost use Rattle.std.specs.Prelude.{◌≤◌};
+
+use ring_node::gate::Gate;
+use std::sync::{Mutex, Wait};
+use storm::tally::{Tallies, Tally};
+
+/// The step of a storm's gate after a put.
+const AFTER_A_PUT: u32 = 3;
+
+/// How often a storm tells how far it is, at the most, for each of its two writers.
+const TELLINGS: u64 = 10;
+
+/// A gate that holds nobody, and tells on standard error how far the storm is, at most twenty times.
+#[derive(Drop)]
+pub(crate) struct Teller<'a, R: Eprint> {
+    rt: &'a R,
+    tallies: &'a Tallies,
+    passed: Mutex<u64>,
+    every: u64,
+    ghost positive: { 1 ≤ every },
+}
+
+impl<'a, R: Eprint> Teller<'a, R> {
+    /// A gate for a storm of so many puts at each node.
+    pub(crate) fn new(rt: &'a R, tallies: &'a Tallies, puts: u64) -> Teller<'a, R> {
+        Teller {
+            rt,
+            tallies,
+            passed: Mutex::new(0),
+            every: puts.div_ceil(TELLINGS).max(1),
+        }
+    }
+
+    /// Counts a put, and returns how many there were.
+    fn count<W: Wait>(&self, rt: &W) -> u64 {
+        let mut passed = self.passed.lock(rt);
+        *passed = (*passed).wrapping_add(1);
+        *passed
+    }
+
+    /// Tells what both nodes did until the storm ended.
+    pub(crate) fn tell_end<W: Wait>(&self, rt: &W) {
+        self.tell(
+            "in the end: ",
+            self.tallies.one.look(rt),
+            self.tallies.two.look(rt),
+        );
+    }
+
+    /// Tells what both nodes have done. A storm goes on where nobody can read it.
+    fn tell(&self, when: &str, one: Tally, two: Tally) {
+        let _ = eprintln!(self.rt;
+            "{when}puts {} and {}, digests {} and {}, stale {} and {}, snapshots {} and {}, syncs {} and {}, \
+             entries taken {} and {}",
+            one.puts,
+            two.puts,
+            one.installed,
+            two.installed,
+            one.stale,
+            two.stale,
+            one.published,
+            two.published,
+            one.syncs,
+            two.syncs,
+            one.taken,
+            two.taken
+        );
+    }
+}
+
+impl<'a, R: Eprint> Gate for Teller<'a, R> {
+    fn pass<W: Wait>(&self, rt: &W, step: u32) {
+        if step != AFTER_A_PUT {
+            return;
+        }
+        if self.count(rt) % self.every == 0 {
+            self.tell("", self.tallies.one.look(rt), self.tallies.two.look(rt));
+        }
+    }
+}

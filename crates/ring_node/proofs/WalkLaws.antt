@@ -1,0 +1,197 @@
+-- What a pass gains by a partner's text, and why a sync worker is refused.
+use Rattle.std.proofs.Common.{◌≡◌, ◌⊎◌, inl, inr, ℕ, ◌+◌, ◌-◌, ◌<◌, ◌≤◌, Bool, true, false, cond, List, [], ◌∷◌, ◌++◌, length, Option, Some, None, Result, Ok, Err, refl, sym, ap, subst, ◌∙◌, max, arith, append_assoc, length-append, slice_get}
+use Rattle.std.specs.Prelude.{IfOk, IfErr, OnErr, nat_eq}
+use Rattle.std.specs.List.{AllByRecursion}
+use Rattle.std.proofs.lemmas.Bool.{eqb-true}
+use Rattle.std.proofs.lemmas.List.{append-nil, append_cancel_left}
+use Rattle.vclock.specs.Outcome.{Outcome, gives, refuses, Does, through}
+use Rattle.vclock.specs.declared.refusal.Refusal.{Refusal}
+use Rattle.vclock.specs.declared.refusal.Refusal.TheVariants.{Crowded, JournalFull, OtherRange, Dirty, UnknownSession, NotAsked, WrongDigest, NotCanonical, OtherFormat, SessionsFull, LinkLost, NoMemory}
+use Rattle.version_set.specs.declared.version.Version.{Version}
+use Rattle.range_journal.specs.declared.journal.Entry.{Entry}
+use Rattle.range_journal.specs.declared.journal.Source.{Source}
+use Rattle.range_journal.specs.declared.journal.Source.TheVariants.{Partner}
+use Rattle.walk_messages.specs.declared.message.Offer.{Offer}
+use Rattle.sync_session.specs.Walks.{TakenText}
+use Rattle.range_state.specs.Config.{Config}
+use Rattle.range_state.specs.declared.«record».Record.{Record}
+use Rattle.range_state.specs.declared.event.AnswerTaken.{AnswerTaken}
+use Rattle.range_state.specs.declared.event.AnswerCounted.{AnswerCounted}
+use Rattle.range_state.specs.State.{State, knows, journaled, entry_of, accept_step, dirty_fault}
+use Rattle.range_state.specs.Sessions.{foreign_fault, crowd_fault, standings, opened, open_session, offers_of, taken_in, walked_to, Refuses, TakesInner, TakesLeaf, TakesFor, TakesAnswer}
+use Rattle.caller_pass.specs.Passes.{PassView, with_receipts, seen_after}
+use Rattle.caller_pass.specs.Locks.{Locked, moved, IsToldOf, TellsAnswer}
+use Rattle.caller_pass.proofs.PassLaws.{seen_rises}
+use Rattle.ring_node.specs.Gains.{IsGain, Gains, GainsSome}
+use Rattle.ring_node.specs.Links.{IsLostExactly}
+use Rattle.ring_node.specs.Walks.{IsOpenRefusal, IsTakeRefusal}
+use Rattle.ring_node.proofs.CauseLaws.{where_holds, where_fails}
+use Rattle.ring_node.proofs.GainLaws.{still, both, some_same}
+use Rattle.ring_node.proofs.OutcomeLaws.{first_cause}
+
+-- ---- the entries that a text brings
+
+-- entries that came from a partner by a seat, after those that there were
+record Brought (seat : ℕ) (before now : List Entry) : Type 0 where
+  pub es : List Entry
+  pub grown : now ≡ before ++ es
+  pub each : AllByRecursion (IsGain seat Partner (length now)) es
+
+nothing : (seat : ℕ) (xs ys : List Entry) → ys ≡ xs → Brought seat xs ys
+nothing seat xs ys same = record { es = []; grown = same ∙ sym (append-nil xs); each = tt }
+
+step : (s : State) (seat : ℕ) (key : List ℕ) (v : Version) → Brought seat s.entries (accept_step s seat Partner key v).entries
+step s seat key v = elim (knows s key v) as (λ b. Brought seat s.entries (cond b s (journaled s (entry_of s seat Partner key v))).entries) [
+  | true ↦ nothing seat s.entries s.entries refl
+  | false ↦
+      let e = entry_of s seat Partner key v in
+      record {
+        es = e ∷ [];
+        grown = refl;
+        each = (record { seat_is = refl; source_is = refl; seen_is = omega (arith, length-append s.entries (e ∷ [])) }, tt);
+      }
+]
+
+then : (seat : ℕ) (xs ys zs : List Entry) → Brought seat xs ys → Brought seat ys zs → Brought seat xs zs
+then seat xs ys zs a b = record {
+  es = a.es ++ b.es;
+  grown = b.grown ∙ (ap (λ es. es ++ b.es) a.grown ∙ append_assoc xs a.es b.es);
+  each = both seat Partner (length zs) a.es b.es (still seat seat Partner (length ys) (length zs) a.es refl (omega (arith, ap length b.grown, length-append ys b.es)) a.each) b.each;
+}
+
+all_taken : (s : State) (seat : ℕ) (offers : List (List ℕ × Version)) → Brought seat s.entries (taken_in s seat offers).entries
+all_taken s seat [] = nothing seat s.entries s.entries refl
+all_taken s seat (o ∷ offers) =
+    let t = accept_step s seat Partner o.0 o.1 in
+    then seat s.entries t.entries (taken_in t seat offers).entries (step s seat o.0 o.1) (all_taken t seat offers)
+
+-- the receipts of a text are of such entries
+abbrev AreBrought : ℕ → List Entry → State → Type 0
+AreBrought seat receipts new = AllByRecursion (IsGain seat Partner (length new.entries)) receipts
+
+by_inner : (s : State) (seat id : ℕ) (r : Record) (t : TakenText) (a : AnswerTaken) (new : State) → TakesInner s id r t a new → AreBrought seat a.receipts.items new
+by_inner s seat id r t a new took = subst (λ (es : List Entry). AreBrought seat es new) (sym took.receipts) tt
+
+by_leaf : (s : State) (seat id : ℕ) (r : Record) (t : TakenText) (a : AnswerTaken) (new : State) → TakesLeaf s seat id r t a new → AreBrought seat a.receipts.items new
+by_leaf s seat id r t a new took =
+    let b = all_taken s seat (offers_of took.rows) in
+    let same : a.receipts.items ≡ b.es = append_cancel_left s.entries a.receipts.items b.es (took.receipts ∙ b.grown) in
+    let now : new.entries ≡ (taken_in s seat (offers_of took.rows)).entries = ap (λ (x : State). x.entries) took.new_is in
+    subst (λ (es : List Entry). AreBrought seat es new) (sym same)
+    (subst (λ (es : List Entry). AllByRecursion (IsGain seat Partner (length es)) b.es) (sym now) b.each)
+
+by_text : (s : State) (seat id : ℕ) (t : TakenText) (a : AnswerTaken) (new : State) (o : Option Record) → TakesFor s seat id o t (Ok a) new → AreBrought seat a.receipts.items new
+by_text s seat id t a new None took = absurd (let no : Ok a ≡ Err _ = took.0 in cc)
+by_text s seat id t a new (Some r) took = elim took.1 [
+  | inl inner ↦ by_inner s seat id r t a new inner
+  | inr leaf ↦ by_leaf s seat id r t a new leaf
+]
+
+-- who was told of them has seen them
+reaches : (seen journal k : ℕ) → 0 < k → journal ≤ seen_after seen journal k
+reaches seen journal k some = elim (nat_eq k 0) as (λ b. nat_eq k 0 ≡ b → journal ≤ cond b seen (max seen journal)) [
+  | true ↦ λ is. absurd (omega (arith, eqb-true k 0 is, some))
+  | false ↦ λ is. omega arith
+] refl
+
+seen_up : (seat seen journal : ℕ) (es : List Entry) → AllByRecursion (IsGain seat Partner journal) es → AllByRecursion (IsGain seat Partner (seen_after seen journal (length es))) es
+seen_up seat seen journal [] all = tt
+seen_up seat seen journal (e ∷ es) all = still seat seat Partner journal (seen_after seen journal (length (e ∷ es))) (e ∷ es) refl (reaches seen journal (length (e ∷ es)) (omega arith)) all
+
+gains_told : (l m : Locked) (p q : PassView) (id : ℕ) (t : TakenText) (a : AnswerCounted) → IsToldOf l p id t a m q → Gains p q Partner a.receipts
+gains_told l m p q id t a is =
+    let es = is.taken.receipts.items in
+    let count : a.receipts ≡ length es = ap (λ (x : AnswerCounted). x.receipts) is.count in
+    let pass : q ≡ with_receipts p (length m.state.entries) es = is.pass in
+    let brought = by_text l.state p.seat id t is.taken m.state (slice_get l.state.records id) is.takes in
+    let seen : q.seen ≡ seen_after p.seen (length m.state.entries) (length es) = ap (λ (x : PassView). x.seen) pass in
+    record {
+      gained = es;
+      count = sym count;
+      each = subst (λ n. AllByRecursion (IsGain p.seat Partner n) es) (sym seen) (seen_up p.seat p.seen (length m.state.entries) es brought);
+      receipts = ap (λ (x : PassView). x.receipts) pass;
+      share = ap (λ (x : PassView). x.share) pass ∙ ap (λ n. p.share + n) (sym count);
+      seen = subst (λ n. p.seen ≤ n) (sym seen) (seen_rises p.seen (length m.state.entries) (length es));
+      seat = ap (λ (x : PassView). x.seat) pass;
+      readings = ap (λ (x : PassView). x.readings) pass;
+    }
+
+-- ---- why a text is not taken
+
+take_cause : (s : State) (seat id : ℕ) (r : Record) (t : TakenText) (e : Refusal) (new : State) → Refuses s seat id r t e new → IsTakeRefusal e
+take_cause s seat id r t Crowded new h = tt
+take_cause s seat id r t JournalFull new h = tt
+take_cause s seat id r t UnknownSession new h = tt
+take_cause s seat id r t NotAsked new h = tt
+take_cause s seat id r t WrongDigest new h = tt
+take_cause s seat id r t NotCanonical new h = tt
+take_cause s seat id r t NoMemory new h = tt
+take_cause s seat id r t e new h = absurd h.0
+
+refused_for : (s : State) (seat id : ℕ) (t : TakenText) (e : Refusal) (new : State) (o : Option Record) → TakesFor s seat id o t (Err e) new → IsTakeRefusal e
+refused_for s seat id t e new None h = let same : e ≡ UnknownSession = let is = h.0 in cc in subst IsTakeRefusal (sym same) tt
+refused_for s seat id t e new (Some r) h = take_cause s seat id r t e new h
+
+-- what a text tells through a lock
+pub record TextTells (p q : PassView) (r : Result AnswerCounted Refusal) : Type 0 where
+  pub gains : IfOk r (λ (a : AnswerCounted). Gains p q Partner a.receipts)
+  pub same : OnErr r (q ≡ p)
+  pub some : GainsSome p q Partner
+  pub refusal : IfErr r IsTakeRefusal
+
+pub text_tells : (l m : Locked) (p q : PassView) (id : ℕ) (t : TakenText) (r : Result AnswerCounted Refusal) → TellsAnswer l p id t r m q → TextTells p q r
+text_tells l m p q id t (Ok a) is = let all = gains_told l m p q id t a is in record { gains = all; same = tt; some = (a.receipts, all); refusal = tt }
+text_tells l m p q id t (Err e) is = record { gains = tt; same = is.2; some = some_same p q Partner is.2; refusal = refused_for l.state p.seat id t e m.state (slice_get l.state.records id) is.0 }
+
+-- ---- why a session is not opened
+
+foreign_tests : (a b : Bool) (e : Refusal) → cond a (cond b None (Some OtherRange)) (Some OtherFormat) ≡ Some e → IsOpenRefusal e
+foreign_tests true true e is = absurd (let no = is in cc)
+foreign_tests true false e is = let same : e ≡ OtherRange = cc in subst IsOpenRefusal (sym same) tt
+foreign_tests false b e is = let same : e ≡ OtherFormat = cc in subst IsOpenRefusal (sym same) tt
+
+part_refused : {T R S : Type 0} (whole : R → S) (o : Outcome T R) (e : Refusal) → through whole o ≡ refuses e → o ≡ refuses e
+part_refused whole (gives x s) e is = absurd (cc)
+part_refused whole (refuses f) e is = cc
+
+open_cause : (s : State) (partner : ℕ) (offer : Offer) (e : Refusal) → open_session s partner offer ≡ refuses e → IsOpenRefusal e
+open_cause s partner offer e is =
+    elim (first_cause (foreign_fault s.config offer) _ e is) [
+      | inl foreign ↦ foreign_tests _ _ e foreign
+      | inr here ↦
+          elim (first_cause (crowd_fault (standings s.records)) _ e here.1) [
+            | inl crowd ↦ subst IsOpenRefusal (sym (where_holds _ SessionsFull e crowd)) tt
+            | inr room ↦
+                elim (first_cause (dirty_fault s) _ e room.1) [
+                  | inl dirty ↦ subst IsOpenRefusal (sym (where_fails _ Dirty e dirty)) tt
+                  | inr clean ↦ absurd (let h = clean.1 in cc)
+                ]
+          ]
+    ]
+
+pub open_refused : (l m : Locked) (partner : ℕ) (offer : Offer) (r : Result ℕ Refusal) → Does r l m (through (moved l) (open_session l.state partner offer)) → IfErr r IsOpenRefusal
+open_refused l m partner offer (Ok id) is = tt
+open_refused l m partner offer (Err e) is = elim is.1 [
+  | inl short ↦ subst IsOpenRefusal (sym short.0) tt
+  | inr why ↦ open_cause l.state partner offer e (part_refused (moved l) (open_session l.state partner offer) e why)
+]
+
+-- ---- which refusals do not say that the link failed
+
+pub open_keeps : (T : Type 0) (before after : ℕ) (e : Refusal) → IsOpenRefusal e → after ≡ before → IsLostExactly {T = T} before after (Err e)
+open_keeps T before after LinkLost none same = absurd none
+open_keeps T before after e is same = same
+
+pub take_keeps : (T : Type 0) (before after : ℕ) (e : Refusal) → IsTakeRefusal e → after ≡ before → IsLostExactly {T = T} before after (Err e)
+take_keeps T before after LinkLost none same = absurd none
+take_keeps T before after e is same = same
+
+-- ---- how many came
+
+pub gains_grow : (p q : PassView) (source : Source) → GainsSome p q source → length p.receipts ≤ length q.receipts
+gains_grow p q source some = omega (arith, ap length some.1.receipts, length-append p.receipts some.1.gained)
+
+pub gains_counted : (p q : PassView) (source : Source) (n : ℕ) → GainsSome p q source → n ≡ length q.receipts - length p.receipts → Gains p q source n
+gains_counted p q source n some is =
+    let all : some.0 ≡ n = omega (arith, is, ap length some.1.receipts, length-append p.receipts some.1.gained, some.1.count) in
+    subst (λ m. Gains p q source m) all some.1

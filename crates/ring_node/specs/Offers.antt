@@ -1,0 +1,81 @@
+-- The offers that a node makes of its snapshots: the paper of 2007, section 4.7. How many are kept is this project's profile.
+use Rattle.std.specs.Prelude.{◌≡◌, ℕ, ◌+◌, ◌-◌, ◌<◌, ◌≤◌, ◌^◌, nat_eq, nat_lt, nat_le, ◌==◌, List, [], ◌∷◌, ◌++◌, length, drop, find, slice_get, Option, Some, None, MatchOption, if◌then◌else◌}
+use Rattle.std.specs.List.{AllByRecursion}
+use Rattle.std.specs.Option.{option_map}
+use Rattle.vclock.specs.Format.{number_of}
+use Rattle.vclock.specs.Outcome.{Outcome, gives, ◌>>◌}
+use Rattle.vclock.specs.declared.refusal.Refusal.{Refusal}
+use Rattle.vclock.specs.declared.refusal.Refusal.TheVariants.{SessionsFull, Gone}
+use Rattle.hash_tree.specs.declared.node.NodeAt.{NodeAt}
+use Rattle.walk_messages.specs.declared.message.Answer.{Answer}
+use Rattle.walk_messages.specs.declared.message.Ask.{Ask}
+use Rattle.walk_messages.specs.declared.message.Offer.{Offer}
+use Rattle.snapshot.specs.RowMaps.{RowMap, IsRowMap, text_at, root_of}
+use Rattle.snapshot.specs.Snapshots.{answer_fault}
+use Rattle.ring_node.specs.declared.offers.TheConstants.{MOST_KEPT}
+
+-- the rows of a snapshot that was published, with the number of its offer
+pub record Offered : Type 0 where
+  pub number : ℕ
+  pub rows : RowMap
+
+-- the number of the newest offer, 0 before the first, and what is kept, the oldest first
+pub record Offers : Type 0 where
+  pub last : ℕ
+  pub kept : List Offered
+
+-- What holds whenever the lock is free: no more are kept than that, and the rows of each are right.
+pub record AreOffers (o : Offers) : Type 0 where
+  pub few : length o.kept ≤ MOST_KEPT
+  pub right : AllByRecursion (λ (p : Offered). IsRowMap p.rows) o.kept
+
+-- the offer of some rows
+abbrev pub offer_of : Offered → Offer
+offer_of p = record { offer = p.number; format = number_of p.rows.format; range = p.rows.range; root = root_of p.rows }
+
+-- why nothing can be published: the last number was used
+abbrev pub number_fault : Offers → Option Refusal
+number_fault o = if nat_lt o.last (2 ^ 32 - 1) then None else Some SessionsFull
+
+-- what is kept without the oldest, where no more can be kept
+abbrev pub with_room : List Offered → List Offered
+with_room kept = if nat_lt (length kept) MOST_KEPT then kept else drop 1 kept
+
+-- rows are published under the next number
+abbrev pub publish : Offers → RowMap → Outcome Offer Offers
+publish o m = do
+  number_fault o
+  gives (offer_of (record { number = o.last + 1; rows = m })) (record { last = o.last + 1; kept = with_room o.kept ++ (record { number = o.last + 1; rows = m }) ∷ [] })
+
+-- the newest offer, if there is one
+abbrev pub latest : Offers → Option Offer
+latest o = option_map offer_of (slice_get o.kept (length o.kept - 1))
+
+-- what is kept under a number, if it is kept
+abbrev pub kept_under : Offers → ℕ → Option Offered
+kept_under o number = find (λ (p : Offered). p.number == number) o.kept
+
+-- why no rows are found
+abbrev pub gone_for : Option Offered → Option Refusal
+gone_for None = Some Gone
+gone_for (Some p) = None
+
+abbrev pub gone_fault : Offers → ℕ → Option Refusal
+gone_fault o number = gone_for (kept_under o number)
+
+-- why the text of a node is not answered: the offer is not kept, or its tree has no such node
+abbrev pub text_fault : Option Offered → NodeAt → Option Refusal
+text_fault None node = Some Gone
+text_fault (Some p) node = answer_fault p.rows node
+
+abbrev pub serve_fault : Offers → Ask → Option Refusal
+serve_fault o ask = text_fault (kept_under o ask.offer) ask.node
+
+-- the answer to an ask: the text of the node in the tree that was offered
+pub record IsAnswerOf (p : Offered) (ask : Ask) (a : Answer) : Type 0 where
+  pub offer : a.offer ≡ ask.offer
+  pub node : a.node ≡ ask.node
+  pub text : a.text ≡ text_at p.rows ask.node.depth ask.node.index
+
+abbrev pub IsAnswerIn : Offers → Ask → Answer → Type 0
+IsAnswerIn o ask a = MatchOption (kept_under o ask.offer) ⊥ (λ p. IsAnswerOf p ask a)

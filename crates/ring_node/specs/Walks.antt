@@ -1,0 +1,60 @@
+-- Sync workers: why they are refused, and what they report.
+use Rattle.std.specs.Prelude.{◌≡◌, ◌≢◌, ℕ, length, slice_get, List, Some}
+use Rattle.vclock.specs.declared.refusal.Refusal.{Refusal}
+use Rattle.vclock.specs.declared.refusal.Refusal.TheVariants.{Crowded, JournalFull, OtherRange, Dirty, UnknownSession, NotAsked, WrongDigest, NotCanonical, OtherFormat, SessionsFull, Gone, LinkLost, BadMessage, NoMemory}
+use Rattle.sync_session.specs.declared.state.SessionState.{SessionState}
+use Rattle.sync_session.specs.declared.state.SessionState.TheVariants.{Open}
+use Rattle.range_state.specs.declared.«record».Record.{Record}
+
+-- why a partner's offer is not reached
+abbrev pub IsOfferRefusal : Refusal → Type 0
+IsOfferRefusal LinkLost = Unit {0}
+IsOfferRefusal Gone = Unit {0}
+IsOfferRefusal BadMessage = Unit {0}
+IsOfferRefusal NoMemory = Unit {0}
+IsOfferRefusal e = ⊥
+
+-- why a session is not opened
+abbrev pub IsOpenRefusal : Refusal → Type 0
+IsOpenRefusal OtherFormat = Unit {0}
+IsOpenRefusal OtherRange = Unit {0}
+IsOpenRefusal SessionsFull = Unit {0}
+IsOpenRefusal Dirty = Unit {0}
+IsOpenRefusal NoMemory = Unit {0}
+IsOpenRefusal e = ⊥
+
+-- why a partner is not asked
+abbrev pub IsAskRefusal : Refusal → Type 0
+IsAskRefusal LinkLost = Unit {0}
+IsAskRefusal Gone = Unit {0}
+IsAskRefusal NoMemory = Unit {0}
+IsAskRefusal e = ⊥
+
+-- why a partner's text is not taken
+abbrev pub IsTakeRefusal : Refusal → Type 0
+IsTakeRefusal UnknownSession = Unit {0}
+IsTakeRefusal NotAsked = Unit {0}
+IsTakeRefusal WrongDigest = Unit {0}
+IsTakeRefusal NotCanonical = Unit {0}
+IsTakeRefusal Crowded = Unit {0}
+IsTakeRefusal JournalFull = Unit {0}
+IsTakeRefusal NoMemory = Unit {0}
+IsTakeRefusal e = ⊥
+
+-- why a session that was opened is broken off
+abbrev pub IsWalkRefusal : Refusal → Type 0
+IsWalkRefusal LinkLost = Unit {0}
+IsWalkRefusal Gone = Unit {0}
+IsWalkRefusal UnknownSession = Unit {0}
+IsWalkRefusal Crowded = Unit {0}
+IsWalkRefusal JournalFull = Unit {0}
+IsWalkRefusal NoMemory = Unit {0}
+IsWalkRefusal e = ⊥
+
+-- some records have one of that number that stands so, with so many nodes asked, and it is not open
+pub record IsEndIn (records : List Record) (id : ℕ) (state : SessionState) (asked : ℕ) : Type 0 where
+  pub r : Record
+  pub there : slice_get records id ≡ Some r
+  pub state_is : r.session.state ≡ state
+  pub asked_is : length r.session.asked ≡ asked
+  pub over : state ≢ Open

@@ -1,0 +1,118 @@
+//! Links over channels, and the servers at their other ends.
+ghost use Rattle.std.specs.Prelude.{◌≡◌, IfErr};
+ghost use Rattle.ring_node.specs.Links.{IsCounted};
+
+use crate::link::{Link, Reached, lose};
+use crate::offers::OfferPool;
+use crate::serving::Reply;
+use crossbeam_channel::{Receiver, Sender, bounded};
+use std::alloc::Global;
+use std::sync::Wait;
+use vclock::refusal::Refusal;
+
+/// How many messages a channel holds.
+const CAPACITY: usize = 16;
+
+/// What a link sends to its server.
+#[derive(Drop)]
+enum Request {
+    /// Wants the newest offer.
+    Offer,
+    /// Wants the answer to the ask of these bytes.
+    Ask(Vec<u8>),
+    /// Wants nothing more.
+    Stop,
+}
+
+/// A link over channels, in any thread. It fails where its server does, or has ended.
+#[derive(Drop)]
+pub struct ChannelLink {
+    alloc: Global,
+    requests: Sender<Request>,
+    replies: Receiver<Reply>,
+    failures: u64,
+}
+
+/// What answers a link over channels, in a thread of its own.
+#[derive(Drop)]
+pub struct ChannelServer {
+    alloc: Global,
+    requests: Receiver<Request>,
+    replies: Sender<Reply>,
+}
+
+/// A link that hasn't failed, and its server. Refused: NoMemory.
+pub fn channel_link(alloc: Global) -> Result<(ChannelLink, ChannelServer), Refusal>
+    ensures { IfErr result (λ e. e ≡ Refusal.NoMemory) }
+{
+    let (to_server, requests) = bounded(alloc, CAPACITY)?;
+    let (to_link, replies) = bounded(alloc, CAPACITY)?;
+    let link = ChannelLink {
+        alloc,
+        requests: to_server,
+        replies,
+        failures: 0,
+    };
+    let server = ChannelServer {
+        alloc,
+        requests,
+        replies: to_link,
+    };
+    Ok((link, server))
+}
+
+impl ChannelLink {
+    /// Tells the server to end.
+    pub fn stop<R: Wait>(self, rt: &R) {
+        // A server that has ended already needs no telling.
+        let _ = self.requests.send(rt, Request::Stop);
+    }
+
+    /// What the server replies to a request.
+    fn call<R: Wait>(&mut self, rt: &R, request: Request) -> Reached
+        ensures { IsCounted self.old.failures self.new.failures result }
+    {
+        if self.requests.send(rt, request).is_err() {
+            return lose(&mut self.failures);
+        }
+        match self.replies.recv(rt) {
+            Ok(reply) => reply.over(&mut self.failures),
+            Err(_) => lose(&mut self.failures),
+        }
+    }
+}
+
+impl Link for ChannelLink {
+    ghost failed = { λ l. l.failures };
+
+    fn failures(&self) -> u64 {
+        self.failures
+    }
+
+    fn offer<R: Wait>(&mut self, rt: &R) -> Reached {
+        self.call(rt, Request::Offer)
+    }
+
+    fn ask<R: Wait>(&mut self, rt: &R, message: &[u8]) -> Reached {
+        match Vec::from_slice(self.alloc, message) {
+            Ok(bytes) => self.call(rt, Request::Ask(bytes)),
+            Err(_) => lose(&mut self.failures),
+        }
+    }
+}
+
+impl ChannelServer {
+    /// Answers from a pool of offers until the link tells it to stop, or is dropped.
+    pub fn run<R: Wait>(&self, rt: &R, pool: &OfferPool) {
+        for _ in rt.forever() {
+            let reply = match self.requests.recv(rt) {
+                Ok(Request::Offer) => pool.reply_with_offer(rt, self.alloc),
+                Ok(Request::Ask(message)) => pool.reply_to(rt, self.alloc, &message),
+                Ok(Request::Stop) | Err(_) => return,
+            };
+            if self.replies.send(rt, reply).is_err() {
+                return;
+            }
+        }
+    }
+}

@@ -1,0 +1,42 @@
+//! Links to a pool of offers in the same memory.
+use crate::link::{Link, Reached};
+use crate::offers::OfferPool;
+use std::alloc::Global;
+use std::sync::Wait;
+
+/// A link to a pool of offers in the same memory. It fails where its pool refuses a message by another cause than Gone.
+#[derive(Drop)]
+pub struct MemoryLink<'a> {
+    alloc: Global,
+    pool: &'a OfferPool,
+    failures: u64,
+}
+
+impl<'a> MemoryLink<'a> {
+    /// A link to a pool, which hasn't failed. It takes no memory.
+    pub fn new(alloc: Global, pool: &'a OfferPool) -> MemoryLink<'a> {
+        MemoryLink {
+            alloc,
+            pool,
+            failures: 0,
+        }
+    }
+}
+
+impl<'a> Link for MemoryLink<'a> {
+    ghost failed = { λ l. l.failures };
+
+    fn failures(&self) -> u64 {
+        self.failures
+    }
+
+    fn offer<R: Wait>(&mut self, rt: &R) -> Reached {
+        let reply = self.pool.reply_with_offer(rt, self.alloc);
+        reply.over(&mut self.failures)
+    }
+
+    fn ask<R: Wait>(&mut self, rt: &R, message: &[u8]) -> Reached {
+        let reply = self.pool.reply_to(rt, self.alloc, message);
+        reply.over(&mut self.failures)
+    }
+}

@@ -1,0 +1,190 @@
+//! Offers: what a node publishes of its snapshots.
+ghost use Rattle.std.specs.Prelude.{◌≡◌, ◌⊎◌, ◌==◌, IfOk, IfErr, MatchOption, find};
+ghost use Rattle.std.specs.Option.{option_copied};
+ghost use Rattle.std.specs.Arc.{arc_value};
+ghost use Rattle.vclock.specs.Answer.{Answers, AnswersOrNoMemory};
+ghost use Rattle.vclock.specs.Format.{number_of};
+ghost use Rattle.vclock.specs.Outcome.{Does};
+ghost use Rattle.snapshot.specs.RowMaps.{root_of};
+ghost use Rattle.ring_node.specs.Moments.{FoundAtSomeMoment, ChangedAtSomeMoment};
+ghost use Rattle.ring_node.specs.Offers.{Offered, AreOffers, publish, latest, kept_under, gone_fault, serve_fault, IsAnswerIn};
+
+use snapshot::snapshot::Snapshot;
+use std::alloc::Global;
+use std::marker::Model;
+use std::sync::{Arc, Mutex, Wait};
+use vclock::bytes::Bytes;
+use vclock::refusal::Refusal;
+use walk_messages::message::{Answer, Ask, Offer};
+
+/// How many offers are kept.
+const MOST_KEPT: usize = 16;
+
+/// A snapshot with the number of its offer.
+#[derive(Drop)]
+struct Published {
+    number: u32,
+    snapshot: Arc<Snapshot, Global>,
+}
+
+impl Model for Published {
+    ghost use Rattle.std.specs.Arc.{arc_value};
+    ghost use Rattle.ring_node.specs.Offers.{Offered};
+
+    ghost Value = { Offered };
+
+    ghost view = { λ p. record { number = p.number; rows = arc_value p.snapshot } };
+}
+
+/// The snapshots that were published last, the oldest first, and the number of the newest offer: 0 before the first.
+#[derive(Drop)]
+struct Offers {
+    last: u32,
+    kept: Vec<Published>,
+}
+
+impl Model for Offers {
+    ghost use Rattle.ring_node.specs.Offers.{Offers, AreOffers};
+
+    ghost Value = { Offers };
+
+    ghost view = { λ o. record { last = o.last; kept = o.kept.items } };
+
+    ghost invariant = { λ o. AreOffers (record { last = o.last; kept = o.kept.items }) };
+}
+
+impl Offers {
+    /// Keeps a snapshot, and returns its offer. Where no more can be kept, the oldest goes to `oldest`.
+    ///
+    /// Refused, in order: SessionsFull, NoMemory. Nothing is then kept.
+    fn publish(
+        &mut self,
+        snapshot: Arc<Snapshot, Global>,
+        oldest: &mut Option<Published>,
+    ) -> Result<Offer, Refusal>
+        ensures { Does result self.old self.new (publish self.old (arc_value snapshot)) }
+    {
+        if self.last == u32::MAX {
+            return Err(Refusal::SessionsFull);
+        }
+        if self.kept.len() < MOST_KEPT {
+            self.kept.reserve(1)?;
+        } else {
+            *oldest = Some(self.kept.remove(0));
+        }
+        let number = self.last + 1;
+        let offer = snapshot.offer(number);
+        self.kept.push_reserved(Published { number, snapshot });
+        self.last = number;
+        Ok(offer)
+    }
+
+    /// The newest offer, if there is one.
+    fn latest(&self) -> Option<Offer>
+        ensures newest { result ≡ latest self.now }
+        ensures valid { AreOffers self.now }
+    {
+        let published = self.kept.last()?;
+        Some(published.snapshot.offer(published.number))
+    }
+
+    /// The snapshot of an offer, with one owner more. Refused, in order: Gone, NoMemory.
+    fn find(&self, number: u32) -> Result<Arc<Snapshot, Global>, Refusal>
+        ensures { Answers result (gone_fault self.now number)
+            (λ snapshot. MatchOption (kept_under self.now number) ⊥ (λ p. p.rows ≡ arc_value snapshot)) }
+    {
+        let published = published_as(&self.kept, number).ok_or(Refusal::Gone)?;
+        Ok(Arc::try_clone(&published.snapshot)?)
+    }
+}
+
+/// What is kept under a number, if it is kept.
+fn published_as(kept: &[Published], number: u32) -> Option<&Published>
+    ensures { option_copied result ≡ find (λ (p : Offered). p.number == number) kept.now }
+{
+    for published in kept {
+        if published.number == number {
+            return Some(published);
+        }
+    }
+    None
+}
+
+/// The offers that a node makes of its snapshots, which threads share. Offers are numbered from 1. The last 16 are kept,
+/// with their snapshots: the paper of 2007, section 4.7.
+#[derive(Drop)]
+pub struct OfferPool {
+    offers: Mutex<Offers>,
+}
+
+impl OfferPool {
+    /// A pool without offers. It takes no memory.
+    pub fn new(alloc: Global) -> OfferPool {
+        OfferPool {
+            offers: Mutex::new(Offers {
+                last: 0,
+                kept: Vec::new(alloc),
+            }),
+        }
+    }
+
+    /// Publishes a snapshot, and returns its offer. From the 17th on the oldest offer is dropped.
+    ///
+    /// Refused, in order: SessionsFull (the last number, 2^32 - 1, was used), NoMemory. Nothing is then published.
+    pub fn publish<R: Wait>(
+        &self,
+        rt: &R,
+        snapshot: Arc<Snapshot, Global>,
+    ) -> Result<Offer, Refusal>
+        ensures format { IfOk result (λ offer. offer.format ≡ number_of (arc_value snapshot).format) }
+        ensures range { IfOk result (λ offer. offer.range ≡ (arc_value snapshot).range) }
+        ensures root { IfOk result (λ offer. offer.root ≡ root_of (arc_value snapshot)) }
+        ensures refusal { IfErr result (λ e. (e ≡ Refusal.SessionsFull) ⊎ (e ≡ Refusal.NoMemory)) }
+        ensures moment { ChangedAtSomeMoment AreOffers
+            (λ before after. Does result before after (publish before (arc_value snapshot))) }
+    {
+        // It outlives the lock, since the drop of a snapshot walks its leaves.
+        let mut oldest = None;
+        let mut offers = self.offers.lock(rt);
+        // Called for its clause `valid` alone: the offers are right.
+        let _valid = offers.latest();
+        offers.publish(snapshot, &mut oldest)
+    }
+
+    /// The newest offer, if there is one. It takes no memory.
+    pub fn latest<R: Wait>(&self, rt: &R) -> Option<Offer>
+        ensures { FoundAtSomeMoment AreOffers (λ offers. result ≡ latest offers) }
+    {
+        self.offers.lock(rt).latest()
+    }
+
+    /// The answer to an ask: the text of its node in the tree that was offered.
+    ///
+    /// Refused, in order: Gone (the offer is not kept), BadMessage (its tree has no such node), NoMemory.
+    pub fn serve<R: Wait>(&self, rt: &R, alloc: Global, ask: Ask) -> Result<Answer, Refusal>
+        ensures asked { IfOk result (λ answer. (answer.offer ≡ ask.offer) × (answer.node ≡ ask.node)) }
+        ensures refusal { IfErr result
+            (λ e. (e ≡ Refusal.Gone) ⊎ (e ≡ Refusal.BadMessage) ⊎ (e ≡ Refusal.NoMemory)) }
+        ensures moment { FoundAtSomeMoment AreOffers
+            (λ offers. AnswersOrNoMemory result (serve_fault offers ask) (IsAnswerIn offers ask)) }
+    {
+        let snapshot = self.find(rt, ask.offer)?;
+        let text = snapshot.answer(alloc, ask)?;
+        Ok(Answer {
+            offer: ask.offer,
+            node: ask.node,
+            text: Bytes::from(text),
+        })
+    }
+
+    /// The snapshot of an offer, with one owner more. Refused, in order: Gone, NoMemory.
+    fn find<R: Wait>(&self, rt: &R, number: u32) -> Result<Arc<Snapshot, Global>, Refusal>
+        ensures { FoundAtSomeMoment AreOffers (λ offers. Answers result (gone_fault offers number)
+            (λ snapshot. MatchOption (kept_under offers number) ⊥ (λ p. p.rows ≡ arc_value snapshot))) }
+    {
+        let offers = self.offers.lock(rt);
+        // Called for its clause `valid` alone: the offers are right.
+        let _valid = offers.latest();
+        offers.find(number)
+    }
+}

@@ -1,0 +1,298 @@
+//! Workers that take what a partner has and a range lacks.
+ghost use Rattle.std.specs.Prelude.{◌≡◌, ◌⊎◌, ◌+◌, ◌<◌, ◌≤◌, None, IfOk, IfErr, IfSome, OnOk, OnErr, MatchOption, slice_get};
+ghost use Rattle.vclock.specs.Answer.{AnswersAtOnce};
+ghost use Rattle.vclock.specs.Outcome.{Does, through};
+ghost use Rattle.range_journal.specs.declared.journal.Source.{Source};
+ghost use Rattle.sync_session.specs.TreeNodes.{node_of};
+ghost use Rattle.range_state.specs.Sessions.{open_session, unknown_fault};
+ghost use Rattle.range_state.specs.Syncs.{IsFirstOf};
+ghost use Rattle.caller_pass.specs.Locks.{IsLocked, moved, TellsAnswer};
+ghost use Rattle.ring_node.specs.Gains.{Gains, GainsSome};
+ghost use Rattle.ring_node.specs.Links.{IsLostExactly};
+ghost use Rattle.ring_node.specs.Moments.{FoundAtSomeMoment, ChangedAtSomeMoment};
+ghost use Rattle.ring_node.specs.Walks.{IsOfferRefusal, IsOpenRefusal, IsAskRefusal, IsTakeRefusal, IsWalkRefusal, IsEndIn};
+
+use crate::link::{Link, Reached};
+use crate::range::SharedRange;
+use admission::slot::Slot;
+use caller_pass::pass::Pass;
+use hash_tree::hashed::hash;
+use hash_tree::node::NodeAt;
+use range_journal::journal::Source;
+use range_state::event::AnswerCounted;
+use std::alloc::Global;
+use std::sync::Wait;
+use std::sync::ledger::Ledger;
+use sync_session::state::SessionState;
+use vclock::refusal::Refusal;
+use walk_messages::decoding::decode;
+use walk_messages::encoding::encode;
+use walk_messages::message::{Answer, Ask, Message, Offer};
+
+/// What a sync worker did.
+#[derive(Clone, Copy, Debug, PartialEq, Eq)]
+pub struct SyncReport {
+    /// The number of the session among those of the range.
+    pub id: u64,
+    /// How the session ended: Finished, Failed or Cancelled.
+    pub state: SessionState,
+    /// How many nodes the session asked for.
+    pub asked: u64,
+    /// How many versions were journaled: so many receipts the pass got.
+    pub accepted: u64,
+    /// How many versions were known.
+    pub known: u64,
+    /// How many messages came that answered no ask of the session, or not truly.
+    pub bad: u64,
+}
+
+/// What came of the turns of a session.
+#[derive(Clone, Copy, Debug, PartialEq, Eq)]
+struct Walk {
+    known: u64,
+    bad: u64,
+}
+
+impl Walk {
+    /// The walk after what became of an answer: `None` if the session failed by it. Refused as the answer was, but that
+    /// NotAsked and WrongDigest make it a bad one.
+    fn after(self, answered: Result<AnswerCounted, Refusal>) -> Result<Option<Walk>, Refusal>
+        requires turns { self.bad < u64.MAX }
+        requires refusal { IfErr answered IsTakeRefusal }
+        ensures bad { IfOk result (λ walk. IfSome walk (λ w. w.bad ≤ self.bad + 1)) }
+        ensures refusal { IfErr result (λ e. IsWalkRefusal e × IsTakeRefusal e) }
+    {
+        let Walk { known, bad } = self;
+        match answered {
+            Ok(taken) => Ok(Some(Walk {
+                known: known.saturating_add(taken.known),
+                bad,
+            })),
+            Err(Refusal::NotAsked | Refusal::WrongDigest) => Ok(Some(Walk {
+                known,
+                bad: bad + 1,
+            })),
+            Err(Refusal::NotCanonical) => Ok(None),
+            Err(refusal) => Err(refusal),
+        }
+    }
+}
+
+/// How a session ended.
+#[derive(Clone, Copy, Debug, PartialEq, Eq)]
+struct End {
+    state: SessionState,
+    asked: u64,
+}
+
+impl<L: Ledger> SharedRange<L> {
+    /// Opens a session with the offer that a link to the partner gives, and asks for the first outstanding node in each
+    /// turn, until nothing is outstanding or the turns are used. The pass is told of what the range journals. A session
+    /// that is open at the end is cancelled. The slot is the leave to do so.
+    ///
+    /// The partner isn't trusted. A message that is no answer, is of another offer, or is refused as NotAsked or
+    /// WrongDigest is counted as bad, and the node is asked for again; a text that has the right digest and can be no
+    /// node's has the session fail. The link is asked, and texts are hashed, with no lock held, so puts go on meanwhile.
+    ///
+    /// Refused, in order: LinkLost (the link failed), Gone (the partner has no such offer), BadMessage (no offer came),
+    /// OtherFormat, OtherRange, SessionsFull, Dirty (some node of the own tree has no digest), UnknownSession (no run
+    /// meets it), Crowded, JournalFull, NoMemory. What was taken until then stays, and the session is cancelled.
+    #[tactic(auto, using(crate::proofs::GainLaws::some_none, crate::proofs::GainLaws::some_same, crate::proofs::WalkLaws::gains_grow, crate::proofs::WalkLaws::gains_counted, crate::proofs::WalkLaws::open_keeps))]
+    pub fn sync_worker<R: Wait, C: Ledger, K: Link>(
+        &self,
+        rt: &R,
+        alloc: Global,
+        _slot: &Slot<C>,
+        link: &mut K,
+        pass: &mut Pass<L>,
+        partner: u16,
+        turns: u64,
+    ) -> Result<SyncReport, Refusal>
+        ensures gains { IfOk result (λ report. Gains pass.old pass.new Source.Partner report.accepted) }
+        ensures turns { IfOk result (λ report. report.bad ≤ turns) }
+        ensures end { IfOk result (λ report. FoundAtSomeMoment (IsLocked L.parts)
+            (λ locked. IsEndIn locked.state.records report.id report.state report.asked)) }
+        ensures some { OnErr result (GainsSome pass.old pass.new Source.Partner) }
+        ensures lost { IsLostExactly (K.failed link.old) (K.failed link.new) result }
+        ensures refusal { IfErr result (λ e. ((IsOfferRefusal e ⊎ IsOpenRefusal e) × (pass.new ≡ pass.old))
+            ⊎ IsWalkRefusal e) }
+    {
+        let before = pass.receipts().len();
+        let offer = reach_offer(rt, alloc, link)?;
+        let id = self.open_session(rt, alloc, partner, offer)?;
+        let walk = self.walk(rt, alloc, link, pass, id, offer.offer, turns);
+        // After a refusal too.
+        let end = self.end_session(rt, id);
+        let Walk { known, bad } = walk?;
+        let End { state, asked } = end?;
+        Ok(SyncReport {
+            id,
+            state,
+            asked,
+            accepted: (pass.receipts().len() - before) as u64,
+            known,
+            bad,
+        })
+    }
+
+    /// Opens a session, as [`LockedRange::open_session`].
+    fn open_session<R: Wait>(
+        &self,
+        rt: &R,
+        alloc: Global,
+        partner: u16,
+        offer: Offer,
+    ) -> Result<u64, Refusal>
+        ensures refusal { IfErr result IsOpenRefusal }
+        ensures moment { ChangedAtSomeMoment (IsLocked L.parts) (λ before after.
+            Does result before after (through (moved before) (open_session before.state partner offer))) }
+    {
+        let mut range = self.range.lock(rt);
+        // Called for its clause `valid` alone: the range is right.
+        let _valid = range.config();
+        range.open_session(alloc, partner, offer)
+    }
+
+    /// The turns of a session with an offer of that number.
+    #[tactic(auto, using(crate::proofs::GainLaws::some_none, crate::proofs::WalkLaws::take_keeps))]
+    fn walk<R: Wait, K: Link>(
+        &self,
+        rt: &R,
+        alloc: Global,
+        link: &mut K,
+        pass: &mut Pass<L>,
+        id: u64,
+        offer: u32,
+        turns: u64,
+    ) -> Result<Walk, Refusal>
+        ensures some { GainsSome pass.old pass.new Source.Partner }
+        ensures turns { IfOk result (λ walk. walk.bad ≤ turns) }
+        ensures lost { IsLostExactly (K.failed link.old) (K.failed link.new) result }
+        ensures refusal { IfErr result IsWalkRefusal }
+    {
+        let mut walk = Walk { known: 0, bad: 0 };
+        for _ in 0..turns {
+            let Some(node) = self.outstanding(rt, id)? else {
+                return Ok(walk);
+            };
+            let Some(answer) = reach_answer(rt, alloc, link, Ask { offer, node })? else {
+                walk.bad += 1;
+                continue;
+            };
+            let answered = self.take_answer(rt, alloc, pass, id, answer);
+            let Some(more) = walk.after(answered)? else {
+                return Ok(walk);
+            };
+            walk = more;
+        }
+        Ok(walk)
+    }
+
+    /// The first node that a session has outstanding, as [`LockedRange::outstanding`].
+    fn outstanding<R: Wait>(&self, rt: &R, id: u64) -> Result<Option<NodeAt>, Refusal>
+        ensures refusal { IfErr result (λ e. e ≡ Refusal.UnknownSession) }
+        ensures moment { FoundAtSomeMoment (IsLocked L.parts) (λ locked.
+            AnswersAtOnce result (unknown_fault locked.state id) (λ first.
+            MatchOption (slice_get locked.state.records id) ⊥ (λ r. IsFirstOf r.session.outstanding first))) }
+    {
+        let range = self.range.lock(rt);
+        // Called for its clause `valid` alone: the range is right.
+        let _valid = range.config();
+        range.outstanding(id)
+    }
+
+    /// Takes a partner's answer for a session, as [`LockedRange::take_answer`]. Its text is hashed before the lock is
+    /// taken.
+    fn take_answer<R: Wait>(
+        &self,
+        rt: &R,
+        alloc: Global,
+        pass: &mut Pass<L>,
+        id: u64,
+        answer: Answer,
+    ) -> Result<AnswerCounted, Refusal>
+        ensures gains { IfOk result (λ taken. Gains pass.old pass.new Source.Partner taken.receipts) }
+        ensures same { OnErr result (pass.new ≡ pass.old) }
+        ensures some { GainsSome pass.old pass.new Source.Partner }
+        ensures refusal { IfErr result IsTakeRefusal }
+        ensures moment { ChangedAtSomeMoment (IsLocked L.parts) (λ before after. TellsAnswer before pass.old id
+            (record { node = node_of answer.node; text = answer.text }) result after pass.new) }
+    {
+        let text = hash(answer.text);
+        let mut range = self.range.lock(rt);
+        // Called for its clause `valid` alone: the range is right.
+        let _valid = range.config();
+        range.take_answer(alloc, pass, id, answer.node, text)
+    }
+
+    /// Ends a session if it is open, and tells how it ended. Refused: UnknownSession.
+    fn end_session<R: Wait>(&self, rt: &R, id: u64) -> Result<End, Refusal>
+        ensures end { IfOk result (λ end. FoundAtSomeMoment (IsLocked L.parts)
+            (λ locked. IsEndIn locked.state.records id end.state end.asked)) }
+        ensures refusal { IfErr result (λ e. e ≡ Refusal.UnknownSession) }
+    {
+        let mut range = self.range.lock(rt);
+        range.cancel_session(id)?;
+        // Called for its clause `valid` alone: the range is right.
+        let _valid = range.config();
+        let record = range.records().get(id as usize);
+        let session = record.ok_or(Refusal::UnknownSession)?.session();
+        Ok(End {
+            state: session.state(),
+            asked: session.asked().len() as u64,
+        })
+    }
+}
+
+/// The offer that a link gives.
+fn reach_offer<R: Wait, K: Link>(rt: &R, alloc: Global, link: &mut K) -> Result<Offer, Refusal>
+    ensures lost { IsLostExactly (K.failed link.old) (K.failed link.new) result }
+    ensures refusal { IfErr result IsOfferRefusal }
+{
+    match link.offer(rt) {
+        Reached::Bytes(bytes) => offer_in(alloc, &bytes),
+        Reached::Lost => Err(Refusal::LinkLost),
+        Reached::Gone => Err(Refusal::Gone),
+    }
+}
+
+/// The answer that a link gives to an ask: `None` where what comes is no answer, or is of another offer.
+fn reach_answer<R: Wait, K: Link>(
+    rt: &R,
+    alloc: Global,
+    link: &mut K,
+    ask: Ask,
+) -> Result<Option<Answer>, Refusal>
+    ensures offer { IfOk result (λ found. IfSome found (λ answer. answer.offer ≡ ask.offer)) }
+    ensures lost { IsLostExactly (K.failed link.old) (K.failed link.new) result }
+    ensures refusal { IfErr result IsAskRefusal }
+{
+    let message = encode(alloc, &Message::Ask(ask))?;
+    match link.ask(rt, &message) {
+        Reached::Bytes(bytes) => answer_in(alloc, &bytes, ask.offer),
+        Reached::Lost => Err(Refusal::LinkLost),
+        Reached::Gone => Err(Refusal::Gone),
+    }
+}
+
+/// The offer whose message has these bytes. Refused, in order: BadMessage, NoMemory.
+fn offer_in(alloc: Global, bytes: &[u8]) -> Result<Offer, Refusal>
+    ensures { IfErr result (λ e. (e ≡ Refusal.BadMessage) ⊎ (e ≡ Refusal.NoMemory)) }
+{
+    match decode(alloc, bytes)? {
+        Message::Offer(offer) => Ok(offer),
+        _ => Err(Refusal::BadMessage),
+    }
+}
+
+/// The answer to an ask of that offer, if the bytes are the message of one. Refused: NoMemory.
+fn answer_in(alloc: Global, bytes: &[u8], offer: u32) -> Result<Option<Answer>, Refusal>
+    ensures offer { IfOk result (λ found. IfSome found (λ answer. answer.offer ≡ offer)) }
+    ensures refusal { IfErr result (λ e. e ≡ Refusal.NoMemory) }
+{
+    match decode(alloc, bytes) {
+        Ok(Message::Answer(answer)) if answer.offer == offer => Ok(Some(answer)),
+        Err(Refusal::NoMemory) => Err(Refusal::NoMemory),
+        _ => Ok(None),
+    }
+}

@@ -1,0 +1,125 @@
+// A node of a storm, and its threads.
+ghost use Rattle.std.specs.Prelude.{◌≡◌, ◌≤◌};
+
+use crate::tally::SharedTally;
+use crate::workers::{rehash_rounds, sync_rounds};
+use crate::writer::write;
+use caller_pass::book::open_passes;
+use caller_pass::pass::Pass;
+use range_state::config::RangeConfig;
+use range_state::state::RangeState;
+use ring_node::channel::{ChannelLink, ChannelServer};
+use ring_node::controller::SharedController;
+use ring_node::gate::Gate;
+use ring_node::offers::OfferPool;
+use ring_node::range::SharedRange;
+use std::alloc::Global;
+use std::sync::Wait;
+use std::sync::ledger::{Blank, Ledger};
+use std::thread;
+use std::thread::Threads;
+use vclock::refusal::Refusal;
+
+/// How many entries a journal takes.
+const LIMIT: u64 = 1_000_000;
+
+/// A node: its replica of the one range, the offers of its snapshots, what it has done, and the number of the other node.
+#[derive(Drop)]
+pub(crate) struct Node<'a, L: Ledger> {
+    pub(crate) range: SharedRange<L>,
+    pub(crate) pool: OfferPool,
+    pub(crate) tally: &'a SharedTally,
+    pub(crate) partner: u16,
+}
+
+/// The passes of a node: the first is its writer's, the second that of its sync worker.
+#[derive(Drop)]
+pub(crate) struct Passes<L: Ledger> {
+    pub(crate) writer: Pass<L>,
+    pub(crate) syncer: Pass<L>,
+}
+
+/// The link of a node to the other one, and the server at the end of the other one's link.
+#[derive(Drop)]
+pub(crate) struct Ends {
+    pub(crate) link: ChannelLink,
+    pub(crate) server: ChannelServer,
+}
+
+/// What the threads of both nodes share, and how much they do.
+#[derive(Drop)]
+pub(crate) struct Plan<'a, C: Ledger, G: Gate> {
+    pub(crate) slots: &'a SharedController<C>,
+    pub(crate) gate: &'a G,
+    pub(crate) puts: u64,
+}
+
+impl<'a, L: Ledger> Node<'a, L> {
+    /// A node that has accepted nothing, and its passes. Refused: NoMemory.
+    pub(crate) fn open(
+        alloc: Global,
+        blank: Blank,
+        tally: &'a SharedTally,
+        number: u16,
+        partner: u16,
+    ) -> Result<(Node<'a, L>, Passes<L>), Refusal>
+        requires ledger { (blank.name ≡ L.name) × (blank.parts ≡ L.parts) × (blank.parts ≡ 2) }
+        requires number { 1 ≤ number }
+    {
+        let config = RangeConfig::new(1, 0, 0, LIMIT).ok_or(Refusal::BadRing)?;
+        let state = RangeState::new(alloc, config)?;
+        let (book, mut passes) = open_passes::<L>(blank, alloc, 2)?;
+        let syncer = passes.pop().ok_or(Refusal::Stranger)?;
+        let writer = passes.pop().ok_or(Refusal::Stranger)?;
+        let node = Node {
+            range: SharedRange::new(number, state, book),
+            pool: OfferPool::new(alloc),
+            tally,
+            partner,
+        };
+        Ok((node, Passes { writer, syncer }))
+    }
+}
+
+/// Runs the threads of a node until all have ended, and hands its passes back.
+///
+/// Refused as the writer, the rehash worker and the sync worker are; NoMemory also where a thread can't be made. Then the
+/// others have ended too: what a thread would have had, its ends of channels among it, is dropped before they are waited
+/// for.
+pub(crate) fn run_node<L, C, R, G>(
+    rt: &R,
+    alloc: Global,
+    node: &Node<'_, L>,
+    plan: &Plan<'_, C, G>,
+    passes: Passes<L>,
+    ends: Ends,
+) -> Result<Passes<L>, Refusal>
+where
+    L: Ledger + Send + Sync,
+    C: Ledger + Send + Sync,
+    R: Threads + Wait + Sync,
+    G: Gate + Sync,
+{
+    let Passes { writer, syncer } = passes;
+    let Ends { link, server } = ends;
+    thread::scope(thread::scope_env(), rt, |scope| {
+        let serves = scope.spawn(move || server.run(rt, &node.pool));
+        let syncs = scope.spawn(move || sync_rounds(rt, alloc, node, plan, syncer, link));
+        let rehashes = scope.spawn(move || rehash_rounds(rt, alloc, node, plan));
+        let writes = scope.spawn(move || write(rt, alloc, node, plan, writer));
+        match (serves, syncs, rehashes, writes) {
+            (Ok(serves), Ok(syncs), Ok(rehashes), Ok(writes)) => {
+                let writer = writes.join(rt);
+                let rehashed = rehashes.join(rt);
+                let syncer = syncs.join(rt);
+                serves.join(rt);
+                rehashed?;
+                Ok(Passes {
+                    writer: writer?,
+                    syncer: syncer?,
+                })
+            }
+            _ => Err(Refusal::NoMemory),
+        }
+    })
+}

@@ -1,0 +1,199 @@
+//! Storms.
+ghost use Rattle.std.specs.Prelude.{◌≡◌, ◌*◌, ◌≤◌, IfOk};
+
+use crate::node::{Ends, Node, Passes, Plan, run_node};
+use crate::tally::Tallies;
+use crate::workers::{rehash, sync};
+use admission::controller::Controller;
+use caller_pass::pass::Pass;
+use ring_node::channel::channel_link;
+use ring_node::controller::SharedController;
+use ring_node::gate::Gate;
+use ring_node::memory::MemoryLink;
+use ring_node::range::SharedRange;
+use std::alloc::Global;
+use std::marker::Brand;
+use std::sync::Wait;
+use std::sync::ledger::{Blank, Ledger};
+use std::thread;
+use std::thread::Threads;
+use vclock::refusal::Refusal;
+
+/// How many puts a writer does at the most.
+pub const MOST_PUTS: u64 = 10_000;
+
+/// How a storm ended.
+#[derive(Clone, Copy, Debug, PartialEq, Eq)]
+pub struct StormEnd {
+    /// How many puts both writers did.
+    pub puts: u64,
+    /// Whether the roots of both trees are equal.
+    pub equal: bool,
+    /// Whether each pass was told what its range's journal has.
+    pub settled: bool,
+}
+
+/// Two nodes, 1 and 2, are replicas of one range. Each has a writer that does so many puts, 1 to 10,000, a rehash worker,
+/// a sync worker and a server of its offers, each in a thread. When all have ended, both nodes are rehashed, synced both
+/// ways, rehashed and closed.
+///
+/// The workers have as many rounds as there are puts, at most 100, each with a slot from one controller of 1 to 8 slots;
+/// in a round NoSlot, Dirty, Gone and LinkLost are passed over. The gate is passed by each rehash worker (steps 1 and 2),
+/// by each writer after each put (step 3) and by each sync worker before each round (step 4). The tallies show how far
+/// the nodes are.
+///
+/// Refused by each other refusal of a part. NoMemory also where a thread can't be made, and where the last sync loses its
+/// link.
+pub fn run_storm<R: Threads + Wait + Sync, G: Gate + Sync>(
+    rt: &R,
+    alloc: Global,
+    puts: u64,
+    gate: &G,
+    tallies: &Tallies,
+) -> Result<StormEnd, Refusal>
+    requires { puts ≤ MOST_PUTS }
+    ensures { IfOk result (λ end. end.puts ≡ 2 * puts) }
+{
+    let (one, two, slots) = (Blank::new(2), Blank::new(2), Blank::new(1_024));
+    storm::<Brand, Brand, Brand, R, G>(rt, alloc, puts, gate, tallies, one, two, slots)
+}
+
+/// A storm with the ledgers of both ranges and of the slots.
+fn storm<S, T, C, R, G>(
+    rt: &R,
+    alloc: Global,
+    puts: u64,
+    gate: &G,
+    tallies: &Tallies,
+    first: Blank,
+    second: Blank,
+    slots: Blank,
+) -> Result<StormEnd, Refusal>
+where
+    S: Ledger + Send + Sync,
+    T: Ledger + Send + Sync,
+    C: Ledger + Send + Sync,
+    R: Threads + Wait + Sync,
+    G: Gate + Sync,
+    requires puts { puts ≤ MOST_PUTS }
+    requires first { (first.name ≡ S.name) × (first.parts ≡ S.parts) × (first.parts ≡ 2) }
+    requires second { (second.name ≡ T.name) × (second.parts ≡ T.parts) × (second.parts ≡ 2) }
+    requires slots { (slots.name ≡ C.name) × (slots.parts ≡ C.parts) × (slots.parts ≡ 1024) }
+    ensures { IfOk result (λ end. end.puts ≡ 2 * puts) }
+{
+    let slots = SharedController::new(Controller::<C>::new(slots, alloc, 1, 8, 50_000)?);
+    let plan = Plan {
+        slots: &slots,
+        gate,
+        puts,
+    };
+    let (one, passes) = Node::<S>::open(alloc, first, &tallies.one, 1, 2)?;
+    let (two, others) = Node::<T>::open(alloc, second, &tallies.two, 2, 1)?;
+    let (passes, others) = run_nodes(rt, alloc, &one, &two, &plan, passes, others)?;
+    end_storm(rt, alloc, one, two, &plan, passes, others)
+}
+
+/// Runs the threads of both nodes until all have ended.
+fn run_nodes<S, T, C, R, G>(
+    rt: &R,
+    alloc: Global,
+    one: &Node<'_, S>,
+    two: &Node<'_, T>,
+    plan: &Plan<'_, C, G>,
+    passes: Passes<S>,
+    others: Passes<T>,
+) -> Result<(Passes<S>, Passes<T>), Refusal>
+where
+    S: Ledger + Send + Sync,
+    T: Ledger + Send + Sync,
+    C: Ledger + Send + Sync,
+    R: Threads + Wait + Sync,
+    G: Gate + Sync,
+{
+    let (to_one, server_of_one) = channel_link(alloc)?;
+    let (to_two, server_of_two) = channel_link(alloc)?;
+    let ends = Ends {
+        link: to_two,
+        server: server_of_one,
+    };
+    let other_ends = Ends {
+        link: to_one,
+        server: server_of_two,
+    };
+    thread::scope(thread::scope_env(), rt, |scope| {
+        let first = scope.spawn(move || run_node(rt, alloc, one, plan, passes, ends));
+        let second = scope.spawn(move || run_node(rt, alloc, two, plan, others, other_ends));
+        match (first, second) {
+            (Ok(first), Ok(second)) => {
+                let passes = first.join(rt);
+                let others = second.join(rt);
+                Ok((passes?, others?))
+            }
+            _ => Err(Refusal::NoMemory),
+        }
+    })
+}
+
+/// Brings both nodes together, and closes them.
+fn end_storm<S: Ledger, T: Ledger, C: Ledger, R: Wait, G: Gate>(
+    rt: &R,
+    alloc: Global,
+    one: Node<'_, S>,
+    two: Node<'_, T>,
+    plan: &Plan<'_, C, G>,
+    passes: Passes<S>,
+    others: Passes<T>,
+) -> Result<StormEnd, Refusal>
+    requires { plan.now.puts ≤ MOST_PUTS }
+    ensures { IfOk result (λ end. end.puts ≡ 2 * plan.now.puts) }
+{
+    let Passes { writer, mut syncer } = passes;
+    let Passes {
+        writer: other_writer,
+        syncer: mut other_syncer,
+    } = others;
+    rehash(rt, alloc, &one, plan)?;
+    rehash(rt, alloc, &two, plan)?;
+    let mut to_two = MemoryLink::new(alloc, &two.pool);
+    let mut to_one = MemoryLink::new(alloc, &one.pool);
+    last(sync(rt, alloc, &one, plan, &mut to_two, &mut syncer))?;
+    last(sync(rt, alloc, &two, plan, &mut to_one, &mut other_syncer))?;
+    rehash(rt, alloc, &one, plan)?;
+    rehash(rt, alloc, &two, plan)?;
+    let root = one.range.snapshot(rt, alloc)?.root();
+    let equal = root == two.range.snapshot(rt, alloc)?.root();
+    let settled = close(alloc, one.range, writer, syncer)?;
+    let other_settled = close(alloc, two.range, other_writer, other_syncer)?;
+    Ok(StormEnd {
+        puts: 2 * plan.puts,
+        equal,
+        settled: settled && other_settled,
+    })
+}
+
+/// A link over memory is lost for want of memory alone.
+fn last(sync: Result<(), Refusal>) -> Result<(), Refusal> {
+    match sync {
+        Err(Refusal::LinkLost) => Err(Refusal::NoMemory),
+        other => other,
+    }
+}
+
+/// Closes a range: whether its passes were told what its journal has. Refused: NoMemory.
+fn close<L: Ledger>(
+    alloc: Global,
+    range: SharedRange<L>,
+    writer: Pass<L>,
+    syncer: Pass<L>,
+) -> Result<bool, Refusal> {
+    let mut passes = Vec::with_capacity(alloc, 2)?;
+    passes.push_reserved(writer);
+    passes.push_reserved(syncer);
+    match range.close(alloc, passes) {
+        Ok(_) => Ok(true),
+        Err(refused) => match refused.refusal {
+            Refusal::Unsettled { .. } => Ok(false),
+            other => Err(other),
+        },
+    }
+}

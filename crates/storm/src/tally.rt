@@ -1,0 +1,96 @@
+//! What the threads of a storm have done so far.
+use ring_node::rehasher::RehashReport;
+use ring_node::syncer::SyncReport;
+use std::sync::{Mutex, Wait};
+use sync_session::state::SessionState;
+
+/// How much the threads of a node have done. The counts stop at 2^64 - 1.
+#[derive(Clone, Copy, Debug, PartialEq, Eq)]
+pub struct Tally {
+    /// How many puts were done.
+    pub puts: u64,
+    /// How many digests were installed.
+    pub installed: u64,
+    /// How many digests came too late.
+    pub stale: u64,
+    /// How many snapshots were published.
+    pub published: u64,
+    /// How many sessions were finished.
+    pub syncs: u64,
+    /// How many versions the sessions journaled.
+    pub taken: u64,
+}
+
+/// A tally that threads share.
+#[derive(Drop)]
+pub struct SharedTally {
+    tally: Mutex<Tally>,
+}
+
+/// The tallies of both nodes of a storm.
+#[derive(Drop)]
+pub struct Tallies {
+    /// That of node 1.
+    pub one: SharedTally,
+    /// That of node 2.
+    pub two: SharedTally,
+}
+
+impl Tallies {
+    /// Tallies of nothing.
+    pub fn new() -> Tallies {
+        Tallies {
+            one: SharedTally::new(),
+            two: SharedTally::new(),
+        }
+    }
+}
+
+impl SharedTally {
+    /// A tally of nothing.
+    fn new() -> SharedTally {
+        SharedTally {
+            tally: Mutex::new(Tally {
+                puts: 0,
+                installed: 0,
+                stale: 0,
+                published: 0,
+                syncs: 0,
+                taken: 0,
+            }),
+        }
+    }
+
+    /// What was done so far.
+    pub fn look<R: Wait>(&self, rt: &R) -> Tally {
+        *self.tally.lock(rt)
+    }
+
+    /// Counts a put.
+    pub(crate) fn count_put<R: Wait>(&self, rt: &R) {
+        let mut tally = self.tally.lock(rt);
+        tally.puts = tally.puts.saturating_add(1);
+    }
+
+    /// Counts what a rehash worker did.
+    pub(crate) fn count_rehash<R: Wait>(&self, rt: &R, report: &RehashReport) {
+        let mut tally = self.tally.lock(rt);
+        tally.installed = tally.installed.saturating_add(report.installed);
+        tally.stale = tally.stale.saturating_add(report.stale);
+    }
+
+    /// Counts a snapshot.
+    pub(crate) fn count_snapshot<R: Wait>(&self, rt: &R) {
+        let mut tally = self.tally.lock(rt);
+        tally.published = tally.published.saturating_add(1);
+    }
+
+    /// Counts what a sync worker did.
+    pub(crate) fn count_sync<R: Wait>(&self, rt: &R, report: &SyncReport) {
+        let mut tally = self.tally.lock(rt);
+        if report.state == SessionState::Finished {
+            tally.syncs = tally.syncs.saturating_add(1);
+        }
+        tally.taken = tally.taken.saturating_add(report.accepted);
+    }
+}

@@ -1,0 +1,111 @@
+// Rehash and sync workers.
+use crate::node::{Node, Plan};
+use admission::slot::Slot;
+use caller_pass::pass::Pass;
+use ring_node::channel::ChannelLink;
+use ring_node::controller::SharedController;
+use ring_node::gate::Gate;
+use ring_node::link::Link;
+use std::alloc::Global;
+use std::sync::Wait;
+use std::sync::ledger::Ledger;
+use vclock::refusal::Refusal;
+
+/// How many turns a rehash worker has: enough for the 273 nodes of a tree, and for finding it clean.
+const REHASH_TURNS: u64 = 300;
+
+/// How many turns a sync worker has: enough to ask for each node twice.
+const SYNC_TURNS: u64 = 600;
+
+/// The step of the gate before a sync worker's round.
+const BEFORE_A_SYNC: u32 = 4;
+
+/// How many rounds a worker has at the most.
+const MOST_ROUNDS: u64 = 100;
+
+/// Rehashes a node's tree, and publishes a snapshot where it is clean then, in as many rounds as there are puts, at most
+/// 100. Refused: NoMemory, SessionsFull.
+pub(crate) fn rehash_rounds<L: Ledger, C: Ledger, R: Wait, G: Gate>(
+    rt: &R,
+    alloc: Global,
+    node: &Node<'_, L>,
+    plan: &Plan<'_, C, G>,
+) -> Result<(), Refusal> {
+    for _ in 0..plan.puts.min(MOST_ROUNDS) {
+        pass_over(rehash(rt, alloc, node, plan))?;
+    }
+    Ok(())
+}
+
+/// Syncs a node over a link, in as many rounds as there are puts, at most 100, and stops the link. Refused as
+/// [`ring_node::range::SharedRange::sync_worker`], but that NoSlot, Dirty, Gone and LinkLost are passed over.
+pub(crate) fn sync_rounds<L: Ledger, C: Ledger, R: Wait, G: Gate>(
+    rt: &R,
+    alloc: Global,
+    node: &Node<'_, L>,
+    plan: &Plan<'_, C, G>,
+    pass: Pass<L>,
+    link: ChannelLink,
+) -> Result<Pass<L>, Refusal> {
+    let mut pass = pass;
+    let mut link = link;
+    let mut ended = Ok(());
+    for _ in 0..plan.puts.min(MOST_ROUNDS) {
+        plan.gate.pass(rt, BEFORE_A_SYNC);
+        ended = pass_over(sync(rt, alloc, node, plan, &mut link, &mut pass));
+        if ended.is_err() {
+            break;
+        }
+    }
+    link.stop(rt);
+    ended?;
+    Ok(pass)
+}
+
+/// Rehashes a node's tree with a slot, and publishes a snapshot where it is clean then.
+///
+/// Refused: NoSlot, Dirty (a put came after the rehash), SessionsFull, NoMemory.
+pub(crate) fn rehash<L: Ledger, C: Ledger, R: Wait, G: Gate>(
+    rt: &R,
+    alloc: Global,
+    node: &Node<'_, L>,
+    plan: &Plan<'_, C, G>,
+) -> Result<(), Refusal> {
+    let slot = plan.slots.lend(rt)?;
+    let report = node.range.rehash_worker(rt, alloc, &slot, plan.gate, 0, REHASH_TURNS);
+    plan.slots.give_back(rt, slot);
+    let report = report?;
+    node.tally.count_rehash(rt, &report);
+    if report.clean {
+        let snapshot = node.range.snapshot(rt, alloc)?;
+        node.pool.publish(rt, snapshot)?;
+        node.tally.count_snapshot(rt);
+    }
+    Ok(())
+}
+
+/// Takes over a link, with a slot, what the other node has and this one lacks. Refused: NoSlot, or as
+/// [`ring_node::range::SharedRange::sync_worker`].
+pub(crate) fn sync<L: Ledger, C: Ledger, R: Wait, G: Gate, K: Link>(
+    rt: &R,
+    alloc: Global,
+    node: &Node<'_, L>,
+    plan: &Plan<'_, C, G>,
+    link: &mut K,
+    pass: &mut Pass<L>,
+) -> Result<(), Refusal> {
+    let slot = plan.slots.lend(rt)?;
+    let (range, partner) = (&node.range, node.partner);
+    let report = range.sync_worker(rt, alloc, &slot, link, pass, partner, SYNC_TURNS);
+    plan.slots.give_back(rt, slot);
+    node.tally.count_sync(rt, &report?);
+    Ok(())
+}
+
+/// What is left of a round's refusal: NoSlot, Dirty, Gone and LinkLost are passed over.
+fn pass_over(round: Result<(), Refusal>) -> Result<(), Refusal> {
+    match round {
+        Err(Refusal::NoSlot | Refusal::Dirty | Refusal::Gone | Refusal::LinkLost) => Ok(()),
+        other => other,
+    }
+}

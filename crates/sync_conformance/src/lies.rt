@@ -1,0 +1,224 @@
+// Sync workers whose links lie or fail.
+ghost use Rattle.std.specs.Prelude.{◌≡◌};
+
+use crate::partners::{Synced, pool_of, sync_over};
+use hash_tree::hashed::hash;
+use hash_tree::node::NodeAt;
+use ring_node::deed::Deed;
+use ring_node::link::{Link, Reached};
+use ring_node::memory::MemoryLink;
+use ring_node::scripted::ScriptedLink;
+use ring_node::syncer::SyncReport;
+use std::alloc::Global;
+use std::marker::Brand;
+use std::sync::Wait;
+use std::sync::ledger::{Blank, Ledger};
+use std::test::Fail;
+use std::thread::Threads;
+use sync_session::state::SessionState;
+use vclock::bytes::Bytes;
+use vclock::refusal::Refusal;
+use walk_messages::decoding::decode;
+use walk_messages::encoding::encode;
+use walk_messages::message::{Answer, Message, Offer};
+
+/// Syncs a range that has nothing with a partner that has these keys, over a link that does the deeds, in so many turns.
+fn sync_by<L: Ledger, C: Ledger, R: Threads + Wait + Sync>(
+    rt: &R,
+    alloc: Global,
+    blanks: (Blank, Blank),
+    keys: &[&[u8]],
+    deeds: &[Deed],
+    turns: u64,
+) -> Result<Synced, Fail>
+    requires range { (blanks.0.name ≡ L.name) × (blanks.0.parts ≡ L.parts) × (blanks.0.parts ≡ 1) }
+    requires slots { (blanks.1.name ≡ C.name) × (blanks.1.parts ≡ C.parts) × (blanks.1.parts ≡ 1024) }
+{
+    let pool = pool_of(rt, alloc, keys)?;
+    let deeds = Vec::from_slice(alloc, deeds)?;
+    let mut link = ScriptedLink::new(alloc, MemoryLink::new(alloc, &pool), deeds);
+    sync_over::<L, C, ScriptedLink<MemoryLink>, R>(rt, alloc, blanks, None, &mut link, turns)
+}
+
+/// The report of the first session of a range, if it knew no version.
+fn report(state: SessionState, asked: u64, accepted: u64, bad: u64) -> SyncReport {
+    SyncReport {
+        id: 0,
+        state,
+        asked,
+        accepted,
+        known: 0,
+        bad,
+    }
+}
+
+/// A true offer, then four answers that are bad among the true ones to three asks. The first answer has 529 bytes.
+const LIES: [Deed; 8] = [
+    Deed::Pass,
+    Deed::Change(528),
+    Deed::Cut(528),
+    Deed::Renumber(2),
+    Deed::Pass,
+    Deed::Repeat,
+    Deed::Pass,
+    Deed::Pass,
+];
+
+#[test]
+fn lies_are_counted_and_asked_again(rt: HostRuntime) -> Result<(), Fail> {
+    let alloc = rt.alloc();
+    let blanks = (Blank::new(1), Blank::new(1024));
+    let keys = [b"a".as_slice()];
+    let synced = sync_by::<Brand, Brand, HostRuntime>(&rt, alloc, blanks, &keys, &LIES, 7)?;
+    assert_eq!(rt; (synced.failures, synced.entries), (0, 1));
+    assert_eq!(rt; synced.report?, report(SessionState::Finished, 3, 1, 4));
+    Ok(())
+}
+
+#[test]
+fn a_session_is_cancelled_when_its_turns_are_used(rt: HostRuntime) -> Result<(), Fail> {
+    let alloc = rt.alloc();
+    let blanks = (Blank::new(1), Blank::new(1024));
+    let keys = [b"a".as_slice()];
+    let synced = sync_by::<Brand, Brand, HostRuntime>(&rt, alloc, blanks, &keys, &LIES, 6)?;
+    assert_eq!(rt; synced.sessions.as_slice(), [SessionState::Cancelled].as_slice());
+    assert_eq!(rt; (synced.failures, synced.entries), (0, 0));
+    assert_eq!(rt; synced.report?, report(SessionState::Cancelled, 3, 0, 4));
+    Ok(())
+}
+
+#[test]
+fn the_node_of_the_answer_is_taken(rt: HostRuntime) -> Result<(), Fail> {
+    let alloc = rt.alloc();
+    let blanks = (Blank::new(1), Blank::new(1024));
+    let keys = [b"a".as_slice(), b"abc".as_slice()];
+    let other = NodeAt::new(1, 9).ok_or("no such node")?;
+    let deeds = [Deed::Pass, Deed::Pass, Deed::Node(other)];
+    let synced = sync_by::<Brand, Brand, HostRuntime>(&rt, alloc, blanks, &keys, &deeds, 5)?;
+    let asked = [(0, 0), (1, 0), (1, 9), (2, 144), (2, 12)];
+    assert_eq!(rt; synced.asked(alloc)?.as_slice(), asked.as_slice());
+    assert_eq!(rt; synced.report?, report(SessionState::Finished, 5, 2, 0));
+    Ok(())
+}
+
+/// What a sync of three asks comes to whose call of that number, counted from 1, has a deed done.
+fn sync_until<L: Ledger, C: Ledger, R: Threads + Wait + Sync>(
+    rt: &R,
+    alloc: Global,
+    blanks: (Blank, Blank),
+    call: u64,
+    deed: Deed,
+) -> Result<Synced, Fail>
+    requires range { (blanks.0.name ≡ L.name) × (blanks.0.parts ≡ L.parts) × (blanks.0.parts ≡ 1) }
+    requires slots { (blanks.1.name ≡ C.name) × (blanks.1.parts ≡ C.parts) × (blanks.1.parts ≡ 1024) }
+{
+    let mut deeds = Vec::new(alloc);
+    for _ in 1..call {
+        deeds.push(Deed::Pass)?;
+    }
+    deeds.push(deed)?;
+    sync_by::<L, C, R>(rt, alloc, blanks, &[b"a".as_slice()], &deeds, 600)
+}
+
+#[test]
+fn a_lost_call_ends_the_sync(rt: HostRuntime) -> Result<(), Fail> {
+    let alloc = rt.alloc();
+    for call in 1..5 {
+        let blanks = (Blank::new(1), Blank::new(1024));
+        let synced =
+            sync_until::<Brand, Brand, HostRuntime>(&rt, alloc, blanks, call, Deed::Lost)?;
+        assert!(rt; matches!(&synced.report, Err(Refusal::LinkLost)));
+        let cancelled = [SessionState::Cancelled];
+        let sessions = if call == 1 { [].as_slice() } else { cancelled.as_slice() };
+        assert_eq!(rt; synced.sessions.as_slice(), sessions);
+        assert_eq!(rt; (synced.failures, synced.entries), (1, 0));
+    }
+    Ok(())
+}
+
+#[test]
+fn a_call_that_is_gone_ends_the_sync(rt: HostRuntime) -> Result<(), Fail> {
+    let alloc = rt.alloc();
+    for call in 1..5 {
+        let blanks = (Blank::new(1), Blank::new(1024));
+        let synced =
+            sync_until::<Brand, Brand, HostRuntime>(&rt, alloc, blanks, call, Deed::Gone)?;
+        assert!(rt; matches!(&synced.report, Err(Refusal::Gone)));
+        let cancelled = [SessionState::Cancelled];
+        let sessions = if call == 1 { [].as_slice() } else { cancelled.as_slice() };
+        assert_eq!(rt; synced.sessions.as_slice(), sessions);
+        assert_eq!(rt; (synced.failures, synced.entries), (0, 0));
+    }
+    Ok(())
+}
+
+/// A link to a partner that says that `abc` is the text of each node, the root among them.
+#[derive(Drop)]
+struct Forger {
+    alloc: Global,
+}
+
+impl Forger {
+    /// The message of the offer.
+    fn offered(&self) -> Result<Vec<u8>, Refusal> {
+        let root = hash(Bytes::copy_of(self.alloc, b"abc")?).digest();
+        encode(
+            self.alloc,
+            &Message::Offer(Offer {
+                offer: 1,
+                format: 1,
+                range: 0,
+                root,
+            }),
+        )
+    }
+
+    /// The message that answers an ask.
+    fn answered(&self, message: &[u8]) -> Result<Vec<u8>, Refusal> {
+        let Message::Ask(ask) = decode(self.alloc, message)? else {
+            return Err(Refusal::BadMessage);
+        };
+        encode(
+            self.alloc,
+            &Message::Answer(Answer {
+                offer: ask.offer,
+                node: ask.node,
+                text: Bytes::copy_of(self.alloc, b"abc")?,
+            }),
+        )
+    }
+}
+
+impl Link for Forger {
+    ghost failed = { λ _. 0 };
+
+    fn failures(&self) -> u64 {
+        0
+    }
+
+    fn offer<R: Wait>(&mut self, _rt: &R) -> Reached {
+        match self.offered() {
+            Ok(bytes) => Reached::Bytes(bytes),
+            Err(_) => Reached::Gone,
+        }
+    }
+
+    fn ask<R: Wait>(&mut self, _rt: &R, message: &[u8]) -> Reached {
+        match self.answered(message) {
+            Ok(bytes) => Reached::Bytes(bytes),
+            Err(_) => Reached::Gone,
+        }
+    }
+}
+
+#[test]
+fn a_text_of_no_node_fails_the_session(rt: HostRuntime) -> Result<(), Fail> {
+    let alloc = rt.alloc();
+    let mut link = Forger { alloc };
+    let blanks = (Blank::new(1), Blank::new(1024));
+    let synced =
+        sync_over::<Brand, Brand, Forger, HostRuntime>(&rt, alloc, blanks, None, &mut link, 600)?;
+    assert_eq!(rt; synced.entries, 0);
+    assert_eq!(rt; synced.report?, report(SessionState::Failed, 1, 0, 0));
+    Ok(())
+}

@@ -1,0 +1,127 @@
+// Partners, and syncs with what links give.
+ghost use Rattle.std.specs.Prelude.{◌≡◌};
+
+use conformance::versions::{members, version};
+use hash_tree::node::NodeAt;
+use node_conformance::opening::{last_pass, open_range, open_slots};
+use range_journal::journal::Source;
+use range_state::config::RangeConfig;
+use range_state::state::RangeState;
+use ring_node::gate::OpenGate;
+use ring_node::link::Link;
+use ring_node::offers::OfferPool;
+use ring_node::syncer::SyncReport;
+use snapshot::snapshot::Snapshot;
+use std::alloc::Global;
+use std::sync::ledger::{Blank, Ledger};
+use std::sync::{Arc, Wait};
+use std::test::Fail;
+use std::thread::Threads;
+use sync_session::state::SessionState;
+use vclock::refusal::Refusal;
+use version_set::kind::Kind;
+
+/// The snapshot of a partner of format 1 that has these keys, each with a version of that clock and value.
+pub fn snapshot_of(
+    rt: &(impl Threads + Sync),
+    alloc: Global,
+    keys: &[&[u8]],
+    pair: (u64, u64),
+    value: &[u8],
+) -> Result<Arc<Snapshot, Global>, Fail> {
+    let config = RangeConfig::new(1, 0, 0, 1_000).ok_or("no such range")?;
+    let mut state = RangeState::new(alloc, config)?;
+    for key in keys {
+        let version = version(alloc, pair, Kind::Live, value)?;
+        state.accept(alloc, 0, Source::Copy, key, version)?;
+    }
+    state.rehash(rt, alloc)?;
+    Ok(state.snapshot(alloc)?)
+}
+
+/// The pool of a partner that has published such a snapshot.
+pub fn pool_of<R: Threads + Wait + Sync>(
+    rt: &R,
+    alloc: Global,
+    keys: &[&[u8]],
+) -> Result<OfferPool, Fail> {
+    let pool = OfferPool::new(alloc);
+    pool.publish(rt, snapshot_of(rt, alloc, keys, (1, 1), b"x")?)?;
+    Ok(pool)
+}
+
+/// What came of a sync, and what the range had when it was closed.
+#[derive(Drop)]
+pub struct Synced {
+    /// What the worker returned.
+    pub report: Result<SyncReport, Refusal>,
+    /// How often the link failed.
+    pub failures: u64,
+    /// How many entries the journal had.
+    pub entries: u64,
+    /// How each session stood.
+    pub sessions: Vec<SessionState>,
+    /// Which nodes the last session asked for.
+    pub asked: Vec<NodeAt>,
+    /// The versions of `a`.
+    pub held: String,
+}
+
+impl Synced {
+    /// The depth and the index of each node that the last session asked for.
+    pub fn asked(&self, alloc: Global) -> Result<Vec<(u8, u16)>, Fail> {
+        let mut nodes = Vec::new(alloc);
+        for node in &self.asked {
+            nodes.push((node.depth, node.index))?;
+        }
+        Ok(nodes)
+    }
+}
+
+/// Syncs a clean range with what a link gives, in so many turns, and closes the range. It has a version of `a` with that
+/// value before, if there is one.
+pub fn sync_over<L: Ledger, C: Ledger, K: Link, R: Threads + Wait + Sync>(
+    rt: &R,
+    alloc: Global,
+    blanks: (Blank, Blank),
+    own: Option<&[u8]>,
+    link: &mut K,
+    turns: u64,
+) -> Result<Synced, Fail>
+    requires range { (blanks.0.name ≡ L.name) × (blanks.0.parts ≡ L.parts) × (blanks.0.parts ≡ 1) }
+    requires slots { (blanks.1.name ≡ C.name) × (blanks.1.parts ≡ C.parts) × (blanks.1.parts ≡ 1024) }
+{
+    let (range, slots) = blanks;
+    let (range, mut passes) = open_range::<L>(alloc, range, 1, 1_000)?;
+    let slots = open_slots::<C>(alloc, slots)?;
+    let mut pass = last_pass(&mut passes)?;
+    if let Some(value) = own {
+        let version = version(alloc, (2, 1), Kind::Live, value)?;
+        range.copy(rt, alloc, &mut pass, Source::Copy, b"a", version)?;
+    }
+    let slot = slots.lend(rt)?;
+    let rehashed = range.rehash_worker(rt, alloc, &slot, &OpenGate, 0, 300);
+    let report = range.sync_worker(rt, alloc, &slot, link, &mut pass, 2, turns);
+    slots.give_back(rt, slot);
+    rehashed?;
+    passes.push(pass)?;
+    let closed = match range.close(alloc, passes) {
+        Ok(closed) => closed,
+        Err(refused) => return Err(Fail::from(refused.refusal)),
+    };
+    let mut sessions = Vec::new(alloc);
+    let mut asked = Vec::new(alloc);
+    for record in closed.state.records() {
+        sessions.push(record.session().state())?;
+        asked = Vec::from_slice(alloc, record.session().asked())?;
+    }
+    let held = closed.state.get(alloc, b"a")?;
+    Ok(Synced {
+        report,
+        failures: link.failures(),
+        entries: closed.state.journal().len(),
+        sessions,
+        asked,
+        held: members(alloc, &held)?,
+    })
+}
