@@ -17,8 +17,14 @@ use std::thread::Threads;
 use vclock::refusal::Refusal;
 use version_set::kind::Kind;
 
-/// How often each thread puts its key and sends a copy of the common one.
-const ROUNDS: u32 = 20;
+/// How often each thread puts its key and sends a copy of the common one: for about a second.
+const ROUNDS: u32 = 1_000;
+
+/// How many entries the range accepts: two a round of each thread.
+const ENTRIES: u64 = 16_000;
+
+/// How many receipts, and how many readings, each pass gets: two a round.
+const TOLD: usize = 2_000;
 
 /// Puts a key of the thread's own, takes in a copy of a key that all write, and reads both.
 fn round<L: Ledger, R: Wait>(
@@ -68,13 +74,13 @@ fn eight_threads<L: Ledger + Send + Sync, R: Threads + Wait + Sync + Abort>(
 ) -> Result<(), Fail>
     requires ledger { (blank.name ≡ L.name) × (blank.parts ≡ L.parts) × (blank.parts ≡ 8) }
 {
-    let (range, passes) = open_range::<L>(alloc, blank, 8, 1000)?;
+    let (range, passes) = open_range::<L>(alloc, blank, 8, ENTRIES)?;
     let passes = thread::map_vec(rt, passes, &|pass| rounds(rt, alloc, &range, pass))?;
     for pass in &passes {
-        assert_eq!(rt; (pass.receipts().len(), pass.readings().len()), (40, 40));
+        assert_eq!(rt; (pass.receipts().len(), pass.readings().len()), (TOLD, TOLD));
     }
     match range.close(alloc, passes) {
-        Ok(closed) => assert_eq!(rt; closed.state.journal().len(), 320),
+        Ok(closed) => assert_eq!(rt; closed.state.journal().len(), ENTRIES),
         Err(refused) => return Err(Fail::from(refused.refusal)),
     }
     Ok(())
