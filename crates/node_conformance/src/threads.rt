@@ -77,7 +77,10 @@ fn eight_threads<L: Ledger + Send + Sync, R: Threads + Wait + Sync + Abort>(
     let (range, passes) = open_range::<L>(alloc, blank, 8, ENTRIES)?;
     let passes = thread::map_vec(rt, passes, &|pass| rounds(rt, alloc, &range, pass))?;
     for pass in &passes {
-        assert_eq!(rt; (pass.receipts().len(), pass.readings().len()), (TOLD, TOLD));
+        assert_eq!(rt;
+            (pass.receipts().len(), pass.readings().len()),
+            (TOLD, TOLD)
+        );
     }
     match range.close(alloc, passes) {
         Ok(closed) => assert_eq!(rt; closed.state.journal().len(), ENTRIES),

@@ -72,7 +72,9 @@ pub(crate) fn rehash<L: Ledger, C: Ledger, R: Wait, G: Gate>(
     plan: &Plan<'_, C, G>,
 ) -> Result<(), Refusal> {
     let slot = plan.slots.lend(rt)?;
-    let report = node.range.rehash_worker(rt, alloc, &slot, plan.gate, 0, REHASH_TURNS);
+    let report = node
+        .range
+        .rehash_worker(rt, alloc, &slot, plan.gate, 0, REHASH_TURNS);
     plan.slots.give_back(rt, slot);
     let report = report?;
     node.tally.count_rehash(rt, &report);

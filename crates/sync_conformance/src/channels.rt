@@ -77,11 +77,7 @@ fn a_server_refuses_what_is_no_ask(rt: HostRuntime) -> Result<(), Fail> {
     let pool = OfferPool::new(alloc);
     let (link, server) = channel_link(alloc)?;
     let (served, pool) = (&server, &pool);
-    let (failures, ()) = thread::join(
-        &rt,
-        || ask_badly(&rt, link),
-        || served.run(&rt, pool),
-    );
+    let (failures, ()) = thread::join(&rt, || ask_badly(&rt, link), || served.run(&rt, pool));
     assert_eq!(rt; failures, 1);
     Ok(())
 }

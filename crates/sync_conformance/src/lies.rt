@@ -81,7 +81,10 @@ fn a_session_is_cancelled_when_its_turns_are_used(rt: HostRuntime) -> Result<(),
     let blanks = (Blank::new(1), Blank::new(1024));
     let keys = [b"a".as_slice()];
     let synced = sync_by::<Brand, Brand, HostRuntime>(&rt, alloc, blanks, &keys, &LIES, 6)?;
-    assert_eq!(rt; synced.sessions.as_slice(), [SessionState::Cancelled].as_slice());
+    assert_eq!(rt;
+        synced.sessions.as_slice(),
+        [SessionState::Cancelled].as_slice()
+    );
     assert_eq!(rt; (synced.failures, synced.entries), (0, 0));
     assert_eq!(rt; synced.report?, report(SessionState::Cancelled, 3, 0, 4));
     Ok(())
@@ -125,11 +128,14 @@ fn a_lost_call_ends_the_sync(rt: HostRuntime) -> Result<(), Fail> {
     let alloc = rt.alloc();
     for call in 1..5 {
         let blanks = (Blank::new(1), Blank::new(1024));
-        let synced =
-            sync_until::<Brand, Brand, HostRuntime>(&rt, alloc, blanks, call, Deed::Lost)?;
+        let synced = sync_until::<Brand, Brand, HostRuntime>(&rt, alloc, blanks, call, Deed::Lost)?;
         assert!(rt; matches!(&synced.report, Err(Refusal::LinkLost)));
         let cancelled = [SessionState::Cancelled];
-        let sessions = if call == 1 { [].as_slice() } else { cancelled.as_slice() };
+        let sessions = if call == 1 {
+            [].as_slice()
+        } else {
+            cancelled.as_slice()
+        };
         assert_eq!(rt; synced.sessions.as_slice(), sessions);
         assert_eq!(rt; (synced.failures, synced.entries), (1, 0));
     }
@@ -141,11 +147,14 @@ fn a_call_that_is_gone_ends_the_sync(rt: HostRuntime) -> Result<(), Fail> {
     let alloc = rt.alloc();
     for call in 1..5 {
         let blanks = (Blank::new(1), Blank::new(1024));
-        let synced =
-            sync_until::<Brand, Brand, HostRuntime>(&rt, alloc, blanks, call, Deed::Gone)?;
+        let synced = sync_until::<Brand, Brand, HostRuntime>(&rt, alloc, blanks, call, Deed::Gone)?;
         assert!(rt; matches!(&synced.report, Err(Refusal::Gone)));
         let cancelled = [SessionState::Cancelled];
-        let sessions = if call == 1 { [].as_slice() } else { cancelled.as_slice() };
+        let sessions = if call == 1 {
+            [].as_slice()
+        } else {
+            cancelled.as_slice()
+        };
         assert_eq!(rt; synced.sessions.as_slice(), sessions);
         assert_eq!(rt; (synced.failures, synced.entries), (0, 0));
     }
@@ -216,8 +225,9 @@ fn a_text_of_no_node_fails_the_session(rt: HostRuntime) -> Result<(), Fail> {
     let alloc = rt.alloc();
     let mut link = Forger { alloc };
     let blanks = (Blank::new(1), Blank::new(1024));
-    let synced =
-        sync_over::<Brand, Brand, Forger, HostRuntime>(&rt, alloc, blanks, None, &mut link, 600)?;
+    let synced = sync_over::<Brand, Brand, Forger, HostRuntime>(
+        &rt, alloc, blanks, None, &mut link, 600,
+    )?;
     assert_eq!(rt; synced.entries, 0);
     assert_eq!(rt; synced.report?, report(SessionState::Failed, 1, 0, 0));
     Ok(())

@@ -43,9 +43,13 @@ fn a_sync_takes_what_is_missing(rt: HostRuntime) -> Result<(), Fail> {
     let pool = pool_of(&rt, alloc, &[b"a".as_slice()])?;
     let mut link = MemoryLink::new(alloc, &pool);
     let blanks = (Blank::new(1), Blank::new(1024));
-    let synced =
-        sync_over::<Brand, Brand, MemoryLink, HostRuntime>(&rt, alloc, blanks, None, &mut link, 600)?;
-    assert_eq!(rt; synced.asked(alloc)?.as_slice(), [(0, 0), (1, 0), (2, 12)].as_slice());
+    let synced = sync_over::<Brand, Brand, MemoryLink, HostRuntime>(
+        &rt, alloc, blanks, None, &mut link, 600,
+    )?;
+    assert_eq!(rt;
+        synced.asked(alloc)?.as_slice(),
+        [(0, 0), (1, 0), (2, 12)].as_slice()
+    );
     assert_eq!(rt; (synced.failures, synced.entries), (0, 1));
     assert_eq!(rt; synced.held.as_str(), "[(1, 1)] Live [120]\n");
     assert_eq!(rt; synced.report?, finished(3, 1));
@@ -61,9 +65,13 @@ fn two_values_with_equal_clocks_are_held(rt: HostRuntime) -> Result<(), Fail> {
     let mut link = MemoryLink::new(alloc, &pool);
     let blanks = (Blank::new(1), Blank::new(1024));
     let own = Some(b"p".as_slice());
-    let synced =
-        sync_over::<Brand, Brand, MemoryLink, HostRuntime>(&rt, alloc, blanks, own, &mut link, 600)?;
-    assert_eq!(rt; synced.held.as_str(), "[(2, 1)] Live [112]\n[(2, 1)] Live [113]\n");
+    let synced = sync_over::<Brand, Brand, MemoryLink, HostRuntime>(
+        &rt, alloc, blanks, own, &mut link, 600,
+    )?;
+    assert_eq!(rt;
+        synced.held.as_str(),
+        "[(2, 1)] Live [112]\n[(2, 1)] Live [113]\n"
+    );
     assert_eq!(rt; synced.report?, finished(3, 1));
     Ok(())
 }
@@ -122,7 +130,10 @@ fn a_dropped_offer_is_gone(rt: HostRuntime) -> Result<(), Fail> {
         &rt, alloc, blanks, None, &mut link, 600,
     )?;
     assert!(rt; matches!(&synced.report, Err(Refusal::Gone)));
-    assert_eq!(rt; synced.sessions.as_slice(), [SessionState::Cancelled].as_slice());
+    assert_eq!(rt;
+        synced.sessions.as_slice(),
+        [SessionState::Cancelled].as_slice()
+    );
     assert_eq!(rt; (synced.failures, synced.entries), (0, 0));
     Ok(())
 }
