@@ -1,7 +1,8 @@
 -- How a pool of offers replies to an ask.
-use Rattle.std.proofs.Common.{◌≡◌, inl, inr, ℕ, Bool, true, false, cond, List, Option, Some, None, Ok, Err, refl, sym, ◌∙◌}
+use Rattle.std.proofs.lemmas.Bool.Decides.{nat_tests}
+use Rattle.std.proofs.Common.{arith, ◌≡◌, ◌<◌, inl, inr, ℕ, Bool, true, false, cond, List, Option, Some, None, Ok, Err, refl, sym, ◌∙◌}
 use Rattle.std.specs.Prelude.{nat_le}
-use Rattle.vclock.specs.Answer.{AnswersOrNoMemory}
+use Rattle.vclock.specs.Answer.{Answers}
 use Rattle.vclock.specs.declared.refusal.Refusal.{Refusal}
 use Rattle.vclock.specs.declared.refusal.Refusal.TheVariants as refusals
 use Rattle.hash_tree.specs.declared.node.NodeAt.{NodeAt}
@@ -17,9 +18,13 @@ use Rattle.ring_node.specs.declared.serving.Reply.{Reply}
 use Rattle.ring_node.specs.declared.serving.Reply.TheVariants.{Bytes, Gone, Refused}
 use Rattle.ring_node.proofs.CauseLaws.{where_fails}
 
+-- an ask is too deep for the tree that was offered
+pub too_deep : (o : Option Offered) (p : Offered) (node : NodeAt) → o ≡ Some p → tree_depth p.rows.format < node.depth → text_fault o node ≡ Some refusals.BadMessage
+too_deep o p node is deep = rw is (grind (arith, nat_tests))
+
 -- what a pool answers to an ask, at some moment
 abbrev pub Served : Ask → Answer → Type 0
-Served ask a = FoundAtSomeMoment AreOffers (λ o. AnswersOrNoMemory (Ok a) (serve_fault o ask) (IsAnswerIn o ask))
+Served ask a = FoundAtSomeMoment AreOffers (λ o. Answers (Ok a) (serve_fault o ask) (IsAnswerIn o ask))
 
 pub replied : (asked : List ℕ) (ask : Ask) (a : Answer) (r : Reply) → message_text (messages.Ask ask) ≡ asked → Served ask a → IsEncoded (messages.Answer a) r → RepliesAsk asked r
 replied asked ask a (Bytes bytes) asks served says = record {
@@ -34,7 +39,7 @@ none_kept : (o : Option Offered) (node : NodeAt) → text_fault o node ≡ Some 
 none_kept None node is = refl
 none_kept (Some p) node is = absurd (let clash : refusals.Gone ≡ refusals.BadMessage = where_fails _ refusals.BadMessage refusals.Gone is in cc)
 
-pub gone : (asked : List ℕ) (ask : Ask) → message_text (messages.Ask ask) ≡ asked → FoundAtSomeMoment AreOffers (λ o. AnswersOrNoMemory {T = Answer} (Err refusals.Gone) (serve_fault o ask) (IsAnswerIn o ask))
+pub gone : (asked : List ℕ) (ask : Ask) → message_text (messages.Ask ask) ≡ asked → FoundAtSomeMoment AreOffers (λ o. Answers {T = Answer} (Err refusals.Gone) (serve_fault o ask) (IsAnswerIn o ask))
     → FoundAtSomeMoment AreOffers (λ o. IsGoneIn o asked)
 gone asked ask asks served = record {
   state = served.state;
@@ -43,7 +48,7 @@ gone asked ask asks served = record {
     ask = ask;
     asks = asks;
     gone = elim served.seen [
-      | inl short ↦ absurd (let clash = short in cc)
+      | inl short ↦ absurd (let clash = short.1 in cc)
       | inr is ↦ none_kept (kept_under served.state ask.offer) ask.node is
     ];
   };

@@ -55,14 +55,6 @@ latest o = option_map offer_of (slice_get o.kept (length o.kept - 1))
 abbrev pub kept_under : Offers → ℕ → Option Offered
 kept_under o number = find (λ (p : Offered). p.number == number) o.kept
 
--- why no rows are found
-abbrev pub gone_for : Option Offered → Option Refusal
-gone_for None = Some Gone
-gone_for (Some p) = None
-
-abbrev pub gone_fault : Offers → ℕ → Option Refusal
-gone_fault o number = gone_for (kept_under o number)
-
 -- why the text of a node is not answered: the offer is not kept, or its tree has no such node
 abbrev pub text_fault : Option Offered → NodeAt → Option Refusal
 text_fault None node = Some Gone

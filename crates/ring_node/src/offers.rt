@@ -2,13 +2,14 @@
 ghost use Rattle.std.specs.Prelude.{◌≡◌, ◌⊎◌, ◌==◌, IfOk, IfErr, MatchOption, find};
 ghost use Rattle.std.specs.Option.{option_copied};
 ghost use Rattle.std.specs.Arc.{arc_value};
-ghost use Rattle.vclock.specs.Answer.{Answers, AnswersOrNoMemory};
+ghost use Rattle.vclock.specs.Answer.{Answers};
 ghost use Rattle.vclock.specs.Format.{number_of};
 ghost use Rattle.vclock.specs.Outcome.{Does};
 ghost use Rattle.snapshot.specs.RowMaps.{root_of};
 ghost use Rattle.ring_node.specs.Moments.{FoundAtSomeMoment, ChangedAtSomeMoment};
-ghost use Rattle.ring_node.specs.Offers.{Offered, AreOffers, publish, latest, kept_under, gone_fault, serve_fault, IsAnswerIn};
+ghost use Rattle.ring_node.specs.Offers.{Offered, AreOffers, publish, latest, kept_under, serve_fault, IsAnswerIn};
 
+use hash_tree::node::tree_depth;
 use snapshot::snapshot::Snapshot;
 use std::alloc::Global;
 use std::marker::Model;
@@ -88,13 +89,18 @@ impl Offers {
         Some(published.snapshot.offer(published.number))
     }
 
-    /// The snapshot of an offer, with one owner more. Refused, in order: Gone, NoMemory.
-    fn find(&self, number: u32) -> Result<Arc<Snapshot, Global>, Refusal>
-        ensures { Answers result (gone_fault self.now number)
-            (λ snapshot. MatchOption (kept_under self.now number) ⊥ (λ p. p.rows ≡ arc_value snapshot)) }
+    /// The snapshot that has the text of an ask, with one owner more. Refused, in order: Gone, BadMessage, NoMemory.
+    fn find(&self, ask: Ask) -> Result<Arc<Snapshot, Global>, Refusal>
+        ensures { Answers result (serve_fault self.now ask)
+            (λ snapshot. MatchOption (kept_under self.now ask.offer) ⊥ (λ p. p.rows ≡ arc_value snapshot)) }
     {
-        let published = published_as(&self.kept, number).ok_or(Refusal::Gone)?;
-        Ok(Arc::try_clone(&published.snapshot)?)
+        let snapshot = &published_as(&self.kept, ask.offer)
+            .ok_or(Refusal::Gone)?
+            .snapshot;
+        if ask.node.depth > tree_depth(snapshot.format()) {
+            return Err(Refusal::BadMessage);
+        }
+        Ok(Arc::try_clone(snapshot)?)
     }
 }
 
@@ -166,9 +172,9 @@ impl OfferPool {
         ensures refusal { IfErr result
             (λ e. (e ≡ Refusal.Gone) ⊎ (e ≡ Refusal.BadMessage) ⊎ (e ≡ Refusal.NoMemory)) }
         ensures moment { FoundAtSomeMoment AreOffers
-            (λ offers. AnswersOrNoMemory result (serve_fault offers ask) (IsAnswerIn offers ask)) }
+            (λ offers. Answers result (serve_fault offers ask) (IsAnswerIn offers ask)) }
     {
-        let snapshot = self.find(rt, ask.offer)?;
+        let snapshot = self.find(rt, ask)?;
         let text = snapshot.answer(alloc, ask)?;
         Ok(Answer {
             offer: ask.offer,
@@ -177,14 +183,14 @@ impl OfferPool {
         })
     }
 
-    /// The snapshot of an offer, with one owner more. Refused, in order: Gone, NoMemory.
-    fn find<R: Wait>(&self, rt: &R, number: u32) -> Result<Arc<Snapshot, Global>, Refusal>
-        ensures { FoundAtSomeMoment AreOffers (λ offers. Answers result (gone_fault offers number)
-            (λ snapshot. MatchOption (kept_under offers number) ⊥ (λ p. p.rows ≡ arc_value snapshot))) }
+    /// The snapshot that has the text of an ask, with one owner more. Refused, in order: Gone, BadMessage, NoMemory.
+    fn find<R: Wait>(&self, rt: &R, ask: Ask) -> Result<Arc<Snapshot, Global>, Refusal>
+        ensures { FoundAtSomeMoment AreOffers (λ offers. Answers result (serve_fault offers ask)
+            (λ snapshot. MatchOption (kept_under offers ask.offer) ⊥ (λ p. p.rows ≡ arc_value snapshot))) }
     {
         let offers = self.offers.lock(rt);
         // Called for its clause `valid` alone: the offers are right.
         let _valid = offers.latest();
-        offers.find(number)
+        offers.find(ask)
     }
 }
