@@ -232,3 +232,71 @@ fn a_text_of_no_node_fails_the_session(rt: HostRuntime) -> Result<(), Fail> {
     assert_eq!(rt; synced.report?, report(SessionState::Failed, 1, 0, 0));
     Ok(())
 }
+
+/// How many bytes a flood has.
+const FLOOD: usize = 16 * 1_024 * 1_024;
+
+/// How the floods begin: as no message, as an answer that says to have a text of 2^64 - 1 bytes, and as one that says truly
+/// how long its text is.
+const HEADS: [&[u8]; 3] = [
+    b"\xff",
+    b"\x03\x00\x00\x00\x01\x00\x00\x00\xff\xff\xff\xff\xff\xff\xff\xff",
+    b"\x03\x00\x00\x00\x01\x00\x00\x00\x00\x00\x00\x00\x00\xff\xff\xf0",
+];
+
+/// A link to a partner that offers truly, and answers each ask with a flood.
+#[derive(Drop)]
+struct Flood<K: Link> {
+    alloc: Global,
+    link: K,
+    asks: usize,
+}
+
+impl<K: Link> Flood<K> {
+    /// The bytes that answer an ask of that number.
+    fn flooded(&self, ask: usize) -> Result<Vec<u8>, Refusal> {
+        let head = HEADS.get(ask).ok_or(Refusal::BadMessage)?;
+        let mut bytes = Vec::from_slice(self.alloc, head)?;
+        bytes.resize(FLOOD, 0)?;
+        Ok(bytes)
+    }
+}
+
+impl<K: Link> Link for Flood<K> {
+    ghost failed = { λ f. K.failed f.link };
+
+    fn failures(&self) -> u64 {
+        self.link.failures()
+    }
+
+    fn offer<R: Wait>(&mut self, rt: &R) -> Reached {
+        self.link.offer(rt)
+    }
+
+    fn ask<R: Wait>(&mut self, _rt: &R, _message: &[u8]) -> Reached {
+        let ask = self.asks;
+        self.asks = ask.saturating_add(1);
+        match self.flooded(ask) {
+            Ok(bytes) => Reached::Bytes(bytes),
+            Err(_) => Reached::Gone,
+        }
+    }
+}
+
+#[test]
+fn floods_are_bad_answers(rt: HostRuntime) -> Result<(), Fail> {
+    let alloc = rt.alloc();
+    let pool = pool_of(&rt, alloc, &[b"a".as_slice()])?;
+    let link = MemoryLink::new(alloc, &pool);
+    let mut flood = Flood {
+        alloc,
+        link,
+        asks: 0,
+    };
+    let blanks = (Blank::new(1), Blank::new(1024));
+    let synced =
+        sync_over::<Brand, Brand, Flood<MemoryLink>, HostRuntime>(&rt, alloc, blanks, None, &mut flood, 3)?;
+    assert_eq!(rt; (synced.failures, synced.entries), (0, 0));
+    assert_eq!(rt; synced.report?, report(SessionState::Cancelled, 1, 0, 3));
+    Ok(())
+}
