@@ -294,8 +294,9 @@ fn floods_are_bad_answers(rt: HostRuntime) -> Result<(), Fail> {
         asks: 0,
     };
     let blanks = (Blank::new(1), Blank::new(1024));
-    let synced =
-        sync_over::<Brand, Brand, Flood<MemoryLink>, HostRuntime>(&rt, alloc, blanks, None, &mut flood, 3)?;
+    let synced = sync_over::<Brand, Brand, Flood<MemoryLink>, HostRuntime>(
+        &rt, alloc, blanks, None, &mut flood, 3,
+    )?;
     assert_eq!(rt; (synced.failures, synced.entries), (0, 0));
     assert_eq!(rt; synced.report?, report(SessionState::Cancelled, 1, 0, 3));
     Ok(())
