@@ -1,18 +1,22 @@
 -- Two replicas of a range that catch up with each other: each runs a whole session on the rows that the other had before.
-use Rattle.std.specs.Prelude.{◌≡◌, ◌⊎◌, ℕ, List, ◌++◌, [], length, Option, Some, None, Result, Ok, Err}
+use Rattle.std.specs.Prelude.{◌≡◌, ◌⊎◌, ℕ, List, [], ◌∷◌, ◌++◌, length, Option, Some, None, Result, Ok, Err}
 use Rattle.vclock.specs.Answer.{first_fault}
 use Rattle.vclock.specs.Outcome.{gives}
 use Rattle.vclock.specs.declared.refusal.Refusal.{Refusal}
 use Rattle.vclock.specs.declared.refusal.Refusal.TheVariants.{NoMemory}
-use Rattle.version_set.specs.Version.{maximal, set_from}
-use Rattle.version_set.specs.declared.version.Version.{Version}
 use Rattle.range_journal.specs.Journal.{held}
+use Rattle.hash_tree.specs.Nodes.{digest_at}
 use Rattle.snapshot.specs.RowMaps.{RowMap}
+use Rattle.sync_session.specs.TreeNodes.{Node}
+use Rattle.sync_session.specs.Differing.{differ}
+use Rattle.range_state.specs.declared.«record».Record.{Record}
 use Rattle.range_state.specs.declared.state.reconciling.Reconciled.{Reconciled}
 use Rattle.range_state.specs.declared.state.syncing.Synced.{Synced}
-use Rattle.range_state.specs.State.{State, rows_now, dirty_fault}
+use Rattle.range_state.specs.State.{State, IsRight, rows_now, dirty_fault}
 use Rattle.range_state.specs.Sessions.{standings, crowd_fault, cancel_session}
 use Rattle.range_state.specs.Syncs.{HasAskedAll, IsSyncedTo, IsPartWay}
+use Rattle.range_state.specs.Trees.{IsSameRange}
+use Rattle.range_state.specs.Unions.{union_of}
 
 -- why two ranges cannot begin: one is dirty, or one has no place for a session
 abbrev pub pair_fault : State → State → Option Refusal
@@ -65,6 +69,28 @@ Reconciles a at_a b at_b seat (Err e) new_a new_b =
     ((pair_fault a b ≡ Some e) × (new_a ≡ a) × (new_b ≡ b))
     ⊎ ((pair_fault a b ≡ None) × HaveStopped a at_a b at_b seat e new_a new_b)
 
--- the maximal versions of what two ranges hold for a key
-abbrev pub held_by_either : State → State → List ℕ → List Version
-held_by_either a b key = maximal (set_from [] (held a.entries key ++ held b.entries key))
+-- the newest session of a range asked these nodes, in order
+pub record HasAsked (s new : State) (nodes : List Node) : Type 0 where
+  pub r : Record
+  pub records : new.records ≡ s.records ++ r ∷ []
+  pub asked : r.session.asked ≡ nodes
+
+-- each of the two asked the nodes where their trees differed, in order, and no others; and that is how many each is told
+pub record HaveAskedAlike (a b new_a new_b : State) (asked_a asked_b : ℕ) : Type 0 where
+  pub first : HasAsked a new_a (differ (rows_now a) (rows_now b))
+  pub second : HasAsked b new_b (differ (rows_now a) (rows_now b))
+  pub count_a : asked_a ≡ length (differ (rows_now a) (rows_now b))
+  pub count_b : asked_b ≡ length (differ (rows_now a) (rows_now b))
+
+-- both hold, for each key, the maximal versions of what they held before
+abbrev pub HoldBoth : State → State → State → State → Type 0
+HoldBoth a b new_a new_b =
+    (key : List ℕ)
+    → (held new_a.entries key ≡ union_of (held a.entries key) (held b.entries key))
+    × (held new_b.entries key ≡ union_of (held a.entries key) (held b.entries key))
+
+-- once both are clean, and nothing else of them has changed, their roots have one digest
+abbrev pub HaveEqualRoots : State → State → Type 0
+HaveEqualRoots a b =
+    (x y : State) → IsSameRange a x → IsSameRange b y → IsRight x → IsRight y
+    → dirty_fault x ≡ None → dirty_fault y ≡ None → digest_at x.marks 0 ≡ digest_at y.marks 0

@@ -1,11 +1,12 @@
 //! Two replicas of a range that catch up with each other.
-ghost use Rattle.std.specs.Prelude.{◌≡◌, ⊤, None, MatchResult};
+ghost use Rattle.std.specs.Prelude.{◌≡◌, ⊤, [], None, MatchResult, IfOk, OnOk};
 ghost use Rattle.vclock.specs.Answer.{AnswersAtOnce};
 ghost use Rattle.hash_tree.specs.Nodes.{are_clean};
 ghost use Rattle.range_state.specs.State.{rows_now, dirty_fault};
 ghost use Rattle.range_state.specs.Sessions.{standings, crowd_fault};
 ghost use Rattle.range_state.specs.Syncs.{IsOfRange};
-ghost use Rattle.range_state.specs.Reconciles.{pair_fault, HasCaughtUp, HasStopped, Reconciles};
+ghost use Rattle.sync_session.specs.Walks.{NoTwoShareADigest};
+ghost use Rattle.range_state.specs.Reconciles.{pair_fault, HasCaughtUp, HasStopped, Reconciles, HaveAskedAlike, HoldBoth, HaveEqualRoots};
 ghost use Rattle.vclock.specs.Answer.{first_fault};
 
 use crate::state::RangeState;
@@ -35,7 +36,32 @@ pub struct Reconciled {
 /// SessionsFull (of `a`, then of `b`, 64 sessions are open, or there are 1,024 records). Then, as the sessions go: Crowded,
 /// JournalFull, NoMemory. A session that is refused so is cancelled, what was accepted stays, and where it is that of `a`,
 /// `b` is as it was.
+///
+/// Otherwise each asked the nodes where their trees differed, and no others. If no two different texts of the nodes of the two
+/// trees share a digest, both hold, for each key, the maximal versions of what they held before; and once both are clean, the
+/// digests of their roots are equal.
 pub fn reconcile(
+    alloc: Global,
+    a: &mut RangeState,
+    at_a: u16,
+    b: &mut RangeState,
+    at_b: u16,
+    seat: u16,
+) -> Result<Reconciled, Refusal>
+    requires { IsOfRange a.old.config (rows_now b.old) }
+    ensures sessions { Reconciles a.old at_a b.old at_b seat result a.new b.new }
+    ensures asked { IfOk result (λ told. HaveAskedAlike a.old b.old a.new b.new told.asked_a told.asked_b) }
+    ensures union { OnOk result (NoTwoShareADigest (rows_now a.old) (rows_now b.old) [] → HoldBoth a.old b.old a.new b.new) }
+    ensures roots { OnOk result (NoTwoShareADigest (rows_now a.old) (rows_now b.old) [] → HaveEqualRoots a.new b.new) }
+{
+    // Called for their clauses alone: both states are right.
+    let _right = a.journal();
+    let _other = b.journal();
+    run_both(alloc, a, at_a, b, at_b, seat)
+}
+
+/// The same, of which only the sessions are told.
+fn run_both(
     alloc: Global,
     a: &mut RangeState,
     at_a: u16,
