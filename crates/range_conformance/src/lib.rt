@@ -8,6 +8,8 @@ mod range_sessions;
 #[cfg(test)]
 mod ranges;
 #[cfg(test)]
+mod reconciling;
+#[cfg(test)]
 mod sessions;
 #[cfg(test)]
 mod snapshots;

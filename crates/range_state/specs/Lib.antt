@@ -7,6 +7,8 @@ pub mod Fitting
 pub mod Sessions
 pub mod Told
 pub mod Syncs
+pub mod Unions
+pub mod Reconciles
 pub mod Batches
 pub mod Trees
 pub mod Run

@@ -1,10 +1,11 @@
 //! What the definitions say of rows and sessions.
-ghost use Rattle.std.specs.Prelude.{◌≡◌, ◌≢◌, ◌≤◌, ◌↔◌, [], List, Any, Contains, true};
+ghost use Rattle.std.specs.Prelude.{◌≡◌, ◌≢◌, ◌≤◌, ◌↔◌, [], ℕ, List, None, Any, Contains, true};
 ghost use Rattle.std.specs.List.{AllByRecursion};
 ghost use Rattle.range_journal.specs.declared.journal.Entry.{Entry};
 ghost use Rattle.range_journal.specs.Journal.{held};
 ghost use Rattle.row_bytes.specs.declared.row.Row.{Row};
 ghost use Rattle.hash_tree.specs.Leaves.{AscendByKey};
+ghost use Rattle.hash_tree.specs.Nodes.{digest_at};
 ghost use Rattle.range_journal.specs.declared.journal.Source.TheVariants.{Partner};
 ghost use Rattle.snapshot.specs.RowMaps.{RowMap};
 ghost use Rattle.sync_session.specs.TreeNodes.{Node, has_node, text_of};
@@ -15,7 +16,11 @@ ghost use Rattle.sync_session.specs.declared.state.SessionState.TheVariants.{Ope
 ghost use Rattle.range_state.specs.declared.«record».Record.{Record};
 ghost use Rattle.range_state.specs.Records.{IsOver};
 ghost use Rattle.range_state.specs.Rows.{rows_of};
-ghost use Rattle.range_state.specs.State.{State, IsRight, IsFromPartner};
+ghost use Rattle.range_state.specs.Unions.{union_of, offered_all};
+ghost use Rattle.version_set.specs.declared.version.Version.{Version};
+ghost use Rattle.version_set.specs.Version.{maximal, Ascends as AscendsByText};
+ghost use Rattle.range_state.specs.State.{State, IsRight, IsFromPartner, rows_now, dirty_fault};
+ghost use Rattle.range_state.specs.Syncs.{IsOfRange, synced};
 
 /// The rows of a journal are a map: they have each key that has an entry, and no other one, each with the versions that
 /// are held for it.
@@ -74,4 +79,33 @@ pub fn sessions_ask_where_the_trees_differ()
         → (¬ IsOver r.session) × IsNearlyDone r.session }
     ensures ended { (s : State) → IsRight s → (r : Record) → Contains s.records r
         → r.session.state ≢ Open → r.session.outstanding ≡ [] }
+{}
+
+/// Offering the members of one set to another, one by one, gives the maximal versions of both, and the same whichever of the two
+/// is offered to the other.
+pub fn offers_make_the_union()
+    ensures each { (S T : List Version) → AscendsByText S → maximal S ≡ S → offered_all S T ≡ union_of S T }
+    ensures sides { (S T : List Version) → union_of S T ≡ union_of T S }
+{}
+
+/// Two replicas of a range that each take the leaves where their trees differ hold what both held, key by key, provided that no
+/// two different texts of their nodes share a digest.
+pub fn synced_ranges_hold_what_both_held()
+    ensures first { (a b : State) (seat : ℕ) → IsRight a → IsRight b → IsOfRange a.config (rows_now b)
+        → NoTwoShareADigest (rows_now a) (rows_now b) [] → (synced a seat (rows_now b)).fault ≡ None
+        → (key : List ℕ) → held (synced a seat (rows_now b)).state.entries key
+        ≡ union_of (held a.entries key) (held b.entries key) }
+    ensures second { (a b : State) (seat : ℕ) → IsRight a → IsRight b → IsOfRange a.config (rows_now b)
+        → NoTwoShareADigest (rows_now a) (rows_now b) [] → (synced b seat (rows_now a)).fault ≡ None
+        → (key : List ℕ) → held (synced b seat (rows_now a)).state.entries key
+        ≡ union_of (held a.entries key) (held b.entries key) }
+{}
+
+/// Two replicas of a range that hold the same have the same rows, and so, once both are clean, the same digest at the root.
+pub fn ranges_that_hold_the_same_have_equal_roots()
+    ensures rows { (a b : State) → IsOfRange a.config (rows_now b)
+        → ((key : List ℕ) → held a.entries key ≡ held b.entries key) → rows_now a ≡ rows_now b }
+    ensures roots { (a b : State) → IsRight a → IsRight b → IsOfRange a.config (rows_now b)
+        → ((key : List ℕ) → held a.entries key ≡ held b.entries key) → dirty_fault a ≡ None → dirty_fault b ≡ None
+        → digest_at a.marks 0 ≡ digest_at b.marks 0 }
 {}

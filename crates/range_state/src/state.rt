@@ -36,6 +36,7 @@ use version_set::version::Version;
 mod bulk;
 mod offering;
 mod preparing;
+pub mod reconciling;
 mod sessions;
 pub mod syncing;
 mod taking;

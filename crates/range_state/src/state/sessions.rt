@@ -107,7 +107,7 @@ impl RangeState {
 }
 
 /// Whether a session can be opened beside those that there are.
-fn check_crowd(records: &[Record]) -> Result<(), Refusal>
+pub(super) fn check_crowd(records: &[Record]) -> Result<(), Refusal>
     ensures { AnswersAtOnce result (crowd_fault (standings records.now)) (λ _. ⊤) }
 {
     if open_count(records) >= MOST_OPEN || records.len() >= MOST_RECORDS {

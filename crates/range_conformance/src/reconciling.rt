@@ -1,0 +1,142 @@
+// Two replicas that are reconciled.
+use range_state::config::RangeConfig;
+use range_state::state::RangeState;
+use range_state::state::reconciling::{Reconciled, reconcile};
+use std::alloc::Global;
+use std::process::Abort;
+use std::test::Fail;
+use std::thread::Threads;
+use sync_session::state::SessionState;
+use vclock::bytes::Bytes;
+use vclock::clock::Clock;
+use vclock::refusal::Refusal;
+use version_set::kind::Kind;
+
+/// A range without rows.
+fn range(alloc: Global, format: u64, limit: u64) -> Result<RangeState, Fail> {
+    let config = RangeConfig::new(format, 0, 0, limit).ok_or("no such range")?;
+    Ok(RangeState::new(alloc, config)?)
+}
+
+/// A first put of a key at a node.
+fn put(
+    alloc: Global,
+    state: &mut RangeState,
+    at: u16,
+    key: &[u8],
+    value: &[u8],
+) -> Result<(), Fail> {
+    let context = Clock::from_pairs(alloc, &[])?;
+    let value = Bytes::copy_of(alloc, value)?;
+    state.put(alloc, 0, at, key, &context, Kind::Live, value)?;
+    Ok(())
+}
+
+/// A range with `a` at the first node, and one with `abc` at the second, whose nodes are all clean.
+fn two_ranges(
+    rt: &(impl Threads + Sync),
+    alloc: Global,
+    format: u64,
+    limit: u64,
+) -> Result<(RangeState, RangeState), Fail> {
+    let mut a = range(alloc, format, limit)?;
+    put(alloc, &mut a, 1, b"a", b"x")?;
+    a.rehash(rt, alloc)?;
+    let mut b = range(alloc, format, limit)?;
+    put(alloc, &mut b, 2, b"abc", b"y")?;
+    b.rehash(rt, alloc)?;
+    Ok((a, b))
+}
+
+/// How the first session of a range stands.
+fn stands(state: &RangeState) -> Result<SessionState, Fail> {
+    let record = state.records().get(0).ok_or("no record")?;
+    Ok(record.session().state())
+}
+
+/// So many nodes were asked each way, and so many versions came.
+fn expect_counts(rt: &impl Abort, told: &Reconciled, asked: u64, came_to_a: u64, came_to_b: u64) {
+    assert_eq!(rt; (told.asked_a, told.asked_b), (asked, asked));
+    assert_eq!(rt; (told.accepted_a, told.accepted_b), (came_to_a, came_to_b));
+}
+
+/// Two ranges that have one row each hold both afterwards: so many nodes are asked each way, and so many are hashed again.
+fn expect_both(
+    rt: &(impl Abort + Threads + Sync),
+    alloc: Global,
+    format: u64,
+    asked: u64,
+    hashed: u64,
+) -> Result<(), Fail> {
+    let (mut a, mut b) = two_ranges(rt, alloc, format, 1_000)?;
+    let told = reconcile(alloc, &mut a, 1, &mut b, 2, 5)?;
+    expect_counts(rt, &told, asked, 1, 1);
+    assert_eq!(rt; stands(&a)?, SessionState::Finished);
+    assert_eq!(rt; stands(&b)?, SessionState::Finished);
+    assert_eq!(rt; (a.records()[0].partner(), b.records()[0].partner()), (2, 1));
+    assert_eq!(rt; (a.rehash(rt, alloc)?, b.rehash(rt, alloc)?), (hashed, hashed));
+    assert!(rt; a.snapshot(alloc)?.root() == b.snapshot(alloc)?.root());
+    let again = reconcile(alloc, &mut a, 1, &mut b, 2, 5)?;
+    expect_counts(rt, &again, 0, 0, 0);
+    Ok(())
+}
+
+#[test]
+fn each_takes_what_the_other_has(rt: HostRuntime) -> Result<(), Fail> {
+    expect_both(&rt, rt.alloc(), 1, 5, 3)
+}
+
+#[test]
+fn each_takes_what_the_other_has_in_format_2(rt: HostRuntime) -> Result<(), Fail> {
+    expect_both(&rt, rt.alloc(), 2, 7, 4)
+}
+
+#[test]
+fn one_has_nothing_that_the_other_lacks(rt: HostRuntime) -> Result<(), Fail> {
+    let alloc = rt.alloc();
+    let (mut a, _) = two_ranges(&rt, alloc, 1, 1_000)?;
+    let mut b = range(alloc, 1, 1_000)?;
+    b.rehash(&rt, alloc)?;
+    let told = reconcile(alloc, &mut a, 1, &mut b, 2, 5)?;
+    expect_counts(&rt, &told, 3, 0, 1);
+    assert_eq!(rt; b.versions(b"a").len(), 1);
+    Ok(())
+}
+
+#[test]
+fn a_dirty_one_is_refused(rt: HostRuntime) -> Result<(), Fail> {
+    let alloc = rt.alloc();
+    let (mut a, mut b) = two_ranges(&rt, alloc, 1, 1_000)?;
+    put(alloc, &mut b, 2, b"a", b"z")?;
+    let told = reconcile(alloc, &mut a, 1, &mut b, 2, 5);
+    assert!(rt; matches!(&told, Err(Refusal::Dirty)));
+    assert_eq!(rt; (a.records().len(), b.records().len()), (0, 0));
+    assert_eq!(rt; (a.journal().len(), b.journal().len()), (1, 2));
+    Ok(())
+}
+
+#[test]
+fn a_full_journal_cancels_the_session(rt: HostRuntime) -> Result<(), Fail> {
+    let alloc = rt.alloc();
+    let (mut a, mut b) = two_ranges(&rt, alloc, 1, 1)?;
+    let told = reconcile(alloc, &mut a, 1, &mut b, 2, 5);
+    assert!(rt; matches!(&told, Err(Refusal::JournalFull)));
+    assert_eq!(rt; stands(&a)?, SessionState::Cancelled);
+    assert_eq!(rt; (a.records().len(), b.records().len()), (1, 0));
+    assert_eq!(rt; (a.journal().len(), b.journal().len()), (1, 1));
+    Ok(())
+}
+
+#[test]
+fn one_that_has_64_open_sessions_is_refused(rt: HostRuntime) -> Result<(), Fail> {
+    let alloc = rt.alloc();
+    let (mut a, mut b) = two_ranges(&rt, alloc, 1, 1_000)?;
+    for _ in 0..64 {
+        let offer = a.snapshot(alloc)?.offer(0);
+        b.open_session(alloc, 1, offer)?;
+    }
+    let told = reconcile(alloc, &mut a, 1, &mut b, 2, 5);
+    assert!(rt; matches!(&told, Err(Refusal::SessionsFull)));
+    assert_eq!(rt; a.records().len(), 0);
+    Ok(())
+}

@@ -1,0 +1,96 @@
+-- Two replicas of a range that catch up with each other: each runs a whole session on the rows that the other had before.
+use Rattle.std.specs.Prelude.{◌≡◌, ◌⊎◌, ℕ, List, [], ◌∷◌, ◌++◌, length, Option, Some, None, Result, Ok, Err}
+use Rattle.vclock.specs.Answer.{first_fault}
+use Rattle.vclock.specs.Outcome.{gives}
+use Rattle.vclock.specs.declared.refusal.Refusal.{Refusal}
+use Rattle.vclock.specs.declared.refusal.Refusal.TheVariants.{NoMemory}
+use Rattle.range_journal.specs.Journal.{held}
+use Rattle.hash_tree.specs.Nodes.{digest_at}
+use Rattle.snapshot.specs.RowMaps.{RowMap}
+use Rattle.sync_session.specs.TreeNodes.{Node}
+use Rattle.sync_session.specs.Differing.{differ}
+use Rattle.range_state.specs.declared.«record».Record.{Record}
+use Rattle.range_state.specs.declared.state.reconciling.Reconciled.{Reconciled}
+use Rattle.range_state.specs.declared.state.syncing.Synced.{Synced}
+use Rattle.range_state.specs.State.{State, IsRight, rows_now, dirty_fault}
+use Rattle.range_state.specs.Sessions.{standings, crowd_fault, cancel_session}
+use Rattle.range_state.specs.Syncs.{HasAskedAll, IsSyncedTo, IsPartWay}
+use Rattle.range_state.specs.Trees.{IsSameRange}
+use Rattle.range_state.specs.Unions.{union_of}
+
+-- why two ranges cannot begin: one is dirty, or one has no place for a session
+abbrev pub pair_fault : State → State → Option Refusal
+pair_fault a b = first_fault (dirty_fault a) (first_fault (dirty_fault b) (first_fault (crowd_fault (standings a.records)) (crowd_fault (standings b.records))))
+
+-- A whole session on a partner's rows that took every leaf where the trees differ: so many nodes were asked, and so many versions came.
+-- It is finished.
+pub record HasCaughtUp (s : State) (seat partner : ℕ) (other : RowMap) (nodes versions : ℕ) (new : State) : Type 0 where
+  pub told : Synced
+  pub synced : IsSyncedTo s seat other new told
+  pub session : HasAskedAll s partner other new.records
+  pub all : told.fault ≡ None
+  pub asked : nodes ≡ told.asked
+  pub accepted : versions ≡ told.accepted
+
+-- a session that was refused a leaf, for this cause, and was then cancelled; the leaves before it stay
+pub record HasGivenUp (s : State) (seat partner : ℕ) (other : RowMap) (e : Refusal) (new : State) : Type 0 where
+  pub last : State
+  pub told : Synced
+  pub synced : IsSyncedTo s seat other last told
+  pub session : HasAskedAll s partner other last.records
+  pub cause : told.fault ≡ Some e
+  pub cancelled : cancel_session last (length s.records) ≡ gives tt new
+
+-- a session that no memory was left for on its way, and that was then cancelled; the leaves that it took stay
+pub record HasBrokenOff (s : State) (seat partner : ℕ) (other : RowMap) (new : State) : Type 0 where
+  pub last : State
+  pub part : IsPartWay s seat partner other last
+  pub cancelled : cancel_session last (length s.records) ≡ gives tt new
+
+-- A session that did not catch up, and why: it was refused a leaf, or no memory was left for it, at its opening or on its way.
+abbrev pub HasStopped : State → ℕ → ℕ → RowMap → Refusal → State → Type 0
+HasStopped s seat partner other e new =
+    HasGivenUp s seat partner other e new
+    ⊎ ((e ≡ NoMemory) × ((new ≡ s) ⊎ HasBrokenOff s seat partner other new))
+
+-- the first of the two sessions stopped, and the second did not begin; or the first caught up, and the second stopped
+abbrev pub HaveStopped : State → ℕ → State → ℕ → ℕ → Refusal → State → State → Type 0
+HaveStopped a at_a b at_b seat e new_a new_b =
+    (HasStopped a seat at_b (rows_now b) e new_a × (new_b ≡ b))
+    ⊎ (((nodes : ℕ) × (versions : ℕ) × HasCaughtUp a seat at_b (rows_now b) nodes versions new_a) × HasStopped b seat at_a (rows_now a) e new_b)
+
+-- what the two are answered, and both states afterwards: each session is on the rows that the other had at the beginning
+abbrev pub Reconciles : State → ℕ → State → ℕ → ℕ → Result Reconciled Refusal → State → State → Type 0
+Reconciles a at_a b at_b seat (Ok r) new_a new_b =
+    (pair_fault a b ≡ None)
+    × HasCaughtUp a seat at_b (rows_now b) r.asked_a r.accepted_a new_a
+    × HasCaughtUp b seat at_a (rows_now a) r.asked_b r.accepted_b new_b
+Reconciles a at_a b at_b seat (Err e) new_a new_b =
+    ((pair_fault a b ≡ Some e) × (new_a ≡ a) × (new_b ≡ b))
+    ⊎ ((pair_fault a b ≡ None) × HaveStopped a at_a b at_b seat e new_a new_b)
+
+-- the newest session of a range asked these nodes, in order
+pub record HasAsked (s new : State) (nodes : List Node) : Type 0 where
+  pub r : Record
+  pub records : new.records ≡ s.records ++ r ∷ []
+  pub asked : r.session.asked ≡ nodes
+
+-- each of the two asked the nodes where their trees differed, in order, and no others; and that is how many each is told
+pub record HaveAskedAlike (a b new_a new_b : State) (asked_a asked_b : ℕ) : Type 0 where
+  pub first : HasAsked a new_a (differ (rows_now a) (rows_now b))
+  pub second : HasAsked b new_b (differ (rows_now a) (rows_now b))
+  pub count_a : asked_a ≡ length (differ (rows_now a) (rows_now b))
+  pub count_b : asked_b ≡ length (differ (rows_now a) (rows_now b))
+
+-- both hold, for each key, the maximal versions of what they held before
+abbrev pub HoldBoth : State → State → State → State → Type 0
+HoldBoth a b new_a new_b =
+    (key : List ℕ)
+    → (held new_a.entries key ≡ union_of (held a.entries key) (held b.entries key))
+    × (held new_b.entries key ≡ union_of (held a.entries key) (held b.entries key))
+
+-- once both are clean, and nothing else of them has changed, their roots have one digest
+abbrev pub HaveEqualRoots : State → State → Type 0
+HaveEqualRoots a b =
+    (x y : State) → IsSameRange a x → IsSameRange b y → IsRight x → IsRight y
+    → dirty_fault x ≡ None → dirty_fault y ≡ None → digest_at x.marks 0 ≡ digest_at y.marks 0
