@@ -45,7 +45,10 @@ fn main(rt: HostRuntime) -> ExitCode {
 fn tell(rt: &(impl Print + Eprint), plan: &Plan, done: &Done) -> io::Result<()> {
     let closed = if done.closed { "closed" } else { "not closed" };
     let Plan { keys, threads, .. } = *plan;
-    println!(rt; "keys {keys}, threads {threads}, ranges {}, {closed}", plan.ranges())?;
+    println!(rt;
+        "keys {keys}, threads {threads}, ranges {}, {closed}",
+        plan.ranges()
+    )?;
     eprintln!(rt;
         "{{\"puts_per_s\":{},\"gets_per_s\":{}}}",
         a_second(keys, done.spans.puts),

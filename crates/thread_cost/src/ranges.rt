@@ -127,7 +127,7 @@ fn run_on_each<R: Threads + Wait + Clock + Sync>(
     let all = thread::map_vec(
         rt,
         numbers,
-        &|number| { run_on_own::<Brand, R>(rt, alloc, plan, &starts, number, Blank::new(1)) },
+        &|number| run_alone(rt, alloc, plan, &starts, number),
     )?;
     let mut done = None;
     for own in all {
@@ -141,6 +141,17 @@ fn run_on_each<R: Threads + Wait + Clock + Sync>(
 }
 
 /// A thread on a range of its own.
+fn run_alone<R: Wait + Clock>(
+    rt: &R,
+    alloc: Global,
+    plan: &Plan,
+    starts: &Starts,
+    number: u16,
+) -> Result<Done, Fault> {
+    run_on_own::<Brand, R>(rt, alloc, plan, starts, number, Blank::new(1))
+}
+
+/// A thread on a range of its own, with the range's ledger.
 fn run_on_own<L: Ledger, R: Wait + Clock>(
     rt: &R,
     alloc: Global,
