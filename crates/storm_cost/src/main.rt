@@ -17,7 +17,7 @@ use std::process::ExitCode;
 use std::sync::Wait;
 use std::thread::Threads;
 use std::time::{Clock, Duration, Instant};
-use storm::storm::{StormEnd, run_storm};
+use storm::storm::{MOST_PUTS, StormEnd, run_storm};
 use storm::tally::Tallies;
 use watch::Watch;
 use words::{USAGE, Words, read_words};
@@ -45,7 +45,7 @@ fn run<R: Threads + Wait + Clock + Print + Eprint + AllocGlobal + Sync>(
     let tallies = Tallies::new();
     let watch = Watch::new(rt.alloc(), rt, &tallies, words)?;
     let start = Instant::now(rt)?;
-    let end = run_storm(rt, rt.alloc(), words.puts(), &watch, &tallies)?;
+    let end = run_storm(rt, rt.alloc(), words.puts.min(MOST_PUTS), &watch, &tallies)?;
     let took = start.elapsed(rt)?;
     tell_end(rt, &end)?;
     tell_figures(rt, took, &watch.into_latencies(), &tallies)?;
@@ -55,11 +55,7 @@ fn run<R: Threads + Wait + Clock + Print + Eprint + AllocGlobal + Sync>(
 /// Says how the storm ended.
 fn tell_end(rt: &impl Print, end: &StormEnd) -> io::Result<()> {
     let roots = if end.equal { "equal" } else { "differ" };
-    let settled = if end.settled {
-        "settled"
-    } else {
-        "unsettled"
-    };
+    let settled = if end.settled { "settled" } else { "unsettled" };
     println!(rt; "puts {}, roots {roots}, {settled}", end.puts)
 }
 

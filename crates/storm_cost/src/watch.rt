@@ -72,7 +72,7 @@ impl<'a, R: Clock> Watch<'a, R> {
 
     /// Whether both writers have done all their puts.
     fn have_written<W: Wait>(&self, rt: &W) -> bool {
-        let puts = self.words.puts();
+        let puts = self.words.puts;
         self.tallies.one.look(rt).puts >= puts && self.tallies.two.look(rt).puts >= puts
     }
 }

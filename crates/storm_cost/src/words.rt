@@ -1,6 +1,4 @@
 // The words of the command line.
-ghost use Rattle.std.specs.Prelude.{◌≤◌};
-
 use std::env;
 use std::env::Env;
 use storm::storm::MOST_PUTS;
@@ -20,18 +18,10 @@ pub(crate) enum Workers {
 /// What the words ask for.
 #[derive(Clone, Copy)]
 pub(crate) struct Words {
-    puts: u64,
-    pub(crate) workers: Workers,
-    ghost fits: { puts ≤ MOST_PUTS },
-}
-
-impl Words {
     /// How many puts each writer does, 1 to 10,000.
-    pub(crate) fn puts(&self) -> u64
-        ensures { result ≤ MOST_PUTS }
-    {
-        self.puts
-    }
+    pub(crate) puts: u64,
+    /// When the workers run.
+    pub(crate) workers: Workers,
 }
 
 /// What the words ask for, if they do.
