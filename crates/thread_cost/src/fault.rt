@@ -1,0 +1,34 @@
+// What ends the program before its work is done.
+use std::alloc::{AllocError, AllocFailed};
+use std::io;
+use thiserror::Error;
+use vclock::refusal::Refusal;
+
+/// Why the program could not do its work. Its text goes to standard error.
+#[derive(Debug, Drop, Error)]
+pub(crate) enum Fault {
+    /// A call of a range was refused, or memory ran out.
+    #[error("{0}")]
+    Refused(#[from] Refusal),
+    /// The clock can't be read.
+    #[error("there is no clock: {0}")]
+    NoClock(#[from] io::Error),
+    /// Some thread did not begin, or ended too early.
+    #[error("the threads did not start together")]
+    NotTogether,
+    /// A thread did not get a pass.
+    #[error("there are too few passes")]
+    TooFewPasses,
+}
+
+impl From<AllocError> for Fault {
+    fn from(error: AllocError) -> Fault {
+        Fault::Refused(Refusal::from(error))
+    }
+}
+
+impl<T: Drop> From<AllocFailed<T>> for Fault {
+    fn from(failed: AllocFailed<T>) -> Fault {
+        Fault::Refused(Refusal::from(failed))
+    }
+}
