@@ -48,9 +48,14 @@ pub(crate) fn check_all<L: Ledger>(
         told = told.wrapping_add(sync.receipts);
         sync.count(tally);
     }
-    expect(state.records().len() as u64 == opened, "the number of sessions")?;
+    expect(
+        state.records().len() as u64 == opened,
+        "the number of sessions",
+    )?;
     let entries = state.journal().entries().iter();
-    let taken = entries.filter(|entry| entry.source == Source::Partner).count();
+    let taken = entries
+        .filter(|entry| entry.source == Source::Partner)
+        .count();
     expect(taken == told, "the number of entries of the partner")
 }
 
@@ -70,7 +75,10 @@ fn check_session(sync: &Worked, id: u64, session: &Session) -> Result<(), Troubl
     expect(is_each_once(session.asked()), "what a session asked")?;
     match &sync.report {
         Ok(report) => check_report(sync, report, id, session),
-        Err(_) => expect(state == SessionState::Cancelled, "the end of a refused sync"),
+        Err(_) => expect(
+            state == SessionState::Cancelled,
+            "the end of a refused sync",
+        ),
     }
 }
 
@@ -91,14 +99,15 @@ fn check_report(
     let answers = taken.wrapping_add(report.bad).wrapping_add(failing);
     expect(answers == sync.asks, "the number of bad answers")?;
     let is_stopped = state == SessionState::Cancelled;
-    expect(!is_stopped || sync.asks == sync.turns, "the turns of a sync")
+    expect(
+        !is_stopped || sync.asks == sync.turns,
+        "the turns of a sync",
+    )
 }
 
 /// Whether each node stands there once.
 fn is_each_once(nodes: &[NodeAt]) -> bool {
-    nodes
-        .iter()
-        .all(|node| nodes.iter().filter(|other| *other == node).count() == 1)
+    nodes.iter().all(|node| nodes.iter().filter(|other| *other == node).count() == 1)
 }
 
 /// What a range took in a sync: among the receipts of all its syncs.

@@ -117,7 +117,10 @@ impl<L: Ledger> Own<L> {
     ) -> Result<(), Trouble> {
         let Given { key, version } = row;
         let copy = version.try_clone()?;
-        match self.range.copy(rt, alloc, &mut self.writer, Source::Copy, key, copy) {
+        match self
+            .range
+            .copy(rt, alloc, &mut self.writer, Source::Copy, key, copy)
+        {
             Ok(_) => {
                 self.given.push(Given { key, version })?;
                 Ok(())
@@ -151,7 +154,9 @@ impl<L: Ledger> Own<L> {
         let (asks, failures) = (link.asks(), link.failures());
         let before = self.syncer.receipts().len();
         let pass = &mut self.syncer;
-        let report = self.range.sync_worker(rt, alloc, slot, link, pass, 2, turns);
+        let report = self
+            .range
+            .sync_worker(rt, alloc, slot, link, pass, 2, turns);
         self.syncs.push(Worked {
             report,
             turns,

@@ -52,7 +52,11 @@ impl Trial {
     /// The list of a number.
     fn new(number: u64) -> Trial {
         let mut random = Random::new(number);
-        let format = if number % 2 == 0 { Format::One } else { Format::Two };
+        let format = if number % 2 == 0 {
+            Format::One
+        } else {
+            Format::Two
+        };
         let is_crowded = random.once_in(32);
         Trial {
             random,
