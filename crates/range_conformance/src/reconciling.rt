@@ -73,8 +73,14 @@ fn expect_both(
     expect_counts(rt, &told, asked, 1, 1);
     assert_eq!(rt; stands(&a)?, SessionState::Finished);
     assert_eq!(rt; stands(&b)?, SessionState::Finished);
-    assert_eq!(rt; (a.records()[0].partner(), b.records()[0].partner()), (2, 1));
-    assert_eq!(rt; (a.rehash(rt, alloc)?, b.rehash(rt, alloc)?), (hashed, hashed));
+    assert_eq!(rt;
+        (a.records()[0].partner(), b.records()[0].partner()),
+        (2, 1)
+    );
+    assert_eq!(rt;
+        (a.rehash(rt, alloc)?, b.rehash(rt, alloc)?),
+        (hashed, hashed)
+    );
     assert!(rt; a.snapshot(alloc)?.root() == b.snapshot(alloc)?.root());
     let again = reconcile(alloc, &mut a, 1, &mut b, 2, 5)?;
     expect_counts(rt, &again, 0, 0, 0);

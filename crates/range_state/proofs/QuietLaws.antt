@@ -1,12 +1,11 @@
 -- Two replicas that took each other's leaves where their trees differ: what they hold, and their rows.
-use Rattle.std.proofs.Common.{◌≡◌, ℕ, zero, suc, ◌+◌, ◌-◌, ◌*◌, ◌/◌, ◌%◌, ◌^◌, ◌<◌, ◌↔◌, Bool, true, false, cond, not, Option, Some, None, List, [], ◌∷◌, ◌++◌, length, get_or, map, refl, ap, sym, subst, ◌∙◌, ◌||◌, ◌&&◌, inl, inr, arith, Any, Contains}
+use Rattle.std.proofs.Common.{◌≡◌, ℕ, zero, suc, ◌+◌, ◌-◌, ◌*◌, ◌/◌, ◌%◌, ◌^◌, ◌<◌, ◌↔◌, Bool, true, false, cond, not, Option, Some, None, List, [], ◌∷◌, ◌++◌, length, refl, ap, sym, subst, ◌∙◌, ◌||◌, ◌&&◌, inl, inr, arith, Any, Contains}
 use Rattle.std.proofs.lemmas.Bool.{cases_Bool, both_ways, or_left, or_right, cases_lt, eq-eqb}
 use Rattle.std.proofs.lemmas.List.Folds.{list_any-append, Any-from_list_any, list_any-from_Any}
 use Rattle.std.proofs.lemmas.Slice.Eq.{bytes_eq-Decides}
 use Rattle.std.specs.Prelude.{nat_eq}
 use Rattle.std.specs.List.{list_any, filter, AllByRecursion}
 use Rattle.std.specs.Cmp.Lexicographic.{pointwise}
-use Rattle.std.specs.declared.cmp.Ordering.{Ordering}
 use Rattle.std.specs.declared.cmp.Ordering.TheVariants.{Less, Greater}
 use Rattle.sha2.specs.Sha256.{sha256}
 use Rattle.vclock.specs.declared.format.Format.{Format}
@@ -28,7 +27,7 @@ use Rattle.hash_tree.proofs.KeyLaws.{turned}
 use Rattle.hash_tree.proofs.LeafLaws.{versions_in-rows_at}
 use Rattle.hash_tree.proofs.TextLaws.{leaf_node, same_leaf}
 use Rattle.snapshot.specs.RowMaps.{RowMap, IsRowMap, leaf_in, root_of}
-use Rattle.sync_session.specs.TreeNodes.{Node, IsNode, is_node, has_node, text_of}
+use Rattle.sync_session.specs.TreeNodes.{Node, is_node, has_node, text_of}
 use Rattle.sync_session.specs.Walks.{child_digest, IsCompared, NoTwoShareADigest}
 use Rattle.sync_session.specs.Differing.{first_of_level, nodes_above_depth, all_nodes, is_unlike, differs_at, differ}
 use Rattle.sync_session.proofs.DescentLaws.{at_node, is_node-same}

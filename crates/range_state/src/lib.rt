@@ -4,7 +4,7 @@
 //! - [`config`]: which range a state is of, and its limits.
 //! - [`state`]: the state and its calls: `put`, `accept`, `get`; for the tree `take_job`, `take_jobs`, `install`,
 //!   `digest_at`, `rehash` and `snapshot`; for sessions with partners `open_session`, `take_answer`, `cancel_session` and
-//!   `records`, and `sync_with` for a whole session.
+//!   `records`, and `sync_with` for a whole session; `reconcile` for one each way.
 //! - [`record`]: a session of a range, and with whom.
 //! - [`replay`]: the rows that a range had at each length of its journal.
 //! - [`event`], [`run`]: the same calls as events, and lists of them.

@@ -51,8 +51,10 @@ pub fn reconcile(
     requires { IsOfRange a.old.config (rows_now b.old) }
     ensures sessions { Reconciles a.old at_a b.old at_b seat result a.new b.new }
     ensures asked { IfOk result (λ told. HaveAskedAlike a.old b.old a.new b.new told.asked_a told.asked_b) }
-    ensures union { OnOk result (NoTwoShareADigest (rows_now a.old) (rows_now b.old) [] → HoldBoth a.old b.old a.new b.new) }
-    ensures roots { OnOk result (NoTwoShareADigest (rows_now a.old) (rows_now b.old) [] → HaveEqualRoots a.new b.new) }
+    ensures union { OnOk result (NoTwoShareADigest (rows_now a.old) (rows_now b.old) []
+        → HoldBoth a.old b.old a.new b.new) }
+    ensures roots { OnOk result (NoTwoShareADigest (rows_now a.old) (rows_now b.old) []
+        → HaveEqualRoots a.new b.new) }
 {
     // Called for their clauses alone: both states are right.
     let _right = a.journal();
