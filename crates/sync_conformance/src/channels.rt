@@ -44,7 +44,10 @@ fn serve_and_sync<L: Ledger + Send + Sync, C: Ledger + Send + Sync, R: Threads +
     let served = &server;
     let (synced, ()) = thread::join(
         rt,
-        || sync_and_stop::<L, C, R>(rt, alloc, blanks, link),
+        ||
+            requires range { (blanks.0.name ≡ L.name) × (blanks.0.parts ≡ L.parts) × (blanks.0.parts ≡ 1) }
+            requires slots { (blanks.1.name ≡ C.name) × (blanks.1.parts ≡ C.parts) × (blanks.1.parts ≡ 1024) }
+        { sync_and_stop::<L, C, R>(rt, alloc, blanks, link) },
         || served.run(rt, &pool),
     );
     synced
