@@ -1,4 +1,6 @@
 // Two replicas that are reconciled.
+ghost use Rattle.std.specs.Prelude.{◌≤◌};
+
 use range_state::config::RangeConfig;
 use range_state::state::RangeState;
 use range_state::state::reconciling::{Reconciled, reconcile};
@@ -18,14 +20,10 @@ fn range(alloc: Global, format: u64, limit: u64) -> Result<RangeState, Fail> {
     Ok(RangeState::new(alloc, config)?)
 }
 
-/// A first put of a key at a node.
-fn put(
-    alloc: Global,
-    state: &mut RangeState,
-    at: u16,
-    key: &[u8],
-    value: &[u8],
-) -> Result<(), Fail> {
+/// A first put of a key at a node, 1 to 65,535.
+fn put(alloc: Global, state: &mut RangeState, at: u16, key: &[u8], value: &[u8]) -> Result<(), Fail>
+    requires { 1 ≤ at }
+{
     let context = Clock::from_pairs(alloc, &[])?;
     let value = Bytes::copy_of(alloc, value)?;
     state.put(alloc, 0, at, key, &context, Kind::Live, value)?;
@@ -48,10 +46,26 @@ fn two_ranges(
     Ok((a, b))
 }
 
-/// How the first session of a range stands.
-fn stands(state: &RangeState) -> Result<SessionState, Fail> {
-    let record = state.records().get(0).ok_or("no record")?;
-    Ok(record.session().state())
+/// Reconciles two replicas of one range, which are at the nodes 1 and 2.
+fn reconcile_both(
+    alloc: Global,
+    a: &mut RangeState,
+    b: &mut RangeState,
+) -> Result<Reconciled, Refusal> {
+    let (one, other) = (a.config(), b.config());
+    if one.format() != other.format()
+        || one.bits() != other.bits()
+        || one.range() != other.range()
+    {
+        return Err(Refusal::OtherRange);
+    }
+    reconcile(alloc, a, 1, b, 2, 5)
+}
+
+/// With which node the first session of a range is, and how it stands.
+fn first_session(state: &RangeState) -> Result<(u16, SessionState), Fail> {
+    let record = state.records().first().ok_or("no record")?;
+    Ok((record.partner(), record.session().state()))
 }
 
 /// So many nodes were asked each way, and so many versions came.
@@ -69,20 +83,16 @@ fn expect_both(
     hashed: u64,
 ) -> Result<(), Fail> {
     let (mut a, mut b) = two_ranges(rt, alloc, format, 1_000)?;
-    let told = reconcile(alloc, &mut a, 1, &mut b, 2, 5)?;
+    let told = reconcile_both(alloc, &mut a, &mut b)?;
     expect_counts(rt, &told, asked, 1, 1);
-    assert_eq!(rt; stands(&a)?, SessionState::Finished);
-    assert_eq!(rt; stands(&b)?, SessionState::Finished);
-    assert_eq!(rt;
-        (a.records()[0].partner(), b.records()[0].partner()),
-        (2, 1)
-    );
+    assert_eq!(rt; first_session(&a)?, (2, SessionState::Finished));
+    assert_eq!(rt; first_session(&b)?, (1, SessionState::Finished));
     assert_eq!(rt;
         (a.rehash(rt, alloc)?, b.rehash(rt, alloc)?),
         (hashed, hashed)
     );
     assert!(rt; a.snapshot(alloc)?.root() == b.snapshot(alloc)?.root());
-    let again = reconcile(alloc, &mut a, 1, &mut b, 2, 5)?;
+    let again = reconcile_both(alloc, &mut a, &mut b)?;
     expect_counts(rt, &again, 0, 0, 0);
     Ok(())
 }
@@ -103,7 +113,7 @@ fn one_has_nothing_that_the_other_lacks(rt: HostRuntime) -> Result<(), Fail> {
     let (mut a, _) = two_ranges(&rt, alloc, 1, 1_000)?;
     let mut b = range(alloc, 1, 1_000)?;
     b.rehash(&rt, alloc)?;
-    let told = reconcile(alloc, &mut a, 1, &mut b, 2, 5)?;
+    let told = reconcile_both(alloc, &mut a, &mut b)?;
     expect_counts(&rt, &told, 3, 0, 1);
     assert_eq!(rt; b.versions(b"a").len(), 1);
     Ok(())
@@ -114,7 +124,7 @@ fn a_dirty_one_is_refused(rt: HostRuntime) -> Result<(), Fail> {
     let alloc = rt.alloc();
     let (mut a, mut b) = two_ranges(&rt, alloc, 1, 1_000)?;
     put(alloc, &mut b, 2, b"a", b"z")?;
-    let told = reconcile(alloc, &mut a, 1, &mut b, 2, 5);
+    let told = reconcile_both(alloc, &mut a, &mut b);
     assert!(rt; matches!(&told, Err(Refusal::Dirty)));
     assert_eq!(rt; (a.records().len(), b.records().len()), (0, 0));
     assert_eq!(rt; (a.journal().len(), b.journal().len()), (1, 2));
@@ -125,9 +135,9 @@ fn a_dirty_one_is_refused(rt: HostRuntime) -> Result<(), Fail> {
 fn a_full_journal_cancels_the_session(rt: HostRuntime) -> Result<(), Fail> {
     let alloc = rt.alloc();
     let (mut a, mut b) = two_ranges(&rt, alloc, 1, 1)?;
-    let told = reconcile(alloc, &mut a, 1, &mut b, 2, 5);
+    let told = reconcile_both(alloc, &mut a, &mut b);
     assert!(rt; matches!(&told, Err(Refusal::JournalFull)));
-    assert_eq!(rt; stands(&a)?, SessionState::Cancelled);
+    assert_eq!(rt; first_session(&a)?, (2, SessionState::Cancelled));
     assert_eq!(rt; (a.records().len(), b.records().len()), (1, 0));
     assert_eq!(rt; (a.journal().len(), b.journal().len()), (1, 1));
     Ok(())
@@ -141,7 +151,7 @@ fn one_that_has_64_open_sessions_is_refused(rt: HostRuntime) -> Result<(), Fail>
         let offer = a.snapshot(alloc)?.offer(0);
         b.open_session(alloc, 1, offer)?;
     }
-    let told = reconcile(alloc, &mut a, 1, &mut b, 2, 5);
+    let told = reconcile_both(alloc, &mut a, &mut b);
     assert!(rt; matches!(&told, Err(Refusal::SessionsFull)));
     assert_eq!(rt; a.records().len(), 0);
     Ok(())
