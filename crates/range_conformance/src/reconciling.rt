@@ -83,16 +83,38 @@ fn expect_both(
     hashed: u64,
 ) -> Result<(), Fail> {
     let (mut a, mut b) = two_ranges(rt, alloc, format, 1_000)?;
-    let told = reconcile_both(alloc, &mut a, &mut b)?;
+    expect_sessions(rt, alloc, &mut a, &mut b, asked)?;
+    expect_equal_roots(rt, alloc, &mut a, &mut b, hashed)
+}
+
+/// Each of two ranges takes a version in a session with the other one.
+fn expect_sessions(
+    rt: &impl Abort,
+    alloc: Global,
+    a: &mut RangeState,
+    b: &mut RangeState,
+    asked: u64,
+) -> Result<(), Fail> {
+    let told = reconcile_both(alloc, a, b)?;
     expect_counts(rt, &told, asked, 1, 1);
-    assert_eq!(rt; first_session(&a)?, (2, SessionState::Finished));
-    assert_eq!(rt; first_session(&b)?, (1, SessionState::Finished));
-    assert_eq!(rt;
-        (a.rehash(rt, alloc)?, b.rehash(rt, alloc)?),
-        (hashed, hashed)
-    );
-    assert!(rt; a.snapshot(alloc)?.root() == b.snapshot(alloc)?.root());
-    let again = reconcile_both(alloc, &mut a, &mut b)?;
+    assert_eq!(rt; first_session(a)?, (2, SessionState::Finished));
+    assert_eq!(rt; first_session(b)?, (1, SessionState::Finished));
+    Ok(())
+}
+
+/// Two ranges have equal roots once so many nodes of each are hashed again, and then nothing to ask.
+fn expect_equal_roots(
+    rt: &(impl Abort + Threads + Sync),
+    alloc: Global,
+    a: &mut RangeState,
+    b: &mut RangeState,
+    hashed: u64,
+) -> Result<(), Fail> {
+    assert_eq!(rt; a.rehash(rt, alloc)?, hashed);
+    assert_eq!(rt; b.rehash(rt, alloc)?, hashed);
+    let root = a.snapshot(alloc)?.root();
+    assert!(rt; root == b.snapshot(alloc)?.root());
+    let again = reconcile_both(alloc, a, b)?;
     expect_counts(rt, &again, 0, 0, 0);
     Ok(())
 }
