@@ -219,7 +219,7 @@ opened_right s partner root r ok room is =
 
 -- ---- ending
 
-kept_cancelled : (c : Config) (es : List Entry) (r : Record) (w : Walk) (st : SessionState) → w.state ≡ st → IsKept c es (record { partner = r.partner; session = w }) → IsKept c es (record { partner = r.partner; session = cancelled_by w st })
+pub kept_cancelled : (c : Config) (es : List Entry) (r : Record) (w : Walk) (st : SessionState) → w.state ≡ st → IsKept c es (record { partner = r.partner; session = w }) → IsKept c es (record { partner = r.partner; session = cancelled_by w st })
 kept_cancelled c es r w Open is kept = record {
   here = record { bits = kept.here.bits; range = kept.here.range };
   format = λ off. kept.format is;
@@ -231,7 +231,7 @@ kept_cancelled c es r w Finished is kept = kept
 kept_cancelled c es r w Failed is kept = kept
 kept_cancelled c es r w Cancelled is kept = kept
 
-keeps_cancelled : (w : Walk) (st : SessionState) → Keeps w (cancelled_by w st)
+pub keeps_cancelled : (w : Walk) (st : SessionState) → Keeps w (cancelled_by w st)
 keeps_cancelled w Open = λ e a. a
 keeps_cancelled w Finished = λ e a. a
 keeps_cancelled w Failed = λ e a. a

@@ -24,6 +24,7 @@ use Rattle.range_state.specs.declared.event.Reply.{Reply}
 use Rattle.range_state.specs.declared.event.Reply.TheVariants as replies
 use Rattle.range_state.specs.State.{State, IsRight, GivesJob, ask_fault, put, accept, install, rows_now, dirty_fault}
 use Rattle.range_state.specs.Sessions.{open_session, cancel_session, TakesAnswer}
+use Rattle.range_state.specs.Migrates.{migrate}
 use Rattle.sync_session.specs.TreeNodes.{node_of}
 use Rattle.rehash.specs.Jobs.{NodeText}
 use Rattle.snapshot.specs.RowMaps.{RowMap}
@@ -64,6 +65,10 @@ TakeAnswerStep s a r t = TakesAnswer s a.seat a.id (record { node = node_of a.no
 abbrev pub CancelStep : State → ℕ → Result ⊤ Refusal → State → Type 0
 CancelStep s id r t = DoesAtOnce r s t (cancel_session s id)
 
+-- the range goes over to format 2
+abbrev pub MigrateStep : State → Result ⊤ Refusal → State → Type 0
+MigrateStep s r t = Does r s t (migrate s)
+
 -- from s, the event is answered by the reply, and leaves t
 unfoldable pub IsStep : State → Event → Reply → State → Type 0
 IsStep s (events.Put p) reply t = (r : Result Entry Refusal) × (reply ≡ replies.Put r) × PutStep s p r t
@@ -75,6 +80,7 @@ IsStep s events.Snapshot reply t = (r : Result (Arc RowMap Global) Refusal) × (
 IsStep s (events.OpenSession o) reply t = (r : Result ℕ Refusal) × (reply ≡ replies.OpenSession r) × OpenStep s o r t
 IsStep s (events.TakeAnswer a) reply t = (r : Result AnswerTaken Refusal) × (reply ≡ replies.TakeAnswer r) × TakeAnswerStep s a r t
 IsStep s (events.CancelSession id) reply t = (r : Result ⊤ Refusal) × (reply ≡ replies.CancelSession r) × CancelStep s id r t
+IsStep s events.Migrate reply t = (r : Result ⊤ Refusal) × (reply ≡ replies.Migrate r) × MigrateStep s r t
 
 -- from s, the events are answered by the replies, one by one, over states that are all right, and leave t
 unfoldable pub Run : State → List Event → List Reply → State → Type 0

@@ -1,6 +1,7 @@
 //! Which range a state is of.
 ghost use Rattle.std.specs.Prelude.{◌≡◌, ◌<◌, ◌^◌, IsTrue};
 ghost use Rattle.range_state.specs.Config.{config_of, is_config};
+ghost use Rattle.range_state.specs.Migrates.{config_in_two};
 
 use std::marker::Model;
 use vclock::format::Format;
@@ -58,6 +59,16 @@ impl RangeConfig {
         ensures { result ≡ record self.now { range = range } }
     {
         RangeConfig { range, ..*self }
+    }
+
+    /// The same in format 2.
+    pub(crate) fn in_format_2(&self) -> RangeConfig
+        ensures { result ≡ config_in_two self.now }
+    {
+        RangeConfig {
+            format: Format::Two,
+            ..*self
+        }
     }
 
     /// The format of rows and tree.

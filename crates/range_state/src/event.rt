@@ -136,6 +136,8 @@ pub enum Event {
     TakeAnswer(AnswerEvent),
     /// `cancel_session` of a number.
     CancelSession(u64),
+    /// `migrate`.
+    Migrate,
 }
 
 /// What a call answered.
@@ -159,4 +161,6 @@ pub enum Reply {
     TakeAnswer(Result<AnswerTaken, Refusal>),
     /// Whether there is a session of that number.
     CancelSession(Result<(), Refusal>),
+    /// Whether there was the memory to go over to format 2.
+    Migrate(Result<(), Refusal>),
 }

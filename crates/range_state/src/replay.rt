@@ -3,7 +3,8 @@ ghost use Rattle.std.specs.Prelude.{◌≡◌, ◌+◌, ◌<◌, ◌≤◌, ◌�
 ghost use Rattle.vclock.specs.Answer.{Answers};
 ghost use Rattle.vclock.specs.Outcome.{Does, DoesOrBreaksOff, gives};
 ghost use Rattle.range_journal.specs.Journal.{held};
-ghost use Rattle.range_state.specs.State.{leaf_in};
+ghost use Rattle.range_state.specs.State.{leaf_in, AreLeaves};
+ghost use Rattle.range_state.specs.Replays.{IsReplay};
 
 use crate::config::RangeConfig;
 use crate::state::{RangeState, empty_leaves};
@@ -94,4 +95,24 @@ impl<'a> Replay<'a> {
     {
         usize::from(place(self.config.format(), self.config.bits(), key).leaf)
     }
+}
+
+/// The leaves of the rows that entries make in a configuration: each entry is looked at once. Refused: NoMemory.
+pub(crate) fn leaves_of(
+    alloc: Global,
+    config: RangeConfig,
+    entries: &[Entry],
+) -> Result<Vec<SharedLeaf>, Refusal>
+    requires { IsReplay (record { config = config; entries = entries.now; front = 0 }) }
+    ensures { Answers result None (λ leaves. AreLeaves config entries.now leaves.items) }
+{
+    let mut replay = Replay {
+        config,
+        entries,
+        front: 0,
+        leaves: empty_leaves(alloc, config.format())?,
+    };
+    replay.advance(alloc, entries.len() as u64)?;
+    let Replay { leaves, .. } = replay;
+    Ok(leaves)
 }

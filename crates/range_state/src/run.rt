@@ -48,6 +48,7 @@ impl RangeState {
             }
             Event::TakeAnswer(answer) => Reply::TakeAnswer(self.run_answer(alloc, answer)),
             Event::CancelSession(id) => Reply::CancelSession(self.cancel_session(id)),
+            Event::Migrate => Reply::Migrate(self.migrate(alloc)),
         };
         // Called for its clause alone: the state is right.
         let _right = self.journal();

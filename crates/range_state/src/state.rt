@@ -34,6 +34,7 @@ use version_set::set::VersionSet;
 use version_set::version::Version;
 
 mod bulk;
+mod migrating;
 mod offering;
 mod preparing;
 pub mod reconciling;

@@ -1,0 +1,29 @@
+-- A range that goes over to format 2.
+use Rattle.std.specs.Prelude.{map}
+use Rattle.vclock.specs.Outcome.{Outcome, gives}
+use Rattle.vclock.specs.declared.format.Format.{Format}
+use Rattle.vclock.specs.declared.format.Format.TheVariants.{One, Two}
+use Rattle.sync_session.specs.Steps.{cancelled_by}
+use Rattle.range_state.specs.declared.«record».Record.{Record}
+use Rattle.range_state.specs.Config.{Config}
+use Rattle.range_state.specs.State.{State, all_dirty}
+
+-- the same configuration in format 2
+abbrev pub config_in_two : Config → Config
+config_in_two c = record c { format = Two }
+
+-- a record whose session, if it was open, is cancelled; its own rows keep their format
+abbrev pub cancelled : Record → Record
+cancelled r = record r { session = cancelled_by r.session r.session.state }
+
+-- the state in format 2: the same entries, no node clean, and no session open
+abbrev pub in_two : State → State
+in_two s = record { config = config_in_two s.config; entries = s.entries; marks = all_dirty Two; records = map cancelled s.records }
+
+-- a state of format 1 goes over to format 2, and one of format 2 stays as it is
+abbrev pub migrated_from : Format → State → State
+migrated_from One s = in_two s
+migrated_from Two s = s
+
+abbrev pub migrate : State → Outcome (Unit {0}) State
+migrate s = gives tt (migrated_from s.config.format s)
