@@ -4,3 +4,4 @@ pub mod LockLaws
 pub mod ReplayLaws
 pub mod Walk
 pub mod CallerLaws
+pub mod IndexLaws

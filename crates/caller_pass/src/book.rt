@@ -3,6 +3,7 @@ ghost use Rattle.std.specs.Prelude.{◌≡◌, ◌+◌, ◌<◌, ◌≤◌, leng
 ghost use Rattle.vclock.specs.Answer.{Answers};
 ghost use Rattle.caller_pass.specs.Passes.{new_book, new_passes, counted, absorbed, receipts_of};
 
+use crate::by_key::ByKey;
 use crate::pass::Pass;
 use crate::reading::Reading;
 use range_state::event::Receipt;
@@ -76,6 +77,7 @@ pub fn open_passes<L: Ledger>(
             seen: 0,
             receipts: Vec::new(alloc),
             readings: Vec::new(alloc),
+            by_key: ByKey::new(alloc),
             share,
         })?;
     }
@@ -127,6 +129,7 @@ impl<L: Ledger> Book<L> {
             seen,
             receipts,
             readings,
+            by_key: _,
             share,
         } = pass;
         self.share.merge(share);

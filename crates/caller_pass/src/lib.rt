@@ -1,6 +1,7 @@
 //! What a range told each of its callers, and the range that a lock keeps.
 //!
 //! - [`reading`], [`pass`]: what one caller was told.
+//! - [`by_key`]: where a pass has its receipts of each key.
 //! - [`book`]: the count of a range's entries, and the passes of its seats.
 //! - [`locked`]: a range with its book; its calls tell the pass that they are lent.
 //! - [`unread`]: why a pass was not told what a key holds.
@@ -9,6 +10,7 @@
 #![tactic(auto)]
 
 pub mod book;
+mod by_key;
 pub mod closing;
 pub mod laws;
 pub mod locked;

@@ -8,11 +8,14 @@ ghost use Rattle.sync_session.specs.TreeNodes.{node_of};
 ghost use Rattle.range_state.specs.Sent.{is_sent};
 ghost use Rattle.range_state.specs.State.{GivesJob, ask_fault, install, dirty_fault, rows_now};
 ghost use Rattle.range_state.specs.Sessions.{open_session, cancel_session, unknown_fault};
+ghost use Rattle.range_state.specs.Migrates.{migrate};
 ghost use Rattle.range_state.specs.Syncs.{IsFirstOf};
 ghost use Rattle.caller_pass.specs.Passes.{seen_after};
+ghost use Rattle.caller_pass.specs.Indexes.{IsIndex};
 ghost use Rattle.caller_pass.specs.Locks.{IsLocked, moved, put_in, accept_in, is_missing, first_missing, get_in, plainly, TellsAnswer};
 
 use crate::book::Book;
+use crate::by_key::ByKey;
 use crate::pass::Pass;
 use crate::reading::Reading;
 use crate::unread::Unread;
@@ -101,6 +104,7 @@ impl<L: Ledger> LockedRange<L> {
             seen,
             receipts,
             readings: _,
+            by_key: _,
             share,
         } = pass;
         let receipt = state.put_into(alloc, receipts, *seat, at, key, context, kind, value)?;
@@ -131,6 +135,7 @@ impl<L: Ledger> LockedRange<L> {
             seen,
             receipts,
             readings: _,
+            by_key: _,
             share,
         } = pass;
         let receipt = match state.accept_into(alloc, receipts, *seat, source, key, version)? {
@@ -150,11 +155,13 @@ impl<L: Ledger> LockedRange<L> {
     pub fn get(&self, alloc: Global, pass: &mut Pass<L>, key: &[u8]) -> Result<VersionSet, Refusal>
         ensures { Does result pass.old pass.new (get_in self.now pass.old key.now) }
     {
+        pass.index(alloc);
         let Pass {
             seat: _,
             seen,
             receipts,
             readings,
+            by_key,
             share: _,
         } = pass;
         let front = self.state.journal().len();
@@ -165,7 +172,7 @@ impl<L: Ledger> LockedRange<L> {
                 missing: None,
             });
         }
-        if let Some(number) = self.first_missing(receipts, key) {
+        if let Some(number) = self.find_missing(receipts, by_key, key) {
             return Err(Refusal::Behind {
                 seen: *seen,
                 held: front,
@@ -200,7 +207,26 @@ impl<L: Ledger> LockedRange<L> {
         }
     }
 
-    /// The number of the first of some receipts of a key whose version is not covered by those held.
+    /// The number of the first of some receipts of a key whose version is not covered by those held. It looks at the receipts
+    /// of the key, from the last one back, and at those that are not indexed.
+    fn find_missing(&self, receipts: &[Receipt], by_key: &ByKey, key: &[u8]) -> Option<u64>
+        requires { IsIndex receipts.now by_key.now }
+        ensures { result ≡ first_missing receipts.now key.now (held self.now.state.entries key.now) }
+    {
+        let mut found = self.first_missing(&receipts[by_key.len()..], key);
+        let mut next = by_key.last(key);
+        while next > 0 {
+            let place = next - 1;
+            let receipt = &receipts[place];
+            if self.is_missing(receipt, key) {
+                found = Some(receipt.number);
+            }
+            next = by_key.earlier(place);
+        }
+        found
+    }
+
+    /// The same, by a walk through all of the receipts.
     fn first_missing(&self, receipts: &[Receipt], key: &[u8]) -> Option<u64>
         ensures { result ≡ first_missing receipts.now key.now (held self.now.state.entries key.now) }
     {
@@ -282,6 +308,7 @@ impl<L: Ledger> LockedRange<L> {
             seen,
             receipts,
             readings: _,
+            by_key: _,
             share,
         } = pass;
         let answered = state.take_answer_into(alloc, receipts, *seat, id, node, text);
@@ -300,6 +327,17 @@ impl<L: Ledger> LockedRange<L> {
         let ended = self.state.cancel_session(id);
         let _right = self.state.journal();
         ended
+    }
+
+    /// Takes the range over to format 2, as `RangeState::migrate`: what passes were told stays true. Refused: NoMemory. The
+    /// range is then as it was.
+    pub fn migrate(&mut self, alloc: Global) -> Result<(), Refusal>
+        ensures { Does result self.old self.new
+            (through (moved self.old) (migrate self.old.state)) }
+    {
+        let migrated = self.state.migrate(alloc);
+        let _right = self.state.journal();
+        migrated
     }
 
     /// The records of all sessions, in the order of their numbers. It takes no memory.

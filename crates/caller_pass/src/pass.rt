@@ -2,25 +2,30 @@
 ghost use Rattle.std.specs.Prelude.{◌≡◌};
 ghost use Rattle.caller_pass.specs.Passes.{IsPass};
 
+use crate::by_key::ByKey;
 use crate::reading::Reading;
 use range_state::event::Receipt;
+use std::alloc::Global;
 use std::marker::Model;
 use std::sync::ledger::{Ledger, Share};
 
 /// What a range told one of its callers: the entries that the caller brought, and the readings that it was given. Only the
-/// range's own calls add to it. It has one share of the book's count, which is the number of its receipts.
+/// range's own calls add to it. It has one share of the book's count, which is the number of its receipts. An index finds its
+/// receipts of a key.
 #[derive(Drop)]
 pub struct Pass<L: Ledger> {
     pub(crate) seat: u16,
     pub(crate) seen: u64,
     pub(crate) receipts: Vec<Receipt>,
     pub(crate) readings: Vec<Reading>,
+    pub(crate) by_key: ByKey,
     pub(crate) share: Share<L>,
 }
 
 impl<L: Ledger> Model for Pass<L> {
     ghost use Rattle.std.specs.Prelude.{◌≡◌};
     ghost use Rattle.caller_pass.specs.Passes.{PassView, IsPass};
+    ghost use Rattle.caller_pass.specs.Indexes.{IsIndex};
 
     ghost Value = { PassView };
 
@@ -38,7 +43,7 @@ impl<L: Ledger> Model for Pass<L> {
       share = p.share.amount;
       receipts = p.receipts.items;
       readings = p.readings.items;
-    }) };
+    }) × IsIndex p.receipts.items p.by_key };
 }
 
 impl<L: Ledger> Pass<L> {
@@ -69,5 +74,13 @@ impl<L: Ledger> Pass<L> {
         ensures { result.now ≡ self.now.readings }
     {
         &self.readings
+    }
+
+    /// Indexes the receipts that came since it was called last, so that the next read of a key looks at the receipts of
+    /// that key alone. Where memory runs out, it leaves the others to the reads.
+    pub fn index(&mut self, alloc: Global)
+        ensures { self.new ≡ self.old }
+    {
+        self.by_key.index(alloc, self.receipts.as_slice());
     }
 }

@@ -9,6 +9,7 @@ use Rattle.caller_pass.specs.Passes.{PassView}
 use Rattle.caller_pass.proofs.GrowthLaws.{accept_gives, grown_by_one}
 use Rattle.caller_pass.proofs.LockLaws.{locked_grown}
 use Rattle.caller_pass.proofs.PassLaws.{pass_after}
+use Rattle.caller_pass.proofs.IndexLaws.{grown}
 use Rattle.caller_pass.proofs.locked.LockedRange.accept.Goals as goal
 
 pub invariant_of-self-in-Known : goal.invariant_of-self-in-Known
@@ -27,12 +28,12 @@ invariant_of-self-2 g c =
     let entry = entry_of l.state seat c.args.source c.args.key.now c.args.version in
     let taken : accept l.state seat c.args.source c.args.key.now c.args.version ≡ gives (Taken c.in-Taken.receipt) new = cc (c.in_ok-accept_into.ensures.accepts, c.in-Taken.is) in
     let came = accept_gives l.state seat c.args.source c.args.key.now c.args.version (Taken c.in-Taken.receipt) new taken in
-    let grown = grown_by_one g.L.Ledger.parts l.state entry new c.self.invariant.seated c.pass.invariant.1.seated came.1 in
-    locked_grown g.L.Ledger.parts l (entry ∷ []) new c.count.new.self 1 c.self.invariant grown refl c.count.ensures.book c.journal.ensures.valid
+    let one = grown_by_one g.L.Ledger.parts l.state entry new c.self.invariant.seated c.pass.invariant.1.seated came.1 in
+    locked_grown g.L.Ledger.parts l (entry ∷ []) new c.count.new.self 1 c.self.invariant one refl c.count.ensures.book c.journal.ensures.valid
 
 pub invariant_of-pass-2 : goal.invariant_of-pass-2
 invariant_of-pass-2 g c =
     let p : PassView = record { seat = c.pass.inside.seat; seen = c.pass.inside.seen; share = c.pass.inside.share.amount; receipts = c.pass.inside.receipts.items; readings = c.pass.inside.readings.items } in
     let seen : c.max.result ≡ max p.seen c.len.result = search rules in
     let told : c.accept_into.new.receipts.items ≡ with_sent p.receipts (Ok (Taken c.in-Taken.receipt)) = cc (c.in_ok-accept_into.ensures.told, c.in-Taken.is) in
-    (c.count.ensures.parts ∙ c.pass.invariant.0, pass_after g.L.Ledger.parts p c.len.result c.max.result c.count.new.share.amount c.accept_into.new.receipts.items (c.in-Taken.receipt ∷ []) c.pass.invariant.1 seen c.count.ensures.amount told)
+    (c.count.ensures.parts ∙ c.pass.invariant.0, pass_after g.L.Ledger.parts p c.len.result c.max.result c.count.new.share.amount c.accept_into.new.receipts.items (c.in-Taken.receipt ∷ []) c.pass.invariant.1 seen c.count.ensures.amount told, grown p.receipts (c.in-Taken.receipt ∷ []) c.accept_into.new.receipts.items c.pass.inside.by_key c.pass.invariant.2 told)

@@ -7,6 +7,7 @@ use Rattle.caller_pass.specs.Passes.{PassView, counted, seen_after}
 use Rattle.caller_pass.proofs.GrowthLaws.{grown_by_text}
 use Rattle.caller_pass.proofs.LockLaws.{locked_grown}
 use Rattle.caller_pass.proofs.PassLaws.{pass_after}
+use Rattle.caller_pass.proofs.IndexLaws.{grown}
 use Rattle.caller_pass.proofs.locked.LockedRange.take_answer.Goals as goal
 
 pub invariant_of-self-2 : goal.invariant_of-self-2
@@ -15,8 +16,8 @@ invariant_of-self-2 g c =
     let t : TakenText = record { node = node_of c.args.node; text = c.args.text } in
     let is = c.in_ok-taken.ensures in
     let new = c.take_answer_into-answered.new.self in
-    let grown = grown_by_text g.L.Ledger.parts l.state c.pass.inside.seat c.args.id t is.taken new c.pass.invariant.1.seated c.self.invariant.seated is.takes in
-    locked_grown g.L.Ledger.parts l is.taken.receipts.items new c.count.new.self c.in_ok-taken.taken.receipts c.self.invariant grown (ap (λ (a : AnswerCounted). a.receipts) is.count) c.count.ensures.book c.journal.ensures.valid
+    let more = grown_by_text g.L.Ledger.parts l.state c.pass.inside.seat c.args.id t is.taken new c.pass.invariant.1.seated c.self.invariant.seated is.takes in
+    locked_grown g.L.Ledger.parts l is.taken.receipts.items new c.count.new.self c.in_ok-taken.taken.receipts c.self.invariant more (ap (λ (a : AnswerCounted). a.receipts) is.count) c.count.ensures.book c.journal.ensures.valid
 
 pub invariant_of-pass-2 : goal.invariant_of-pass-2
 invariant_of-pass-2 g c =
@@ -25,7 +26,7 @@ invariant_of-pass-2 g c =
     let count : c.in_ok-taken.taken.receipts ≡ length is.taken.receipts.items = ap (λ (a : AnswerCounted). a.receipts) is.count in
     let seen = c.seen_after.ensures ∙ ap (seen_after p.seen c.len-journal.result) count in
     let share = c.count.ensures.amount ∙ ap (λ (n : ℕ). p.share + n) count in
-    (c.count.ensures.parts ∙ c.pass.invariant.0, pass_after g.L.Ledger.parts p c.len-journal.result c.seen_after.result c.count.new.share.amount c.take_answer_into-answered.new.receipts.items is.taken.receipts.items c.pass.invariant.1 seen share is.told)
+    (c.count.ensures.parts ∙ c.pass.invariant.0, pass_after g.L.Ledger.parts p c.len-journal.result c.seen_after.result c.count.new.share.amount c.take_answer_into-answered.new.receipts.items is.taken.receipts.items c.pass.invariant.1 seen share is.told, grown p.receipts is.taken.receipts.items c.take_answer_into-answered.new.receipts.items c.pass.inside.by_key c.pass.invariant.2 is.told)
 
 pub returns : goal.returns
 returns g c =
