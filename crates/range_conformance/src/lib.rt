@@ -4,6 +4,8 @@
 #[cfg(test)]
 mod events;
 #[cfg(test)]
+mod migrating;
+#[cfg(test)]
 mod range_sessions;
 #[cfg(test)]
 mod ranges;

@@ -130,6 +130,17 @@ fn each_takes_what_the_other_has_in_format_2(rt: HostRuntime) -> Result<(), Fail
 }
 
 #[test]
+fn one_that_was_migrated_is_reconciled(rt: HostRuntime) -> Result<(), Fail> {
+    let alloc = rt.alloc();
+    let (mut a, _) = two_ranges(&rt, alloc, 1, 1_000)?;
+    a.migrate(alloc)?;
+    a.rehash(&rt, alloc)?;
+    let (_, mut b) = two_ranges(&rt, alloc, 2, 1_000)?;
+    expect_sessions(&rt, alloc, &mut a, &mut b, 7)?;
+    expect_equal_roots(&rt, alloc, &mut a, &mut b, 4)
+}
+
+#[test]
 fn one_has_nothing_that_the_other_lacks(rt: HostRuntime) -> Result<(), Fail> {
     let alloc = rt.alloc();
     let (mut a, _) = two_ranges(&rt, alloc, 1, 1_000)?;
