@@ -4,11 +4,12 @@ ghost use Rattle.std.specs.Arc.{arc_value};
 ghost use Rattle.vclock.specs.Answer.{Answers};
 ghost use Rattle.vclock.specs.Clock.{raise_fault};
 ghost use Rattle.vclock.specs.Keys.{key_fault};
-ghost use Rattle.vclock.specs.Outcome.{Does, DoesOrNoMemory};
+ghost use Rattle.vclock.specs.Outcome.{Does, DoesOrNoMemory, through};
+ghost use Rattle.range_state.specs.Migrates.{migrate};
 ghost use Rattle.range_state.specs.Sent.{is_sent};
 ghost use Rattle.range_state.specs.State.{put_version, dirty_fault, rows_now};
 ghost use Rattle.caller_pass.specs.Closings.{AllThere, IsSettled, IsUnclosed};
-ghost use Rattle.caller_pass.specs.Locks.{IsLocked, put_in, accept_in, get_in, plainly};
+ghost use Rattle.caller_pass.specs.Locks.{IsLocked, moved, put_in, accept_in, get_in, plainly};
 ghost use Rattle.ring_node.specs.Moments.{FoundAtSomeMoment, ChangedAtSomeMoment};
 ghost use Rattle.ring_node.specs.Passes.{IsReceiptOf, IsToldOf, IsSent, IsPutRefusal, IsSentRefusal, IsRead, IsBehind};
 
@@ -163,6 +164,8 @@ impl<L: Ledger> SharedRange<L> {
         ensures moment { FoundAtSomeMoment (IsLocked L.parts)
             (λ locked. Does (plainly result) pass.old pass.new (get_in locked pass.old key.now)) }
     {
+        // Before the lock is taken, so that nothing is done under it but the search itself.
+        pass.index(alloc);
         let range = self.range.lock(rt);
         // Called for its clause `valid` alone: the range is right.
         let _valid = range.config();
@@ -181,6 +184,20 @@ impl<L: Ledger> SharedRange<L> {
         // Called for its clause `valid` alone: the range is right.
         let _valid = range.config();
         range.snapshot(alloc)
+    }
+
+    /// Takes the range over to format 2, as [`LockedRange::migrate`]: the journal stays, open sessions are cancelled, and
+    /// all nodes are dirty. The lock is held for as long as the journal is replayed. Refused: NoMemory. The range is then
+    /// as it was.
+    pub fn migrate<R: Wait>(&self, rt: &R, alloc: Global) -> Result<(), Refusal>
+        ensures refusal { IfErr result (λ e. e ≡ Refusal.NoMemory) }
+        ensures moment { ChangedAtSomeMoment (IsLocked L.parts) (λ before after.
+            Does result before after (through (moved before) (migrate before.state))) }
+    {
+        let mut range = self.range.lock(rt);
+        // Called for its clause `valid` alone: the range is right.
+        let _valid = range.config();
+        range.migrate(alloc)
     }
 
     /// Closes the range, if each of its seats has a pass and each pass was told what the journal has, as
