@@ -2,9 +2,13 @@
 #![tactic(auto)]
 
 #[cfg(test)]
+mod beside;
+#[cfg(test)]
 mod channels;
 #[cfg(test)]
 mod lies;
+#[cfg(test)]
+mod migrations;
 #[cfg(test)]
 mod partners;
 #[cfg(test)]
