@@ -1,13 +1,15 @@
-//! A list of random calls on a range, with the sessions in which it compares itself with a partner.
+//! A list of random calls on a range and a partner, with the sessions in which the range compares itself with the partner.
+ghost use Rattle.std.specs.Prelude.{◌<◌, ◌≤◌};
+ghost use Rattle.event_lists.specs.declared.lists.TheConstants.{LAST};
 
-use crate::plain::{Fault, KEYS, PlainEntry, Trouble, expect};
+use crate::leaves::Taken;
+use crate::pairs::reconcile_both;
+use crate::plain::{Fault, KEYS, PlainVersion, Trouble, expect};
 use crate::random::Random;
-use crate::replicas::{Offered, Replica, SEAT, is_entry};
-use crate::trees::Tree;
-use crate::walks::{Sent, Walk};
+use crate::replicas::{Replica, SEAT, is_entry};
+use crate::walks::{Offering, Sent};
 use hash_tree::hashed::{Digest, hash};
 use hash_tree::node::NodeAt;
-use range_journal::journal::Source;
 use range_state::event::AnswerTaken;
 use sha2::{Digest as _, Sha256};
 use std::alloc::Global;
@@ -16,25 +18,25 @@ use sync_session::state::SessionState;
 use vclock::bytes::Bytes;
 use vclock::format::Format;
 use vclock::refusal::Refusal;
-use walk_messages::message::{Ask, Offer};
+use version_set::kind::Kind;
+use walk_messages::message::Offer;
 
-/// A range, what its partner has offered, and the walks of its sessions.
+/// The node that the range is at.
+const OWN: u16 = 1;
+
+/// The node that the partner is at.
+const PARTNER: u16 = 7;
+
+/// The greatest number of a version of a crowd.
+const LAST: u64 = 79;
+
+/// A range and its partner.
 #[derive(Drop)]
 pub(crate) struct Trial {
     random: Random,
     own: Replica,
     partner: Replica,
-    /// What the partner offered: an old tree, then its last one.
-    offered: Vec<Offered>,
-    walks: Vec<Walk>,
     events: u64,
-}
-
-/// What comes of a text that is taken.
-#[derive(Drop)]
-struct Taken {
-    news: Vec<PlainEntry>,
-    known: u64,
 }
 
 impl Trial {
@@ -47,17 +49,12 @@ impl Trial {
             Format::One
         };
         let is_half = random.once_in(2);
-        let limit = if random.once_in(4) {
-            2 + random.below(8)
-        } else {
-            1_000
-        };
+        let own_limit = random.limit(4);
+        let limit = random.limit(16);
         Ok(Trial {
             random,
-            own: Replica::new(alloc, format, is_half, limit)?,
-            partner: Replica::new(alloc, format, is_half, 1_000)?,
-            offered: Vec::new(alloc),
-            walks: Vec::new(alloc),
+            own: Replica::new(alloc, format, is_half, own_limit)?,
+            partner: Replica::new(alloc, format, is_half, limit)?,
             events: 0,
         })
     }
@@ -69,8 +66,13 @@ impl Trial {
 
     /// Makes the calls of the list, and compares everything at its end.
     pub(crate) fn run(&mut self, rt: &(impl Threads + Sync), alloc: Global) -> Result<(), Trouble> {
-        for _ in 0..2 {
-            self.prepare_partner(rt, alloc)?;
+        self.prepare_partner(rt, alloc)?;
+        if self.random.once_in(32) {
+            self.crowd_key(alloc)?;
+        }
+        self.prepare_partner(rt, alloc)?;
+        if self.random.once_in(32) {
+            self.crowd_records(rt, alloc)?;
         }
         for _ in 0..5 + self.random.below(26) {
             self.call(rt, alloc)?;
@@ -79,7 +81,9 @@ impl Trial {
             self.answer_all(alloc)?;
         }
         self.own.compare_all(alloc)?;
-        self.compare_finished(alloc)
+        self.own.compare_finished(alloc)?;
+        self.partner.compare_all(alloc)?;
+        self.partner.compare_finished(alloc)
     }
 
     /// Gives the partner some versions, some of which the range has too, and keeps what it offers then.
@@ -88,6 +92,16 @@ impl Trial {
         rt: &(impl Threads + Sync),
         alloc: Global,
     ) -> Result<(), Trouble> {
+        self.fill_partner(alloc)?;
+        self.partner.rehash(rt, alloc)?;
+        if let Some(offered) = self.partner.offer(alloc)? {
+            self.own.offered.push(offered)?;
+        }
+        Ok(())
+    }
+
+    /// Gives the partner some versions, some of which the range has too.
+    fn fill_partner(&mut self, alloc: Global) -> Result<(), Trouble> {
         for _ in 0..1 + self.random.below(6) {
             let (key, version) = (self.random.below(KEYS), self.random.version());
             self.partner.accept(alloc, key, version, false)?;
@@ -95,21 +109,45 @@ impl Trial {
                 self.own.accept(alloc, key, version, true)?;
             }
         }
-        self.partner.rehash(rt, alloc)?;
-        if let Some(offered) = self.partner.offer(alloc)? {
-            self.offered.push(offered)?;
+        Ok(())
+    }
+
+    /// Gives both many versions of a key, none of which is below another: together mostly too many.
+    fn crowd_key(&mut self, alloc: Global) -> Result<(), Trouble> {
+        let key = 1 + self.random.below(KEYS - 1);
+        for number in 0..25 + self.random.below(20) {
+            self.own.accept(alloc, key, crowd_version(number), false)?;
+        }
+        for number in 0..25 + self.random.below(20) {
+            let version = crowd_version(LAST - number);
+            self.partner.accept(alloc, key, version, false)?;
         }
         Ok(())
+    }
+
+    /// Opens about as many sessions of the range or of the partner as can be open, or as there can be records.
+    fn crowd_records(&mut self, rt: &(impl Threads + Sync), alloc: Global) -> Result<(), Trouble> {
+        let is_finished = self.own.plain.format == Format::One && self.random.once_in(8);
+        let count = if is_finished { 1_022 } else { 62 } + self.random.below(3);
+        let replica = if self.random.once_in(2) {
+            &mut self.own
+        } else {
+            &mut self.partner
+        };
+        replica.rehash(rt, alloc)?;
+        replica.open_many(alloc, count, is_finished)
     }
 
     /// Makes a random call.
     fn call(&mut self, rt: &(impl Threads + Sync), alloc: Global) -> Result<(), Trouble> {
         self.events = self.events.wrapping_add(1);
-        match self.random.below(20) {
+        match self.random.below(24) {
             0..=7 => self.call_versions(alloc),
             8..=11 => self.call_tree(rt, alloc),
             12..=14 => self.rehash_and_open(rt, alloc),
-            15 if self.random.once_in(2) => self.cancel(),
+            15..=17 => self.reconcile(rt, alloc),
+            18 if self.random.once_in(2) => self.cancel(),
+            19 if self.random.once_in(4) => self.migrate(alloc),
             _ => self.answer_some(alloc),
         }
     }
@@ -146,48 +184,91 @@ impl Trial {
         }
     }
 
+    /// Reconciles the range and its partner, if both are of one format, mostly after a rehash of both.
+    fn reconcile(&mut self, rt: &(impl Threads + Sync), alloc: Global) -> Result<(), Trouble> {
+        if self.own.plain.format != self.partner.plain.format {
+            return Ok(());
+        }
+        if self.random.once_in(2) {
+            self.fill_partner(alloc)?;
+        }
+        self.rehash_mostly(rt, alloc, 8)?;
+        if !self.random.once_in(8) {
+            self.partner.rehash(rt, alloc)?;
+        }
+        let (own, partner) = (&mut self.own, &mut self.partner);
+        if self.random.once_in(2) {
+            reconcile_both(alloc, own, OWN, partner, PARTNER)
+        } else {
+            reconcile_both(alloc, partner, PARTNER, own, OWN)
+        }
+    }
+
+    /// Takes the range over to format 2, and mostly its partner too.
+    fn migrate(&mut self, alloc: Global) -> Result<(), Trouble> {
+        self.own.migrate(alloc)?;
+        if self.random.once_in(4) {
+            return Ok(());
+        }
+        self.partner.migrate(alloc)
+    }
+
     /// Opens a session, mostly after a rehash.
     fn rehash_and_open(
         &mut self,
         rt: &(impl Threads + Sync),
         alloc: Global,
     ) -> Result<(), Trouble> {
-        if !self.random.once_in(4) {
-            self.events = self.events.wrapping_add(1);
-            self.own.rehash(rt, alloc)?;
-        }
+        self.rehash_mostly(rt, alloc, 4)?;
         self.open(alloc)
+    }
+
+    /// Rehashes the range, but for once in so many times.
+    fn rehash_mostly(
+        &mut self,
+        rt: &(impl Threads + Sync),
+        alloc: Global,
+        times: u64,
+    ) -> Result<(), Trouble>
+        requires { 0 < times }
+    {
+        if self.random.once_in(times) {
+            return Ok(());
+        }
+        self.events = self.events.wrapping_add(1);
+        self.own.rehash(rt, alloc)
     }
 
     /// Opens a session with a root of the partner's or a forged one, or by an offer of another format or range.
     fn open(&mut self, alloc: Global) -> Result<(), Trouble> {
-        let partner = if self.random.once_in(4) { 0 } else { 1 };
+        let tree = if self.random.once_in(4) {
+            0
+        } else {
+            self.own.offered.len().saturating_sub(1)
+        };
         let forged = if self.random.once_in(4) {
-            self.forge_root(alloc, partner)?
+            self.forge_root(alloc, tree)?
         } else {
             None
         };
-        let root = match (&forged, self.offered.get(partner)) {
+        let root = match (&forged, self.own.offered.get(tree)) {
             (Some(text), _) => Sha256::digest(text),
             (None, Some(offered)) => offered.tree.root(),
             (None, None) => return Ok(()),
         };
         let offer = self.offer(root);
-        let fault = self.offer_fault(&offer);
-        let reply = self.own.state.open_session(alloc, 7, offer);
-        match (reply, fault) {
-            (Ok(id), None) => {
-                expect(id == self.walks.len() as u64, "the number of a session")?;
-                self.add_walk(alloc, root, partner, forged)
-            }
-            (Err(refusal), Some(fault)) => expect(fault.is(&refusal), "the refusal of an offer"),
-            _ => Err(Trouble::Differs("the answer to an offer")),
-        }
+        let partner = Offering {
+            at: PARTNER,
+            root,
+            tree,
+            forged,
+        };
+        self.own.open(alloc, offer, partner)
     }
 
     /// The text of a partner's root with one byte changed.
-    fn forge_root(&mut self, alloc: Global, partner: usize) -> Result<Option<Vec<u8>>, Trouble> {
-        let (Some(offered), Some(top)) = (self.offered.get(partner), NodeAt::new(0, 0)) else {
+    fn forge_root(&mut self, alloc: Global, tree: usize) -> Result<Option<Vec<u8>>, Trouble> {
+        let (Some(offered), Some(top)) = (self.own.offered.get(tree), NodeAt::new(0, 0)) else {
             return Ok(None);
         };
         let mut text = offered.tree.text(alloc, top)?;
@@ -199,85 +280,25 @@ impl Trial {
 
     /// An offer of a root; one in eight is of another format or range.
     fn offer(&mut self, root: Digest) -> Offer {
-        let number = if self.own.plain.format == Format::One {
-            1
-        } else {
-            2
-        };
-        Offer {
-            offer: 1,
-            format: if self.random.once_in(16) {
-                3 - number
-            } else {
-                number
-            },
-            range: if self.random.once_in(16) { 1 } else { 0 },
-            root,
+        let mut offer = self.own.offer_of(root);
+        if self.random.once_in(16) {
+            offer.format = if offer.format == 1 { 2 } else { 1 };
         }
-    }
-
-    /// Why an offer is refused.
-    fn offer_fault(&self, offer: &Offer) -> Option<Fault> {
-        let number = if self.own.plain.format == Format::One {
-            1
-        } else {
-            2
-        };
-        if offer.format != number {
-            Some(Fault::OtherFormat)
-        } else if offer.range != 0 {
-            Some(Fault::OtherRange)
-        } else if !self.own.is_all_clean() {
-            Some(Fault::Dirty)
-        } else {
-            None
+        if self.random.once_in(16) {
+            offer.range = 1;
         }
-    }
-
-    /// Adds the walk of a new session.
-    fn add_walk(
-        &mut self,
-        alloc: Global,
-        root: Digest,
-        partner: usize,
-        forged: Option<Vec<u8>>,
-    ) -> Result<(), Trouble> {
-        let tree = Tree::new(alloc, &self.own.plain)?;
-        let format = self.own.plain.format;
-        self.walks
-            .push(Walk::new(alloc, format, tree, root, partner, forged)?)?;
-        self.compare_walks()
-    }
-
-    /// Compares each session with its walk.
-    fn compare_walks(&self) -> Result<(), Trouble> {
-        let records = self.own.state.records();
-        let same = records.len() == self.walks.len()
-            && self
-                .walks
-                .iter()
-                .zip(records)
-                .all(|(walk, record)| walk.is(record.session()));
-        expect(same, "a session")
+        offer
     }
 
     /// Cancels a session, or one that there is not.
     fn cancel(&mut self) -> Result<(), Trouble> {
         let id = self.random.below(4);
-        let reply = self.own.state.cancel_session(id);
-        match (reply, self.walks.get_mut(id as usize)) {
-            (Ok(()), Some(walk)) => walk.end(SessionState::Cancelled),
-            (Err(refusal), None) => {
-                expect(Fault::UnknownSession.is(&refusal), "the refusal of an end")?
-            }
-            _ => return Err(Trouble::Differs("the answer to an end")),
-        }
-        self.compare_walks()
+        self.own.cancel(id)
     }
 
     /// Sends some texts for a session; one in 16 times for one that there is not.
     fn answer_some(&mut self, alloc: Global) -> Result<(), Trouble> {
-        let sessions = self.walks.len();
+        let sessions = self.own.walks.len();
         if sessions == 0 || self.random.once_in(16) {
             return self.answer(alloc, sessions, 9);
         }
@@ -291,7 +312,7 @@ impl Trial {
 
     /// Answers each session truly until no text is taken.
     fn answer_all(&mut self, alloc: Global) -> Result<(), Trouble> {
-        for id in 0..self.walks.len() {
+        for id in 0..self.own.walks.len() {
             self.answer_truly(alloc, id)?;
         }
         Ok(())
@@ -311,7 +332,7 @@ impl Trial {
 
     /// How many texts a session has taken.
     fn taken_count(&self, id: usize) -> usize {
-        match self.walks.get(id) {
+        match self.own.walks.get(id) {
             Some(walk) => walk.taken.len(),
             None => 0,
         }
@@ -327,17 +348,17 @@ impl Trial {
             text: sent.text.clone()?,
         };
         self.send(alloc, id, sent)?;
-        if let Some(walk) = self.walks.get_mut(id) {
+        if let Some(walk) = self.own.walks.get_mut(id) {
             walk.last = Some(copy);
         }
-        self.compare_walks()
+        self.own.compare_walks()
     }
 
     /// The text that is sent.
     fn draw(&mut self, alloc: Global, id: usize, choice: u64) -> Result<Sent, Trouble> {
         let top = NodeAt::new(0, 0).ok_or(Trouble::Differs("the root"))?;
         let mut node = top;
-        if let Some(walk) = self.walks.get(id) {
+        if let Some(walk) = self.own.walks.get(id) {
             if let (Some(last), 1) = (&walk.last, choice) {
                 return Ok(Sent {
                     node: last.node,
@@ -352,29 +373,12 @@ impl Trial {
             };
             node = drawn.copied().unwrap_or(top);
         }
-        let mut text = self.true_text(alloc, id, node)?;
+        let mut text = self.own.true_text(alloc, id, node)?;
         if choice == 0 {
             let place = self.random.below(text.len().max(1) as u64) as usize;
             change(&mut text, place);
         }
         Ok(Sent { node, text })
-    }
-
-    /// The text of a node that the partner of a session has, which may be forged at the root.
-    fn true_text(&self, alloc: Global, id: usize, node: NodeAt) -> Result<Vec<u8>, Trouble> {
-        let mut partner = 1;
-        if let Some(walk) = self.walks.get(id) {
-            if let (Some(forged), 0) = (&walk.forged, node.depth) {
-                return Ok(forged.clone()?);
-            }
-            partner = walk.partner;
-        }
-        let offered = self.offered.get(partner);
-        let offered = offered.ok_or(Trouble::Differs("what is offered"))?;
-        let text = offered.snapshot.answer(alloc, Ask { offer: 1, node })?;
-        let plain = offered.tree.text(alloc, node)?;
-        expect(text == plain, "the text that a snapshot answers")?;
-        Ok(text)
     }
 
     /// Has a session take a text, and compares what it answers and leaves.
@@ -399,45 +403,20 @@ impl Trial {
         id: usize,
         sent: &Sent,
     ) -> Result<Result<Taken, Fault>, Trouble> {
-        let Some(walk) = self.walks.get(id) else {
+        let Some(walk) = self.own.walks.get(id) else {
             return Ok(Err(Fault::UnknownSession));
         };
-        let partners = self.true_text(alloc, id, sent.node)?;
+        let partners = self.own.true_text(alloc, id, sent.node)?;
         if let Some(fault) = walk.fault_of(sent.node, &sent.text, &partners) {
             return Ok(Err(fault));
         }
-        let mut taken = Taken {
-            news: Vec::new(alloc),
-            known: 0,
-        };
-        if let Some(offered) = self.offered.get(walk.partner)
-            && walk.is_leaf(sent.node)
-        {
-            self.sort_out(&offered.tree, sent.node.index, &mut taken)?;
-        }
-        if self.own.plain.has_room(taken.news.len()) {
-            Ok(Ok(taken))
-        } else {
-            Ok(Err(Fault::JournalFull))
-        }
-    }
-
-    /// Tells the versions of a leaf that are news from those that are known.
-    fn sort_out(&self, tree: &Tree, leaf: u16, taken: &mut Taken) -> Result<(), Trouble> {
-        for row in tree.rows.iter().filter(|row| row.leaf == leaf) {
-            for version in &row.versions {
-                if self.own.plain.knows(row.key, version) {
-                    taken.known = taken.known.wrapping_add(1);
-                } else {
-                    taken.news.push(PlainEntry {
-                        key: row.key,
-                        version: *version,
-                        source: Source::Partner,
-                    })?;
-                }
+        match self.own.offered.get(walk.partner.tree) {
+            Some(offered) if walk.is_leaf(sent.node) => {
+                let leaf = sent.node.index;
+                self.own.plain.take_leaf(alloc, &offered.tree, leaf)
             }
+            _ => Ok(Ok(Taken::none(alloc))),
         }
-        Ok(())
     }
 
     /// Compares what a text that was taken is answered, and takes it in the plain program.
@@ -450,13 +429,11 @@ impl Trial {
         taken: Taken,
     ) -> Result<(), Trouble> {
         self.check_receipts(answer, &taken)?;
-        for entry in &taken.news {
-            self.own.add(*entry)?;
-        }
+        self.own.add_all(&taken.news)?;
         for entry in &taken.news {
             self.own.compare_held(alloc, entry.key)?;
         }
-        if let Some(walk) = self.walks.get_mut(id) {
+        if let Some(walk) = self.own.walks.get_mut(id) {
             walk.take(sent)?;
             expect(answer.state == walk.state, "how a session stands")?;
         }
@@ -483,43 +460,10 @@ impl Trial {
         fault: Fault,
     ) -> Result<(), Trouble> {
         expect(fault.is(refusal), "the refusal of a text")?;
-        if let (Some(walk), Fault::NotCanonical) = (self.walks.get_mut(id), fault) {
+        if let (Some(walk), Fault::NotCanonical) = (self.own.walks.get_mut(id), fault) {
             walk.end(SessionState::Failed);
         }
         self.own.compare_held(alloc, 1)
-    }
-
-    /// Compares what was taken from the partner: after a finished session its versions are held or below one that is, and
-    /// each entry that is said to come from it is in its rows.
-    fn compare_finished(&self, alloc: Global) -> Result<(), Trouble> {
-        for walk in &self.walks {
-            if let Some(offered) = self.offered.get(walk.partner)
-                && walk.state == SessionState::Finished
-                && walk.root == offered.tree.root()
-            {
-                self.compare_covered(alloc, &offered.tree)?;
-            }
-        }
-        for entry in &self.own.plain.entries {
-            let is_there = self.offered.iter().any(|offered| has(&offered.tree, entry));
-            expect(
-                entry.source != Source::Partner || is_there,
-                "where an entry came from",
-            )?;
-        }
-        Ok(())
-    }
-
-    /// Compares a partner's rows with what is held.
-    fn compare_covered(&self, alloc: Global, tree: &Tree) -> Result<(), Trouble> {
-        for row in &tree.rows {
-            let held = self.own.plain.held(alloc, row.key)?;
-            let covered = row.versions.iter().all(|version| held
-                .iter()
-                .any(|other| version.is_covered_by(other)));
-            expect(covered, "whether a partner's version is held")?;
-        }
-        Ok(())
     }
 }
 
@@ -530,8 +474,13 @@ fn change(text: &mut Vec<u8>, place: usize) {
     }
 }
 
-/// Whether a tree has an entry's version in the row of its key.
-fn has(tree: &Tree, entry: &PlainEntry) -> bool {
-    tree.rows.iter().any(|row| row.key == entry.key
-        && row.versions.iter().any(|v| *v == entry.version))
+/// The version of a number, up to the last one, which is below none of another number.
+fn crowd_version(number: u64) -> PlainVersion
+    requires { number ≤ LAST }
+{
+    PlainVersion {
+        counters: [number, LAST - number, 0, 0],
+        kind: Kind::Live,
+        value: Some(b'x'),
+    }
 }

@@ -2,10 +2,13 @@
 //! which is written by the definitions. The word on the command line says how many lists: 10,000 if there is none.
 #![tactic(auto)]
 
+mod leaves;
 mod lists;
+mod pairs;
 mod plain;
 mod random;
 mod replicas;
+mod sessions;
 mod trees;
 mod walks;
 

@@ -17,6 +17,9 @@ pub(crate) const NODES: usize = 4;
 /// How many keys there are: they have the numbers from 0.
 pub(crate) const KEYS: u64 = 8;
 
+/// How many versions are held for a key at the most.
+const MOST_VERSIONS: usize = 64;
+
 /// Why a list ends early.
 #[derive(Drop)]
 pub(crate) enum Trouble {
@@ -70,10 +73,12 @@ pub(crate) enum Fault {
     OtherRange,
     CounterFull,
     StaleContext,
+    Crowded,
     JournalFull,
     Dirty,
     Stale,
     OtherFormat,
+    SessionsFull,
     UnknownSession,
     NotAsked,
     WrongDigest,
@@ -89,10 +94,12 @@ impl Fault {
             Refusal::OtherRange => self == Fault::OtherRange,
             Refusal::CounterFull => self == Fault::CounterFull,
             Refusal::StaleContext(_) => self == Fault::StaleContext,
+            Refusal::Crowded => self == Fault::Crowded,
             Refusal::JournalFull => self == Fault::JournalFull,
             Refusal::Dirty => self == Fault::Dirty,
             Refusal::Stale => self == Fault::Stale,
             Refusal::OtherFormat => self == Fault::OtherFormat,
+            Refusal::SessionsFull => self == Fault::SessionsFull,
             Refusal::UnknownSession => self == Fault::UnknownSession,
             Refusal::NotAsked => self == Fault::NotAsked,
             Refusal::WrongDigest => self == Fault::WrongDigest,
@@ -306,6 +313,14 @@ impl PlainRange {
         self.entries.iter().any(|entry| entry.key == key && version.is_below(&entry.version))
     }
 
+    /// Whether a version that is news would be one too many for its key, beside those that would still be held.
+    pub(crate) fn is_crowded_by(&self, key: u64, version: &PlainVersion) -> bool {
+        let stays = |entry: &PlainEntry| entry.key == key
+            && !self.has_above(key, &entry.version)
+            && !entry.version.is_below(version);
+        self.entries.iter().filter(|entry| stays(*entry)).count() >= MOST_VERSIONS
+    }
+
     /// The versions that are held for a key: the accepted ones that are below no other, once, in the order of their texts.
     pub(crate) fn held(&self, alloc: Global, key: u64) -> Result<Vec<PlainVersion>, Trouble> {
         let mut held = Vec::new(alloc);
@@ -322,6 +337,27 @@ impl PlainRange {
         (self.entries.len() as u64).wrapping_add(more as u64) <= self.limit
     }
 
+    /// Why a version that is news has no place among those of its key, or in the journal.
+    fn room_fault(&self, key: u64, version: &PlainVersion) -> Option<Fault> {
+        if self.is_crowded_by(key, version) {
+            Some(Fault::Crowded)
+        } else if !self.has_room(1) {
+            Some(Fault::JournalFull)
+        } else {
+            None
+        }
+    }
+
+    /// The same range with entries of its own.
+    pub(crate) fn try_clone(&self) -> Result<PlainRange, Trouble> {
+        Ok(PlainRange {
+            format: self.format,
+            is_half: self.is_half,
+            limit: self.limit,
+            entries: self.entries.clone()?,
+        })
+    }
+
     /// Why a version that another node sent is refused, or whether it is news.
     pub(crate) fn accept(&self, key: u64, version: &PlainVersion) -> Result<bool, Fault> {
         if let Some(fault) = self.place_fault(key, version) {
@@ -330,10 +366,9 @@ impl PlainRange {
         if self.knows(key, version) {
             return Ok(false);
         }
-        if self.has_room(1) {
-            Ok(true)
-        } else {
-            Err(Fault::JournalFull)
+        match self.room_fault(key, version) {
+            Some(fault) => Err(fault),
+            None => Ok(true),
         }
     }
 
@@ -352,10 +387,9 @@ impl PlainRange {
         if self.entries.iter().any(has_seen) {
             return Err(Fault::StaleContext);
         }
-        if self.has_room(1) {
-            Ok(raised)
-        } else {
-            Err(Fault::JournalFull)
+        match self.room_fault(key, &raised) {
+            Some(fault) => Err(fault),
+            None => Ok(raised),
         }
     }
 }

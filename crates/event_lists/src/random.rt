@@ -39,6 +39,17 @@ impl Random {
         self.below(times) == 0
     }
 
+    /// How many entries a journal may have: once in so many times few, else more than come.
+    pub(crate) fn limit(&mut self, times: u64) -> u64
+        requires { 0 < times }
+    {
+        if self.once_in(times) {
+            2 + self.below(8)
+        } else {
+            1_000
+        }
+    }
+
     /// A clock of small counters, rarely with the greatest one.
     fn counters(&mut self) -> [u64; NODES] {
         let mut counters = [0; NODES];

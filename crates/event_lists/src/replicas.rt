@@ -3,6 +3,7 @@ ghost use Rattle.std.specs.Prelude.{◌≤◌};
 
 use crate::plain::{Fault, KEYS, PlainEntry, PlainRange, PlainVersion, Trouble, expect, key_bytes};
 use crate::trees::{Tree, leaf_depth, width};
+use crate::walks::Walk;
 use hash_tree::hashed::Hashed;
 use hash_tree::node::NodeAt;
 use range_journal::journal::{Entry, Source};
@@ -14,17 +15,19 @@ use snapshot::snapshot::Snapshot;
 use std::alloc::Global;
 use std::sync::Arc;
 use std::thread::Threads;
+use sync_session::state::SessionState;
 use vclock::format::Format;
 use vclock::refusal::Refusal;
 
 /// The seat of all callers.
 pub(crate) const SEAT: u16 = 3;
 
-/// The text of a node that was hashed, and how many entries there were.
+/// The text of a node that was hashed, of which format it is, and how many entries there were.
 #[derive(Drop)]
 pub(crate) struct Work {
     node: NodeAt,
     hashed: Hashed,
+    format: Format,
     entries: usize,
 }
 
@@ -33,6 +36,10 @@ pub(crate) struct Work {
 pub(crate) struct Replica {
     pub(crate) state: RangeState,
     pub(crate) plain: PlainRange,
+    /// What its partner offered: an old tree, then later ones.
+    pub(crate) offered: Vec<Offered>,
+    /// The walks of its sessions.
+    pub(crate) walks: Vec<Walk>,
     clean: Vec<bool>,
     work: Option<Work>,
 }
@@ -64,6 +71,8 @@ impl Replica {
         Ok(Replica {
             state: RangeState::new(alloc, config)?,
             plain,
+            offered: Vec::new(alloc),
+            walks: Vec::new(alloc),
             clean: vec![in alloc; false; 4_369]?,
             work: None,
         })
@@ -164,6 +173,14 @@ impl Replica {
         Ok(())
     }
 
+    /// Adds entries.
+    pub(crate) fn add_all(&mut self, entries: &[PlainEntry]) -> Result<(), Trouble> {
+        for entry in entries {
+            self.add(*entry)?;
+        }
+        Ok(())
+    }
+
     /// Compares the versions that are held for a key, and the number of entries.
     pub(crate) fn compare_held(&self, alloc: Global, key: u64) -> Result<(), Trouble> {
         let held = self.plain.held(alloc, key)?;
@@ -231,6 +248,7 @@ impl Replica {
         self.work = Some(Work {
             node,
             hashed: run_job(job),
+            format: self.plain.format,
             entries: self.plain.entries.len(),
         });
         Ok(())
@@ -246,9 +264,12 @@ impl Replica {
         children.filter(|clean| **clean).count() == 16
     }
 
-    /// Whether the text of a job is its node's now: each child is clean, and no entry came since then to a leaf at the
-    /// node or below.
+    /// Whether the text of a job is its node's now: the format is the same, each child is clean, and no entry came since
+    /// then to a leaf at the node or below.
     fn is_current(&self, work: &Work) -> bool {
+        if work.format != self.plain.format {
+            return false;
+        }
         let height = leaf_depth(self.plain.format).saturating_sub(work.node.depth);
         for entry in self.plain.entries.iter().skip(work.entries) {
             if above(self.plain.leaf_of(entry.key), height) == work.node.index {
@@ -281,6 +302,19 @@ impl Replica {
         }
     }
 
+    /// Takes the range over to format 2, if it isn't of that: no node is clean then, and no session is open.
+    pub(crate) fn migrate(&mut self, alloc: Global) -> Result<(), Trouble> {
+        self.state.migrate(alloc)?;
+        if self.plain.format == Format::One {
+            self.plain.format = Format::Two;
+            self.clean = vec![in alloc; false; 4_369]?;
+            for walk in self.walks.iter_mut() {
+                walk.end(SessionState::Cancelled);
+            }
+        }
+        self.compare_all(alloc)
+    }
+
     /// Whether every node is clean.
     pub(crate) fn is_all_clean(&self) -> bool {
         self.dirty_count() == 0
@@ -303,12 +337,14 @@ impl Replica {
         }
     }
 
-    /// Compares all that is held, the journal and the tree.
+    /// Compares all that is held, the journal, the sessions and the tree.
     pub(crate) fn compare_all(&self, alloc: Global) -> Result<(), Trouble> {
         for key in 0..KEYS {
             self.compare_held(alloc, key)?;
         }
         self.compare_journal()?;
+        self.compare_walks()?;
+        self.compare_texts()?;
         let tree = Tree::new(alloc, &self.plain)?;
         for depth in 0..leaf_depth(self.plain.format) + 1 {
             self.compare_depth(&tree, depth)?;

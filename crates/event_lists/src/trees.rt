@@ -44,6 +44,21 @@ pub(crate) fn width(depth: u8) -> u16 {
     }
 }
 
+/// The nodes where two trees of one format differ, depth by depth and by rising index.
+pub(crate) fn differing(alloc: Global, own: &Tree, other: &Tree) -> Result<Vec<NodeAt>, Trouble> {
+    let mut nodes = Vec::new(alloc);
+    for depth in 0..leaf_depth(own.format) + 1 {
+        for index in 0..width(depth) {
+            if let Some(node) = NodeAt::new(depth, index)
+                && own.digest_at(node) != other.digest_at(node)
+            {
+                nodes.push(node)?;
+            }
+        }
+    }
+    Ok(nodes)
+}
+
 /// A child of a node, if any tree has it.
 pub(crate) fn child(node: NodeAt, j: u16) -> Option<NodeAt> {
     let index = node.index.wrapping_mul(16).wrapping_add(j);

@@ -4,10 +4,11 @@ use crate::plain::{Fault, Trouble};
 use crate::trees::{Tree, child, inner_byte, leaf_depth};
 use hash_tree::hashed::Digest;
 use hash_tree::node::NodeAt;
+use range_state::record::Record;
 use sha2::{Digest as _, Sha256};
 use std::alloc::Global;
-use sync_session::session::Session;
 use sync_session::state::SessionState;
+use sync_session::taken::Taken;
 use vclock::format::Format;
 
 /// A text that was sent for a node.
@@ -17,16 +18,27 @@ pub(crate) struct Sent {
     pub(crate) text: Vec<u8>,
 }
 
-/// What a session compares: the own tree when it was opened, and the root that a partner offered.
+/// What a session compares itself with.
 #[derive(Drop)]
-pub(crate) struct Walk {
-    pub(crate) format: Format,
-    own: Tree,
+pub(crate) struct Offering {
+    /// The node that the partner is at.
+    pub(crate) at: u16,
+    /// The root that the partner offered.
     pub(crate) root: Digest,
     /// The number of the partner's tree.
-    pub(crate) partner: usize,
+    pub(crate) tree: usize,
     /// The text of the root, where it is not the partner's.
     pub(crate) forged: Option<Vec<u8>>,
+}
+
+/// What a session compares: the own tree when it was opened, and what a partner offered.
+#[derive(Drop)]
+pub(crate) struct Walk {
+    format: Format,
+    pub(crate) own: Tree,
+    pub(crate) partner: Offering,
+    /// All nodes that were ever asked.
+    pub(crate) asked: Vec<NodeAt>,
     pub(crate) outstanding: Vec<NodeAt>,
     pub(crate) taken: Vec<Sent>,
     pub(crate) state: SessionState,
@@ -40,23 +52,21 @@ impl Walk {
         alloc: Global,
         format: Format,
         own: Tree,
-        root: Digest,
-        partner: usize,
-        forged: Option<Vec<u8>>,
+        partner: Offering,
     ) -> Result<Walk, Trouble> {
         let mut outstanding = Vec::new(alloc);
-        if own.root() != root
+        if own.root() != partner.root
             && let Some(top) = NodeAt::new(0, 0)
         {
             outstanding.push(top)?;
         }
+        let asked = outstanding.clone()?;
         let state = state_by(&outstanding);
         Ok(Walk {
             format,
             own,
-            root,
             partner,
-            forged,
+            asked,
             outstanding,
             taken: Vec::new(alloc),
             state,
@@ -67,7 +77,7 @@ impl Walk {
     /// The digest that is expected at a node: at the root the offered one, else that in the text of the node above.
     fn expected(&self, node: NodeAt) -> Option<&[u8]> {
         if node.depth == 0 {
-            return Some(&self.root);
+            return Some(&self.partner.root);
         }
         let above = NodeAt::new(node.depth.wrapping_sub(1), node.index / 16)?;
         let sent = self.taken.iter().find(|sent| sent.node == above)?;
@@ -117,6 +127,7 @@ impl Walk {
             if let Some(node) = child(sent.node, j) {
                 let own = self.own.digest_at(node).unwrap_or([0; 32]);
                 if digest_in(&sent.text, j) != Some(own.as_slice()) {
+                    self.asked.push(node)?;
                     self.outstanding.push(node)?;
                 }
             }
@@ -132,12 +143,28 @@ impl Walk {
         }
     }
 
-    /// Whether a session is as the walk says.
-    pub(crate) fn is(&self, session: &Session) -> bool {
-        session.outstanding() == self.outstanding.as_slice()
+    /// Whether the session of a record is as the walk says.
+    pub(crate) fn is(&self, record: &Record) -> bool {
+        let session = record.session();
+        record.partner() == self.partner.at
+            && session.root() == self.partner.root
+            && session.own().root() == self.own.root()
+            && session.asked() == self.asked.as_slice()
+            && session.outstanding() == self.outstanding.as_slice()
             && session.state() == self.state
             && session.taken().len() == self.taken.len()
-            && session.root() == self.root
+    }
+
+    /// Whether a session took the texts that the walk says.
+    pub(crate) fn has_taken(&self, taken: &[Taken]) -> bool {
+        let is_same = |sent: &Sent, taken: &Taken| sent.node == taken.node()
+            && sent.text.as_slice() == taken.text().text();
+        taken.len() == self.taken.len()
+            && self
+                .taken
+                .iter()
+                .zip(taken)
+                .all(|(sent, taken)| is_same(sent, taken))
     }
 }
 

@@ -6,6 +6,7 @@ mod hints;
 mod histories;
 mod leaves;
 mod messages;
+mod pairs;
 mod ranges;
 mod rings;
 mod rows;
@@ -29,6 +30,7 @@ fn main(rt: HostRuntime) -> io::Result<()> {
     trees::show_all(&rt)?;
     messages::show_all(&rt)?;
     sessions::show_all(&rt)?;
+    pairs::show_all(&rt)?;
     hints::show_all(&rt)?;
     slots::show_all(&rt)
 }

@@ -9,6 +9,7 @@ use std::alloc::Global;
 use std::io;
 use vclock::bytes::Bytes;
 use vclock::clock::Clock;
+use vclock::format::Format;
 use vclock::refusal::Refusal;
 use version_set::kind::Kind;
 
@@ -24,6 +25,7 @@ pub(crate) fn show_all<R: Print + AllocGlobal>(rt: &R) -> io::Result<()> {
     show(rt, "a stale put", stale_put(alloc))?;
     show(rt, "accept", accept(alloc))?;
     show(rt, "get", get(alloc))?;
+    show(rt, "migrate", migrate(alloc))?;
     show(rt, "run_events", run_events(alloc))
 }
 
@@ -90,6 +92,20 @@ fn get(alloc: Global) -> Result<u64, Refusal> {
     let mut state = range(alloc)?;
     put_at(alloc, &mut state, 2)?;
     Ok(state.get(alloc, b"a")?.len() as u64)
+}
+
+/// Takes a range that has a row over to format 2, which is the number.
+fn migrate(alloc: Global) -> Result<u64, Refusal> {
+    let mut state = range(alloc)?;
+    put_at(alloc, &mut state, 2)?;
+    let migrated = state.migrate(alloc);
+    let format = state.config().format();
+    let held = state.versions(b"a").len();
+    match migrated {
+        Ok(()) if held == 1 => Ok(u64::from(format.number())),
+        Ok(()) => Err(Refusal::Dirty),
+        Err(refusal) => Err(unchanged(refusal, format == Format::One && held == 1)),
+    }
 }
 
 /// Three events. Where one of them wanted memory, it changed nothing and the others were run.
