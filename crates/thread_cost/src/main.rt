@@ -50,9 +50,10 @@ fn tell(rt: &(impl Print + Eprint), plan: &Plan, done: &Done) -> io::Result<()> 
         plan.ranges()
     )?;
     eprintln!(rt;
-        "{{\"puts_per_s\":{},\"gets_per_s\":{}}}",
+        "{{\"puts_per_s\":{},\"gets_per_s\":{},\"close_ms\":{}}}",
         a_second(keys, done.spans.puts),
-        a_second(keys, done.spans.gets)
+        a_second(keys, done.spans.gets),
+        done.closing.length().as_millis()
     )
 }
 

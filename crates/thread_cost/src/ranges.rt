@@ -4,7 +4,7 @@ ghost use Rattle.std.specs.Prelude.{◌≡◌, ◌≤◌};
 use crate::calls::{Starts, put_and_get};
 use crate::fault::Fault;
 use crate::plan::{MOST_KEYS, Plan, Sharing};
-use crate::spans::Spans;
+use crate::spans::{Span, Spans};
 use caller_pass::book::open_passes;
 use caller_pass::pass::Pass;
 use range_state::config::RangeConfig;
@@ -19,10 +19,12 @@ use std::thread::Threads;
 use std::time::Clock;
 use vclock::refusal::Refusal;
 
-/// When the calls were done, and whether the ranges were closed then: each pass was told what its journal has.
+/// When the calls were done, when the ranges were closed then, and whether they were: each pass was told what its journal
+/// has.
 #[derive(Clone, Copy, Debug)]
 pub(crate) struct Done {
     pub(crate) spans: Spans,
+    pub(crate) closing: Span,
     pub(crate) closed: bool,
 }
 
@@ -38,6 +40,7 @@ impl Done {
     fn and(self, other: Done) -> Done {
         Done {
             spans: self.spans.cover(other.spans),
+            closing: self.closing.cover(other.closing),
             closed: self.closed && other.closed,
         }
     }
@@ -84,10 +87,7 @@ fn run_on_one<L: Ledger + Send + Sync, R: Threads + Wait + Clock + Sync>(
         spans = Some(covered(spans, returned.spans));
     }
     let spans = spans.ok_or(Fault::NotTogether)?;
-    Ok(Done {
-        spans,
-        closed: close(alloc, range, passes)?,
-    })
+    end(rt, alloc, range, passes, spans)
 }
 
 /// What is covered by spans, if there are any, and by others.
@@ -165,10 +165,7 @@ fn run_on_own<L: Ledger, R: Wait + Clock>(
     let (range, mut passes) = open_range::<L>(alloc, blank, 1)?;
     let pass = passes.first_mut().ok_or(Fault::TooFewPasses)?;
     let spans = put_and_get(rt, alloc, &range, pass, starts, plan.part(number))?;
-    Ok(Done {
-        spans,
-        closed: close(alloc, range, passes)?,
-    })
+    end(rt, alloc, range, passes, spans)
 }
 
 /// A range of format 1 with all keys at node 1, and the passes of its seats, 1 to 64. Refused: NoMemory.
@@ -184,6 +181,24 @@ fn open_range<L: Ledger>(
     let state = RangeState::new(alloc, config)?;
     let (book, passes) = open_passes::<L>(blank, alloc, seats)?;
     Ok((SharedRange::new(1, state, book), passes))
+}
+
+/// Closes a range whose calls are done. Refused: Stranger, NoMemory.
+fn end<L: Ledger, R: Clock>(
+    rt: &R,
+    alloc: Global,
+    range: SharedRange<L>,
+    passes: Vec<Pass<L>>,
+    spans: Spans,
+) -> Result<Done, Fault> {
+    let from = Instant::now(rt)?;
+    let closed = close(alloc, range, passes)?;
+    let to = Instant::now(rt)?;
+    Ok(Done {
+        spans,
+        closing: Span { from, to },
+        closed,
+    })
 }
 
 /// Closes a range: whether its passes were told what its journal has. Refused: Stranger, NoMemory.

@@ -17,7 +17,7 @@ pub(crate) struct Spans {
 
 impl Span {
     /// From the earlier start to the later end.
-    fn cover(self, other: Span) -> Span {
+    pub(crate) fn cover(self, other: Span) -> Span {
         Span {
             from: self.from.min(other.from),
             to: self.to.max(other.to),
