@@ -1,7 +1,0 @@
-use Rattle.sync_conformance.proofs.syncs.a_write_passes_a_sync.Given as goal
-
-abbrev pub ghosts-put_at_a_sync-L-Ledger : goal.ghosts-put_at_a_sync-L-Ledger
-ghosts-put_at_a_sync-L-Ledger g a = record { name = a.blank.name; parts = a.blank.parts }
-
-abbrev pub ghosts-put_at_a_sync-C-Ledger : goal.ghosts-put_at_a_sync-C-Ledger
-ghosts-put_at_a_sync-C-Ledger g a = record { name = a.slots.name; parts = a.slots.parts }
