@@ -16,7 +16,7 @@ use std::sync::Wait;
 use std::sync::ledger::{Blank, Ledger};
 use std::thread;
 use std::thread::Threads;
-use std::time::Clock;
+use std::time::{Clock, Instant};
 use vclock::refusal::Refusal;
 
 /// When the calls were done, when the ranges were closed then, and whether they were: each pass was told what its journal
