@@ -7,7 +7,7 @@
 //   REFUSE_WRITE=N    the Nth write to standard output fails
 //   REFUSE_SHORT=1    each of these reads and writes moves one byte
 //
-// What it refuses it tells by a byte to descriptor 9.
+// What it refuses it tells by a line to descriptor 9: how many line feeds were written to standard output before.
 
 typedef unsigned long size;
 
@@ -20,7 +20,7 @@ extern long __write(int file, const void *bytes, size count);
 
 static const int no_memory = 12, device_fault = 5;
 static size alloc_at, allocs_from, read_at, write_at, is_short;
-static size allocs, reads, writes;
+static size allocs, reads, writes, lines;
 
 static size number_of(const char *name) {
     const char *digits = getenv(name);
@@ -40,8 +40,20 @@ __attribute__((constructor)) static void read_settings(void) {
 }
 
 static void refuse(int error) {
-    __write(9, "x", 1);
+    char text[24];
+    size at = sizeof text, number = lines;
+    text[--at] = '\n';
+    do {
+        text[--at] = (char)('0' + number % 10);
+        number /= 10;
+    } while (number);
+    __write(9, text + at, sizeof text - at);
     *__errno_location() = error;
+}
+
+static void count_lines(const char *text, long count) {
+    for (long at = 0; at < count; at++)
+        lines += text[at] == '\n';
 }
 
 // (threads grow memory side by side, and each growth has a number of its own)
@@ -74,5 +86,8 @@ long write(int file, const void *bytes, size count) {
         refuse(device_fault);
         return -1;
     }
-    return __write(file, bytes, file == 1 && is_short && count ? 1 : count);
+    long written = __write(file, bytes, file == 1 && is_short && count ? 1 : count);
+    if (file == 1)
+        count_lines(bytes, written);
+    return written;
 }

@@ -1,0 +1,152 @@
+// The calls on ranges, in the order in which they are made.
+
+/// A call on a locked range. The byte is the key.
+#[derive(Clone, Copy)]
+pub(crate) enum LockedCall {
+    /// `take_job` and `install`, until all nodes are clean.
+    Hash,
+    Snapshot,
+    OpenSession,
+    TakeAnswer,
+    Put(u8),
+    /// A put that is refused as StaleContext.
+    StalePut(u8),
+    Accept(u8),
+    Index,
+    Get(u8),
+    Read(u8),
+    Migrate,
+}
+
+/// A call on a shared range, or on the hints for it. The byte is the key.
+#[derive(Clone, Copy)]
+pub(crate) enum SharedCall {
+    Put(u8),
+    /// A put that is refused as StaleContext.
+    StalePut(u8),
+    Copy(u8),
+    Get(u8),
+    Rehash,
+    Snapshot,
+    Sync,
+    /// A sync over a link that lies.
+    SyncByScript,
+    Keep(u8),
+    Next,
+    Deliver,
+    Migrate,
+}
+
+/// A call.
+#[derive(Clone, Copy)]
+pub(crate) enum Call {
+    Locked(LockedCall),
+    Shared(SharedCall),
+}
+
+/// The calls in order. Each list that grows by its calls grows twice at least.
+pub(crate) const CALLS: [Call; 42] = [
+    Call::Locked(LockedCall::Hash),
+    Call::Locked(LockedCall::Snapshot),
+    Call::Locked(LockedCall::OpenSession),
+    Call::Locked(LockedCall::OpenSession),
+    Call::Locked(LockedCall::TakeAnswer),
+    Call::Locked(LockedCall::TakeAnswer),
+    Call::Locked(LockedCall::TakeAnswer),
+    Call::Locked(LockedCall::TakeAnswer),
+    Call::Locked(LockedCall::TakeAnswer),
+    Call::Locked(LockedCall::Put(b'b')),
+    Call::Locked(LockedCall::Put(b'c')),
+    Call::Locked(LockedCall::StalePut(b'b')),
+    Call::Locked(LockedCall::Accept(b'd')),
+    Call::Locked(LockedCall::Accept(b'd')),
+    Call::Locked(LockedCall::Accept(b'e')),
+    Call::Locked(LockedCall::Index),
+    Call::Locked(LockedCall::Accept(b'f')),
+    Call::Locked(LockedCall::Get(b'b')),
+    Call::Locked(LockedCall::Read(b'c')),
+    Call::Locked(LockedCall::Migrate),
+    Call::Shared(SharedCall::Put(b'b')),
+    Call::Shared(SharedCall::Put(b'c')),
+    Call::Shared(SharedCall::StalePut(b'b')),
+    Call::Shared(SharedCall::Copy(b'd')),
+    Call::Shared(SharedCall::Copy(b'd')),
+    Call::Shared(SharedCall::Copy(b'e')),
+    Call::Shared(SharedCall::Copy(b'f')),
+    Call::Shared(SharedCall::Get(b'b')),
+    Call::Shared(SharedCall::Rehash),
+    Call::Shared(SharedCall::Snapshot),
+    Call::Shared(SharedCall::Sync),
+    Call::Shared(SharedCall::Rehash),
+    Call::Shared(SharedCall::SyncByScript),
+    Call::Shared(SharedCall::Keep(b'g')),
+    Call::Shared(SharedCall::Keep(b'h')),
+    Call::Shared(SharedCall::Keep(b'i')),
+    Call::Shared(SharedCall::Keep(b'j')),
+    Call::Shared(SharedCall::Keep(b'k')),
+    Call::Shared(SharedCall::Next),
+    Call::Shared(SharedCall::Deliver),
+    Call::Shared(SharedCall::Get(b'g')),
+    Call::Shared(SharedCall::Migrate),
+];
+
+impl Call {
+    /// The name that is printed.
+    pub(crate) fn name(self) -> &'static str {
+        match self {
+            Call::Locked(call) => call.name(),
+            Call::Shared(call) => call.name(),
+        }
+    }
+
+    /// Whether a refusal leaves what was done so far.
+    pub(crate) fn is_in_steps(self) -> bool {
+        matches!(
+            self,
+            Call::Locked(LockedCall::Hash)
+                | Call::Shared(
+                    SharedCall::Rehash
+                        | SharedCall::Sync
+                        | SharedCall::SyncByScript
+                        | SharedCall::Deliver
+                )
+        )
+    }
+}
+
+impl LockedCall {
+    fn name(self) -> &'static str {
+        match self {
+            LockedCall::Hash => "LockedRange::take_job and install",
+            LockedCall::Snapshot => "LockedRange::snapshot",
+            LockedCall::OpenSession => "LockedRange::open_session",
+            LockedCall::TakeAnswer => "LockedRange::take_answer",
+            LockedCall::Put(_) => "LockedRange::put",
+            LockedCall::StalePut(_) => "LockedRange::put, stale",
+            LockedCall::Accept(_) => "LockedRange::accept",
+            LockedCall::Index => "Pass::index",
+            LockedCall::Get(_) => "LockedRange::get",
+            LockedCall::Read(_) => "LockedRange::read",
+            LockedCall::Migrate => "LockedRange::migrate",
+        }
+    }
+}
+
+impl SharedCall {
+    fn name(self) -> &'static str {
+        match self {
+            SharedCall::Put(_) => "SharedRange::put",
+            SharedCall::StalePut(_) => "SharedRange::put, stale",
+            SharedCall::Copy(_) => "SharedRange::copy",
+            SharedCall::Get(_) => "SharedRange::get",
+            SharedCall::Rehash => "SharedRange::rehash_worker",
+            SharedCall::Snapshot => "SharedRange::snapshot",
+            SharedCall::Sync => "SharedRange::sync_worker",
+            SharedCall::SyncByScript => "SharedRange::sync_worker, by a script",
+            SharedCall::Keep(_) => "SharedHints::keep",
+            SharedCall::Next => "SharedHints::next",
+            SharedCall::Deliver => "deliver",
+            SharedCall::Migrate => "SharedRange::migrate",
+        }
+    }
+}
