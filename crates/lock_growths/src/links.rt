@@ -79,28 +79,32 @@ fn lost<K: Link>(again: Reached, failures: u64, link: &K) -> Refusal {
     }
 }
 
-/// A link that does two deeds.
+/// A link that does these deeds.
 fn scripted<'a>(
     alloc: Global,
     partner: &'a Partner,
-    deeds: [Deed; 2],
+    deeds: &[Deed],
 ) -> Result<ScriptedLink<MemoryLink<'a>>, Refusal> {
     let link = MemoryLink::new(alloc, &partner.first);
-    let deeds = Vec::from_slice(alloc, &deeds)?;
+    let deeds = Vec::from_slice(alloc, deeds)?;
     Ok(ScriptedLink::new(alloc, link, deeds))
 }
 
-/// Two offers, of which the second is the first again.
+/// Three offers, of which the last is the second again. A call that is lost has used its deed.
 fn scripted_offer<R: Wait>(rt: &R, alloc: Global, partner: &Partner) -> Result<u64, Refusal> {
-    let mut link = scripted(alloc, partner, [Deed::Change(1), Deed::Repeat])?;
-    let first = offer(rt, &mut link)?;
-    Ok(first.saturating_add(offer(rt, &mut link)?))
+    let deeds = [Deed::Change(1), Deed::Pass, Deed::Repeat];
+    let mut link = scripted(alloc, partner, &deeds)?;
+    let mut sum = 0u64;
+    for _ in 0..3 {
+        sum = sum.saturating_add(offer(rt, &mut link)?);
+    }
+    Ok(sum)
 }
 
 /// An ask for another node, and one whose answer is cut.
 fn scripted_ask<R: Wait>(rt: &R, alloc: Global, partner: &Partner) -> Result<u64, Refusal> {
     let leaf = NodeAt::new(2, 0).ok_or(Refusal::BadMessage)?;
-    let mut link = scripted(alloc, partner, [Deed::Node(leaf), Deed::Cut(100)])?;
+    let mut link = scripted(alloc, partner, &[Deed::Node(leaf), Deed::Cut(100)])?;
     let first = ask(rt, alloc, &mut link)?;
     Ok(first.saturating_add(ask(rt, alloc, &mut link)?))
 }
