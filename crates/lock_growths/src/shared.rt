@@ -37,6 +37,9 @@ const TURNS: u64 = 300;
 /// The node of the range.
 const OWNER: u16 = 1;
 
+/// A value that isn't kept in place, so that each copy of it takes memory.
+const LONG: [u8; 100] = [b'x'; 100];
+
 /// A true offer, then three answers that are bad, and true ones.
 const DEEDS: [Deed; 7] = [
     Deed::Pass,
@@ -236,8 +239,10 @@ impl<L: Ledger, C: Ledger> Shared<L, C> {
 
     /// Keeps a version for the range's node, and returns the hint's id.
     fn keep<R: Wait>(&mut self, rt: &R, alloc: Global, key: u8) -> Result<u64, Refusal> {
+        let mut version = version(alloc, 6)?;
+        version.value = Bytes::copy_of(alloc, &LONG)?;
         let key = Bytes::copy_of(alloc, &[key])?;
-        let id = self.hints.keep(rt, OWNER, key, version(alloc, 6)?)?;
+        let id = self.hints.keep(rt, OWNER, key, version)?;
         Ok(u64::from(id))
     }
 
