@@ -9,8 +9,9 @@ use walk_messages::decoding::decode;
 use walk_messages::encoding::encode;
 use walk_messages::message::{Answer, Message};
 
-/// An answer with the text `text` for the root of offer 1.
-const ROOT_ANSWER: &[u8] = b"\x03\x00\x00\x00\x01\x00\x00\x00\x00\x00\x00\x00\x00\x00\x00\x04text";
+/// An answer for the root of offer 1, whose text is too long to stand in a `Bytes` itself.
+const ROOT_ANSWER: &[u8] =
+    b"\x03\x00\x00\x00\x01\x00\x00\x00\x00\x00\x00\x00\x00\x00\x00\x17more than sixteen bytes";
 
 /// Shows the calls on messages.
 pub(crate) fn show_all<R: Print + AllocGlobal>(rt: &R) -> io::Result<()> {

@@ -6,6 +6,9 @@ use vclock::bytes::Bytes;
 use vclock::clock::Clock;
 use vclock::refusal::Refusal;
 
+/// Too many bytes to stand in a `Bytes` itself, so that a copy of them takes memory.
+const LONG: &[u8] = b"more than sixteen bytes";
+
 /// Shows the calls on clocks and bytes.
 pub(crate) fn show_all<R: Print + AllocGlobal>(rt: &R) -> io::Result<()> {
     let alloc = rt.alloc();
@@ -33,14 +36,9 @@ fn clone_of_clock(alloc: Global) -> Result<u64, Refusal> {
 }
 
 fn copy_of(alloc: Global) -> Result<u64, Refusal> {
-    Ok(Bytes::copy_of(alloc, b"abc")?.as_slice().len() as u64)
+    Ok(Bytes::copy_of(alloc, LONG)?.as_slice().len() as u64)
 }
 
 fn clone_of_bytes(alloc: Global) -> Result<u64, Refusal> {
-    Ok(
-        Bytes::copy_of(alloc, b"abcd")?
-            .try_clone()?
-            .as_slice()
-            .len() as u64,
-    )
+    Ok(Bytes::copy_of(alloc, LONG)?.try_clone()?.as_slice().len() as u64)
 }
