@@ -73,6 +73,7 @@ fn check_session(sync: &Worked, id: u64, session: &Session) -> Result<(), Troubl
     let state = session.state();
     expect(state != SessionState::Open, "whether a session has ended")?;
     expect(is_each_once(session.asked()), "what a session asked")?;
+    check_texts(sync, session)?;
     match &sync.report {
         Ok(report) => check_report(sync, report, id, session),
         Err(_) => expect(
@@ -80,6 +81,15 @@ fn check_session(sync: &Worked, id: u64, session: &Session) -> Result<(), Troubl
             "the end of a refused sync",
         ),
     }
+}
+
+/// Each text that a session took came as an answer of its offer.
+fn check_texts(sync: &Worked, session: &Session) -> Result<(), Trouble> {
+    for taken in session.taken() {
+        let has_come = sync.has_answer(taken.node(), taken.text().text());
+        expect(has_come, "the texts that a session took")?;
+    }
+    Ok(())
 }
 
 /// Compares a session with a report.

@@ -9,6 +9,7 @@ use admission::slot::Slot;
 use caller_pass::book::open_passes;
 use caller_pass::closing::Closed;
 use caller_pass::pass::Pass;
+use hash_tree::node::NodeAt;
 use range_journal::journal::Source;
 use range_state::config::RangeConfig;
 use range_state::state::RangeState;
@@ -22,6 +23,7 @@ use std::sync::ledger::{Blank, Ledger};
 use std::thread::Threads;
 use vclock::format::Format;
 use vclock::refusal::Refusal;
+use walk_messages::message::Answer;
 
 /// How many turns suffice to hash what was dirtied since a tree was clean.
 const TURNS: u64 = 200;
@@ -40,6 +42,8 @@ pub(crate) struct Worked {
     pub(crate) before: usize,
     /// How many receipts the pass got.
     pub(crate) receipts: usize,
+    /// The answers that came of the offer that was asked of.
+    pub(crate) answers: Vec<Answer>,
 }
 
 impl Worked {
@@ -51,6 +55,12 @@ impl Worked {
     /// How often the link must have failed.
     pub(crate) fn losses(&self) -> u64 {
         u64::from(matches!(&self.report, Err(Refusal::LinkLost)))
+    }
+
+    /// Whether the text came as an answer of the offer that was asked of.
+    pub(crate) fn has_answer(&self, node: NodeAt, text: &[u8]) -> bool {
+        let mut answers = self.answers.iter();
+        answers.any(|answer| answer.node == node && answer.text.as_slice() == text)
     }
 
     /// Counts it.
@@ -164,6 +174,7 @@ impl<L: Ledger> Own<L> {
             failures: link.failures().wrapping_sub(failures),
             before,
             receipts: self.syncer.receipts().len().wrapping_sub(before),
+            answers: link.take_answers(),
         })?;
         Ok(())
     }

@@ -173,7 +173,7 @@ impl Trial {
         link: K,
         own: &mut Own<L>,
     ) -> Result<(), Trouble> {
-        let mut link = Watched::new(link);
+        let mut link = Watched::new(alloc, link);
         for _ in 0..1 + self.random.below(2) {
             let turns = self.turns();
             own.sync(rt, alloc, slot, &mut link, turns)?;

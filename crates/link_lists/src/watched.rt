@@ -1,24 +1,54 @@
 //! Links that are watched.
 
 use ring_node::link::{Link, Reached};
+use std::alloc::Global;
+use std::mem::replace;
 use std::sync::Wait;
+use walk_messages::decoding::decode;
+use walk_messages::message::{Answer, Message};
 
-/// A link round another one that counts the asks. What comes over the other one is handed on.
+/// A link round another one that counts the asks, and keeps the answers that are of the offer asked of. What comes over the
+/// other one is handed on.
 #[derive(Drop)]
 pub(crate) struct Watched<K: Link> {
+    alloc: Global,
     link: K,
     asks: u64,
+    answers: Vec<Answer>,
 }
 
 impl<K: Link> Watched<K> {
     /// A link that was asked nothing.
-    pub(crate) fn new(link: K) -> Watched<K> {
-        Watched { link, asks: 0 }
+    pub(crate) fn new(alloc: Global, link: K) -> Watched<K> {
+        Watched {
+            alloc,
+            link,
+            asks: 0,
+            answers: Vec::new(alloc),
+        }
     }
 
     /// How many asks there were.
     pub(crate) fn asks(&self) -> u64 {
         self.asks
+    }
+
+    /// Takes the answers that it kept.
+    pub(crate) fn take_answers(&mut self) -> Vec<Answer> {
+        replace(&mut self.answers, Vec::new(self.alloc))
+    }
+
+    /// Keeps what came if it is an answer of the offer that the message asks of. One that finds no memory is missed by the
+    /// checks.
+    fn keep(&mut self, message: &[u8], came: &[u8]) {
+        let Ok(Message::Ask(ask)) = decode(self.alloc, message) else {
+            return;
+        };
+        if let Ok(Message::Answer(answer)) = decode(self.alloc, came) {
+            if answer.offer == ask.offer {
+                let _kept = self.answers.push(answer);
+            }
+        }
     }
 }
 
@@ -35,6 +65,10 @@ impl<K: Link> Link for Watched<K> {
 
     fn ask<R: Wait>(&mut self, rt: &R, message: &[u8]) -> Reached {
         self.asks = self.asks.wrapping_add(1);
-        self.link.ask(rt, message)
+        let reached = self.link.ask(rt, message);
+        if let Reached::Bytes(bytes) = &reached {
+            self.keep(message, bytes);
+        }
+        reached
     }
 }
