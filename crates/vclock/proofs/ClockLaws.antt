@@ -4,9 +4,12 @@ use Rattle.std.proofs.lemmas.Bool.{or_cases, or_left, or_right, ltb-false, lt-lt
 use Rattle.std.proofs.lemmas.Bool.Decides.{nat_tests}
 use Rattle.std.proofs.Math.ListN.{drop_of_length-le}
 use Rattle.std.proofs.lemmas.List.{length-drop}
-use Rattle.vclock.specs.Clock.{Pairs, counter, IsAtMost, at_most, Rises, IsClock, with_counter, raised, raise_fault, has_node, has_repeat, is_bad_pair, clock_of}
-use Rattle.std.proofs.Common.{None, ◌||◌}
-use Rattle.std.specs.List.{list_any}
+use Rattle.vclock.specs.Clock.{Pairs, counter, IsAtMost, at_most, Rises, IsClock, with_counter, raised, raise_fault, has_node, has_repeat, is_bad_pair, clock_of, merged, merge_fault}
+use Rattle.std.proofs.Common.{None, Some, ◌||◌}
+use Rattle.vclock.specs.declared.refusal.Refusal.TheVariants.{ClockFull}
+use Rattle.std.specs.List.{list_any, filter}
+use Rattle.std.proofs.Common.{max}
+use Rattle.std.proofs.Math.Nat.{le-max_left, le-max_right}
 use Rattle.std.proofs.lemmas.List.{take_more, take-append-drop}
 use Rattle.std.proofs.lemmas.List.Folds.{list_any-append}
 
@@ -250,3 +253,50 @@ has_node_more ps i n d h = ap (λ t. has_node t n) (take_more ps i d h) ∙ has_
 
 pub has_repeat_found : (ps : Pairs) (i : ℕ) (d : ℕ × ℕ) → i < length ps → has_node (take i ps) (get_or ps i d).0 ≡ true → has_repeat ps ≡ true
 has_repeat_found ps i d h e = ap has_repeat (sym (take-append-drop (i + 1) ps)) ∙ has_repeat-front (take (i + 1) ps) (drop (i + 1) ps) (has_repeat_more ps i d h ∙ or_right (has_repeat (take i ps)) _ e)
+
+-- ---- the greater counter of each node
+
+pub counter-merged : (a b : Pairs) (n : ℕ) → counter (merged a b) n ≡ max (counter b n) (counter a n)
+counter-merged a [] n = omega arith
+counter-merged a ((m, c) ∷ b) n =
+    counter-with_counter (merged a b) m (max c (counter a m)) n ∙ elim (eqb m n) as (λ t. eqb m n ≡ t → cond t (max c (counter a m)) (counter (merged a b) n) ≡ max (cond t c (counter b n)) (counter a n)) [
+      | true ↦ λ t. ap (λ k. max c (counter a k)) (eqb-true m n t)
+      | false ↦ λ t. counter-merged a b n
+    ] refl
+
+counter_small : (low : ℕ) (ps : Pairs) (n : ℕ) → Rises low ps → counter ps n < 2 ^ 64
+counter_small low [] n r = omega arith
+counter_small low ((m, c) ∷ ps) n r = elim (eqb m n) as (λ t. cond t c (counter ps n) < 2 ^ 64) [ true ↦ r.3 | false ↦ counter_small m ps n r.4 ]
+
+pub Rises-merged : (low : ℕ) (a b : Pairs) → Rises 0 a → Rises low b → Rises 0 (merged a b)
+Rises-merged low a [] ra rb = ra
+Rises-merged low a ((m, c) ∷ b) ra rb =
+    let small = counter_small 0 a m ra in
+    Rises-with_counter 0 (merged a b) m (max c (counter a m)) (Rises-merged m a b ra rb.4) (omega arith) rb.1 (omega (arith, rb.2, le-max_left c (counter a m))) (max_below c (counter a m) (2 ^ 64) rb.3 small)
+  where
+    max_below : (x y k : ℕ) → x < k → y < k → max x y < k
+    max_below x y k p q = grind (arith, nat_tests)
+
+pub length-merged : (low : ℕ) (a b : Pairs) → Rises 0 a → Rises low b → length (merged a b) ≤ length a + length (filter (λ p. eqb (counter a p.0) 0) b)
+length-merged low a [] ra rb = omega arith
+length-merged low a ((m, c) ∷ b) ra rb =
+    let rest = length-merged m a b ra rb.4 in
+    elim (eqb (counter a m) 0) as (λ t. eqb (counter a m) 0 ≡ t → length (with_counter (merged a b) m (max c (counter a m))) ≤ length a + length (cond t ((m, c) ∷ filter (λ p. eqb (counter a p.0) 0) b) (filter (λ p. eqb (counter a p.0) 0) b))) [
+      | true ↦ λ t. omega (arith, rest, length-with_counter (merged a b) m (max c (counter a m)))
+      | false ↦ λ t.
+          let some : counter a m ≢ 0 = eqb-false (counter a m) 0 t in
+          let there : 0 < counter (merged a b) m = omega (arith, counter-merged a b m, le-max_right (counter b m) (counter a m)) in
+          omega (arith, rest, length_present 0 (merged a b) m (max c (counter a m)) (Rises-merged m a b ra rb.4) there)
+    ] refl
+
+pub merged-drop : (a b : Pairs) (i : ℕ) (d : ℕ × ℕ) → i < length b → merged a (drop i b) ≡ with_counter (merged a (drop (i + 1) b)) (get_or b i d).0 (max (get_or b i d).1 (counter a (get_or b i d).0))
+merged-drop a b i d h = rw (add-one i, drop-cons b i d h) refl
+
+pub merged_clock : (a b : Pairs) → IsClock a → IsClock b → length a + length (filter (λ p. eqb (counter a p.0) 0) b) ≤ 32 → IsClock (merged a b)
+merged_clock a b ca cb few = record { rising = Rises-merged 0 a b ca.rising cb.rising; short = omega (arith, few, length-merged 0 a b ca.rising cb.rising) }
+
+pub merge_fault_over : (a b : Pairs) → 32 < length a + length (filter (λ p. eqb (counter a p.0) 0) b) → merge_fault a b ≡ Some ClockFull
+merge_fault_over a b h = rw (lt-ltb 32 (length a + length (filter (λ p. eqb (counter a p.0) 0) b)) h) refl
+
+pub merge_fault_none : (a b : Pairs) → length a + length (filter (λ p. eqb (counter a p.0) 0) b) ≤ 32 → merge_fault a b ≡ None
+merge_fault_none a b h = rw (le-ltb 32 (length a + length (filter (λ p. eqb (counter a p.0) 0) b)) h) refl

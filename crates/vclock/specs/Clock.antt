@@ -1,6 +1,6 @@
 -- Clocks as finite maps from node to counter: the vector clocks of the paper of 2007, section 4.4.
-use Rattle.std.specs.Prelude.{ℕ, ◌+◌, ◌<◌, ◌≤◌, ◌^◌, Bool, true, false, ◌&&◌, ◌||◌, List, [], ◌∷◌, length, if◌then◌else◌, ◌==◌, nat_le, nat_lt, Option, Some, None}
-use Rattle.std.specs.List.{list_any}
+use Rattle.std.specs.Prelude.{ℕ, ◌+◌, ◌<◌, ◌≤◌, ◌^◌, Bool, true, false, ◌&&◌, ◌||◌, List, [], ◌∷◌, length, if◌then◌else◌, ◌==◌, nat_le, nat_lt, Option, Some, None, max}
+use Rattle.std.specs.List.{list_any, filter}
 use Rattle.vclock.specs.declared.clock.ClockOrder.{ClockOrder}
 use Rattle.vclock.specs.declared.clock.ClockOrder.TheVariants.{Before, After, Equal, Apart}
 use Rattle.vclock.specs.declared.refusal.Refusal.{Refusal}
@@ -79,3 +79,12 @@ pairs_fault ps = if is_bad ps then Some BadClock else if nat_lt 32 (length ps) t
 abbrev pub clock_of : Pairs → Pairs
 clock_of [] = []
 clock_of ((m, c) ∷ rest) = with_counter (clock_of rest) m c
+
+-- the map with the greater counter of each node in two
+abbrev pub merged : Pairs → Pairs → Pairs
+merged a [] = a
+merged a ((m, c) ∷ rest) = with_counter (merged a rest) m (max c (counter a m))
+
+-- why two clocks cannot be merged: they have over 32 nodes together
+abbrev pub merge_fault : Pairs → Pairs → Option Refusal
+merge_fault a b = if nat_lt 32 (length a + length (filter (λ p. counter a p.0 == 0) b)) then Some ClockFull else None
