@@ -17,6 +17,14 @@ use vclock::refusal::Refusal;
 ///
 /// Moments are milliseconds and latencies are microseconds. The slots are counted by the ledger that they are parts
 /// of. A slot can't be dropped, so that one who borrows it must give it back.
+///
+/// ```
+/// assert!(rt; matches!(&controller.adjust(100), Ok(Some(99_000))));
+/// assert_eq!(rt; controller.target(), 4);
+/// assert!(rt; matches!(&controller.sample(60_100, 25_000), Ok(101)));
+/// assert!(rt; matches!(&controller.adjust(60_100), Ok(Some(25_000))));
+/// assert_eq!(rt; controller.target(), 5);
+/// ```
 #[derive(Drop)]
 pub struct Controller<L: Ledger> {
     floor: u32,
@@ -57,7 +65,7 @@ impl<L: Ledger> Model for Controller<L> {
 impl<L: Ledger> Controller<L> {
     /// A controller whose target is the ceiling, with no slot lent and no sample, that accepts moments from 0 on.
     ///
-    /// The target stays within the floor and the ceiling, 1 to 1,024 slots. It falls where the latency is over the
+    /// The target stays within the floor and the ceiling, 1 to 1,024 slots. It falls if the latency is over the
     /// threshold, in microseconds.
     ///
     /// Refused: NoMemory. All the memory that a controller ever has is taken here.
@@ -105,7 +113,7 @@ impl<L: Ledger> Controller<L> {
         self.target.saturating_sub(self.lent)
     }
 
-    /// How many slots are lent or could be: the target, or what is lent where the target fell below that. It takes no
+    /// How many slots are lent or could be: the target, or what is lent if the target fell below that. It takes no
     /// memory.
     pub fn allowance(&self) -> u32
         ensures value { result ≡ allowance_of self.now }
@@ -166,7 +174,7 @@ impl<L: Ledger> Controller<L> {
         self.samples.clear();
     }
 
-    /// Keeps the latency of an answer of the foreground, in microseconds, with its moment in milliseconds. It answers
+    /// Keeps the latency of a reply of the foreground, in microseconds, with its moment in milliseconds, and returns
     /// how many samples are kept: the last 1,024. It takes no memory.
     ///
     /// Refused: ClockBack (a later moment was accepted before). The controller is then as it was.
@@ -182,9 +190,9 @@ impl<L: Ledger> Controller<L> {
         Ok(self.samples.len() as u32)
     }
 
-    /// Sets the target by the samples of the last 60,000 milliseconds, and answers their 99th percentile in
-    /// microseconds: the smallest that at least 99 of 100 are at most. None, and the target as it was, where there are
-    /// no such samples. It takes no memory.
+    /// Sets the target by the samples of the last 60,000 milliseconds, and returns their 99th percentile in
+    /// microseconds: the smallest that at least 99 of 100 are at most. Without such samples it returns `None` and
+    /// leaves the target. It takes no memory.
     ///
     /// Over the threshold the target becomes half, rounded down, but not below the floor. At half of the threshold or
     /// less it rises by one, but not above the ceiling.

@@ -11,7 +11,8 @@ pub(crate) const MOST: usize = 1024;
 /// For how many milliseconds a sample counts.
 const MINUTE: u64 = 60_000;
 
-/// A latency in microseconds, and the moment in milliseconds when it was measured.
+/// A latency of a read or a write of the foreground, in microseconds, and the moment in milliseconds when it was
+/// measured.
 #[derive(Clone, Copy)]
 pub struct Sample {
     pub moment: u64,
@@ -47,7 +48,7 @@ fn keep_new(room: &mut Vec<u32>, sample: &Sample, now: u64)
     }
 }
 
-/// The 99th percentile of the latencies in the room, which it sorts: None where there are none. It takes no memory.
+/// The 99th percentile of the latencies in the room, which it sorts: `None` if the room is empty. It takes no memory.
 pub(crate) fn percentile(room: &mut Vec<u32>) -> Option<u32>
     requires { vec_len room.old ≤ 1024 }
     ensures value { result ≡ percentile room.old.items }

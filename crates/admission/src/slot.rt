@@ -7,6 +7,12 @@ use std::sync::ledger::{Ledger, Share};
 ///
 /// It is one part of the ledger of its controller, and counts one there, so that no slot is made or counted twice, and
 /// no slot of one controller is given to another. It can't be dropped: one who borrows a slot must give it back.
+///
+/// ```
+/// lent.reserve(1)?;
+/// let slot = controller.lend()?;
+/// lent.push_reserved(slot);
+/// ```
 pub struct Slot<L: Ledger> {
     pub(crate) share: Share<L>,
     pub ghost part: { share.parts ≡ 1 },

@@ -11,7 +11,7 @@ const AFTER_A_PUT: u32 = 3;
 /// How often a storm tells how far it is, at the most, for each of its two writers.
 const TELLINGS: u64 = 10;
 
-/// A gate that holds nobody, and tells on standard error how far the storm is, at most twenty times.
+/// A gate that holds no worker, and tells on standard error how far the storm is, at most twenty times.
 #[derive(Drop)]
 pub(crate) struct Teller<'a, R: Eprint> {
     rt: &'a R,
@@ -22,7 +22,7 @@ pub(crate) struct Teller<'a, R: Eprint> {
 }
 
 impl<'a, R: Eprint> Teller<'a, R> {
-    /// A gate for a storm of so many puts at each node.
+    /// A gate for a storm of `puts` puts at each node.
     pub(crate) fn new(rt: &'a R, tallies: &'a Tallies, puts: u64) -> Teller<'a, R> {
         Teller {
             rt,
@@ -48,7 +48,7 @@ impl<'a, R: Eprint> Teller<'a, R> {
         );
     }
 
-    /// Tells what both nodes have done. A storm goes on where nobody can read it.
+    /// Tells what both nodes have done. A storm goes on even if the line can't be written.
     fn tell(&self, when: &str, one: Tally, two: Tally) {
         let _ = eprintln!(self.rt;
             "{when}puts {} and {}, digests {} and {}, stale {} and {}, snapshots {} and {}, syncs {} and {}, \

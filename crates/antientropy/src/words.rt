@@ -75,7 +75,7 @@ const PUTS: u64 = 100;
 pub(crate) enum Task {
     /// `run`: run a script.
     Run,
-    /// `storm`: run a storm of so many puts at each node.
+    /// `storm`: run a storm of that many puts at each node.
     Storm {
         /// How many, 1 to 10,000.
         puts: u64,

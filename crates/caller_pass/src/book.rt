@@ -12,7 +12,15 @@ use std::marker::Model;
 use std::sync::ledger::{self, Blank, Ledger, Share};
 use vclock::refusal::Refusal;
 
-/// The count of a range's entries, with the passes that came back.
+/// The count of a range's entries, with the passes that came back. Its ledger ties it to the passes that were made with
+/// it, so a pass of another range does not compile in its place.
+///
+/// ```
+/// let (book, mut passes) = open_passes::<L>(blank, alloc, 2)?;
+/// let one = passes.pop().ok_or("no pass")?;
+/// let zero = passes.pop().ok_or("one pass")?;
+/// Ok((LockedRange::new(state, book), one, zero))
+/// ```
 #[derive(Drop)]
 pub struct Book<L: Ledger> {
     count: ledger::Book<L>,
@@ -90,7 +98,7 @@ pub fn open_passes<L: Ledger>(
     Ok((book, passes))
 }
 
-/// A pass that a book had no room for.
+/// A pass that a book had no room for, handed back.
 #[derive(Drop)]
 pub struct Unabsorbed<L: Ledger> {
     /// The pass.

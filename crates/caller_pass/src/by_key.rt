@@ -6,8 +6,8 @@ use range_state::event::Receipt;
 use std::alloc::{AllocError, Global};
 use std::collections::HashMap;
 
-/// Where a pass has the receipts of each key: of the first so many of its receipts. A place is kept as one more than it is,
-/// so that 0 stands for no receipt.
+/// An index of a pass's receipts by key, of the first few of them: as many as `earlier` has. A place is kept as one
+/// more than it is, so that 0 stands for no receipt.
 #[derive(Drop)]
 pub(crate) struct ByKey {
     /// By key: the last receipt that is of it.
@@ -49,7 +49,7 @@ impl ByKey {
         self.earlier[place]
     }
 
-    /// Indexes the receipts that are not indexed yet, or the first few of them where memory runs out.
+    /// Indexes the receipts that are not indexed yet, or the first few of them if memory runs out.
     pub(crate) fn index(&mut self, alloc: Global, receipts: &[Receipt])
         requires { IsIndex receipts.now self.old }
         ensures { IsIndex receipts.now self.new }

@@ -16,7 +16,13 @@ use std::alloc::Global;
 use std::sync::ledger::Ledger;
 use vclock::refusal::{PassPart, Refusal};
 
-/// A range that was closed.
+/// A range that was closed: each pass was handed in and settled, which means that its receipts are the entries of its
+/// seat, and its readings what the journal says.
+///
+/// ```
+/// let closed = range.close(alloc, passes).ok().ok_or("not closed")?;
+/// assert_eq!(rt; (closed.state.journal().len(), closed.passes.len()), (2, 2));
+/// ```
 #[derive(Drop)]
 pub struct Closed<L: Ledger> {
     /// The range.
@@ -25,7 +31,12 @@ pub struct Closed<L: Ledger> {
     pub passes: Vec<Pass<L>>,
 }
 
-/// A range that was not closed.
+/// A range that was not closed, with its passes and the cause, so nothing is lost.
+///
+/// ```
+/// let unclosed = range.close(alloc, passes).err().ok_or("closed")?;
+/// assert!(rt; matches!(&unclosed.refusal, Refusal::Stranger));
+/// ```
 #[derive(Drop)]
 pub struct Unclosed<L: Ledger> {
     /// The range.
@@ -40,9 +51,9 @@ impl<L: Ledger> LockedRange<L> {
     /// Closes the range, if each seat has a pass, and each pass was told what the journal has: its receipts are the entries of
     /// its seat, in order, and each of its readings is what the journal held for the key at the reading's front.
     ///
-    /// Refused, in order: Stranger (a seat has no pass), Unsettled (the first place where a pass and the journal differ: by
-    /// seat, in a pass receipts before readings), NoMemory, which may stand in place of Unsettled. Range and passes are then
-    /// handed back.
+    /// Refused, in order: Stranger (a seat has no pass), Unsettled (a pass and the journal differ; the first
+    /// difference: by seat, in a pass receipts before readings), NoMemory, which may stand in place of Unsettled. Range
+    /// and passes are then handed back.
     pub fn close(self, alloc: Global, passes: Vec<Pass<L>>) -> Result<Closed<L>, Unclosed<L>>
         ensures closed { IfOk result (λ closed. (closed.state ≡ self.state) × (closed.passes.items ≡ passes.items)) }
         ensures there { OnOk result (AllThere L.parts passes.items) }
@@ -121,7 +132,7 @@ fn has_seat<L: Ledger>(passes: &Vec<Pass<L>>, seat: u16) -> bool
     passes.iter().any(|pass| pass.seat() == seat)
 }
 
-/// Where a pass of the seat and the journal differ first.
+/// The first difference of the pass of a seat and the journal.
 fn seat_differs<L: Ledger>(
     alloc: Global,
     state: &RangeState,
@@ -143,7 +154,7 @@ fn seat_differs<L: Ledger>(
     Ok(None)
 }
 
-/// The first place where a pass and the journal differ.
+/// The first difference of a pass and the journal.
 fn pass_differs<L: Ledger>(
     alloc: Global,
     state: &RangeState,
@@ -161,7 +172,7 @@ fn pass_differs<L: Ledger>(
     Ok(None)
 }
 
-/// The first place where the receipts are not the entries of the seat.
+/// The first place at which the receipts are not the entries of the seat.
 fn receipts_differ(receipts: &[Receipt], seat: u16, entries: &[Entry]) -> Option<usize>
     ensures { MatchOption result (receipts.now ≡ of_seat seat entries.now)
         (DifferAt receipts.now (of_seat seat entries.now)) }

@@ -8,8 +8,8 @@ ghost use Rattle.caller_pass.specs.Passes.{PassView, new_pass, new_passes};
 ghost use Rattle.caller_pass.specs.Locks.{Locked, IsLocked, behind_fault};
 ghost use Rattle.caller_pass.specs.Closings.{IsTrueReading, IsSettled, AllThere};
 
-/// A caller reads its own writes: where a read is not Behind, the journal is at least as long as what the caller has seen, and
-/// what is held for the key covers each receipt of the caller for it.
+/// A caller reads its own writes: if a read is not refused as Behind, the journal is at least as long as what the
+/// caller has seen, and what is held for the key covers each receipt of the caller for it.
 pub fn reads_cover_receipts()
     ensures { (entries : List Entry) (pass : PassView) (key : List ℕ) → behind_fault entries pass key ≡ None
         → (pass.seen ≤ length entries)

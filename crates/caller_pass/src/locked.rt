@@ -42,6 +42,13 @@ use walk_messages::message::Offer;
 
 /// A range with its book, as a lock keeps it. Each call is one step of the range. The pass that it is lent gets exactly the
 /// receipts of the entries that came, or the one reading that is returned; no other call adds to a pass.
+///
+/// ```
+/// let context = Clock::from_pairs(alloc, &[])?;
+/// let value = Bytes::copy_of(alloc, b"x")?;
+/// let receipt = range.put(alloc, pass, 1, b"a", &context, Kind::Live, value)?;
+/// Ok(receipt.number)
+/// ```
 #[derive(Drop)]
 pub struct LockedRange<L: Ledger> {
     pub(crate) state: RangeState,
@@ -113,8 +120,8 @@ impl<L: Ledger> LockedRange<L> {
         Ok(receipt)
     }
 
-    /// Takes in a version that another node sent, as `RangeState::accept` for the seat of the pass, and tells the pass of the
-    /// entry, where the version was not known.
+    /// Takes in a version that another node sent, as `RangeState::accept` for the seat of the pass, and tells the pass
+    /// of the entry if the version was not known.
     ///
     /// Refused as `RangeState::accept`. Range and pass are then as they were.
     pub fn accept(
@@ -147,8 +154,8 @@ impl<L: Ledger> LockedRange<L> {
         Ok(Accepted::Taken(receipt))
     }
 
-    /// The versions that are held for a key, in the order of their texts: none where the key is not held. The pass keeps them
-    /// as a reading.
+    /// The versions that are held for a key, in the order of their texts: empty if the key is not held. The pass keeps
+    /// them as a reading.
     ///
     /// Refused, in order: Behind (the journal is shorter than what the pass has seen; or what is held does not cover a receipt
     /// of the pass for the key: then with the number of the first such receipt), NoMemory. The pass is then as it was.
@@ -357,7 +364,8 @@ impl<L: Ledger> LockedRange<L> {
     }
 }
 
-/// How many entries a caller has seen who had seen so many, and was told of `count` entries of a journal of that length.
+/// How many entries a caller has seen, who had seen `seen`, and was told of `count` entries of a journal of length
+/// `journal`.
 fn seen_after(seen: u64, journal: u64, count: u64) -> u64
     ensures { result ≡ seen_after seen journal count }
 {

@@ -9,9 +9,19 @@ use std::alloc::Global;
 use std::marker::Model;
 use std::sync::ledger::{Ledger, Share};
 
-/// What a range told one of its callers: the entries that the caller brought, and the readings that it was given. Only the
-/// range's own calls add to it. It has one share of the book's count, which is the number of its receipts. An index finds its
-/// receipts of a key.
+/// What a range told one of its callers: the entries that the caller brought, and the readings that it was given. A
+/// thread that uses a range has a pass of its own, and hands it in when the range is closed. Only the range's own calls
+/// add to it. It has one share of the book's count, which is the number of its receipts. An index finds its receipts of
+/// a key.
+///
+/// ```
+/// let held = range.get(alloc, one, b"a")?;
+/// assert_eq!(rt; held.len(), 1);
+/// assert_eq!(rt;
+///     (one.seen(), one.receipts().len(), one.readings().len()),
+///     (1, 1, 1)
+/// );
+/// ```
 #[derive(Drop)]
 pub struct Pass<L: Ledger> {
     pub(crate) seat: u16,
@@ -77,7 +87,7 @@ impl<L: Ledger> Pass<L> {
     }
 
     /// Indexes the receipts that came since it was called last, so that the next read of a key looks at the receipts of
-    /// that key alone. Where memory runs out, it leaves the others to the reads.
+    /// that key alone. If memory runs out, it leaves the others to the reads.
     pub fn index(&mut self, alloc: Global)
         ensures { self.new ≡ self.old }
     {

@@ -2,7 +2,7 @@
 use vclock::bytes::Bytes;
 use version_set::set::VersionSet;
 
-/// What a caller was told that a key held, when the journal had so many entries.
+/// What a caller was told that a key held, and the length of the journal then.
 #[derive(Debug, Drop)]
 pub struct Reading {
     /// How many entries the journal had.

@@ -6,6 +6,13 @@ use std::sync::ledger::Ledger;
 use vclock::refusal::Refusal;
 
 /// Why a read was refused. Only a read of the range of this ledger makes one, for the pass that it was lent.
+///
+/// ```
+/// match range.get(rt, alloc, pass, key) {
+///     Ok(versions) => Ok(versions),
+///     Err(unread) => Err(unread.into_refusal()),
+/// }
+/// ```
 #[derive(Drop)]
 pub struct Unread<L: Ledger> {
     seat: u16,

@@ -43,6 +43,16 @@ fn a_raised_clock_is_after_the_other(rt: HostRuntime) -> Result<(), Fail> {
 }
 
 #[test]
+fn a_merged_clock_has_seen_what_either_has(rt: HostRuntime) -> Result<(), Fail> {
+    let alloc = rt.alloc();
+    let one = Clock::from_pairs(alloc, &[(1, 3), (2, 1)])?;
+    let other = Clock::from_pairs(alloc, &[(1, 1), (3, 1)])?;
+    let merged = one.merge(alloc, &other)?;
+    assert_eq!(rt; merged.pairs(), [(1, 3), (2, 1), (3, 1)].as_slice());
+    Ok(())
+}
+
+#[test]
 fn pairs_of_no_clock_are_refused(rt: HostRuntime) {
     for pairs in [
         [(1, 0)].as_slice(),

@@ -25,19 +25,13 @@ pub(crate) fn read<L: Ledger, R: Wait>(
     }
 }
 
-/// The context that has seen these versions: for each node the greatest of its counters. Refused: ClockFull, NoMemory.
+/// The context that has seen these versions: their clocks, merged. Refused: ClockFull, NoMemory.
 fn context_of(alloc: Global, versions: &VersionSet) -> Result<Clock, Refusal> {
-    let mut pairs: Vec<(u64, u64)> = Vec::new(alloc);
+    let mut context = Clock::from_pairs(alloc, &[])?;
     for version in versions.iter() {
-        for &(node, counter) in version.clock.pairs() {
-            let node = u64::from(node);
-            match pairs.iter().position(|pair| pair.0 == node) {
-                Some(at) => pairs[at].1 = pairs[at].1.max(counter),
-                None => pairs.push((node, counter))?,
-            }
-        }
+        context = context.merge(alloc, &version.clock)?;
     }
-    Clock::from_pairs(alloc, &pairs)
+    Ok(context)
 }
 
 /// Puts a value for a key, in place of the versions that the context has seen, and returns the new version. Refused as

@@ -21,11 +21,10 @@ pub(crate) fn homes_of(ring: &Ring, range: u16) -> Result<Homes, Refusal>
     if ring.nodes().len() < 2 {
         return Err(Refusal::BadRing);
     }
-    let (first, second) = (ring.preference(range, 0), ring.preference(range, 1));
-    if first == 0 || second == 0 {
-        return Err(Refusal::BadRing);
-    }
-    Ok(Homes { first, second })
+    Ok(Homes {
+        first: ring.preference(range, 0),
+        second: ring.preference(range, 1),
+    })
 }
 
 /// Those of the keys `NAME-0`, `NAME-1` and so on, so many, that lie in a range. Refused: NoMemory.

@@ -17,8 +17,8 @@ use vclock::format::Format;
 use vclock::refusal::Refusal;
 use version_set::version::Version;
 
-/// Some consecutive rows of a leaf, at least one. A copy of the leaf shares them, until one of both changes them. The first
-/// key is kept besides, so that a search among chunks looks at no row.
+/// Some consecutive rows of a leaf, at least one. Copies of the leaf share them until one is changed. The first key is
+/// kept as well, so that a search among chunks looks at no row.
 #[derive(Debug, Drop)]
 pub(crate) struct Chunk {
     first: Bytes,
@@ -84,8 +84,8 @@ impl Chunk {
         })
     }
 
-    /// Offers a version to the set of the row at a place, in a copy of the rows where they have other owners. Refused:
-    /// NoMemory. The chunk is then as it was.
+    /// Offers a version to the set of the row at a place. If the rows have other owners, a copy of them is changed.
+    /// Refused: NoMemory. The chunk is then as it was.
     pub(crate) fn offer(
         &mut self,
         alloc: Global,
@@ -102,8 +102,8 @@ impl Chunk {
         Arc::make_mut(&mut self.held)?.offer(alloc, at, version)
     }
 
-    /// Puts a row at a place among the rows, in a copy of them where they have other owners. Refused: NoMemory. The chunk is
-    /// then as it was.
+    /// Puts a row at a place among the rows. If they have other owners, a copy of them is changed. Refused: NoMemory.
+    /// The chunk is then as it was.
     pub(crate) fn insert(&mut self, alloc: Global, at: usize, row: Row) -> Result<(), Refusal>
         requires at { at ≤ length self.old.rows }
         requires fits { FitsText self.old.format row }

@@ -1,4 +1,4 @@
-//! The rows of a leaf in chunks: where a row stands, and what puts one there.
+//! The rows of a leaf in chunks: how a row is found, and how one is put.
 ghost use Rattle.std.specs.Prelude.{◌≡◌, ◌+◌, ◌<◌, ◌≤◌, ◌^◌, ⊤, None, length, take, drop, IfOk, OnOk, OnErr};
 ghost use Rattle.std.specs.List.{AllByRecursion, flat_map, insert, sum_by};
 ghost use Rattle.std.specs.declared.cmp.Ordering.TheVariants.{Less, Greater};
@@ -20,7 +20,7 @@ use version_set::version::Version;
 /// How many chunks a leaf has at most: more than any memory holds, and so few that the bytes of its text can be counted.
 const MOST_CHUNKS: usize = 1 << 56;
 
-/// Where a row stands, or where one can be put.
+/// The place of a row, or of one that is to be put.
 #[derive(Clone, Copy)]
 pub(crate) struct Spot {
     /// The number of the chunk.
@@ -29,8 +29,8 @@ pub(crate) struct Spot {
     pub(crate) at: usize,
 }
 
-/// The number of the chunk where the row of a key stands, or where one can be put: the last chunk whose first key is at
-/// most the key, or else the first chunk.
+/// The number of the chunk that has the row of a key, or can get it: the last chunk whose first key is at most the key,
+/// or else the first chunk.
 pub(crate) fn chunk_of(chunks: &[Chunk], key: &[u8]) -> usize
     requires some { 1 ≤ length chunks.now }
     requires each { AllByRecursion (λ (c : Bucket). 1 ≤ length c.rows) chunks.now }
@@ -109,8 +109,8 @@ pub(crate) fn insert_at(
     chunks[gap.chunk].insert(alloc, gap.at, row)
 }
 
-/// The same gap, in a chunk that is not full, which may be a part of one that was. Refused: NoMemory. The rows are as they
-/// were.
+/// Makes room at a gap, by splitting a full chunk, and returns the place of the gap. Refused: NoMemory. The rows are as
+/// they were.
 fn roomy_gap(alloc: Global, chunks: &mut Vec<Chunk>, gap: Spot) -> Result<Spot, Refusal>
     requires gap { IsGapSpot chunks.old.items (place_in chunks.old.items gap.chunk gap.at) gap.chunk gap.at }
     requires each { AllByRecursion (λ (c : Bucket). length c.rows ≤ 15) chunks.old.items }
@@ -134,8 +134,8 @@ fn roomy_gap(alloc: Global, chunks: &mut Vec<Chunk>, gap: Spot) -> Result<Spot, 
     })
 }
 
-/// From which row on a full chunk is split off where a row is to be put at a place in it. Behind all rows, as where keys
-/// come in order, it is the last one, so that most rows stand in chunks that are full; else it is the middle one.
+/// The row from which a full chunk is split, if a row is to be put at a place in it. After all rows, as with keys that
+/// come in order, it is the last one, so that most rows are in full chunks; else it is the middle one.
 fn cut_for(at: usize) -> usize
     ensures some { 1 ≤ result }
     ensures less { result < 15 }

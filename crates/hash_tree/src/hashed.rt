@@ -9,7 +9,14 @@ use vclock::bytes::Bytes;
 /// A SHA-256 digest.
 pub type Digest = [u8; 32];
 
-/// A text with its own SHA-256 digest.
+/// A text with its SHA-256 digest. Only `hash` computes one, so a call that takes a `Hashed` need not hash the text
+/// itself, and under a lock none is hashed.
+///
+/// ```
+/// let hashed = hash(Bytes::copy_of(alloc, b"abc")?);
+/// assert_eq!(rt; hashed.text(), b"abc".as_slice());
+/// assert!(rt; is_spelled(alloc, hashed.digest(), ABC)?);
+/// ```
 #[derive(Debug, Drop)]
 pub struct Hashed {
     text: Bytes,

@@ -78,7 +78,7 @@ impl Leaf {
         is_chunked_text(self.format, text, &self.chunks)
     }
 
-    /// An equal leaf. Refused: NoMemory. No row is copied, until one of both changes it or one that stands near it.
+    /// An equal leaf. Refused: NoMemory. It copies no row: both leaves share chunks until either changes one.
     pub(crate) fn try_clone(&self, alloc: Global) -> Result<Leaf, Refusal>
         ensures { Answers result None (λ copy. copy ≡ self.now) }
     {
@@ -88,7 +88,7 @@ impl Leaf {
         })
     }
 
-    /// What is held for a key, if it has a row. It takes no memory, and looks at as many rows as a search by halves does.
+    /// What is held for a key, if it has a row. It takes no memory: a binary search.
     pub(crate) fn find(&self, key: &[u8]) -> Option<&VersionSet>
         ensures found { unwrap_or (option_map (λ s. s.now) result) [] ≡ versions_in key.now self.now.rows }
         ensures valid { IsBucket self.now }
@@ -164,7 +164,7 @@ fn row_of_one(alloc: Global, key: &[u8], version: Version) -> Result<Row, Refusa
     Ok(Row { key, versions })
 }
 
-/// Where the row of a key stands, or else where it would stand.
+/// The place of the row of a key, or else the place that it would have.
 fn find_place(rows: &[Row], key: &[u8]) -> Result<usize, usize>
     requires { AscendByKey rows.now }
     ensures { IsPlace key.now rows.now result }
@@ -172,7 +172,7 @@ fn find_place(rows: &[Row], key: &[u8]) -> Result<usize, usize>
     rows.binary_search_by(|row| row.key.as_slice().cmp(key))
 }
 
-/// Makes room for so many more bytes. It fails only where memory is needed.
+/// Makes room for that many more bytes. It fails only if memory is needed.
 fn reserve(out: &mut Vec<u8>, len: u128) -> Result<(), AllocError>
     ensures items { out.new.items ≡ out.old.items }
     ensures capacity { vec_capacity out.old ≤ vec_capacity out.new }

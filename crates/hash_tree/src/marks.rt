@@ -10,7 +10,9 @@ use std::marker::Model;
 use vclock::format::Format;
 use vclock::refusal::Refusal;
 
-/// The digests of the clean nodes of a tree; the other nodes are dirty. The children of a clean node are clean.
+/// The digests of the clean nodes of a tree; the other nodes are dirty, and have none. A new version makes its leaf and
+/// all nodes above it dirty, and a rehash makes them clean from the leaves up, so the children of a clean node are
+/// clean.
 #[derive(Drop)]
 pub struct Marks {
     format: Format,
@@ -41,7 +43,7 @@ impl Marks {
         Ok(Marks { format, digests })
     }
 
-    /// The digest of a node, if it is clean: none too where the tree has no such node. It takes no memory.
+    /// The digest of a node: `None` if the node is dirty or the tree has no such node. It takes no memory.
     pub fn get(&self, node: NodeAt) -> Option<Digest>
         ensures digest { result ≡ digest_at self.now.digests (place_at node.depth node.index) }
         ensures valid { IsTree self.now }
@@ -158,7 +160,7 @@ fn count_of(format: Format) -> usize
     }
 }
 
-/// The children of the node at a place: none where it is a leaf.
+/// The children of the node at a place. A leaf has no children.
 fn children_at(digests: &[Option<Digest>], place: usize) -> &[Option<Digest>]
     requires { place < 2 ^ 32 }
     ensures { result.now ≡ children_of digests.now place }

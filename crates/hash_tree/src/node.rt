@@ -4,7 +4,13 @@ ghost use Rattle.hash_tree.specs.Nodes.{nodes_above, place_at, tree_depth};
 
 use vclock::format::Format;
 
-/// A node of a tree. Its children are the nodes of the next depth with the indices 16 times its own, and the 15 after.
+/// A node of a tree, by its depth and its index there. The root is the only node of depth 0. The children of a node are
+/// the nodes of the next depth with 16 times its index, and the 15 after.
+///
+/// ```
+/// let node = NodeAt::new(2, 12).ok_or("no such node")?;
+/// let ask = Message::Ask(Ask { offer: 1, node });
+/// ```
 #[derive(Clone, Copy, Debug, PartialEq, Eq)]
 pub struct NodeAt {
     /// How many nodes lie above it: 0 for the root, at most 3.
@@ -26,7 +32,7 @@ pub fn tree_depth(format: Format) -> u8
 }
 
 impl NodeAt {
-    /// The node of a depth and an index: none where the depth is over 3 or has no such index.
+    /// The node of a depth and an index: `None` if the depth is over 3 or has no such index.
     pub fn new(depth: u8, index: u16) -> Option<NodeAt>
         ensures node { IsSome result ↔ ((depth ≤ 3) × (index < 16 ^ depth)) }
         ensures depth { IfSome result (λ n. n.depth ≡ depth) }

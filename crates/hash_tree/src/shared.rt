@@ -20,7 +20,15 @@ use vclock::refusal::Refusal;
 use version_set::set::VersionSet;
 use version_set::version::Version;
 
-/// A leaf that has any number of owners. A leaf without rows takes no memory.
+/// The rows of one leaf, with any number of owners: a range, its snapshots and its jobs share it until the range
+/// changes it. A leaf without rows takes no memory.
+///
+/// ```
+/// let mut text = Vec::new(alloc);
+/// leaf.put_text(&mut text)?;
+/// assert_eq!(rt; leaf.text_len(), text.len() as u128);
+/// assert!(rt; leaf.is_text(text.as_slice()));
+/// ```
 #[derive(Debug, Drop)]
 pub struct SharedLeaf {
     format: Format,
@@ -104,8 +112,7 @@ impl SharedLeaf {
         }
     }
 
-    /// What is held for a key, if it has a row. The rows ascend by key. It takes no memory, and looks at as many rows as a
-    /// search by halves does.
+    /// What is held for a key, if it has a row. The rows ascend by key. It takes no memory: a binary search.
     pub fn find(&self, key: &[u8]) -> Option<&VersionSet>
         ensures found { unwrap_or (option_map (λ s. s.now) result) [] ≡ versions_in key.now self.now.rows }
         ensures valid { IsBucket self.now }
@@ -127,7 +134,7 @@ impl SharedLeaf {
         }
     }
 
-    /// Offers a version to the set of a key, in a copy of the leaf where it has other owners.
+    /// Offers a version to the set of a key. If the leaf has other owners, a copy of it is changed.
     ///
     /// Refused, in order: Crowded (the set would have over 64 versions), NoMemory. The leaf is then as it was.
     pub fn offer(&mut self, alloc: Global, key: &[u8], version: Version) -> Result<(), Refusal>
@@ -152,8 +159,8 @@ impl SharedLeaf {
     }
 }
 
-/// Offers a version to the set of a key of a leaf, or of a copy that takes its place where it has other owners. Refused:
-/// NoMemory. The leaf is then as it was.
+/// Offers a version to the set of a key of a leaf. If it has other owners, a copy is changed and takes its place.
+/// Refused: NoMemory. The leaf is then as it was.
 fn offer_to(
     alloc: Global,
     shared: &mut Arc<Leaf, Global>,

@@ -158,14 +158,14 @@ impl WrittenRows {
         Ok(())
     }
 
-    /// For how many rows room is made besides, where there is none: for as many as there are, up to a full chunk.
+    /// How many spare rows to reserve: as many as there are, at most a full chunk.
     fn spare_rows(&self) -> usize {
         let len = self.rows.len();
         len.max(SPARE_ROWS)
             .min(MOST_ROWS.saturating_sub(len.saturating_add(1)))
     }
 
-    /// For how many bytes of text room is made besides, where there is none: for a quarter of what there are, and some.
+    /// How many spare bytes of text to reserve: a quarter of what there are, and some.
     fn spare_bytes(&self) -> usize {
         SPARE_BYTES.saturating_add(self.text.len() / 4)
     }
@@ -216,8 +216,8 @@ fn total(lens: &[u32]) -> usize
     lens.iter().map(|len| *len as usize).sum()
 }
 
-/// Makes room for some more items, if there is none, and then for some spare ones besides. The items are as they were. It
-/// fails only where memory is needed.
+/// Makes room for some more items, if there is none, and then for spare ones as well. The items are as they were. It
+/// fails only if memory is needed.
 fn make_room<T>(items: &mut Vec<T>, more: usize, spare: usize) -> Result<(), AllocError>
     ensures items { items.new.items ≡ items.old.items }
     ensures room { OnOk result (length items.new.items + more ≤ vec_capacity items.new) }

@@ -7,7 +7,7 @@ use vclock::bytes::Bytes;
 use vclock::refusal::Refusal;
 use version_set::version::Version;
 
-/// A version that a carrier keeps for a replica that is down.
+/// A version that a carrier keeps for a replica that is down, until that replica, its owner, has taken it.
 #[derive(Debug, Drop)]
 pub struct Hint {
     /// The number of the hint at its carrier, from 1.
@@ -34,10 +34,19 @@ impl Hint {
     }
 }
 
-/// What an owner answered to a hint.
+/// What an owner did with a hint that it was offered: it journaled the version, or knew it.
+///
+/// ```
+/// Ok(Delivery {
+///     owner,
+///     key: Bytes::copy_of(alloc, b"a")?,
+///     version: version(alloc, (1, count), Kind::Live, b"x")?,
+///     known: false,
+/// })
+/// ```
 #[derive(Debug, Drop)]
 pub struct Delivery {
-    /// The replica that answered.
+    /// The replica that took the hint or knew its version.
     pub owner: u16,
     /// The key.
     pub key: Bytes,
@@ -47,10 +56,10 @@ pub struct Delivery {
     pub known: bool,
 }
 
-/// What became of a hint.
+/// What became of a hint: it waits for its owner, or was delivered.
 #[derive(Clone, Copy, Debug, PartialEq, Eq)]
 pub enum Fate {
-    /// Its owner has not answered.
+    /// Its owner has neither taken nor known it yet.
     Pending,
     /// Its owner journaled the version.
     Taken,

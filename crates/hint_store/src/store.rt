@@ -34,6 +34,13 @@ struct Waiting {
 ///
 /// Their ids count from 1 and go up to 2^32 - 1. At most 10,000 hints are pending. A hint that was delivered is kept for
 /// good, with its fate.
+///
+/// ```
+/// let mut store = HintStore::new(alloc);
+/// assert_eq!(rt; keep(alloc, &mut store, 2, 1)?, 1);
+/// let hint = store.next(alloc, 2, 0)?.ok_or("no hint for 2")?;
+/// assert_eq!(rt; (hint.id, hint.owner), (1, 2));
+/// ```
 #[derive(Debug, Drop)]
 pub struct HintStore {
     hints: Vec<Kept>,
@@ -81,7 +88,7 @@ impl HintStore {
         self.len() as u32 - pending
     }
 
-    /// The hint of a number, pending or delivered. None for 0, and where no hint has the number yet.
+    /// The hint of a number, pending or delivered: `None` for 0, and if no hint has the number yet.
     pub fn get(&self, id: u32) -> Option<&Kept>
         ensures { option_copied result ≡ kept_at self.now id }
     {
@@ -221,7 +228,7 @@ impl HintStore {
     }
 }
 
-// The id of the entry at a place, where there is one and it is of this owner.
+// The id of the entry at a place, if there is one and it is of this owner.
 fn id_at(pending: &[Waiting], place: usize, owner: u16) -> Option<u32>
     ensures { result ≡ id_of owner (slice_get pending.now place) }
 {
@@ -283,7 +290,7 @@ fn is_delivery_of(delivery: &Delivery, hint: &Hint) -> bool
         && hint.version.text_order(&delivery.version) == Ordering::Equal
 }
 
-// The lesser of two ids, where there is one.
+// The lesser of two ids, either of which may be missing.
 fn lesser(one: Option<u32>, other: Option<u32>) -> Option<u32>
     ensures { result ≡ lesser one other }
 {

@@ -1,5 +1,5 @@
 //! The ring: which nodes keep a range, and in what order (the paper of 2007, sections 4.2, 4.3 and 6.2).
-ghost use Rattle.std.specs.Prelude.{◌≡◌, ◌==◌, ◌<◌, ◌^◌, ◌&&◌, nat_le, nat_lt, not, length, slice_get, IsTrue, Some};
+ghost use Rattle.std.specs.Prelude.{◌≡◌, ◌==◌, ◌<◌, ◌≤◌, ◌^◌, ◌&&◌, nat_le, nat_lt, not, length, slice_get, IsTrue, Some};
 ghost use Rattle.std.specs.List.{list_all, list_any};
 ghost use Rattle.std.specs.List.Sorted.{IsPermutation};
 ghost use Rattle.vclock.specs.Answer.{Answers};
@@ -23,6 +23,13 @@ const LAST_NODE: u64 = 65_535;
 
 /// The ring (the paper of 2007, sections 4.2, 4.3 and 6.2): the keys in 2^bits equal ranges by their digests, 1 to 256
 /// of them, the nodes in the order of the ring, 1 to 32 of them and each once, and how many nodes keep a range.
+///
+/// ```
+/// let ring = Ring::new(rt.alloc(), 4, &[10, 20, 30, 40], 2)?;
+/// assert_eq!(rt; (ring.bits(), ring.ranges(), ring.copies()), (4, 16, 2));
+/// assert_eq!(rt; ring.nodes(), [10, 20, 30, 40].as_slice());
+/// assert_eq!(rt; ring.range_of(b"abc"), 9);
+/// ```
 #[derive(Debug, Drop)]
 pub struct Ring {
     bits: u8,
@@ -91,6 +98,7 @@ impl Ring {
         requires range { range < 2 ^ self.now.bits }
         requires place { place < length self.now.nodes }
         ensures node { slice_get (preference_list self.now.nodes range) place ≡ Some result }
+        ensures number { 1 ≤ result }
         ensures once { IsPermutation (preference_list self.now.nodes range) self.now.nodes }
     {
         self.nodes[(usize::from(range) + place) % self.nodes.len()]

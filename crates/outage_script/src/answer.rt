@@ -224,7 +224,7 @@ fn stopped_members(
     json!(in alloc; {"accepted": accepted, "asked": asked, "cause": cause, "known": known, "refused": number, "state": "Open"})
 }
 
-/// The answer of a node: its digest, or null where it is dirty.
+/// The answer of a node: its digest, or null if it is dirty.
 #[tactic(auto, unfolding(crate::specs::Answers::node_answer))]
 pub(crate) fn node_answer(alloc: Global, digest: Option<Digest>) -> Result<Value, AllocError>
     ensures { IfOk result (λ v. view v ≡ node_answer digest) }
@@ -278,7 +278,7 @@ pub(crate) fn slot_answer<L: Ledger>(
     json!(in alloc; {"allowance": allowance, "free": free, "lent": lent, "target": target})
 }
 
-/// The answer of an adjustment: the slots, and the percentile, or null where there was no sample.
+/// The answer of an adjustment: the slots, and the percentile, or null if there was no sample.
 #[tactic(auto, unfolding(crate::specs::Answers::adjust_members))]
 pub(crate) fn adjust_answer<L: Ledger>(
     alloc: Global,

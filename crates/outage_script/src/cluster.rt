@@ -103,7 +103,7 @@ impl Cluster {
         self.format
     }
 
-    /// Puts a value at a node, sends the copies and keeps the hints, and answers with the clock and the number.
+    /// Puts a value at a node, sends the copies and keeps the hints. Returns the answer with the clock and the number.
     pub(crate) fn put(&mut self, alloc: Global, put: Put) -> Result<Value, Refusal>
         ensures { Tells result self.old self.new (put_act (put_ask put) self.old) }
     {
@@ -116,7 +116,7 @@ impl Cluster {
         Ok(put_answer(alloc, clock, sent.copied, hinted, receipt.number)?)
     }
 
-    /// Keeps a hint of an entry for each of these owners at the carrier of a range, and answers how many were kept.
+    /// Keeps a hint of an entry for each of these owners at the carrier of a range, and returns how many were kept.
     fn keep_hints(&mut self, range: u16, owners: &[u16], entry: &Receipt) -> Result<u64, AllocError>
         requires { range < 2 ^ self.old.ring.bits }
         ensures count { IfOk result (λ n. n ≡ (hinted entry.now owners.now self.old (carrier_of self.old range)).0) }
@@ -131,7 +131,7 @@ impl Cluster {
         }
     }
 
-    /// Who keeps the hints of a range: the first node that is up behind its replicas in its preference list.
+    /// The node that keeps a range's hints: the first live one after its replicas in the preference list.
     #[tactic(auto, using(crate::proofs::ListSteps::find_end))]
     fn carrier_of(&self, range: u16) -> Option<u16>
         requires { range < 2 ^ self.now.ring.bits }
@@ -203,8 +203,8 @@ impl Cluster {
         self.check_nodes(node, &[])
     }
 
-    /// Offers the hints that a node keeps to their owners, and answers how many were taken and known, and how many are
-    /// pending after it.
+    /// Offers the hints that a node keeps to their owners. Returns the answer with how many were taken, known, and
+    /// still pending.
     pub(crate) fn deliver(&mut self, alloc: Global, node: u64) -> Result<Value, AllocError>
         requires { nodes_fault self.old node [] ≡ None }
         ensures { IfOk result (λ v. deliver_at self.old node (hints_of self.old node) ≡ gives (view v) self.new) }
@@ -218,7 +218,7 @@ impl Cluster {
         deliver_answer(alloc, done.taken, done.known, hints.pending())
     }
 
-    /// Answers with the versions that are held for a key.
+    /// Returns the answer with the versions that are held for a key.
     #[tactic(auto, unfolding(crate::specs::Acts::key_act))]
     pub(crate) fn get(&self, alloc: Global, get: &Get) -> Result<Value, Refusal>
         ensures { Tells result self.now self.now (key_act (held_at (get_ask get.now)) (get_ask get.now) self.now) }
@@ -231,7 +231,7 @@ impl Cluster {
         Ok(versions_answer(alloc, replica.versions(get.key.as_slice()))?)
     }
 
-    /// Answers with the text of the row of a key.
+    /// Returns the answer with the text of the row of a key.
     #[tactic(auto, unfolding(crate::specs::Acts::key_act, crate::specs::Answers::row_answer))]
     pub(crate) fn row(&self, alloc: Global, get: Get) -> Result<Value, Refusal>
         ensures { Tells result self.now self.now (key_act (row_at (get_ask get)) (get_ask get) self.now) }
@@ -257,7 +257,7 @@ impl Cluster {
         }
     }
 
-    /// Makes every node of the tree of a range at a node clean, and answers with how many were dirty.
+    /// Makes every node of the tree of a range at a node clean. Returns the answer with how many were dirty.
     #[tactic(auto, unfolding(crate::specs::Acts::rehash_at))]
     pub(crate) fn rehash(
         &mut self,
@@ -289,7 +289,7 @@ impl Cluster {
         Ok(())
     }
 
-    /// Makes a node take what another has of a range, and answers with what came of it.
+    /// Makes a node take what another has of a range. Returns the answer with what came of it.
     #[tactic(auto, unfolding(crate::specs::Acts::sync_at))]
     pub(crate) fn sync(&mut self, alloc: Global, ask: &SyncFrom) -> Result<Value, Refusal>
         ensures { Tells result self.old self.new (sync_at (sync_ask ask.now) self.old) }
@@ -301,7 +301,7 @@ impl Cluster {
         Ok(sync_answer(alloc, &done)?)
     }
 
-    /// Answers with the digest of a node of the tree of a range.
+    /// Returns the answer with the digest of a node of the tree of a range.
     #[tactic(auto, unfolding(crate::specs::Acts::node_act))]
     pub(crate) fn node(&self, alloc: Global, ask: &ShowNode) -> Result<Value, Refusal>
         requires { IsTrue (is_tree_node self.now.format ask.now.depth ask.now.index) }
@@ -335,7 +335,7 @@ impl Cluster {
         self.ranges[range].find(node)
     }
 
-    /// The context of a put, where nothing that it names is refused.
+    /// The context of a put, if nothing that it names is refused.
     fn check_put(&self, alloc: Global, put: &Put) -> Result<Clock, Refusal>
         ensures { AnswersOrNoMemory result (ask_fault (put_ask put.now) self.now)
             (λ context. context ≡ clock_of put.now.context.items) }
@@ -384,7 +384,7 @@ impl Cluster {
     }
 }
 
-/// Stores without hints, so many of them.
+/// That many stores without hints.
 #[tactic(auto, using(crate::proofs::ListSteps::copies_more))]
 fn empty_stores(alloc: Global, count: usize) -> Result<Vec<HintStore>, AllocError>
     ensures { IfOk result (λ stores. stores.items ≡ replicate count []) }
@@ -408,7 +408,7 @@ pub(crate) fn tree_node(format: Format, depth: u64, index: u64) -> Option<NodeAt
     NodeAt::new(depth as u8, index as u16)
 }
 
-/// Whether a put may have the value, or none, in a format.
+/// Whether a put may have the value, or the tombstone, in a format.
 fn check_value(format: Format, value: &Option<Bytes>) -> Result<(), Refusal>
     ensures { AnswersAtOnce result (value_fault format (kind_of value.now) (value_of value.now)) (λ _. ⊤) }
 {
@@ -418,7 +418,7 @@ fn check_value(format: Format, value: &Option<Bytes>) -> Result<(), Refusal>
     }
 }
 
-/// The text of the row of a key, or none where no version is held.
+/// The text of the row of a key, or no bytes if no version is held.
 fn row_text(
     alloc: Global,
     format: Format,

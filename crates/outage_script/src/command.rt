@@ -13,7 +13,7 @@ use serde_json::Value;
 use std::alloc::{AllocError, Global};
 use vclock::bytes::Bytes;
 
-/// How many entries a journal may have where a ring does not say it.
+/// How many entries a journal may have if the ring does not say it.
 const JOURNAL_LIMIT: u64 = 1_000_000;
 
 /// The number of the format of a ring that does not say it.
@@ -43,7 +43,7 @@ pub(crate) struct Put {
     pub(crate) key: Bytes,
     /// The pairs of the clock that the put is later than.
     pub(crate) context: Vec<(u64, u64)>,
-    /// The value, or none for a tombstone.
+    /// The value, or `None` for a tombstone.
     pub(crate) value: Option<Bytes>,
     /// The nodes that get no copy.
     pub(crate) lose: Vec<u64>,
@@ -332,7 +332,7 @@ fn sole_node_in(members: &Value) -> Option<u64>
     number_at(members, "node")
 }
 
-/// What these members do with the slots: there is a number with `target` and `adjust`, and none with the others.
+/// What these members do with the slots: there is a number with `target` and `adjust`, and no number with the others.
 #[tactic(auto, unfolding(crate::specs::Commands::slot_of))]
 fn slot_in(members: &Value) -> Option<SlotCommand>
     ensures { option_map slot_ask result ≡ slot_of (view members.now) }

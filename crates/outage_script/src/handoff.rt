@@ -24,7 +24,7 @@ pub(crate) struct Delivered {
     pub(crate) known: u64,
 }
 
-/// Keeps a hint of an entry for each of these owners, unless too many are pending, and answers how many were kept.
+/// Keeps a hint of an entry for each of these owners, unless too many are pending, and returns how many were kept.
 pub(crate) fn keep_all(
     hints: &mut HintStore,
     owners: &[u16],
@@ -40,7 +40,7 @@ pub(crate) fn keep_all(
     Ok(kept)
 }
 
-/// Keeps a hint of an entry for an owner, unless too many are pending, and answers whether it was kept.
+/// Keeps a hint of an entry for an owner, unless too many are pending, and returns whether it was kept.
 fn keep_one(hints: &mut HintStore, owner: u16, entry: &Receipt) -> Result<bool, AllocError>
     ensures test { IfOk result (λ kept. kept ≡ is_given (keep hints.old owner entry.now.key entry.now.version)) }
     ensures kept { OnOk result (hints.new ≡ kept_for entry.now hints.old owner) }
@@ -105,8 +105,8 @@ fn next(
     }
 }
 
-/// Offers a pending hint to its owner, and confirms it where the owner took it or knew it: whether it knew it. None where
-/// the owner refused it.
+/// Offers a pending hint to its owner, and confirms it if the owner took it or knew it. Returns whether it knew it, or
+/// `None` if it refused it.
 fn offer(
     alloc: Global,
     ring: &Ring,
@@ -134,7 +134,7 @@ fn offer(
     Ok(Some(known))
 }
 
-/// Asks the owner of a hint to take it, and answers whether the owner knew it; None where it was refused.
+/// Asks the owner of a hint to take it, and returns whether the owner knew it, or `None` if it refused it.
 fn ask_owner(
     alloc: Global,
     replicas: &mut Replicas,

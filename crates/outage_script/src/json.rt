@@ -151,7 +151,7 @@ pub(crate) fn count_of(value: &Value, name: &str) -> usize
     usize::from(value.get(name).is_some())
 }
 
-/// The whole number of that name, or that one where the member is missing.
+/// The whole number of that name, or that one if the member is missing.
 pub(crate) fn number_or(value: &Value, name: &str, absent: u64) -> Option<u64>
     ensures { result ≡ default_of absent number_of name.now (view value.now) }
 {

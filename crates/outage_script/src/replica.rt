@@ -127,8 +127,8 @@ impl Replica {
         Ok(receipt)
     }
 
-    /// Makes every node of the range's tree clean, and answers how many were dirty. Where memory runs out, some of them may
-    /// be clean.
+    /// Makes every node of the range's tree clean, and returns how many were dirty. If memory runs out, some of them
+    /// may be clean.
     pub(crate) fn rehash(
         &mut self,
         rt: &(impl Threads + Sync),
@@ -185,7 +185,7 @@ impl Replica {
         Err(Refusal::Dirty)
     }
 
-    /// Sends the replica a copy of an entry, where it is to get one, and answers whether it took it or knew it.
+    /// Sends the replica a copy of an entry, if it is to get one, and returns whether it took it or knew it.
     pub(crate) fn send(
         &mut self,
         alloc: Global,

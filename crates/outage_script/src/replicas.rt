@@ -88,7 +88,7 @@ impl Replicas {
         Some(&self.replicas[place])
     }
 
-    /// Makes every node of the tree clean that a node keeps, and answers how many were dirty.
+    /// Makes every node of the tree clean that a node keeps, and returns how many were dirty.
     pub(crate) fn rehash(
         &mut self,
         rt: &(impl Threads + Sync),
@@ -187,7 +187,7 @@ impl Replicas {
     }
 }
 
-/// Sends the replicas a copy of an entry, and answers how many took it or knew it.
+/// Sends the replicas a copy of an entry, and returns how many took it or knew it.
 fn send_to(
     alloc: Global,
     replicas: &mut [Replica],

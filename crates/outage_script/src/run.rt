@@ -120,8 +120,8 @@ fn run_in<L: Ledger, T: Threads + Sync, R: Read, W: Write>(
     drive(rt, alloc, session, buffer, reader, writer)
 }
 
-/// Feeds a session with what the reader gives. What it writes is flushed after each piece, for a caller who sends the next
-/// line when this one is answered; a batch pays a write more for each piece.
+/// Feeds a session with what the reader gives. What it writes is flushed after each piece, for a caller who sends the
+/// next line only after this one's answer; a batch pays one more write for each piece.
 fn drive<L: Ledger, T: Threads + Sync, R: Read, W: Write>(
     rt: &T,
     alloc: Global,
@@ -171,7 +171,7 @@ fn flushed<W: Write>(writer: &mut W, end: ScriptEnd) -> ScriptEnd
     }
 }
 
-/// So many zero bytes.
+/// That many zero bytes.
 fn zeros(alloc: Global, count: usize) -> Result<Vec<u8>, AllocError>
     ensures { IfOk result (λ bytes. vec_len bytes ≡ count) }
 {

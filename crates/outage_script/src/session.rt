@@ -195,7 +195,7 @@ impl<L: Ledger> Session<L> {
     }
 }
 
-/// Writes that the line of that number is bad, and answers how the run ends.
+/// Writes that the line of that number is bad, and returns how the run ends.
 fn refuse<W: Write>(alloc: Global, number: u64, writer: &mut W) -> ScriptEnd
     ensures { (some : List ℕ) × Appends (W.contents writer.old) (W.contents writer.new) some
         × ((line : List ℕ)
@@ -220,7 +220,7 @@ fn bad_line(alloc: Global, number: u64) -> Result<String, AllocError>
     answer_line(alloc, &answer)
 }
 
-/// What is written for a line, or none if it is bad, and the world after it.
+/// What is written for a line, or `None` if it is bad, and the world after it.
 #[tactic(auto, unfolding(crate::specs::Script::step), using(crate::proofs::AnswerLemmas::reply_plain))]
 fn turn<L: Ledger, T: Threads + Sync>(
     rt: &T,

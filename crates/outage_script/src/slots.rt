@@ -46,7 +46,7 @@ impl<L: Ledger> Model for Slots<L> {
 }
 
 impl<L: Ledger> Slots<L> {
-    /// Slots of which none is lent.
+    /// Slots, all of them free.
     pub(crate) fn new(blank: Blank, alloc: Global) -> Result<Slots<L>, Refusal>
         requires ledger { (blank.name ≡ L.name) × (blank.parts ≡ L.parts) × (blank.parts ≡ 1024) }
         ensures { Answers result None (λ slots. slots ≡ first_slots) }

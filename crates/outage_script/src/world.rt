@@ -80,8 +80,8 @@ impl<L: Ledger> World<L> {
         }
     }
 
-    /// What a command answers, and the world after it. Where memory runs out the script ends, and what a part of the
-    /// command did is of no account.
+    /// The answer of a command, and the world after it. If memory runs out the script ends, and what a part of the
+    /// command did does not matter.
     #[tactic(auto, unfolding(crate::specs::Acts::act))]
     pub(crate) fn act(
         &mut self,

@@ -1,11 +1,11 @@
-// Writing all of some bytes, where an error leaves a part of them written.
+// Writing all of some bytes; an error leaves a part of them written.
 ghost use Rattle.std.specs.Prelude.{◌≡◌, List, ℕ, true, IsTrue};
 ghost use Rattle.std.specs.Io.KnownBytes.{Appends};
 ghost use Rattle.outage_script.specs.Ends.{Begins};
 
 use std::io::Write;
 
-/// Writes the bytes. Where that fails, a part of them is written.
+/// Writes the bytes. If that fails, a part of them is written.
 pub(crate) fn write_whole<W: Write>(writer: &mut W, bytes: &[u8]) -> bool
     ensures written { (some : List ℕ) × Appends (W.contents writer.old) (W.contents writer.new) some
         × Begins bytes.now some × (result ≡ true → some ≡ bytes.now) }

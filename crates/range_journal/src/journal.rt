@@ -13,7 +13,8 @@ use vclock::refusal::Refusal;
 use version_set::set::VersionSet;
 use version_set::version::Version;
 
-/// How a version came to a range.
+/// How a version came to a range: by a client's put, as a copy from the node of the put, as a hint from its carrier, or
+/// from a partner in a sync.
 #[derive(Clone, Copy, Debug, PartialEq, Eq)]
 pub enum Source {
     /// A client put it here.
@@ -26,7 +27,15 @@ pub enum Source {
     Partner,
 }
 
-/// A version that was accepted.
+/// A version that a range accepted, with its number and the seat of the caller that brought it.
+///
+/// ```
+/// let entry = journal.get(0).ok_or("no entry 0")?;
+/// assert_eq!(rt;
+///     (entry.number, entry.seat, entry.source),
+///     (0, 7, Source::Partner)
+/// );
+/// ```
 #[derive(Debug, Drop)]
 pub struct Entry {
     /// The entry's place in the journal, from 0.
@@ -35,7 +44,7 @@ pub struct Entry {
     pub seat: u16,
     /// How it came here.
     pub source: Source,
-    /// The key, 1 to 255 bytes where a range took it.
+    /// The key. In a range's journal it has 1 to 255 bytes.
     pub key: Bytes,
     /// The version.
     pub version: Version,
@@ -54,7 +63,16 @@ impl Entry {
     }
 }
 
-/// The accepted versions in order, up to a limit. Entries are never changed, nor taken out.
+/// The accepted versions in order, up to a limit. Entries are never changed, nor taken out, so the journal is the
+/// record by which a range's rows are checked and its callers' passes are settled.
+///
+/// ```
+/// let mut journal = Journal::new(alloc, 2);
+/// append(alloc, &mut journal, 1)?;
+/// append(alloc, &mut journal, 2)?;
+/// let held = held_in(alloc, journal.entries(), b"a")?;
+/// assert_eq!(rt; held.len(), 1);
+/// ```
 #[derive(Debug, Drop)]
 pub struct Journal {
     entries: Vec<Entry>,
@@ -75,7 +93,7 @@ impl Model for Journal {
 }
 
 impl Journal {
-    /// An empty journal of at most so many entries. It takes no memory.
+    /// An empty journal that may have `limit` entries. It takes no memory.
     pub fn new(alloc: Global, limit: u64) -> Journal
         ensures { result ≡ record { entries = []; limit = limit; room = 0 } }
     {
@@ -116,7 +134,7 @@ impl Journal {
         &self.entries
     }
 
-    /// Makes room for so many more entries, so that they can be added without memory.
+    /// Makes room for that many more entries, so that adding them takes no memory.
     ///
     /// Refused, in order: JournalFull (they would pass the limit), NoMemory. The journal is then as it was.
     pub fn reserve(&mut self, entries: u64) -> Result<(), Refusal>
@@ -150,7 +168,7 @@ impl Journal {
         Ok(self.append_reserved(seat, source, key, version))
     }
 
-    /// Adds an entry at the end, where there is room, and gives its number. It takes no memory.
+    /// Adds an entry at the end, for which room was made, and returns its number. It takes no memory.
     pub fn append_reserved(
         &mut self,
         seat: u16,
@@ -179,7 +197,7 @@ impl Journal {
 /// The versions that some entries hold for a key: those accepted that are below no other. They are found by offering the
 /// accepted ones, in order, to an empty set.
 ///
-/// Refused: Crowded, where the entries up to some number hold over 64 versions; NoMemory.
+/// Refused: Crowded (the entries up to some number hold over 64 versions), NoMemory.
 pub fn held_in(alloc: Global, entries: &[Entry], key: &[u8]) -> Result<VersionSet, Refusal>
     ensures held { IfOk result (λ set. set ≡ held entries.now key.now) }
     ensures answers { NeverCrowded entries.now key.now

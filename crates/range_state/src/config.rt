@@ -12,7 +12,13 @@ const MOST_BITS: u64 = 8;
 /// How many entries a journal has at the most.
 const MOST_ENTRIES: u64 = 1_000_000;
 
-/// Which range a state is of, in which format, and how many entries its journal may have.
+/// Which range a state is of, in which format, and how many entries its journal may have. Replicas of a range have
+/// equal formats, ring bits and ranges; their limits may differ.
+///
+/// ```
+/// let config = RangeConfig::new(2, 8, 255, 1_000_000).ok_or("no such range")?;
+/// assert_eq!(rt; config.format(), Format::Two);
+/// ```
 #[derive(Clone, Copy, Debug, PartialEq, Eq)]
 pub struct RangeConfig {
     format: Format,
@@ -35,8 +41,8 @@ impl Model for RangeConfig {
 }
 
 impl RangeConfig {
-    /// Range number `range`, from 0, of a ring of 2^bits ranges, in format 1 or 2, with a journal of at most so many
-    /// entries. None where the format is neither, the bits are over 8, the ring has no such range, or the limit is not 1
+    /// Range number `range`, from 0, of a ring of 2^bits ranges, in format 1 or 2, with a journal of at most `limit`
+    /// entries. `None` if the format is neither, the bits are over 8, the ring has no such range, or the limit is not 1
     /// to 1,000,000. It takes no memory.
     pub fn new(format: u64, bits: u64, range: u64, limit: u64) -> Option<RangeConfig>
         ensures { result ≡ config_of format bits range limit }

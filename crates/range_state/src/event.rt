@@ -1,4 +1,4 @@
-//! The calls of a range as events, and what they answer.
+//! The calls of a range as events, and what they return.
 ghost use Rattle.std.specs.Prelude.{◌≤◌, IsTrue};
 ghost use Rattle.range_state.specs.Sent.{is_sent};
 
@@ -21,7 +21,14 @@ use walk_messages::message::Offer;
 /// What a range tells a caller whose version it journaled: the entry.
 pub type Receipt = Entry;
 
-/// Whether a version was new to a range.
+/// What became of a version that was accepted: whether it was new to the range.
+///
+/// ```
+/// match state.accept(alloc, 0, Source::Copy, b"a", copy)? {
+///     Accepted::Taken(receipt) => Ok(Some(receipt.number)),
+///     Accepted::Known => Ok(None),
+/// }
+/// ```
 #[derive(Debug, Drop)]
 pub enum Accepted {
     /// It was journaled.
@@ -31,9 +38,15 @@ pub enum Accepted {
 }
 
 /// What became of a text that a session took.
+///
+/// ```
+/// let node = first(state)?;
+/// let text = text_of(alloc, partner, node)?;
+/// Ok(state.take_answer(alloc, 5, 0, node, text)?)
+/// ```
 #[derive(Debug, Drop)]
 pub struct AnswerTaken {
-    /// The entries of the versions that came, in order: none for a node with children.
+    /// The entries of the versions that came, in order. A node with children brings none.
     pub receipts: Vec<Receipt>,
     /// How many versions were covered by those accepted before: none of them was journaled.
     pub known: u64,
@@ -41,10 +54,10 @@ pub struct AnswerTaken {
     pub state: SessionState,
 }
 
-/// What became of a text that a session took, where the receipts went to a list.
+/// What became of a text that a session took, if the receipts went to a list of the caller's.
 #[derive(Clone, Copy, Debug)]
 pub struct AnswerCounted {
-    /// How many receipts there are: none for a node with children.
+    /// How many receipts there are: 0 for a node with children.
     pub receipts: u64,
     /// How many versions were covered by those accepted before: none of them was journaled.
     pub known: u64,
@@ -115,7 +128,12 @@ pub struct AnswerEvent {
     pub text: Hashed,
 }
 
-/// A call of a range.
+/// A call of a range, as data: `RangeState::run_events` runs a list of them. The theorems hold over every list.
+///
+/// ```
+/// events.push(Event::TakeJob(0))?;
+/// events.push(Event::Install(InstallEvent { node, hashed }))?;
+/// ```
 #[derive(Debug, Drop)]
 pub enum Event {
     /// `put`.
@@ -140,7 +158,7 @@ pub enum Event {
     Migrate,
 }
 
-/// What a call answered.
+/// What a call returned.
 #[derive(Debug, Drop)]
 pub enum Reply {
     /// The entry of a put.
@@ -149,7 +167,7 @@ pub enum Reply {
     Accept(Result<Accepted, Refusal>),
     /// The versions that are held for a key.
     Get(Result<VersionSet, Refusal>),
-    /// A job, or none where every node is clean.
+    /// A job, or `None` if every node is clean.
     TakeJob(Result<Option<Job>, Refusal>),
     /// Whether a node got its digest.
     Install(Result<(), Refusal>),

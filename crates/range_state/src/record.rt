@@ -3,7 +3,13 @@ ghost use Rattle.std.specs.Prelude.{◌≡◌};
 
 use sync_session::session::Session;
 
-/// A session of a range, and with whom. Its number is its place among the records, from 0.
+/// A session of a range, and its partner. Its number is its place among the records, from 0. Records are never taken
+/// out, so what a session compared and took can be looked up for good.
+///
+/// ```
+/// let record = state.records().get(id).ok_or("no record")?;
+/// Ok(record.session().state())
+/// ```
 #[derive(Drop)]
 pub struct Record {
     pub(crate) partner: u16,

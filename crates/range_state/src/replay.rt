@@ -16,7 +16,7 @@ use std::marker::Model;
 use vclock::refusal::Refusal;
 use version_set::set::VersionSet;
 
-/// The rows that a range had when its journal had so many entries: at first none, and then as many as are asked for.
+/// The rows that a range had when its journal was shorter: they begin empty, and take in entries as they are asked for.
 #[derive(Drop)]
 pub struct Replay<'a> {
     config: RangeConfig,

@@ -12,7 +12,7 @@ use std::alloc::Global;
 use vclock::refusal::Refusal;
 
 impl RangeState {
-    /// Runs events in order, and answers the reply of each. A refused event is its reply, and changes nothing; the
+    /// Runs events in order, and returns the reply of each. A refused event is its reply, and changes nothing; the
     /// events after it are run.
     ///
     /// Refused: NoMemory, before any event is run: then nothing changes, and the events are dropped.

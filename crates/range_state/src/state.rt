@@ -44,9 +44,21 @@ mod taking;
 mod telling;
 mod tree;
 
-/// One replica of a range: the journal of the versions that it accepted; its rows, which are exactly the maximal versions
-/// of the journal, key by key, in the leaves of the range's tree; and the digests of the tree's clean nodes, each of
-/// which is that of the node's text for the rows now.
+/// One replica of a range, for one thread: the journal of the versions that it accepted; its rows, which are exactly
+/// the maximal versions of the journal, key by key, in the leaves of the range's tree; and the digests of the tree's
+/// clean nodes, each of which is that of the node's text for the rows now. A program whose threads share a range keeps
+/// it in `ring_node`'s `SharedRange`, which has the same calls.
+///
+/// ```
+/// let config = RangeConfig::new(1, 0, 0, 1_000).ok_or("no such range")?;
+/// let mut state = RangeState::new(alloc, config)?;
+/// if has_a {
+///     let context = Clock::from_pairs(alloc, &[])?;
+///     let value = Bytes::copy_of(alloc, b"x")?;
+///     state.put(alloc, 0, 1, b"a", &context, Kind::Live, value)?;
+/// }
+/// state.rehash(rt, alloc)?;
+/// ```
 #[derive(Drop)]
 pub struct RangeState {
     config: RangeConfig,
@@ -110,7 +122,7 @@ impl RangeState {
         &self.leaves[usize::from(leaf)]
     }
 
-    /// The versions that are held for a key, in the order of their texts: none where the key is not held. It takes no
+    /// The versions that are held for a key, in the order of their texts: empty if the key is not held. It takes no
     /// memory.
     pub fn versions(&self, key: &[u8]) -> &[Version]
         ensures held { result.now ≡ held self.now.entries key.now }
@@ -122,7 +134,7 @@ impl RangeState {
         }
     }
 
-    /// The versions that are held for a key: an empty set where the key is not held. Refused: NoMemory.
+    /// The versions that are held for a key: an empty set if the key is not held. Refused: NoMemory.
     pub fn get(&self, alloc: Global, key: &[u8]) -> Result<VersionSet, Refusal>
         ensures held { Answers result None (λ set. set ≡ held self.now.entries key.now) }
         ensures fit { IfOk result (AllByRecursion (λ v. value_fault self.now.config.format v.kind v.value ≡ None)) }
@@ -136,9 +148,9 @@ impl RangeState {
     /// Takes in a version that another node sent, as a copy or as a hint, unless it is known: it is the same as one that
     /// was accepted before, or below one.
     ///
-    /// Refused, in order: BadKey, BadValue (of the range's format), OtherRange (the key is of another range); then, where
-    /// the version is not known, Crowded (the key would hold over 64 versions), JournalFull, NoMemory. The state is then
-    /// as it was.
+    /// Refused, in order: BadKey, BadValue (of the range's format), OtherRange (the key is of another range); then, if
+    /// the version is not known, Crowded (the key would hold over 64 versions), JournalFull, NoMemory. The state is
+    /// then as it was.
     pub fn accept(
         &mut self,
         alloc: Global,
@@ -185,7 +197,7 @@ impl RangeState {
         self.admit(alloc, leaf, seat, Source::Client, key, version)
     }
 
-    /// The version of a put with the leaf of its key, where a put that has room in the journal is not refused.
+    /// The version of a put, with the leaf of its key. Refused as a put that has room in the journal.
     fn make_put(
         &self,
         alloc: Global,
@@ -214,7 +226,7 @@ impl RangeState {
         Ok((leaf, version))
     }
 
-    /// The leaf of a version that another node sent, or none where the version is known.
+    /// The leaf of a version that another node sent, or `None` if the version is known.
     fn home_of_news(&self, key: &[u8], version: &Version) -> Result<Option<u16>, Refusal>
         ensures { AnswersAtOnce result (sent_fault self.now key.now version.now)
             (λ home. MatchOption home (knows self.now key.now version.now ≡ true)
@@ -238,7 +250,7 @@ impl RangeState {
         place(self.config.format(), self.config.bits(), key).leaf
     }
 
-    /// The leaf of a key, where a version of that kind and value has its place in this range.
+    /// The leaf of a key, if a version of that kind and value can be in this range.
     fn home(&self, key: &[u8], kind: Kind, value: &[u8]) -> Result<u16, Refusal>
         ensures { AnswersAtOnce result (place_fault self.now.config key.now kind value.now)
             (λ leaf. leaf ≡ leaf_in self.now.config key.now) }

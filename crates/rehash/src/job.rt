@@ -15,7 +15,14 @@ use vclock::format::Format;
 use vclock::refusal::Refusal;
 
 /// A node whose text is to be hashed. It carries what the text is written from, and the room for it, so a range makes
-/// jobs under its lock in little time, and their texts are written and hashed without it.
+/// jobs under its lock in little time, and their texts are written and hashed without it. The result is installed in
+/// the range, which refuses it as Stale if the node has changed since.
+///
+/// ```
+/// let job = job_at(rt, alloc, state, depth, index)?;
+/// let node = job.node();
+/// Ok(state.install(node, &run_job(job))?)
+/// ```
 #[derive(Debug, Drop)]
 pub struct Job {
     node: NodeAt,

@@ -24,7 +24,18 @@ enum Request {
     Stop,
 }
 
-/// A link over channels, in any thread. It fails where its server does, or has ended.
+/// A link over channels, in any thread. It fails if its server does, or has ended.
+///
+/// ```
+/// let (mut link, server) = channel_link(alloc)?;
+/// let (offers, node) = (&partner.offers, partner.range.node());
+/// thread::scope(thread::scope_env(), rt, |scope| {
+///     let _served = scope.spawn(move || server.run(rt, offers));
+///     let report = replica.sync(rt, alloc, slots, &mut link, node);
+///     link.stop(rt);
+///     report
+/// })
+/// ```
 #[derive(Drop)]
 pub struct ChannelLink {
     alloc: Global,
@@ -33,7 +44,7 @@ pub struct ChannelLink {
     failures: u64,
 }
 
-/// What answers a link over channels, in a thread of its own.
+/// What answers the asks of a link over channels, in a thread of its own.
 #[derive(Drop)]
 pub struct ChannelServer {
     alloc: Global,

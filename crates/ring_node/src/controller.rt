@@ -22,10 +22,16 @@ pub struct Counts {
     pub allowance: u32,
 }
 
-/// A controller of slots, that threads share.
+/// A controller of slots, that threads share: a [`Controller`] in a lock.
 ///
 /// A slot can't be dropped, and is part of one controller's ledger. So a program that doesn't give a slot back to the
 /// controller that lent it doesn't compile.
+///
+/// ```
+/// let slot = slots.lend(rt)?;
+/// let report = range.rehash_worker(rt, alloc, &slot, &OpenGate, worker, REHASH_TURNS);
+/// slots.give_back(rt, slot);
+/// ```
 #[derive(Drop)]
 pub struct SharedController<L: Ledger> {
     controller: Mutex<Controller<L>>,

@@ -5,17 +5,22 @@ ghost use Rattle.ring_node.specs.Deeds.{done_to, renumbered};
 use hash_tree::node::NodeAt;
 
 /// What a scripted link does in one call.
+///
+/// ```
+/// let deeds = [Deed::Pass, Deed::Change(BYTE_OF_THE_TEXT)];
+/// let report = sync_over_deeds(rt, alloc, slots, first, second, &deeds)?;
+/// ```
 #[derive(Clone, Copy, Debug)]
 pub enum Deed {
     /// Hands on what came.
     Pass,
     /// Raises the byte at that place by one, 255 to 0.
     Change(usize),
-    /// Keeps so many of the first bytes.
+    /// Keeps that many of the first bytes.
     Cut(usize),
-    /// Gives the message that number of an offer, in the place where each message has it.
+    /// Gives the message that offer number: each message has one in the same place.
     Renumber(u32),
-    /// Hands on what it handed on last: Lost where it has handed on nothing.
+    /// Hands on what it handed on last: Lost if it has handed on nothing.
     Repeat,
     /// Asks for that node in place of the one that is asked for.
     Node(NodeAt),

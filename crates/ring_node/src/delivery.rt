@@ -17,7 +17,15 @@ use std::sync::ledger::Ledger;
 use vclock::refusal::Refusal;
 use version_set::version::Version;
 
-/// What became of the hints of a delivery.
+/// What became of the hints of a delivery: how many were taken, known and left pending.
+///
+/// ```
+/// let slot = slots.lend(rt)?;
+/// let (hints, range, pass) = (&self.hints, &other.range, &mut other.peer);
+/// let owner = range.node();
+/// let report = deliver(rt, alloc, &slot, hints, range, pass, owner, MOST_HINTS);
+/// slots.give_back(rt, slot);
+/// ```
 #[derive(Clone, Copy, Debug, PartialEq, Eq)]
 pub struct DeliverReport {
     /// How many versions the owner journaled.
@@ -45,23 +53,23 @@ impl DeliverReport {
     }
 }
 
-/// What the owner of a hint answered to it.
+/// What the owner of a hint did with it.
 #[derive(Clone, Copy, Debug, PartialEq, Eq)]
 enum Answered {
     /// It journaled the version.
     Taken,
     /// It knew the version.
     Known,
-    /// It refused the version, as where its journal is full.
+    /// It refused the version, as with a full journal.
     Refused,
 }
 
-/// Delivers the pending hints of an owner to its range, one in each turn, by rising id from 1, until none is left or
+/// Delivers the pending hints of an owner to its range, one in each turn, by rising id from 1, until no hint is left or
 /// the turns are used. The pass is told of what the owner journals.
 ///
-/// The owner is offered each version as a hint, and the hint is confirmed where it journals the version or knows it,
-/// even if somebody else confirmed it meanwhile. A hint that the owner refuses by another cause than NoMemory is kept:
-/// it stays pending, and is passed over. No two locks are held at once. The slot is the leave to do so.
+/// The owner is offered each version as a hint, and the hint is confirmed if it journals the version or knows it, even
+/// if somebody else confirmed it meanwhile. A hint that the owner refuses by another cause than NoMemory is kept: it
+/// stays pending, and is passed over. No two locks are held at once. The slot is the leave to do so.
 ///
 /// Refused: Stranger (the owner isn't the range's node: then nothing is done), NoMemory. What was delivered until then
 /// stays so.
@@ -145,7 +153,7 @@ fn send<R: Wait, L: Ledger>(
     }
 }
 
-/// Confirms a hint that its owner has answered, and has not refused.
+/// Confirms a hint that its owner has taken or known.
 fn confirm<R: Wait>(rt: &R, hints: &SharedHints, hint: Hint, answered: Answered) {
     let known = match answered {
         Answered::Taken => false,
@@ -164,6 +172,6 @@ fn confirm<R: Wait>(rt: &R, hints: &SharedHints, hint: Hint, answered: Answered)
         version,
         known,
     };
-    // UnknownHint: somebody else confirmed the hint meanwhile. Its owner has answered all the same.
+    // UnknownHint: somebody else confirmed the hint meanwhile. Its owner has the version all the same.
     let _ = hints.confirm(rt, id, delivery);
 }

@@ -1,4 +1,4 @@
-//! Gates: where a worker may be held.
+//! Gates, at which a worker may be held.
 use std::sync::Wait;
 
 /// A gate that a worker passes between its steps, with no lock held. It may make the worker wait.
@@ -7,7 +7,7 @@ pub trait Gate {
     fn pass<R: Wait>(&self, rt: &R, step: u32);
 }
 
-/// A gate that holds nobody.
+/// A gate that holds no worker: the one for use. Others are for tests, which decide by a gate how threads meet.
 #[derive(Clone, Copy, Debug, PartialEq, Eq)]
 pub struct OpenGate;
 

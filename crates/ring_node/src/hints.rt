@@ -13,7 +13,12 @@ use vclock::bytes::Bytes;
 use vclock::refusal::Refusal;
 use version_set::version::Version;
 
-/// The hints of a carrier, that threads share.
+/// The hints of a carrier, that threads share: a [`HintStore`] in a lock.
+///
+/// ```
+/// let key = Bytes::copy_of(alloc, key)?;
+/// self.hints.keep(rt, range.node(), key, version)?;
+/// ```
 #[derive(Drop)]
 pub struct SharedHints {
     hints: Mutex<HintStore>,
@@ -65,7 +70,7 @@ impl SharedHints {
         hints.next(alloc, owner, after)
     }
 
-    /// Takes down that the owner of a hint answered, as [`HintStore::confirm`]. It takes no memory.
+    /// Records that the owner of a hint took it or knew it, as [`HintStore::confirm`]. It takes no memory.
     ///
     /// Refused: UnknownHint (no pending hint has this id with this owner, key and version). Nothing is then taken down.
     pub fn confirm<R: Wait>(&self, rt: &R, id: u32, delivery: Delivery) -> Result<(), Refusal>

@@ -15,10 +15,16 @@ pub enum Reached {
     Gone,
 }
 
-/// A way to a partner, which isn't trusted: it may fail, and its bytes may be anything.
+/// A way to a partner, which isn't trusted: it may fail, and its bytes may be anything. A store implements it over its
+/// own network.
 ///
-/// It counts its failures. A call is lost exactly where that count rises. At 2^64 - 1 a link answers Gone in place of
+/// It counts its failures. A call is Lost exactly if that count rises. At 2^64 - 1 a link returns Gone in place of
 /// Lost.
+///
+/// ```
+/// fn ask<R: Wait>(&mut self, rt: &R, message: &[u8]) -> Reached {
+///     self.asks = self.asks.saturating_add(1);
+/// ```
 pub trait Link {
     ghost failed: { Self → ℕ };
 

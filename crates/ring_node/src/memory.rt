@@ -4,7 +4,13 @@ use crate::offers::OfferPool;
 use std::alloc::Global;
 use std::sync::Wait;
 
-/// A link to a pool of offers in the same memory. It fails where its pool refuses a message by another cause than Gone.
+/// A link to a pool of offers in the same memory. It fails if its pool refuses a message by another cause than Gone.
+///
+/// ```
+/// let link = MemoryLink::new(alloc, &partner.offers);
+/// let mut link = ScriptedLink::new(alloc, link, deeds);
+/// replica.sync(rt, alloc, slots, &mut link, partner.range.node())
+/// ```
 #[derive(Drop)]
 pub struct MemoryLink<'a> {
     alloc: Global,

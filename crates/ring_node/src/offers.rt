@@ -55,7 +55,7 @@ impl Model for Offers {
 }
 
 impl Offers {
-    /// Keeps a snapshot, and returns its offer. Where no more can be kept, the oldest goes to `oldest`.
+    /// Keeps a snapshot, and returns its offer. If no more can be kept, the oldest goes to `oldest`.
     ///
     /// Refused, in order: SessionsFull, NoMemory. Nothing is then kept.
     fn publish(
@@ -118,6 +118,12 @@ fn published_as(kept: &[Published], number: u32) -> Option<&Published>
 
 /// The offers that a node makes of its snapshots, which threads share. Offers are numbered from 1. The last 16 are kept,
 /// with their snapshots: the paper of 2007, section 4.7.
+///
+/// ```
+/// rehash(rt, alloc, slots, &self.range, 0)?;
+/// let snapshot = self.range.snapshot(rt, alloc)?;
+/// self.offers.publish(rt, snapshot)
+/// ```
 #[derive(Drop)]
 pub struct OfferPool {
     offers: Mutex<Offers>,

@@ -37,6 +37,12 @@ use version_set::version::Version;
 ///
 /// Contracts see the node. A caller has a pass of the range's own ledger, so a pass of another range doesn't compile
 /// here. No call holds two locks, and none hashes, encodes or waits for anything while it holds one.
+///
+/// ```
+/// let value = Bytes::copy_of(alloc, value)?;
+/// let receipt = range.put(rt, alloc, pass, key, context, Kind::Live, value)?;
+/// Ok(receipt.version)
+/// ```
 #[derive(Drop)]
 pub struct SharedRange<L: Ledger> {
     node: u16,
@@ -52,7 +58,14 @@ impl<L: Ledger> Model for SharedRange<L> {
     ghost view = { λ s. s.node };
 }
 
-/// A range that was not closed, with all that was handed in.
+/// A range that was not closed, with the cause and all that was handed in, so nothing is lost.
+///
+/// ```
+/// match self.range.close(alloc, passes) {
+///     Ok(closed) => Ok(closed.state.journal().len()),
+///     Err(refused) => Err(refused.refusal),
+/// }
+/// ```
 #[derive(Drop)]
 pub struct NotClosed<L: Ledger> {
     /// The range.
@@ -117,7 +130,7 @@ impl<L: Ledger> SharedRange<L> {
     }
 
     /// Takes in a version that another node sent, as a copy or as a hint, as [`LockedRange::accept`]. The pass is told
-    /// of the entry, where the version was not known.
+    /// of the entry if the version was not known.
     ///
     /// Refused as [`LockedRange::accept`], in order: BadKey, BadValue (of the range's format), OtherRange, Crowded,
     /// JournalFull, NoMemory. Range and pass are then as they were.

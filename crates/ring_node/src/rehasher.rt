@@ -68,7 +68,7 @@ impl<L: Ledger> SharedRange<L> {
         Ok(report)
     }
 
-    /// A job for a dirty node with clean children, or none where no node is dirty.
+    /// A job for a dirty node with clean children, or `None` if no node is dirty.
     fn take_job<R: Wait>(&self, rt: &R, alloc: Global, skip: u64) -> Result<Option<Job>, Refusal>
         ensures refusal { IfErr result (λ e. e ≡ Refusal.NoMemory) }
         ensures moment { FoundAtSomeMoment (IsLocked L.parts) (λ locked. IfOk result (GivesJob locked.state)) }

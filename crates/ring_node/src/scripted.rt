@@ -14,7 +14,13 @@ use walk_messages::message::{Ask, Message};
 
 /// A link round another one that does, call by call, what a list of deeds says. After the list it hands on what comes.
 ///
-/// It fails where a deed or the other link does, or where there is no memory. Its count is its own.
+/// It fails if a deed or the other link does, or if there is no memory. Its count is its own.
+///
+/// ```
+/// let deeds = Vec::from_slice(alloc, deeds)?;
+/// let link = MemoryLink::new(alloc, &partner.offers);
+/// let mut link = ScriptedLink::new(alloc, link, deeds);
+/// ```
 #[derive(Drop)]
 pub struct ScriptedLink<K: Link> {
     alloc: Global,

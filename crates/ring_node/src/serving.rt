@@ -23,7 +23,7 @@ pub(crate) enum Reply {
 }
 
 impl Reply {
-    /// The reply as a link hands it on, which has failed where the reply is refused.
+    /// The reply as a link hands it on: a refused reply is a failure of the link.
     pub(crate) fn over(self, failures: &mut u64) -> Reached
         ensures { IsCounted failures.old failures.new result }
     {

@@ -30,6 +30,12 @@ use walk_messages::encoding::encode;
 use walk_messages::message::{Answer, Ask, Message, Offer};
 
 /// What a sync worker did.
+///
+/// ```
+/// let slot = slots.lend(rt)?;
+/// let report = range.sync_worker(rt, alloc, &slot, link, pass, partner, SYNC_TURNS);
+/// slots.give_back(rt, slot);
+/// ```
 #[derive(Clone, Copy, Debug, PartialEq, Eq)]
 pub struct SyncReport {
     /// The number of the session among those of the range.
@@ -38,11 +44,11 @@ pub struct SyncReport {
     pub state: SessionState,
     /// How many nodes the session asked for.
     pub asked: u64,
-    /// How many versions were journaled: so many receipts the pass got.
+    /// How many versions were journaled: the pass got as many receipts.
     pub accepted: u64,
     /// How many versions were known.
     pub known: u64,
-    /// How many messages came that answered no ask of the session, or not truly.
+    /// How many messages came that were no answer to an ask of the session, or not the true one.
     pub bad: u64,
 }
 
@@ -256,7 +262,7 @@ fn reach_offer<R: Wait, K: Link>(rt: &R, alloc: Global, link: &mut K) -> Result<
     }
 }
 
-/// The answer that a link gives to an ask: `None` where what comes is no answer, or is of another offer.
+/// The answer that a link gives to an ask: `None` if what comes is no answer, or is of another offer.
 fn reach_answer<R: Wait, K: Link>(
     rt: &R,
     alloc: Global,

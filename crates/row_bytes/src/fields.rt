@@ -89,7 +89,7 @@ pub(crate) fn value_len_of(most: usize, bytes: &[u8]) -> Result<(u32, &[u8]), Re
     Ok((len, rest))
 }
 
-/// The kind of a version, where the format has a byte for it.
+/// The kind of a version. Only format 2 has a byte for it.
 #[tactic(auto, unfolding(crate::specs::Reading::kind_at))]
 pub(crate) fn kind_of(format: Format, bytes: &[u8]) -> Result<(Kind, &[u8]), ReadError>
     ensures { Gives ⊥ (λ x. (x.0, x.1.now)) result (kind_at format bytes.now) }

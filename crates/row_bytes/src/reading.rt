@@ -94,7 +94,7 @@ fn can_follow(
     stands_before(last, text) && all_apart(before, version)
 }
 
-/// That many versions, in ascending order of their texts, none below another.
+/// That many versions, in ascending order of their texts. No version is below another.
 fn versions_of(
     alloc: Global,
     format: Format,

@@ -7,16 +7,28 @@ use std::slice::Iter;
 use vclock::bytes::Bytes;
 use version_set::set::VersionSet;
 
-/// A key with the versions that are held for it.
+/// A key with the versions that are held for it: what a leaf of the tree consists of, and what the text of a leaf
+/// spells.
+///
+/// ```
+/// let (row, _) = read_row(alloc, format, text)?;
+/// a_held_set_is_a_row();
+/// Ok((write_row(alloc, format, &row)?, row.versions.len()))
+/// ```
 #[derive(Debug, Drop)]
 pub struct Row {
-    /// The key, 1 to 255 bytes where the row has a text.
+    /// The key. Only a row with a key of 1 to 255 bytes has a text.
     pub key: Bytes,
-    /// The versions, 1 to 64 where the row has a text.
+    /// The versions. Only a row with 1 to 64 versions has a text.
     pub versions: VersionSet,
 }
 
 /// Rows that were read from one text.
+///
+/// ```
+/// let answer = read_rows(alloc, Format::One, &twice);
+/// assert!(rt; matches!(&answer, Err(Refusal::RowBroken(21))));
+/// ```
 #[derive(Debug, Drop)]
 pub struct RowList {
     rows: Vec<Row>,

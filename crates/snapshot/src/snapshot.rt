@@ -23,7 +23,14 @@ use vclock::refusal::Refusal;
 use walk_messages::message::{Ask, Offer};
 
 /// All rows of a range at one moment, with the digest of each node of the tree over them. It shares the leaves with the
-/// range, which copies a leaf before it changes one that is shared, so a snapshot stays as it was made.
+/// range, which copies a leaf before it changes one that is shared, so a snapshot stays as it was made. A node offers a
+/// snapshot to its partners, and answers their asks from it while writes go on.
+///
+/// ```
+/// let snapshot = clean_range(&rt, alloc)?.snapshot(alloc)?;
+/// assert_eq!(rt; text_at(alloc, &snapshot, 2, 0)?.as_slice(), [0].as_slice());
+/// assert_eq!(rt; text_at(alloc, &snapshot, 1, 0)?.len(), 513);
+/// ```
 #[derive(Debug, Drop)]
 pub struct Snapshot {
     format: Format,

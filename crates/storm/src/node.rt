@@ -83,9 +83,9 @@ impl<'a, L: Ledger> Node<'a, L> {
 
 /// Runs the threads of a node until all have ended, and hands its passes back.
 ///
-/// Refused as the writer, the rehash worker and the sync worker are; NoMemory also where a thread can't be made. Then the
-/// others have ended too: what a thread would have had, its ends of channels among it, is dropped before they are waited
-/// for.
+/// Refused as the writer, the rehash worker and the sync worker are; NoMemory also if a thread can't be made. Then the
+/// others have ended too: what a thread would have had, its ends of channels among it, is dropped before they are
+/// waited for.
 pub(crate) fn run_node<L, C, R, G>(
     rt: &R,
     alloc: Global,

@@ -33,8 +33,8 @@ pub struct StormEnd {
     pub settled: bool,
 }
 
-/// Two nodes, 1 and 2, are replicas of one range. Each has a writer that does so many puts, 1 to 10,000, a rehash worker,
-/// a sync worker and a server of its offers, each in a thread. When all have ended, both nodes are rehashed, synced both
+/// Two nodes, 1 and 2, are replicas of one range. Each has a writer that does that many puts, 1 to 10,000, a rehash worker, a
+/// sync worker and a server of its offers, each in a thread. When all have ended, both nodes are rehashed, synced both
 /// ways, rehashed and closed.
 ///
 /// The workers have as many rounds as there are puts, at most 100, each with a slot from one controller of 1 to 8 slots;
@@ -42,7 +42,7 @@ pub struct StormEnd {
 /// by each writer after each put (step 3) and by each sync worker before each round (step 4). The tallies show how far
 /// the nodes are.
 ///
-/// Refused by each other refusal of a part. NoMemory also where a thread can't be made, and where the last sync loses its
+/// Refused by each other refusal of a part. NoMemory also if a thread can't be made, and if the last sync loses its
 /// link.
 pub fn run_storm<R: Threads + Wait + Sync, G: Gate + Sync>(
     rt: &R,

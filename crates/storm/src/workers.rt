@@ -23,7 +23,7 @@ const BEFORE_A_SYNC: u32 = 4;
 /// How many rounds a worker has at the most.
 const MOST_ROUNDS: u64 = 100;
 
-/// Rehashes a node's tree, and publishes a snapshot where it is clean then, in as many rounds as there are puts, at most
+/// Rehashes a node's tree, and publishes a snapshot if it is clean then, in as many rounds as there are puts, at most
 /// 100. Refused: NoMemory, SessionsFull.
 pub(crate) fn rehash_rounds<L: Ledger, C: Ledger, R: Wait, G: Gate>(
     rt: &R,
@@ -62,7 +62,7 @@ pub(crate) fn sync_rounds<L: Ledger, C: Ledger, R: Wait, G: Gate>(
     Ok(pass)
 }
 
-/// Rehashes a node's tree with a slot, and publishes a snapshot where it is clean then.
+/// Rehashes a node's tree with a slot, and publishes a snapshot if it is clean then.
 ///
 /// Refused: NoSlot, Dirty (a put came after the rehash), SessionsFull, NoMemory.
 pub(crate) fn rehash<L: Ledger, C: Ledger, R: Wait, G: Gate>(

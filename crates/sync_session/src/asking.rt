@@ -34,7 +34,7 @@ fn child(node: NodeAt, j: u16) -> NodeAt
     }
 }
 
-/// The node above, where there is one.
+/// The parent of a node. The root has none.
 fn parent(node: NodeAt) -> Option<NodeAt>
     ensures { option_map node_of result ≡ parent_of (node_of node) }
 {

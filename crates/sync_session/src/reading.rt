@@ -27,7 +27,7 @@ pub fn is_inner(format: Format, text: &[u8]) -> bool
     text.len() == INNER_LEN && text[0] == inner_byte(format)
 }
 
-/// What stands behind the first byte of a text, where that is this one.
+/// What follows the first byte of a text, if that byte is `mark`.
 fn body_of(mark: u8, text: &[u8]) -> Option<&[u8]>
     ensures { MatchOption result ((body : List ℕ) → text.now ≡ mark ∷ body → ⊥) (λ body. text.now ≡ mark ∷ body.now) }
 {

@@ -20,7 +20,7 @@ use std::marker::Model;
 use std::sync::Arc;
 use vclock::refusal::Refusal;
 
-/// What a text was that a session took.
+/// What kind of text a session took.
 #[derive(Debug, Drop)]
 pub enum Answered {
     /// That of a node with children: those that differ are asked from then on.
@@ -29,8 +29,18 @@ pub enum Answered {
     Leaf(RowList),
 }
 
-/// A walk of two trees: the own rows, as a snapshot has them, are compared with those of a partner, of which the root is
-/// known at first. The partner is not trusted: each text must have the digest that was expected at its node.
+/// A walk of two trees: the own rows, as a snapshot has them, are compared with those of a partner, of which only the
+/// root is known at first. It asks for the root's text, then for the children whose digests differ, down to the leaves
+/// that differ, and no others. The partner is not trusted: each text must have the digest that was expected at its
+/// node.
+///
+/// ```
+/// let node = first(session)?;
+/// match session.take(alloc, node, text_of(alloc, partner, node)?)? {
+///     Answered::Inner => Ok(None),
+///     Answered::Leaf(rows) => Ok(Some(rows.len())),
+/// }
+/// ```
 #[derive(Drop)]
 pub struct Session {
     own: Arc<Snapshot, Global>,
@@ -60,7 +70,7 @@ impl Model for Session {
 }
 
 impl Session {
-    /// A new session, which compares a snapshot with a partner's root. Where the roots are equal it is finished, and
+    /// A new session, which compares a snapshot with a partner's root. If the roots are equal it is finished, and
     /// nothing is asked; else the root's text is asked. Refused: NoMemory.
     pub fn start(
         alloc: Global,
@@ -129,7 +139,7 @@ impl Session {
         self.state
     }
 
-    /// The rows that taking this text would give: none for a node with children. The session stays as it is.
+    /// The rows that taking this text would give. A node with children gives no rows. The session stays as it is.
     ///
     /// Refused, in order: NotAsked (the node is not outstanding), WrongDigest (the text has not the digest that is
     /// expected at the node), NotCanonical (no rows of the range give the node this text), NoMemory. Reading a leaf takes
@@ -237,7 +247,7 @@ impl Session {
     }
 }
 
-/// How a session stands that goes on: open, or finished where nothing is outstanding.
+/// The state of a session that goes on: open, or finished if nothing is outstanding.
 fn state_by(outstanding: &[NodeAt]) -> SessionState
     ensures { result ≡ state_by (map node_of outstanding.now) }
 {

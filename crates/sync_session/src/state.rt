@@ -1,6 +1,6 @@
 //! How a session stands.
 
-/// How a session stands. One that is not open has nothing outstanding.
+/// The state of a session. A session that is not open has nothing outstanding, and stays as it is.
 #[derive(Clone, Copy, Debug, PartialEq, Eq)]
 pub enum SessionState {
     /// Some node is outstanding.

@@ -6,7 +6,7 @@ use hash_tree::hashed::Hashed;
 use hash_tree::node::NodeAt;
 use std::marker::Model;
 
-/// A node, and the text that was taken for it.
+/// A text that a session took, and the node that it is the text of.
 #[derive(Debug, Drop)]
 pub struct Taken {
     node: NodeAt,

@@ -8,10 +8,16 @@ use smallvec::SmallVec;
 use std::alloc::Global;
 use std::marker::Model;
 
-/// How many bytes are kept in place, where most keys find room: a search among rows then needs no look elsewhere.
+/// How many bytes are stored inline: most keys fit, so a search among rows touches no other memory.
 const SHORT_LEN: usize = 16;
 
-/// A list of bytes.
+/// A list of bytes that is owned: a key, a value or a text. Up to 16 bytes are stored inline, and longer ones in one
+/// allocation. A clone may find no memory, so it is a call that returns a `Result`.
+///
+/// ```
+/// let bytes = Bytes::copy_of(alloc, &[0x78])?;
+/// assert_eq!(rt; bytes.as_slice(), b"x".as_slice());
+/// ```
 #[derive(Debug)]
 pub struct Bytes {
     bytes: SmallVec<u8, SHORT_LEN>,
@@ -53,7 +59,7 @@ impl Bytes {
 }
 
 impl Drop for Bytes {
-    /// A drop is one call wherever bytes are dropped: in which way they are kept is seen here alone.
+    /// Keeps the representation out of the proofs of callers that drop bytes.
     fn drop(self) {
         let Bytes { bytes: _bytes } = self;
     }
@@ -64,7 +70,7 @@ impl From<Vec<u8>> for Bytes {
 
     ghost from_gives = { λ bytes kept. kept ≡ bytes.items };
 
-    /// The bytes of a vector, whose allocation is kept unless they find room in place.
+    /// The bytes of a vector. Its allocation is kept unless the bytes fit inline.
     fn from(bytes: Vec<u8>) -> Bytes {
         Bytes {
             bytes: SmallVec::from_vec(bytes),

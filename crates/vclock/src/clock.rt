@@ -1,7 +1,7 @@
 //! Vector clocks.
-ghost use Rattle.std.specs.Prelude.{◌≡◌, ◌≢◌, ℕ, ◌+◌, ◌<◌, ◌≤◌, ◌^◌, ◌==◌, ◌↔◌, IsTrue, IfOk, OnOk, OnErr, length, false, None, replicate};
-ghost use Rattle.vclock.specs.Clock.{counter, at_most, IsAtMost, IsClock, Pairs, Rises, order_of, with_counter, raised, raise_fault, pairs_fault, has_node, has_repeat, is_bad_pair, clock_of};
-ghost use Rattle.std.specs.List.{list_any};
+ghost use Rattle.std.specs.Prelude.{◌≡◌, ◌≢◌, ℕ, ◌+◌, ◌<◌, ◌≤◌, ◌^◌, ◌==◌, ◌↔◌, IsTrue, IfOk, OnOk, OnErr, length, false, None, replicate, max};
+ghost use Rattle.vclock.specs.Clock.{counter, at_most, IsAtMost, IsClock, Pairs, Rises, order_of, with_counter, raised, raise_fault, pairs_fault, has_node, has_repeat, is_bad_pair, clock_of, merged, merge_fault};
+ghost use Rattle.std.specs.List.{list_any, filter};
 ghost use Rattle.vclock.specs.Answer.{Answers};
 
 use crate::refusal::Refusal;
@@ -12,13 +12,14 @@ use std::marker::Model;
 /// How many pairs a clock has at the most.
 const MOST_PAIRS: usize = 32;
 
-/// How many pairs are kept in place: the clock of what one node alone has put needs no allocation.
+/// How many pairs are stored inline: a clock of one node allocates nothing.
 const FEW_PAIRS: usize = 1;
 
 /// The greatest node number.
 const LAST_NODE: u64 = 65_535;
 
-/// How two clocks lie.
+/// How one clock compares with another. Versions whose clocks are `Apart` are concurrent: neither writer had seen the
+/// other's version, and a store keeps both.
 #[derive(Clone, Copy, Debug, PartialEq, Eq)]
 pub enum ClockOrder {
     /// Each counter is at most the other's, and the clocks differ.
@@ -32,7 +33,15 @@ pub enum ClockOrder {
 }
 
 /// A vector clock (the paper of 2007, section 4.4): a finite map from nodes, 1 to 65,535, to counters, 1 to 2^64 - 1.
-/// An absent node has the counter 0. There are at most 32 pairs.
+/// An absent node has the counter 0. There are at most 32 pairs. A version carries the clock under which it was put,
+/// and a put hands in the clocks that its client has read as its context.
+///
+/// ```
+/// let clock = Clock::from_pairs(alloc, &[(2, 1), (1, 3)])?;
+/// let raised = clock.raise(alloc, 2)?;
+/// assert_eq!(rt; raised.pairs(), [(1, 3), (2, 2)].as_slice());
+/// assert_eq!(rt; clock.compare(&raised), ClockOrder::Before);
+/// ```
 #[derive(Debug)]
 pub struct Clock {
     pairs: SmallVec<(u16, u64), FEW_PAIRS>,
@@ -73,7 +82,8 @@ impl Clock {
         })
     }
 
-    /// The clock of pairs that are one already: by rising node, at most 32. It takes no memory.
+    /// The clock of pairs that are already in order: by rising node, each node once, at most 32 pairs. It takes no
+    /// memory.
     pub fn of_ascending(pairs: Vec<(u16, u64)>) -> Clock
         requires { IsClock pairs.items }
         ensures { result ≡ pairs.items }
@@ -114,7 +124,7 @@ impl Clock {
         self.pairs.as_slice()
     }
 
-    /// The counter of a node, 0 where the node is absent.
+    /// The counter of a node: 0 if the node is absent.
     pub fn get(&self, node: u16) -> u64
         ensures { result ≡ counter self.now node }
     {
@@ -135,7 +145,39 @@ impl Clock {
         })
     }
 
-    /// How the clock lies to another, by the counters of all nodes.
+    /// The least clock that has seen what either has: for each node the greater of both counters. A client merges the
+    /// clocks of the versions that it has read into the context of its next put.
+    ///
+    /// Refused, in order: ClockFull (over 32 pairs), NoMemory.
+    pub fn merge(&self, alloc: Global, other: &Clock) -> Result<Clock, Refusal>
+        ensures answers { Answers result (merge_fault self.now other.now) (λ c. c ≡ merged self.now other.now) }
+        ensures counters { IfOk result (λ c. (n : ℕ) → counter c n ≡ max (counter other.now n) (counter self.now n)) }
+    {
+        let others = other.pairs.as_slice();
+        let len = self.pairs.len() + self.count_absent(others);
+        if len > MOST_PAIRS {
+            return Err(Refusal::ClockFull);
+        }
+        let mut merged = Vec::with_capacity(alloc, len)?;
+        merged.extend_from_slice(self.pairs.as_slice())?;
+        for i in (0..others.len()).rev() {
+            let (node, counter) = others[i];
+            put(&mut merged, node, counter.max(self.get(node)))?;
+        }
+        Ok(Clock {
+            pairs: SmallVec::from_vec(merged),
+        })
+    }
+
+    // How many of the pairs have a node that is absent here.
+    fn count_absent(&self, pairs: &[(u16, u64)]) -> usize
+        ensures count { result ≡ length (filter (λ p. counter self.now p.0 == 0) pairs.now) }
+        ensures bound { result ≤ length pairs.now }
+    {
+        pairs.iter().filter(|pair| self.get(pair.0) == 0).count()
+    }
+
+    /// How the clock compares with another, by the counters of all nodes.
     #[tactic(auto, using(crate::proofs::CompareRules::compare_rules))]
     pub fn compare(&self, other: &Clock) -> ClockOrder
         ensures order { result ≡ order_of (at_most self.now other.now) (at_most other.now self.now) }
@@ -153,7 +195,7 @@ impl Clock {
 }
 
 impl Drop for Clock {
-    /// A drop is one call wherever a clock is dropped: in which way its pairs are kept is seen here alone.
+    /// Keeps the representation out of the proofs of callers that drop a clock.
     fn drop(self) {
         let Clock { pairs: _pairs } = self;
     }
@@ -213,7 +255,7 @@ fn put(pairs: &mut Vec<(u16, u64)>, node: u16, counter: u64) -> Result<(), Alloc
     Ok(())
 }
 
-// Whether some pair is none of a clock.
+// Whether some pair can't be in a clock.
 fn has_bad_pair(pairs: &[(u64, u64)]) -> bool
     ensures { result ≡ list_any is_bad_pair pairs.now }
 {
@@ -222,7 +264,7 @@ fn has_bad_pair(pairs: &[(u64, u64)]) -> bool
         .any(|pair| pair.0 == 0 || pair.0 > LAST_NODE || pair.1 == 0)
 }
 
-// Whether some node comes twice. Few pairs are compared with one another; for more, a table says which nodes came.
+// Whether some node comes twice. Few pairs are compared with one another; for more, a table records which nodes came.
 fn has_repeat(pairs: &[(u64, u64)]) -> bool
     requires { list_any is_bad_pair pairs.now ≡ false }
     ensures { result ≡ has_repeat pairs.now }

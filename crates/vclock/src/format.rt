@@ -1,6 +1,7 @@
 //! The two formats of rows, trees and messages.
 
-/// A format: what rows, trees and messages look like, and how long a value may be.
+/// A format: what rows, trees and messages look like, and how long a value may be. Replicas of a range sync only if
+/// their formats are equal. A range of format 1 can be migrated to format 2, but not back.
 #[derive(Clone, Copy, Debug, PartialEq, Eq)]
 pub enum Format {
     /// Live versions alone, and a tree of depth 2 with 256 leaves.

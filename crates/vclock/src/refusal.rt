@@ -7,7 +7,8 @@ use std::error::Error;
 use std::fmt;
 use std::marker::Model;
 
-/// Clocks in a list.
+/// A list of clocks: those that a key held when its put was refused as [`Refusal::StaleContext`]. A client merges them
+/// into its context and puts again.
 #[derive(Debug, Drop)]
 pub struct Clocks {
     clocks: Vec<Clock>,
@@ -48,7 +49,7 @@ impl Clocks {
     }
 }
 
-/// What a caller's pass and a journal differ in.
+/// Which part of a caller's pass differs from the journal, in [`Refusal::Unsettled`].
 #[derive(Clone, Copy, Debug, PartialEq, Eq)]
 pub enum PassPart {
     /// What the caller was told that the journal has.
@@ -57,11 +58,17 @@ pub enum PassPart {
     Reading,
 }
 
-/// Why a call was refused, in the order of the numbers that scripts print.
+/// Why a call was refused, in the order of the numbers that scripts print, 1 to 32. It is the one error type of all
+/// crates, so a caller passes it on by `?`. docs/EMBEDDING.md has what each asks of the caller.
 ///
 /// A call tests its causes in the order that its own page lists, returns the first that is present, and leaves its value
 /// as it was, with three exceptions that docs/FORMATS.md names: a session that refuses a text as `NotCanonical` has failed,
 /// and a rehash or a whole sync that runs out of memory keeps what it has done so far.
+///
+/// ```
+/// let full = Clock::from_pairs(alloc, &pairs)?;
+/// assert!(rt; matches!(&full.raise(alloc, 1), Err(Refusal::ClockFull)));
+/// ```
 #[derive(Debug, Drop)]
 pub enum Refusal {
     /// A pair has node 0, a node over 65,535 or counter 0, or a node comes twice.
@@ -72,7 +79,7 @@ pub enum Refusal {
     CounterFull,
     /// The key's length is not 1 to 255 bytes.
     BadKey,
-    /// The value is too long for the format, a tombstone has a value, or a tombstone stands where the format has none.
+    /// The value is too long for the format, a tombstone has a value, or the format has no tombstones.
     BadValue,
     /// Some held version has seen the put's clock: the clocks that are held, in the order of the set.
     StaleContext(Clocks),
@@ -117,7 +124,7 @@ pub enum Refusal {
         /// The number of the receipt that is not covered.
         missing: Option<u64>,
     },
-    /// The first place where a caller's pass and the journal differ.
+    /// A caller's pass and the journal differ: the first difference.
     Unsettled {
         /// The seat of the pass.
         seat: u16,

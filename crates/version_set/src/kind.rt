@@ -6,12 +6,12 @@ ghost use Rattle.version_set.specs.Kind.{kind_byte, value_fault};
 use vclock::format::Format;
 use vclock::refusal::Refusal;
 
-/// Whether a version has a value or says that there is none.
+/// Whether a version has a value or deletes the key.
 #[derive(Clone, Copy, Debug, PartialEq, Eq)]
 pub enum Kind {
     /// A value that was put.
     Live,
-    /// A key that was deleted: its value is empty. Format 1 has none.
+    /// The key was deleted: the value is empty. Format 1 has no tombstones.
     Tombstone,
 }
 

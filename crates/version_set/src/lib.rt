@@ -1,4 +1,4 @@
-//! Versions, and sets of versions of which none is below another.
+//! Versions, and sets of versions in which no version is below another.
 #![tactic(auto)]
 
 pub mod kind;

@@ -17,7 +17,7 @@ use vclock::refusal::{Clocks, Refusal};
 /// How many versions a set has at the most.
 const MOST_VERSIONS: usize = 64;
 
-/// Whether an offered version was new to the set.
+/// What became of an offered version: whether it was new to the set.
 #[derive(Clone, Copy, Debug, PartialEq, Eq)]
 pub enum Offered {
     /// The version is a member now.
@@ -26,7 +26,19 @@ pub enum Offered {
     Known,
 }
 
-/// The maximal ones of some versions: none is below another, at most 64, in ascending order of their texts.
+/// The maximal versions of those that were offered: no member is below another. More than one member means that writers
+/// were concurrent, and a client resolves them by a put whose context has all their clocks. There are at most 64
+/// members, in ascending order of their texts, so equal sets look alike on each replica.
+///
+/// ```
+/// let mut set = VersionSet::empty(alloc);
+/// set.offer(version(alloc, (1, 1), Kind::Tombstone, b"")?)?;
+/// set.offer(version(alloc, (1, 1), Kind::Live, b"x")?)?;
+/// assert_eq!(rt;
+///     members(alloc, &set)?.as_str(),
+///     "[(1, 1)] Live [120]\n[(1, 1)] Tombstone []\n"
+/// );
+/// ```
 #[derive(Debug, Drop)]
 pub struct VersionSet {
     versions: Vec<Version>,
@@ -54,8 +66,8 @@ impl VersionSet {
         }
     }
 
-    /// The set of versions that are one already: in ascending order of their texts, none below another, at most 64. It
-    /// takes no memory.
+    /// The set of versions that already form one: in ascending order of their texts, no version below another, at most
+    /// 64. It takes no memory.
     pub fn of_ascending(members: Vec<Version>) -> VersionSet
         requires { IsVersionSet members.items }
         ensures { result ≡ members.items }
@@ -63,7 +75,7 @@ impl VersionSet {
         VersionSet { versions: members }
     }
 
-    /// The members, in ascending order of their texts, none below another.
+    /// The members, in ascending order of their texts. No member is below another.
     pub fn iter(&self) -> Iter<'_, Version>
         ensures all { iter_rest result ≡ self.now }
         ensures valid { IsVersionSet self.now }
@@ -209,7 +221,7 @@ fn count_kept(versions: &[Version], version: &Version) -> usize
         .count()
 }
 
-// Makes room for one version beside those that are kept. Most sets have one version: none has more room than it needs.
+// Makes room for one more version, and no more than that: most sets have one version.
 fn make_room(versions: &mut Vec<Version>, kept: usize) -> Result<(), AllocError>
     requires { kept ≤ length versions.old.items }
     ensures items { versions.new.items ≡ versions.old.items }
@@ -230,7 +242,7 @@ fn drop_below(versions: &mut Vec<Version>, version: &Version)
     versions.retain(|held| !held.is_below(version));
 }
 
-// Puts a version into its place, where no version has its text.
+// Puts a version into its place. No member has its text.
 fn insert(versions: &mut Vec<Version>, version: Version)
     requires { vec_len versions.old < vec_capacity versions.old }
     ensures { versions.new.items ≡ with_version version versions.old.items }

@@ -10,7 +10,16 @@ use vclock::clock::{Clock, ClockOrder};
 use vclock::format::Format;
 use vclock::refusal::Refusal;
 
-/// A value or a tombstone, with the clock under which it was put.
+/// A value or a tombstone, with the clock under which it was put. One version is below another if its clock is before
+/// the other's: the other writer had seen it. Equal clocks with different values are two versions, and both are kept.
+///
+/// ```
+/// Ok(Version {
+///     clock: Clock::from_pairs(alloc, &[pair])?,
+///     kind,
+///     value: Bytes::copy_of(alloc, value)?,
+/// })
+/// ```
 #[derive(Debug, Drop)]
 pub struct Version {
     /// What the version has seen.

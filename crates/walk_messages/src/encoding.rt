@@ -20,7 +20,7 @@ const ASK_LEN: usize = 8;
 /// How many bytes of an answer stand before its text.
 const BEFORE_TEXT: usize = 16;
 
-/// How many bytes a message has: none where that is over what a usize holds.
+/// How many bytes a message has: `None` if the count does not fit a usize.
 #[tactic(auto, unfolding(crate::specs::Messages::message_text))]
 fn message_len(message: &Message) -> Option<usize>
     ensures { MatchOption result (2 ^ 64 ≤ length (message_text message.now)) (λ len. len ≡ length (message_text message.now)) }

@@ -12,7 +12,7 @@ use crate::message::{Ask, Offer};
 use hash_tree::hashed::Digest;
 use hash_tree::node::NodeAt;
 
-/// The number of an offer, and what follows it: none where there are not four bytes.
+/// The number of an offer, and what follows it: `None` if there are fewer than four bytes.
 fn offer_number_at(bytes: &[u8]) -> Option<(u32, &[u8])>
     ensures { MatchOption result (length bytes.now < 4) (λ x. bytes.now ≡ to_be_bytes w32 x.0 ++ x.1.now) }
 {
@@ -20,7 +20,7 @@ fn offer_number_at(bytes: &[u8]) -> Option<(u32, &[u8])>
     Some((u32::from_be_bytes(*number), rest))
 }
 
-/// A node, and what follows it: none where no node stands there.
+/// A node, and what follows it: `None` if the bytes begin with no node.
 fn node_at(bytes: &[u8]) -> Option<(NodeAt, &[u8])>
     ensures { MatchOption result ((n : NodeAt) (rest : List ℕ) → bytes.now ≡ node_text n ++ rest → ⊥) (λ x. bytes.now ≡ node_text x.0 ++ x.1.now) }
 {
@@ -29,8 +29,8 @@ fn node_at(bytes: &[u8]) -> Option<(NodeAt, &[u8])>
     Some((node, rest))
 }
 
-/// The number of an offer and a node, with which an ask and an answer begin, and what follows them: none where they do
-/// not stand there.
+/// The number of an offer and a node, with which an ask and an answer begin, and what follows them: `None` if the bytes
+/// do not begin so.
 fn head_at(bytes: &[u8]) -> Option<(Ask, &[u8])>
     ensures { MatchOption result ((a : Ask) (rest : List ℕ) → bytes.now ≡ to_be_bytes w32 a.offer ++ node_text a.node ++ rest → ⊥) (λ x. bytes.now ≡ to_be_bytes w32 x.0.offer ++ node_text x.0.node ++ x.1.now) }
 {
@@ -39,7 +39,7 @@ fn head_at(bytes: &[u8]) -> Option<(Ask, &[u8])>
     Some((Ask { offer, node }, rest))
 }
 
-/// The offer with these fields: none where no offer has them.
+/// The offer with these fields: `None` if no offer has them.
 #[tactic(auto, unfolding(crate::specs::Messages::message_text))]
 pub(crate) fn offer_of(fields: &[u8]) -> Option<Offer>
     ensures { MatchOption result ((o : Offer) → IsMessage (messages.Offer o) → message_text (messages.Offer o) ≡ 1 ∷ fields.now → ⊥) (λ o. IsMessage (messages.Offer o) × (message_text (messages.Offer o) ≡ 1 ∷ fields.now)) }
@@ -54,7 +54,7 @@ pub(crate) fn offer_of(fields: &[u8]) -> Option<Offer>
     })
 }
 
-/// The ask with these fields: none where no ask has them.
+/// The ask with these fields: `None` if no ask has them.
 #[tactic(auto, unfolding(crate::specs::Messages::message_text))]
 pub(crate) fn ask_of(fields: &[u8]) -> Option<Ask>
     ensures { MatchOption result ((a : Ask) → message_text (messages.Ask a) ≡ 2 ∷ fields.now → ⊥) (λ a. IsMessage (messages.Ask a) × (message_text (messages.Ask a) ≡ 2 ∷ fields.now)) }
@@ -63,7 +63,7 @@ pub(crate) fn ask_of(fields: &[u8]) -> Option<Ask>
     if rest.is_empty() { Some(ask) } else { None }
 }
 
-/// The length of a text, and what follows it: none where there are not eight bytes.
+/// The length of a text, and what follows it: `None` if there are fewer than eight bytes.
 fn text_len_at(bytes: &[u8]) -> Option<(u64, &[u8])>
     ensures { MatchOption result (length bytes.now < 8) (λ x. bytes.now ≡ to_be_bytes w64 x.0 ++ x.1.now) }
 {
@@ -71,7 +71,7 @@ fn text_len_at(bytes: &[u8]) -> Option<(u64, &[u8])>
     Some((u64::from_be_bytes(*number), rest))
 }
 
-/// The text with its length before it: none where the length is another.
+/// The text after its length: `None` if the length is not that of the text.
 fn text_of(bytes: &[u8]) -> Option<&[u8]>
     ensures { MatchOption result ((text : List ℕ) → bytes.now ≡ to_be_bytes w64 (length text) ++ text → ⊥) (λ text. bytes.now ≡ to_be_bytes w64 (length text.now) ++ text.now) }
 {
@@ -83,7 +83,7 @@ fn text_of(bytes: &[u8]) -> Option<&[u8]>
     }
 }
 
-/// The offer's number, the node and the text of an answer with these fields: none where no answer has them.
+/// The offer's number, the node and the text of an answer with these fields: `None` if no answer has them.
 #[tactic(auto, unfolding(crate::specs::Messages::message_text))]
 pub(crate) fn answer_parts_of(fields: &[u8]) -> Option<(Ask, &[u8])>
     ensures { MatchOption result ((a : Answer) → message_text (messages.Answer a) ≡ 3 ∷ fields.now → ⊥) (λ x. let answer = messages.Answer (record { offer = x.0.offer; node = x.0.node; text = x.1.now }) in IsMessage answer × (message_text answer ≡ 3 ∷ fields.now)) }

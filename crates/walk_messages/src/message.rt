@@ -3,20 +3,35 @@ use hash_tree::hashed::Digest;
 use hash_tree::node::NodeAt;
 use vclock::bytes::Bytes;
 
-/// A replica's tree, by its root, for another to compare with.
+/// A replica's tree, by the digest of its root: the first message of a sync. A partner whose own root differs opens a
+/// session with it.
+///
+/// ```
+/// let offer = Message::Offer(Offer {
+///     offer: 258,
+///     format: 2,
+///     range: 255,
+///     root: [7; 32],
+/// });
+/// ```
 #[derive(Clone, Copy, Debug)]
 pub struct Offer {
     /// The number that the replica gave it. A pool of offers counts from 1.
     pub offer: u32,
-    /// The number of the format, which may be none.
+    /// The format's number as received; it may be unknown.
     pub format: u8,
-    /// The number of the range, which may be one that the ring has not.
+    /// The range's number as received; the ring may have no such range.
     pub range: u8,
     /// The digest of the root.
     pub root: Digest,
 }
 
-/// Asks for the text of a node of an offered tree.
+/// Asks for the text of a node of an offered tree: a session sends one for each of its outstanding nodes.
+///
+/// ```
+/// let node = NodeAt::new(2, 12).ok_or("no such node")?;
+/// let ask = Message::Ask(Ask { offer: 1, node });
+/// ```
 #[derive(Clone, Copy, Debug)]
 pub struct Ask {
     /// The number of the offer.
@@ -25,7 +40,16 @@ pub struct Ask {
     pub node: NodeAt,
 }
 
-/// What a replica says the text of a node is.
+/// What a replica claims to be the text of a node. It is not trusted: a session takes it only if it has the digest that
+/// the session expects.
+///
+/// ```
+/// let answer = Message::Answer(Answer {
+///     offer: 1,
+///     node: NodeAt::new(2, 0).ok_or("no such node")?,
+///     text: Bytes::copy_of(alloc, b"\x00")?,
+/// });
+/// ```
 #[derive(Debug, Drop)]
 pub struct Answer {
     /// The number of the offer.
@@ -36,7 +60,13 @@ pub struct Answer {
     pub text: Bytes,
 }
 
-/// A message.
+/// A message between two replicas, as bytes on a wire: see `encode` and `decode`.
+///
+/// ```
+/// assert_eq!(rt; encode(alloc, message)?.as_slice(), bytes);
+/// let read = decode(alloc, bytes)?;
+/// assert_eq!(rt; encode(alloc, &read)?.as_slice(), bytes);
+/// ```
 #[derive(Debug, Drop)]
 pub enum Message {
     /// A tree to compare with.

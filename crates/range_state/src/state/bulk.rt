@@ -32,7 +32,7 @@ impl RangeState {
         Ok(dirty)
     }
 
-    /// Hashes each dirty node whose children are clean, and makes it clean. Answers whether there was any.
+    /// Hashes each dirty node whose children are clean, and makes it clean. Returns whether there was any.
     fn rehash_ready(&mut self, rt: &(impl Threads + Sync), alloc: Global) -> Result<bool, Refusal>
         ensures memory { Answers result None (λ _. ⊤) }
         ensures more { IfOk result (λ any. IsTrue any → dirty_count self.new.marks < dirty_count self.old.marks) }

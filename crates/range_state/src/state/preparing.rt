@@ -88,7 +88,7 @@ impl RangeState {
         Ok(batch)
     }
 
-    /// Prepares the versions of a row besides.
+    /// Adds the versions of a row to the batch.
     fn prepare_row(
         &self,
         alloc: Global,
@@ -109,7 +109,7 @@ impl RangeState {
         Ok(())
     }
 
-    /// Prepares a version besides. Every growth is made before the version counts.
+    /// Adds a version to the batch. It allocates first, so a refused version does not count.
     fn prepare_version(
         &self,
         alloc: Global,

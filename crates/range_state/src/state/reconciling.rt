@@ -16,7 +16,11 @@ use snapshot::snapshot::Snapshot;
 use std::alloc::Global;
 use vclock::refusal::Refusal;
 
-/// What it took to make two replicas hold the same.
+/// What it took to make two replicas hold the same: how many nodes each asked, and how many versions each journaled.
+///
+/// ```
+/// reconcile(alloc, a, 1, b, 2, 5)
+/// ```
 #[derive(Debug, Drop)]
 pub struct Reconciled {
     /// How many nodes the first asked: those where the two trees differed.
@@ -33,9 +37,9 @@ pub struct Reconciled {
 /// first `a`, then `b`. `at_a` and `at_b` are the nodes that they are at.
 ///
 /// Refused, in order, before anything changes: Dirty (some node of the tree of `a`, then of `b`, has no digest),
-/// SessionsFull (of `a`, then of `b`, 64 sessions are open, or there are 1,024 records). Then, as the sessions go: Crowded,
-/// JournalFull, NoMemory. A session that is refused so is cancelled, what was accepted stays, and where it is that of `a`,
-/// `b` is as it was.
+/// SessionsFull (of `a`, then of `b`, 64 sessions are open, or there are 1,024 records). Then, as the sessions go:
+/// Crowded, JournalFull, NoMemory. A session that is refused so is cancelled, what was accepted stays, and if it is
+/// that of `a`, then `b` is as it was.
 ///
 /// Otherwise each asked the nodes where their trees differed, and no others. If no two different texts of the nodes of the two
 /// trees share a digest, both hold, for each key, the maximal versions of what they held before; and once both are clean, the
@@ -136,7 +140,7 @@ impl RangeState {
                 }
             },
             Err(refusal) => {
-                // Where the session was not opened, there is none to cancel.
+                // If the session was not opened, there is none to cancel.
                 let _cancelled = self.cancel_session(id);
                 Err(refusal)
             }

@@ -31,8 +31,8 @@ impl RangeState {
         &self.records
     }
 
-    /// Opens a session with a partner's offer: the rows now are compared with those under the offered root. Answers its
-    /// number, from 0.
+    /// Opens a session with a partner's offer: the rows now are compared with those under the offered root. Returns the
+    /// number of the session, from 0.
     ///
     /// Refused, in order: OtherFormat, OtherRange, SessionsFull (64 sessions are open, or there are 1,024 records), Dirty
     /// (some node of the own tree has no digest), NoMemory. The state is then as it was.

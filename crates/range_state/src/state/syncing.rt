@@ -99,7 +99,7 @@ impl RangeState {
     }
 }
 
-/// The sum of two counts. Refused: NoMemory, where it is over 2^64 - 1, as many versions as no memory holds.
+/// The sum of two counts. Refused: NoMemory (it is over 2^64 - 1: no memory holds as many versions).
 fn sum(count: u64, more: u64) -> Result<u64, Refusal>
     ensures { AnswersOrNoMemory result None (λ sum. sum ≡ count + more) }
 {

@@ -164,7 +164,7 @@ fn mark_news(marks: &mut Marks, leaf: u16, entries: &[Entry])
     }
 }
 
-/// Adds entries at the end, which have the next numbers, where there is room for them.
+/// Adds entries at the end, which have the next numbers, and for which room was made.
 fn append_all(journal: &mut Journal, entries: Vec<Entry>)
     requires numbered { AreNumberedFrom (length journal.old.entries) entries.items }
     requires room { length entries.items ≤ journal.old.room }

@@ -53,8 +53,8 @@ impl RangeState {
         self.admit_into(alloc, receipts, leaf, seat, Source::Client, key, version)
     }
 
-    /// Does as `accept`, and puts a copy of the receipt, where there is one, at the end of a list. Refused as `accept`: the
-    /// list is then as it was.
+    /// Does as `accept`, and puts a copy of the receipt, if there is one, at the end of a list. Refused as `accept`:
+    /// the list is then as it was.
     pub fn accept_into(
         &mut self,
         alloc: Global,

@@ -15,8 +15,8 @@ use std::alloc::Global;
 use vclock::refusal::Refusal;
 
 impl RangeState {
-    /// The digest of a node, if it is clean: that of its text for the rows now. None too where the range's tree has no such
-    /// node. It takes no memory.
+    /// The digest of a node, if it is clean: that of its text for the rows now. `None` if the node is dirty or the
+    /// range's tree has no such node. It takes no memory.
     pub fn digest_at(&self, node: NodeAt) -> Option<Digest>
         ensures digest { result ≡ digest_at self.now.marks (place_of node) }
         ensures right { IfSome result (λ digest. digest ≡ sha256 (text_in self.now node)) }
@@ -24,9 +24,9 @@ impl RangeState {
         self.marks.get(node)
     }
 
-    /// A job: a dirty node whose children are clean, and its text now. None where no node is dirty. Of several nodes it is
-    /// the one that `skip` counts to, round and round, so workers that are numbered from 0 get different jobs as long as
-    /// there are as many. Refused: NoMemory.
+    /// A job: a dirty node whose children are clean, and its text now. `None` if no node is dirty. Of several nodes it
+    /// is the one that `skip` counts to, round and round, so workers that are numbered from 0 get different jobs as
+    /// long as there are enough. Refused: NoMemory.
     pub fn take_job(&self, alloc: Global, skip: u64) -> Result<Option<Job>, Refusal>
         ensures { Answers result None (GivesJob self.now) }
     {
@@ -36,7 +36,7 @@ impl RangeState {
         }
     }
 
-    /// Jobs of different nodes: of all dirty nodes whose children are clean, or of `most` of them where there are more.
+    /// Jobs of different nodes: of all dirty nodes whose children are clean, or of `most` of them if there are more.
     /// Refused: NoMemory.
     pub fn take_jobs(&self, alloc: Global, most: usize) -> Result<Vec<Job>, Refusal>
         ensures { Answers result None (λ jobs. AreJobs self.now most jobs.items) }
