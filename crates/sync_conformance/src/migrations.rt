@@ -150,6 +150,41 @@ fn run_node<L: Ledger + Send + Sync, C: Ledger + Send + Sync, R: Threads + Wait 
     tended
 }
 
+/// Writes at two nodes, and tends their trees beside that: each node with the passes of its writer and of its syncs.
+fn run_both<L, M, C, R>(
+    rt: &R,
+    alloc: Global,
+    one: (&Node<L>, &mut Pass<L>, &mut Pass<L>),
+    two: (&Node<M>, &mut Pass<M>, &mut Pass<M>),
+    slots: &SharedController<C>,
+) -> Result<(), Refusal>
+where
+    L: Ledger + Send + Sync,
+    M: Ledger + Send + Sync,
+    C: Ledger + Send + Sync,
+    R: Threads + Wait + Sync,
+{
+    let (node, writer, syncer) = one;
+    let (other, other_writer, other_syncer) = two;
+    let (pool, other_pool) = (&node.pool, &other.pool);
+    let (ran, other_ran) = thread::join(
+        rt,
+        || run_node(rt, alloc, "one", node, other_pool, slots, writer, syncer),
+        || run_node(
+            rt,
+            alloc,
+            "two",
+            other,
+            pool,
+            slots,
+            other_writer,
+            other_syncer,
+        ),
+    );
+    ran?;
+    other_ran
+}
+
 /// Brings two nodes together that nobody writes to any more.
 fn bring_together<L: Ledger, M: Ledger, C: Ledger, R: Wait>(
     rt: &R,
@@ -211,35 +246,13 @@ where
     let slots = open_slots::<C>(alloc, slots)?;
     let (one, mut writer, mut syncer) = Node::<L>::open(alloc, first)?;
     let (two, mut other_writer, mut other_syncer) = Node::<M>::open(alloc, second)?;
-    let (ran, other_ran) = thread::join(
+    run_both(
         rt,
-        || {
-            run_node(
-                rt,
-                alloc,
-                "one",
-                &one,
-                &two.pool,
-                &slots,
-                &mut writer,
-                &mut syncer,
-            )
-        },
-        || {
-            run_node(
-                rt,
-                alloc,
-                "two",
-                &two,
-                &one.pool,
-                &slots,
-                &mut other_writer,
-                &mut other_syncer,
-            )
-        },
-    );
-    ran?;
-    other_ran?;
+        alloc,
+        (&one, &mut writer, &mut syncer),
+        (&two, &mut other_writer, &mut other_syncer),
+        &slots,
+    )?;
     let equal = bring_together(
         rt,
         alloc,
