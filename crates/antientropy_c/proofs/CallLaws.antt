@@ -1,0 +1,48 @@
+-- What a call on a handle owes, from what its parts did.
+use Rattle.std.proofs.Common.{◌≡◌, ℕ, List, sym, subst}
+use Rattle.std.specs.Prelude.{Bool, true, false, Result}
+use Rattle.vclock.specs.declared.refusal.Refusal.{Refusal}
+use Rattle.range_state.specs.State.{State}
+use Rattle.antientropy_c.specs.Numbers.{code_of, Returns}
+use Rattle.antientropy_c.specs.Calls.{Calls, OnHeld}
+use Rattle.antientropy_c.specs.Hands.{HandsOut, Gives}
+use Rattle.antientropy_c.specs.Messages.{Reads}
+use Rattle.walk_messages.specs.Messages.{Decodes}
+use Rattle.walk_messages.specs.declared.message.Message.{Message}
+use Rattle.antientropy_c.specs.declared.replica.Replica.{Replica}
+use Rattle.antientropy_c.specs.declared.numbers.TheConstants.{EMPTY}
+
+pub on_held : (was now : Bool) (code : ℕ) (Right : Type 0) → was ≡ true → now ≡ true → Right → OnHeld was now code Right
+on_held true now code Right is_was is_now right = (is_now, right)
+on_held false now code Right is_was is_now right = absurd (cc)
+
+pub on_empty : (was now : Bool) (code : ℕ) (Right : Type 0) → was ≡ false → now ≡ false → code ≡ EMPTY → OnHeld was now code Right
+on_empty true now code Right is_was is_now is_code = absurd (cc)
+on_empty false now code Right is_was is_now is_code = (is_now, is_code)
+
+-- nothing was held
+pub empty : (code : ℕ) (old new : Replica) (Right : State → State → Type 0)
+    → old.held ≡ false → new.held ≡ false → code ≡ EMPTY → Calls code old new Right
+unfolding Calls
+empty code old new Right was now is_code = on_empty old.held new.held code (Right old.state new.state) was now is_code
+
+-- a replica was held, and taken from the state s to the state t
+pub held : (code : ℕ) (old new : Replica) (Right : State → State → Type 0) (s t : State)
+    → old.held ≡ true → new.held ≡ true → s ≡ old.state → new.state ≡ t → Right s t → Calls code old new Right
+unfolding Calls
+held code old new Right s t was now is_old is_new right =
+    on_held old.held new.held code (Right old.state new.state) was now
+    (subst (λ (x : State). Right x new.state) is_old (subst (λ (x : State). Right s x) (sym is_new) right))
+
+-- the number is that of a result
+pub returns : {T : Type 0} (code : ℕ) (Right : Result T Refusal → Type 0) (r : Result T Refusal) → code ≡ code_of r → Right r → Returns code Right
+returns code Right r number right = record { told = r; number = number; right = right }
+
+-- the bytes of a result are handed out
+pub gives : (code : ℕ) (before after : ℕ × List ℕ) (Right : Result (List ℕ) Refusal → Type 0) (r : Result (List ℕ) Refusal)
+    → HandsOut r code before after → Right r → Gives code before after Right
+gives code before after Right r handed right = record { told = r; handed = handed; right = right }
+
+-- what the bytes decode to
+pub reads : (bytes : List ℕ) (Right : Result Message Refusal → Type 0) (d : Result Message Refusal) → Decodes bytes d → Right d → Reads bytes Right
+reads bytes Right d decodes right = record { decoded = d; decodes = decodes; right = right }

@@ -1,0 +1,13 @@
+pub mod Counts
+pub mod Handles
+pub mod Numbers
+pub mod Hands
+pub mod Calls
+pub mod Makes
+pub mod Messages
+pub mod Offers
+pub mod Pairs
+pub mod Publications
+pub mod Puts
+pub mod Sessions
+pub mod Shows

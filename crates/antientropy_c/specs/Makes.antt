@@ -1,0 +1,32 @@
+-- A replica that is made.
+use Rattle.std.specs.Prelude.{◌≡◌, ℕ, Bool, true, false, Option, Some, None, Result, OnErr}
+use Rattle.vclock.specs.Answer.{Answers}
+use Rattle.vclock.specs.declared.refusal.Refusal.{Refusal}
+use Rattle.vclock.specs.declared.refusal.Refusal.TheVariants.{BadRing}
+use Rattle.range_state.specs.Config.{Config}
+use Rattle.range_state.specs.State.{State, fresh}
+use Rattle.antientropy_c.specs.Numbers.{Returns}
+use Rattle.antientropy_c.specs.declared.numbers.TheConstants.{HELD}
+use Rattle.antientropy_c.specs.declared.replica.Replica.{Replica}
+
+-- why no range is made: there is none with such numbers
+abbrev pub config_fault : Option Config → Option Refusal
+config_fault (Some c) = None
+config_fault None = Some BadRing
+
+-- the state of a range that has accepted nothing
+abbrev pub IsFresh : Option Config → State → Type 0
+IsFresh (Some c) s = s ≡ fresh c
+IsFresh None s = ⊥
+
+-- it is held from then on, or nothing is
+abbrev pub TakesState : Replica → Option Config → Result (Unit {0}) Refusal → Type 0
+TakesState new config r = Answers r (config_fault config) (λ _. (new.held ≡ true) × IsFresh config new.state) × OnErr r (new.held ≡ false)
+
+-- by whether something was held: nothing changes, and the number says so; or a replica is made
+abbrev pub MadeWhere : Bool → ℕ → Replica → Replica → Option Config → Type 0
+MadeWhere true code old new config = (new.held ≡ true) × (new.state ≡ old.state) × (code ≡ HELD)
+MadeWhere false code old new config = Returns code (TakesState new config)
+
+unfoldable pub Makes : ℕ → Replica → Replica → Option Config → Type 0
+Makes code old new config = MadeWhere old.held code old new config

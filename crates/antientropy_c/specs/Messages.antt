@@ -1,0 +1,11 @@
+-- Calls that C brings a message.
+use Rattle.std.specs.Prelude.{List, ℕ, Result}
+use Rattle.vclock.specs.declared.refusal.Refusal.{Refusal}
+use Rattle.walk_messages.specs.Messages.{Decodes}
+use Rattle.walk_messages.specs.declared.message.Message.{Message}
+
+-- What the bytes decode to decides.
+pub record Reads (bytes : List ℕ) (Right : Result Message Refusal → Type 0) : Type 0 where
+  pub decoded : Result Message Refusal
+  pub decodes : Decodes bytes decoded
+  pub right : Right decoded

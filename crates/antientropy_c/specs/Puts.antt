@@ -1,0 +1,52 @@
+-- Versions that C brings: their numbers need not be right.
+use Rattle.std.specs.Prelude.{◌≡◌, ℕ, nat_le, ◌==◌, List, Option, Some, None, Result, Ok, Err, if◌then◌else◌}
+use Rattle.vclock.specs.Clock.{Pairs, counter, clock_of, pairs_fault}
+use Rattle.vclock.specs.Outcome.{Outcome, ◌>>◌}
+use Rattle.vclock.specs.declared.refusal.Refusal.{Refusal}
+use Rattle.vclock.specs.declared.refusal.Refusal.TheVariants.{BadClock, BadValue}
+use Rattle.version_set.specs.declared.kind.Kind.{Kind}
+use Rattle.version_set.specs.declared.kind.Kind.TheVariants.{Live, Tombstone}
+use Rattle.range_journal.specs.declared.journal.Entry.{Entry}
+use Rattle.range_journal.specs.declared.journal.Source.TheVariants.{Copy}
+use Rattle.range_state.specs.State.{State, put, accept}
+use Rattle.range_state.specs.declared.event.Accepted.{Accepted}
+use Rattle.range_state.specs.declared.event.Accepted.TheVariants.{Taken, Known}
+use Rattle.antientropy_c.specs.declared.writing.PutReceipt.{PutReceipt}
+
+-- why a number is no node's
+abbrev pub node_fault : ℕ → Option Refusal
+node_fault node = if node == 0 then Some BadClock else None
+
+-- why a number is no kind's
+abbrev pub kind_fault : ℕ → Option Refusal
+kind_fault kind = if nat_le kind 1 then None else Some BadValue
+
+-- the kind of a number: 0 for a live version, 1 for a tombstone
+abbrev pub kind_of : ℕ → Kind
+kind_of kind = if kind == 0 then Live else Tombstone
+
+-- a put by the caller with seat 0
+abbrev pub put_at : State → ℕ → List ℕ → Pairs → ℕ → List ℕ → Outcome Entry State
+put_at s node key context kind value = do
+  node_fault node
+  pairs_fault context
+  kind_fault kind
+  put s 0 node key (clock_of context) (kind_of kind) value
+
+-- the caller is told of its entry, if there is one
+abbrev pub TellsPut : ℕ → Result Entry Refusal → PutReceipt → PutReceipt → Type 0
+TellsPut node (Ok e) old new = new ≡ record { number = e.number; counter = counter e.version.clock node }
+TellsPut node (Err e) old new = new ≡ old
+
+-- a version of another replica comes as a copy, by the caller with seat 0
+abbrev pub accept_at : State → List ℕ → Pairs → ℕ → List ℕ → Outcome Accepted State
+accept_at s key clock kind value = do
+  pairs_fault clock
+  kind_fault kind
+  accept s 0 Copy key (record { clock = clock_of clock; kind = kind_of kind; value = value })
+
+-- the caller is told whether it was new, if it was not refused
+abbrev pub TellsAccepted : Result Accepted Refusal → ℕ → ℕ → Type 0
+TellsAccepted (Ok (Taken e)) old new = new ≡ 1
+TellsAccepted (Ok Known) old new = new ≡ 0
+TellsAccepted (Err e) old new = new ≡ old

@@ -1,0 +1,80 @@
+-- Sessions as C goes through them.
+use Rattle.std.specs.Prelude.{◌≡◌, ℕ, ◌==◌, List, [], length, slice_get, Option, Some, None, Result, Ok, Err, MatchBool, MatchOption}
+use Rattle.vclock.specs.Answer.{Answers}
+use Rattle.vclock.specs.Outcome.{Does}
+use Rattle.vclock.specs.declared.refusal.Refusal.{Refusal}
+use Rattle.vclock.specs.declared.refusal.Refusal.TheVariants.{BadMessage, UnknownSession}
+use Rattle.walk_messages.specs.Messages.{message_text}
+use Rattle.walk_messages.specs.declared.message.Answer.{Answer}
+use Rattle.walk_messages.specs.declared.message.Message.{Message}
+use Rattle.walk_messages.specs.declared.message.Message.TheVariants as messages
+use Rattle.hash_tree.specs.declared.node.NodeAt.{NodeAt}
+use Rattle.sync_session.specs.TreeNodes.{node_of}
+use Rattle.sync_session.specs.declared.state.SessionState.{SessionState}
+use Rattle.sync_session.specs.declared.state.SessionState.TheVariants.{Open, Finished, Failed, Cancelled}
+use Rattle.range_state.specs.State.{State}
+use Rattle.range_state.specs.Sessions.{open_session, unknown_fault, TakesAnswer}
+use Rattle.range_state.specs.Syncs.{IsFirstOf}
+use Rattle.range_state.specs.declared.«record».Record.{Record}
+use Rattle.range_state.specs.declared.event.AnswerTaken.{AnswerTaken}
+use Rattle.antientropy_c.specs.declared.syncing.TakenReceipt.{TakenReceipt}
+
+-- a session is opened with what bytes decode to, if that is an offer
+abbrev pub Opens : State → ℕ → Result ℕ Refusal → State → Result Message Refusal → Type 0
+Opens s partner r t (Ok (messages.Offer offer)) = Does r s t (open_session s partner offer)
+Opens s partner r t (Ok (messages.Ask ask)) = (r ≡ Err BadMessage) × (t ≡ s)
+Opens s partner r t (Ok (messages.Answer answer)) = (r ≡ Err BadMessage) × (t ≡ s)
+Opens s partner r t (Err e) = (r ≡ Err e) × (t ≡ s)
+
+-- the caller's number is that of the result, if it has one
+abbrev pub TellsNumber : Result ℕ Refusal → ℕ → ℕ → Type 0
+TellsNumber (Ok n) old new = new ≡ n
+TellsNumber (Err e) old new = new ≡ old
+
+-- the message that asks for a node, or no bytes
+abbrev pub asked_bytes : ℕ → Option NodeAt → List ℕ
+asked_bytes number None = []
+asked_bytes number (Some node) = message_text (messages.Ask (record { offer = number; node = node }))
+
+-- bytes that ask for the first node that a session has outstanding, if one is
+pub record AsksFirst (r : Record) (number : ℕ) (bytes : List ℕ) : Type 0 where
+  pub first : Option NodeAt
+  pub is_first : IsFirstOf r.session.outstanding first
+  pub says : bytes ≡ asked_bytes number first
+
+-- the same of the session of that number
+abbrev pub Asks : State → ℕ → ℕ → Result (List ℕ) Refusal → Type 0
+Asks s id number r = Answers r (unknown_fault s id) (λ bytes. MatchOption (slice_get s.records id) ⊥ (λ kept. AsksFirst kept number bytes))
+
+-- an answer of the offer with that number is taken, as by seat 0, and one of another offer is none
+abbrev pub TakesWith : State → ℕ → ℕ → Answer → Result AnswerTaken Refusal → State → Type 0
+TakesWith s id number a r t = MatchBool (a.offer == number)
+    (TakesAnswer s 0 id (record { node = node_of a.node; text = a.text }) r t)
+    ((r ≡ Err BadMessage) × (t ≡ s))
+
+-- the same of what bytes decode to, if that is an answer
+abbrev pub Takes : State → ℕ → ℕ → Result AnswerTaken Refusal → State → Result Message Refusal → Type 0
+Takes s id number r t (Ok (messages.Answer answer)) = TakesWith s id number answer r t
+Takes s id number r t (Ok (messages.Offer offer)) = (r ≡ Err BadMessage) × (t ≡ s)
+Takes s id number r t (Ok (messages.Ask ask)) = (r ≡ Err BadMessage) × (t ≡ s)
+Takes s id number r t (Err e) = (r ≡ Err e) × (t ≡ s)
+
+-- the number of a session's state
+abbrev pub number_of_state : SessionState → ℕ
+number_of_state Open = 0
+number_of_state Finished = 1
+number_of_state Failed = 2
+number_of_state Cancelled = 3
+
+-- the caller is told what came of an answer, if it was taken
+abbrev pub TellsTaken : Result AnswerTaken Refusal → TakenReceipt → TakenReceipt → Type 0
+TellsTaken (Ok a) old new = new ≡ record { accepted = length a.receipts.items; known = a.known; state = number_of_state a.state }
+TellsTaken (Err e) old new = new ≡ old
+
+-- how the session of a record stands, if there is one
+abbrev pub seen_of : Option Record → Result ℕ Refusal
+seen_of None = Err UnknownSession
+seen_of (Some r) = Ok (number_of_state r.session.state)
+
+abbrev pub session_seen : State → ℕ → Result ℕ Refusal
+session_seen s id = seen_of (slice_get s.records id)

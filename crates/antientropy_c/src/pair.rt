@@ -1,0 +1,39 @@
+//! Clocks as C has them.
+ghost use Rattle.std.specs.Prelude.{◌≡◌, map, IfOk};
+ghost use Rattle.vclock.specs.Answer.{AnswersOrNoMemory};
+ghost use Rattle.vclock.specs.Clock.{pairs_fault, clock_of};
+ghost use Rattle.antientropy_c.specs.Pairs.{pair_of, pairs_of};
+
+use std::alloc::{AllocError, Global};
+use vclock::clock::Clock;
+use vclock::refusal::Refusal;
+
+/// A node with its counter.
+#[repr(C)]
+#[derive(Clone, Copy, Debug)]
+pub struct Pair {
+    /// The node, 1 to 65,535 in a clock.
+    pub node: u64,
+    /// The counter, from 1 in a clock.
+    pub counter: u64,
+}
+
+/// The clock of pairs in any order. Refused, in order: BadClock, ClockFull, NoMemory. The pairs are copied first, so NoMemory
+/// may stand in place of the others.
+pub(crate) fn clock_of(alloc: Global, pairs: &[Pair]) -> Result<Clock, Refusal>
+    ensures { AnswersOrNoMemory result (pairs_fault (pairs_of pairs.now)) (λ clock. clock ≡ clock_of (pairs_of pairs.now)) }
+{
+    let pairs = numbers_of(alloc, pairs)?;
+    Clock::from_pairs(alloc, &pairs)
+}
+
+/// The same pairs. It fails for want of memory.
+fn numbers_of(alloc: Global, pairs: &[Pair]) -> Result<Vec<(u64, u64)>, AllocError>
+    ensures { IfOk result (λ numbers. numbers.items ≡ pairs_of pairs.now) }
+{
+    let mut numbers = Vec::with_capacity(alloc, pairs.len())?;
+    for pair in pairs {
+        numbers.push((pair.node, pair.counter))?;
+    }
+    Ok(numbers)
+}

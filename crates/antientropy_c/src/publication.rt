@@ -1,0 +1,82 @@
+//! What C holds of a snapshot.
+ghost use Rattle.std.specs.Prelude.{◌≡◌, true, false, MatchOption};
+ghost use Rattle.snapshot.specs.RowMaps.{RowMap};
+ghost use Rattle.antientropy_c.specs.Publications.{publication_owns};
+
+use crate::place::Place;
+use crate::published::Published;
+use std::alloc::Global;
+use std::marker::Model;
+use std::mem::replace;
+use std::ptr::null_mut;
+
+/// A snapshot on the heap, or nothing: all its bytes are zero then, and the rows are any.
+#[repr(C)]
+#[derive(Drop)]
+pub struct Publication {
+    at: *mut u8,
+    pub held: bool,
+    alloc: Global,
+    pub ghost rows: { RowMap },
+}
+
+impl Model for Publication {
+    ghost also_owns = { λ h. publication_owns h.alloc h.held h.at h.rows };
+}
+
+impl Publication {
+    /// Nothing.
+    fn none(alloc: Global) -> Publication
+        ensures { result.held ≡ false }
+    {
+        Publication {
+            at: null_mut(),
+            held: false,
+            alloc,
+        }
+    }
+
+    /// What is at a place.
+    fn of(place: Place<Published, Global>) -> Publication
+        ensures { (result.held ≡ place.held) × (result.rows ≡ place.value) }
+    {
+        let Place { at, held, alloc } = place;
+        Publication {
+            at: at as *mut u8,
+            held,
+            alloc,
+        }
+    }
+
+    /// The place of what is held.
+    fn into_place(self) -> Place<Published, Global>
+        ensures { (result.held ≡ self.held) × (result.value ≡ self.rows) }
+    {
+        let Publication { at, held, alloc } = self;
+        Place {
+            at: at as *mut Published,
+            held,
+            alloc,
+        }
+    }
+
+    /// Takes the snapshot out, if there is one. Nothing is held then.
+    pub(crate) fn take(&mut self, alloc: Global) -> Option<Box<Published, Global>>
+        ensures rows { MatchOption result (self.old.held ≡ false)
+            (λ rows. (self.old.held ≡ true) × (rows.value ≡ self.old.rows)) }
+        ensures none { self.new.held ≡ false }
+    {
+        replace(self, Publication::none(alloc))
+            .into_place()
+            .into_box()
+            .ok()
+    }
+
+    /// Holds a snapshot.
+    pub(crate) fn hold(&mut self, rows: Box<Published, Global>)
+        ensures held { self.new.held ≡ true }
+        ensures rows { self.new.rows ≡ rows.value }
+    {
+        let _before = replace(self, Publication::of(Place::of(rows)));
+    }
+}

@@ -1,0 +1,39 @@
+//! A snapshot that is published.
+ghost use Rattle.std.specs.Prelude.{◌≡◌};
+ghost use Rattle.std.specs.Arc.{arc_value};
+
+use snapshot::snapshot::Snapshot;
+use std::alloc::Global;
+use std::marker::Model;
+use std::sync::Arc;
+
+/// A snapshot of a replica's rows, which shares its leaves with the replica.
+#[derive(Drop)]
+pub(crate) struct Published {
+    snapshot: Arc<Snapshot, Global>,
+}
+
+impl Model for Published {
+    ghost use Rattle.std.specs.Arc.{arc_value};
+    ghost use Rattle.snapshot.specs.RowMaps.{RowMap};
+
+    ghost Value = { RowMap };
+
+    ghost view = { λ p. arc_value p.snapshot };
+}
+
+impl Published {
+    /// What is published.
+    pub(crate) fn new(snapshot: Arc<Snapshot, Global>) -> Published
+        ensures { result ≡ arc_value snapshot }
+    {
+        Published { snapshot }
+    }
+
+    /// The snapshot.
+    pub(crate) fn snapshot(&self) -> &Snapshot
+        ensures { result.now ≡ self.now }
+    {
+        &self.snapshot
+    }
+}

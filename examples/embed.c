@@ -1,0 +1,124 @@
+/* Two replicas of a range: one is away while the other takes writes, and they are brought together by messages.
+ *
+ * It prints what happens, and ends with status 1 if a call returns another number than the one wanted. */
+#include "antientropy.h"
+
+#include <stdio.h>
+#include <stdlib.h>
+#include <string.h>
+
+enum { ROOM = 1 << 20, OFFER = 7 };
+
+static uint8_t offer[64], ask[64], answer[ROOM];
+
+/* Ends the program unless a call returned the number that is wanted. */
+static void want(const char *call, uint32_t got, uint32_t wanted)
+{
+    if (got != wanted) {
+        printf("%s returned %u, not %u\n", call, got, wanted);
+        exit(1);
+    }
+}
+
+static void put(struct antientropy *replica, uint16_t node, const char *key, const char *value,
+                const struct antientropy_pair *context, size_t context_len)
+{
+    struct antientropy_receipt receipt;
+    uint32_t got = antientropy_put(replica, node, (const uint8_t *)key, strlen(key), context, context_len, ANTIENTROPY_LIVE,
+                                   (const uint8_t *)value, strlen(value), &receipt);
+    want("put", got, ANTIENTROPY_OK);
+}
+
+/* The versions of a key. */
+static unsigned long long versions(struct antientropy *replica, const char *key)
+{
+    uint64_t count;
+    want("versions", antientropy_versions(replica, (const uint8_t *)key, strlen(key), &count), ANTIENTROPY_OK);
+    return (unsigned long long)count;
+}
+
+/* The message of the offer of a replica's rows now, under a number. */
+static uint64_t offer_now(struct antientropy *replica, struct antientropy_snapshot *snapshot, uint32_t number)
+{
+    uint64_t len;
+    want("rehash", antientropy_rehash(replica), ANTIENTROPY_OK);
+    want("snapshot", antientropy_snapshot(replica, snapshot), ANTIENTROPY_OK);
+    want("offer", antientropy_offer(snapshot, number, offer, sizeof offer, &len), ANTIENTROPY_OK);
+    return len;
+}
+
+/* Whether two replicas have equal roots. */
+static bool equal_roots(struct antientropy *a, struct antientropy *b)
+{
+    struct antientropy_snapshot of_a = {0}, of_b = {0};
+    uint8_t first[64];
+    uint64_t len = offer_now(a, &of_a, OFFER);
+    memcpy(first, offer, len);
+    offer_now(b, &of_b, OFFER);
+    antientropy_snapshot_free(&of_a);
+    antientropy_snapshot_free(&of_b);
+    return memcmp(first, offer, len) == 0;
+}
+
+/* Takes over what a partner offers, and counts the messages. One answer is forged on its way, and is refused. */
+static void sync(struct antientropy *replica, struct antientropy *partner)
+{
+    struct antientropy_snapshot offered = {0};
+    struct antientropy_taken taken;
+    uint64_t len = offer_now(partner, &offered, OFFER), session, state, accepted = 0;
+    unsigned asks = 0;
+    want("rehash", antientropy_rehash(replica), ANTIENTROPY_OK);
+    want("open", antientropy_open(replica, 2, offer, len, &session), ANTIENTROPY_OK);
+    for (;;) {
+        want("ask", antientropy_ask(replica, session, OFFER, ask, sizeof ask, &len), ANTIENTROPY_OK);
+        if (len == 0)
+            break;
+        want("serve", antientropy_serve(&offered, OFFER, ask, len, answer, sizeof answer, &len), ANTIENTROPY_OK);
+        if (asks++ == 1) {
+            answer[len - 1] ^= 1;
+            want("take", antientropy_take(replica, session, OFFER, answer, len, &taken), ANTIENTROPY_WRONG_DIGEST);
+            printf("a forged answer is refused\n");
+            answer[len - 1] ^= 1;
+        }
+        want("take", antientropy_take(replica, session, OFFER, answer, len, &taken), ANTIENTROPY_OK);
+        accepted += taken.accepted;
+    }
+    want("session", antientropy_session(replica, session, &state), ANTIENTROPY_OK);
+    antientropy_snapshot_free(&offered);
+    printf("asks %u, accepted %llu, session %s\n", asks, (unsigned long long)accepted,
+           state == ANTIENTROPY_FINISHED ? "finished" : "not finished");
+}
+
+int main(void)
+{
+    struct antientropy a = {0}, b = {0};
+    struct antientropy_pair seen[] = {{1, 1}};
+    uint64_t need;
+    want("versions", antientropy_versions(&a, (const uint8_t *)"k", 1, &need), ANTIENTROPY_EMPTY);
+    want("new", antientropy_new(&a, 3, 0, 0, 1000), ANTIENTROPY_BAD_RING);
+    want("new", antientropy_new(&a, 2, 0, 0, 1000), ANTIENTROPY_OK);
+    want("new", antientropy_new(&a, 2, 0, 0, 1000), ANTIENTROPY_HELD);
+    want("new", antientropy_new(&b, 2, 0, 0, 1000), ANTIENTROPY_OK);
+
+    put(&a, 1, "cart", "milk", seen, 0);
+    put(&b, 2, "cart", "eggs", seen, 0);
+    printf("cart: %llu version at a, %llu at b\n", versions(&a, "cart"), versions(&b, "cart"));
+    printf("b is away\n");
+    put(&a, 1, "cart", "milk, bread", seen, 1);
+    put(&a, 1, "order", "paid", seen, 0);
+    printf("roots equal: %s\n", equal_roots(&a, &b) ? "yes" : "no");
+
+    sync(&b, &a);
+    sync(&a, &b);
+    printf("cart: %llu versions at a, %llu at b; order: %llu at b\n", versions(&a, "cart"), versions(&b, "cart"),
+           versions(&b, "order"));
+    printf("roots equal: %s\n", equal_roots(&a, &b) ? "yes" : "no");
+
+    want("get", antientropy_get(&a, (const uint8_t *)"order", 5, answer, 3, &need), ANTIENTROPY_SMALL);
+    want("get", antientropy_get(&a, (const uint8_t *)"order", 5, answer, need, &need), ANTIENTROPY_OK);
+    printf("the row of order has %llu bytes\n", (unsigned long long)need);
+    antientropy_free(&a);
+    antientropy_free(&b);
+    want("migrate", antientropy_migrate(&a), ANTIENTROPY_EMPTY);
+    return 0;
+}

@@ -1,0 +1,202 @@
+/* Hostile bytes for each call of the C library that reads a message: 16 MiB of them, and mutated messages.
+ *
+ *     fuzz [MUTATIONS]     (100,000 for each call, if no number is given)
+ *
+ * Each is refused, and the replica is afterwards as it was: the same counts, the same rows. It prints how many were tried,
+ * and ends with status 1 at the first call that did otherwise. */
+#include "antientropy.h"
+
+#include <stdio.h>
+#include <stdlib.h>
+#include <string.h>
+
+enum { ROOM = 1 << 16, HOSTILE = 16 << 20, KEYS = 200, NUMBER = 7, SEED = 20260101 };
+
+static uint8_t out[ROOM], before[KEYS][256], after[ROOM];
+static uint64_t before_len[KEYS];
+static uint32_t state = SEED;
+
+/* The next of a fixed list of numbers (xorshift32). */
+static uint32_t next(void)
+{
+    state ^= state << 13;
+    state ^= state >> 17;
+    state ^= state << 5;
+    return state;
+}
+
+static void fail(const char *what, uint32_t number)
+{
+    printf("%s: %u\n", what, number);
+    exit(1);
+}
+
+static void must(const char *call, uint32_t number)
+{
+    if (number != ANTIENTROPY_OK)
+        fail(call, number);
+}
+
+static size_t key_of(unsigned n, uint8_t *key)
+{
+    return (size_t)snprintf((char *)key, 16, "key %u", n);
+}
+
+static void fill(struct antientropy *replica, uint16_t node, unsigned step)
+{
+    struct antientropy_pair none[1] = {{0, 0}};
+    struct antientropy_receipt receipt;
+    uint8_t key[16];
+    for (unsigned n = 0; n < KEYS; n += step)
+        must("put", antientropy_put(replica, node, key, key_of(n, key), none, 0, ANTIENTROPY_LIVE, key, 3, &receipt));
+    must("rehash", antientropy_rehash(replica));
+}
+
+static void remember(struct antientropy *replica, struct antientropy_counts *counts)
+{
+    uint8_t key[16];
+    must("count", antientropy_count(replica, counts));
+    for (unsigned n = 0; n < KEYS; n++)
+        must("get", antientropy_get(replica, key, key_of(n, key), before[n], sizeof before[n], &before_len[n]));
+}
+
+/* Ends the program unless the replica is as it was. */
+static void compare(struct antientropy *replica, const struct antientropy_counts *counts)
+{
+    struct antientropy_counts now;
+    uint8_t key[16];
+    uint64_t len;
+    must("count", antientropy_count(replica, &now));
+    if (memcmp(&now, counts, sizeof now) != 0)
+        fail("the counts changed", 0);
+    for (unsigned n = 0; n < KEYS; n++) {
+        must("get", antientropy_get(replica, key, key_of(n, key), after, sizeof after, &len));
+        if (len != before_len[n] || memcmp(after, before[n], len) != 0)
+            fail("a row changed", n);
+    }
+}
+
+/* A replica with as many open sessions as there can be, a partner's snapshot, and one message of each kind. */
+static struct antientropy replica, partner;
+static struct antientropy_snapshot offered;
+static uint8_t offer[64], ask[64], answer[ROOM];
+static uint64_t offer_len, ask_len, answer_len;
+
+static void prepare(void)
+{
+    uint64_t session = 0;
+    must("new", antientropy_new(&replica, 2, 0, 0, 1000));
+    must("new", antientropy_new(&partner, 2, 0, 0, 1000));
+    fill(&replica, 1, 2);
+    fill(&partner, 2, 1);
+    must("snapshot", antientropy_snapshot(&partner, &offered));
+    must("offer", antientropy_offer(&offered, NUMBER, offer, sizeof offer, &offer_len));
+    for (unsigned n = 0; n < 64; n++)
+        must("open", antientropy_open(&replica, 2, offer, offer_len, &session));
+    must("ask", antientropy_ask(&replica, session, NUMBER, ask, sizeof ask, &ask_len));
+    must("serve", antientropy_serve(&offered, NUMBER, ask, ask_len, answer, sizeof answer, &answer_len));
+}
+
+/* An offer opens no session: it is refused, at the latest since there are 64. */
+static void bring_offer(const uint8_t *bytes, size_t len)
+{
+    uint64_t number;
+    uint32_t got = antientropy_open(&replica, 2, bytes, len, &number);
+    if (got != ANTIENTROPY_BAD_MESSAGE && got != ANTIENTROPY_OTHER_FORMAT && got != ANTIENTROPY_OTHER_RANGE
+        && got != ANTIENTROPY_SESSIONS_FULL)
+        fail("open", got);
+}
+
+/* An ask may be a good one, of another node. */
+static void bring_ask(const uint8_t *bytes, size_t len)
+{
+    uint64_t need;
+    uint32_t got = antientropy_serve(&offered, NUMBER, bytes, len, out, sizeof out, &need);
+    if (got != ANTIENTROPY_OK && got != ANTIENTROPY_BAD_MESSAGE && got != ANTIENTROPY_GONE)
+        fail("serve", got);
+}
+
+/* An answer is refused. */
+static void bring_answer(const uint8_t *bytes, size_t len)
+{
+    struct antientropy_taken taken;
+    uint32_t got = antientropy_take(&replica, 63, NUMBER, bytes, len, &taken);
+    if (got != ANTIENTROPY_BAD_MESSAGE && got != ANTIENTROPY_NOT_ASKED && got != ANTIENTROPY_WRONG_DIGEST)
+        fail("take", got);
+}
+
+/* Brings bytes to each call that reads a message. */
+static void bring(const uint8_t *bytes, size_t len)
+{
+    bring_offer(bytes, len);
+    bring_ask(bytes, len);
+    bring_answer(bytes, len);
+}
+
+/* Changes some bytes of a message, or cuts it, or makes it longer. */
+static size_t mutate(const uint8_t *message, size_t len, uint8_t *to)
+{
+    memcpy(to, message, len);
+    for (unsigned n = next() % 4 + 1; n > 0; n--)
+        to[next() % len] ^= (uint8_t)(next() % 255 + 1);
+    switch (next() % 4) {
+    case 0:
+        return next() % len;
+    case 1:
+        to[len] = (uint8_t)next();
+        return len + 1;
+    default:
+        return len;
+    }
+}
+
+/* Brings mutations of a message to one call, each in memory of its own length, where a read past the end is seen. */
+static void mutations(unsigned count, const uint8_t *message, size_t len, void (*to)(const uint8_t *, size_t))
+{
+    static uint8_t mutant[ROOM + 1];
+    for (unsigned n = 0; n < count; n++) {
+        size_t length = mutate(message, len, mutant);
+        if (length == len && memcmp(mutant, message, len) == 0)
+            continue;
+        uint8_t *own = malloc(length + 1);
+        if (own == NULL)
+            fail("malloc", n);
+        memcpy(own, mutant, length);
+        to(own, length);
+        free(own);
+    }
+}
+
+int main(int argc, char **argv)
+{
+    unsigned count = argc > 1 ? (unsigned)strtoul(argv[1], NULL, 10) : 100000;
+    struct antientropy_counts counts;
+    uint64_t brought = 0;
+    prepare();
+    remember(&replica, &counts);
+    while (brought < HOSTILE) {
+        size_t len = next() % 16 == 0 ? next() % ROOM : next() % 64;
+        for (size_t n = 0; n < len; n++)
+            out[n] = (uint8_t)next();
+        if (len > 0 && next() % 2 == 0)
+            out[0] = (uint8_t)(next() % 3 + 1);
+        uint8_t *own = malloc(len + 1);
+        if (own == NULL)
+            fail("malloc", 0);
+        memcpy(own, out, len);
+        bring(own, len);
+        free(own);
+        brought += len;
+    }
+    compare(&replica, &counts);
+    printf("16 MiB of hostile bytes: refused, and nothing changed\n");
+    mutations(count, offer, offer_len, bring_offer);
+    mutations(count, ask, ask_len, bring_ask);
+    mutations(count, answer, answer_len, bring_answer);
+    compare(&replica, &counts);
+    printf("mutated messages, %u for each call: refused, and nothing changed\n", count);
+    antientropy_snapshot_free(&offered);
+    antientropy_free(&replica);
+    antientropy_free(&partner);
+    return 0;
+}
