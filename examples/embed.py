@@ -91,17 +91,18 @@ class Replica:
         return given(offer, self.offered, number)
 
     def sync(self, partner, message, reach):
-        """Takes over what a partner offers. `reach` brings it an ask, and gives its answer."""
+        """Takes over what a partner offers, and returns how many versions were new. `reach` brings it an ask, and gives its
+        answer."""
         rehash(self.handle)
         session, number = c_uint64(), struct.unpack(">I", message[1:5])[0]
         open_session(self.handle, partner, message, len(message), byref(session))
-        asks = accepted = 0
+        accepted = 0
         while question := given(ask, self.handle, session, number):
             answer = reach(question)
             taken = Taken()
             take(self.handle, session, number, answer, len(answer), byref(taken))
-            asks, accepted = asks + 1, accepted + taken.accepted
-        return asks, accepted
+            accepted += taken.accepted
+        return accepted
 
     def close(self):
         library.antientropy_snapshot_free(self.offered)
@@ -143,8 +144,8 @@ def follow(link):
         if n % LACKED:
             replica.put(b"key %d" % n, b"of the follower")
     for _ in range(OFFERS):
-        asks, accepted = replica.sync(1, receive(link), reach_over(link))
-        send(link, b"done %d %d" % (asks, accepted))
+        accepted = replica.sync(1, receive(link), reach_over(link))
+        send(link, b"done %d" % accepted)
     send(link, replica.offer(1))
     answer_asks(link, replica)
     send(link, replica.offer(2)[ROOT:])
@@ -166,10 +167,11 @@ def lead(link):
     for number in range(1, OFFERS + 1):
         send(link, replica.offer(number))
         done = answer_asks(link, replica, write)
-        print("offer %d: %s asks, %s versions accepted, %d written meanwhile" % (number, *done.decode().split()[1:], len(written)))
-    asks, accepted = replica.sync(2, receive(link), reach_over(link))
+        accepted = done.decode().split()[1]
+        print(f"offer {number}: {accepted} versions accepted, {len(written)} written meanwhile")
+    accepted = replica.sync(2, receive(link), reach_over(link))
     send(link, b"done")
-    print(f"the other way: {asks} asks, {accepted} versions accepted")
+    print(f"the other way: {accepted} versions accepted")
     print("roots equal:", "yes" if replica.offer(OFFERS + 1)[ROOT:] == receive(link) else "no")
     replica.close()
 
