@@ -89,6 +89,26 @@ static void sync(struct antientropy *replica, struct antientropy *partner)
            state == ANTIENTROPY_FINISHED ? "finished" : "not finished");
 }
 
+/* Reads the versions of a key, and puts one value in place of all of them. */
+static void merge(struct antientropy *replica, uint16_t node, const char *key, const char *value)
+{
+    struct antientropy_pair context[32], clock[32], merged[32];
+    uint64_t len, seen = 0;
+    uint8_t kind;
+    for (uint64_t n = 0; n < versions(replica, key); n++) {
+        want("value", antientropy_value(replica, (const uint8_t *)key, strlen(key), n, &kind, answer, sizeof answer, &len),
+             ANTIENTROPY_OK);
+        printf("%s: %.*s\n", key, (int)len, (const char *)answer);
+        want("clock", antientropy_clock(replica, (const uint8_t *)key, strlen(key), n, clock, 32, &len), ANTIENTROPY_OK);
+        want("merge", antientropy_merge(context, seen, clock, len, merged, 32, &len), ANTIENTROPY_OK);
+        memcpy(context, merged, sizeof context);
+        seen = len;
+    }
+    put(replica, node, key, value, context, seen);
+    want("value", antientropy_value(replica, (const uint8_t *)key, strlen(key), 1, &kind, answer, sizeof answer, &len),
+         ANTIENTROPY_NO_VERSION);
+}
+
 int main(void)
 {
     struct antientropy a = {0}, b = {0};
@@ -113,6 +133,11 @@ int main(void)
     printf("cart: %llu versions at a, %llu at b; order: %llu at b\n", versions(&a, "cart"), versions(&b, "cart"),
            versions(&b, "order"));
     printf("roots equal: %s\n", equal_roots(&a, &b) ? "yes" : "no");
+
+    merge(&b, 2, "cart", "milk, bread, eggs");
+    printf("cart: %llu version at b\n", versions(&b, "cart"));
+    sync(&a, &b);
+    printf("cart: %llu version at a\n", versions(&a, "cart"));
 
     want("get", antientropy_get(&a, (const uint8_t *)"order", 5, answer, 3, &need), ANTIENTROPY_SMALL);
     want("get", antientropy_get(&a, (const uint8_t *)"order", 5, answer, need, &need), ANTIENTROPY_OK);

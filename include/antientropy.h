@@ -164,6 +164,16 @@ uint32_t antientropy_get(struct antientropy *replica, const uint8_t *key, size_t
 /* Gives how many versions are held for a key. They are concurrent if there are several. Refused: EMPTY. */
 uint32_t antientropy_versions(struct antientropy *replica, const uint8_t *key, size_t key_len, uint64_t *count);
 
+/* Gives the value of one of the versions that are held for a key, by its index from 0, and its kind.
+ * Refused, in order: EMPTY, NO_VERSION, SMALL (the kind is told even so). */
+uint32_t antientropy_value(struct antientropy *replica, const uint8_t *key, size_t key_len, uint64_t index, uint8_t *kind,
+                           uint8_t *out, size_t out_len, uint64_t *need);
+
+/* Gives the clock of such a version: at most 32 pairs, by rising node. `out_len` and `need` count pairs.
+ * Refused, in order: EMPTY, NO_VERSION, SMALL. */
+uint32_t antientropy_clock(struct antientropy *replica, const uint8_t *key, size_t key_len, uint64_t index,
+                           struct antientropy_pair *out, size_t out_len, uint64_t *need);
+
 /* How two clocks lie. */
 enum {
     ANTIENTROPY_BEFORE = 0, /* the first has seen nothing that the second has not, and less */
@@ -176,6 +186,13 @@ enum {
  * second, NO_MEMORY, which may stand in place of any. */
 uint32_t antientropy_compare(const struct antientropy_pair *first, size_t first_len, const struct antientropy_pair *second,
                              size_t second_len, uint64_t *order);
+
+/* Gives the clock that has seen what both have seen, for the context of a put that replaces both: for each node the greater
+ * counter. It needs no replica. `out_len` and `need` count pairs, of which there are at most 32. Refused, in order: BAD_CLOCK
+ * and CLOCK_FULL of the first, the same of the second, CLOCK_FULL (over 32 nodes), NO_MEMORY, which may stand in place of
+ * any, SMALL. */
+uint32_t antientropy_merge(const struct antientropy_pair *first, size_t first_len, const struct antientropy_pair *second,
+                           size_t second_len, struct antientropy_pair *out, size_t out_len, uint64_t *need);
 
 /* ---- the tree */
 

@@ -6,7 +6,10 @@ use Rattle.range_state.specs.State.{State}
 use Rattle.antientropy_c.specs.Numbers.{code_of, Returns}
 use Rattle.antientropy_c.specs.Calls.{Calls, OnHeld}
 use Rattle.antientropy_c.specs.Hands.{HandsOut, Gives}
+use Rattle.antientropy_c.specs.Merges.{HandsClock, GivesClock}
 use Rattle.antientropy_c.specs.Messages.{Reads}
+use Rattle.antientropy_c.specs.declared.pair.Pair.{Pair}
+use Rattle.vclock.specs.Clock.{Pairs}
 use Rattle.walk_messages.specs.Messages.{Decodes}
 use Rattle.walk_messages.specs.declared.message.Message.{Message}
 use Rattle.antientropy_c.specs.declared.replica.Replica.{Replica}
@@ -46,3 +49,8 @@ gives code before after Right r handed right = record { told = r; handed = hande
 -- what the bytes decode to
 pub reads : (bytes : List ℕ) (Right : Result Message Refusal → Type 0) (d : Result Message Refusal) → Decodes bytes d → Right d → Reads bytes Right
 reads bytes Right d decodes right = record { decoded = d; decodes = decodes; right = right }
+
+-- the pairs of a clock are handed out
+pub gives_clock : (code : ℕ) (before after : ℕ × List Pair) (Right : Result Pairs Refusal → Type 0) (r : Result Pairs Refusal)
+    → HandsClock r code before after → Right r → GivesClock code before after Right
+gives_clock code before after Right r handed right = record { told = r; handed = handed; right = right }

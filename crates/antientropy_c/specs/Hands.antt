@@ -4,12 +4,12 @@ use Rattle.vclock.specs.Refusal.{number_of}
 use Rattle.vclock.specs.declared.refusal.Refusal.{Refusal}
 use Rattle.antientropy_c.specs.declared.numbers.TheConstants.{SMALL}
 
--- the caller's room after the bytes were copied to its front, if all of them fit
-abbrev pub copied : List ℕ → List ℕ → List ℕ
+-- the caller's room after bytes, or whatever it is for, were copied to its front, if all of them fit
+abbrev pub copied : {A : Type 0} → List A → List A → List A
 copied bytes room = if nat_le (length bytes) (length room) then bytes ++ drop (length bytes) room else room
 
 -- the number that says whether they do
-abbrev pub copy_code : List ℕ → List ℕ → ℕ
+abbrev pub copy_code : {A : Type 0} → List A → List A → ℕ
 copy_code bytes room = if nat_le (length bytes) (length room) then 0 else SMALL
 
 -- Of bytes the caller gets their count, and the bytes if all of them fit; of a refusal its number alone. A room comes with the count beside it.

@@ -4,6 +4,7 @@ pub mod Numbers
 pub mod Hands
 pub mod Calls
 pub mod Makes
+pub mod Merges
 pub mod Messages
 pub mod Offers
 pub mod Pairs
@@ -11,3 +12,4 @@ pub mod Publications
 pub mod Puts
 pub mod Sessions
 pub mod Shows
+pub mod Versions

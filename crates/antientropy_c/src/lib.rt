@@ -14,5 +14,6 @@ pub mod publication;
 mod published;
 pub mod reading;
 pub mod replica;
+pub mod showing;
 pub mod syncing;
 pub mod writing;
