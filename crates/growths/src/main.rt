@@ -1,23 +1,28 @@
-//! Makes each library call that takes memory once, and prints what it answers. `examples/check` refuses its growths in
-//! turn: each call then answers NoMemory, with what it was to change as it was, or what it answers with ample memory.
+//! Makes each library call that takes memory and no lock, and prints what it returns. `examples/check` refuses its growths
+//! in turn. Each call then returns NoMemory, or what it returns with ample memory. After NoMemory what was to be changed is as
+//! it was, but that a call of many steps keeps what it has done so far.
 #![tactic(auto)]
 
+mod events;
 mod hints;
 mod histories;
 mod leaves;
 mod messages;
 mod pairs;
+mod range_sessions;
 mod ranges;
 mod rings;
 mod rows;
+mod scripts;
 mod sessions;
 mod slots;
+mod snapshots;
+mod telling;
 mod trees;
 mod versions;
 mod words;
 
 use std::io;
-use vclock::refusal::Refusal;
 
 fn main(rt: HostRuntime) -> io::Result<()> {
     words::show_all(&rt)?;
@@ -27,27 +32,18 @@ fn main(rt: HostRuntime) -> io::Result<()> {
     rings::show_all(&rt)?;
     leaves::show_all(&rt)?;
     ranges::show_all(&rt)?;
+    events::show_all(&rt)?;
     trees::show_all(&rt)?;
     messages::show_all(&rt)?;
-    sessions::show_all(&rt)?;
     pairs::show_all(&rt)?;
     hints::show_all(&rt)?;
-    slots::show_all(&rt)
-}
-
-/// Prints what a call answered: a number that tells its result, or the name of its refusal.
-fn show(rt: &impl Print, call: &str, answer: Result<u64, Refusal>) -> io::Result<()> {
-    match answer {
-        Ok(number) => println!(rt; "{call}: {number}"),
-        Err(refusal) => println!(rt; "{call}: {refusal}"),
-    }
-}
-
-/// A refusal, where what was to be changed is as it was: else another one, which no call here has.
-fn unchanged(refusal: Refusal, is_as_it_was: bool) -> Refusal {
-    if is_as_it_was {
-        refusal
-    } else {
-        Refusal::Dirty
-    }
+    slots::show_all(&rt)?;
+    scripts::show_all(&rt)?;
+    let Some(both) = snapshots::show_both(&rt)? else {
+        return Ok(());
+    };
+    snapshots::show_all(&rt, &both)?;
+    sessions::show_all(&rt, &both)?;
+    range_sessions::show_all(&rt, &both)?;
+    telling::show_all(&rt, &both)
 }

@@ -1,5 +1,5 @@
 // Messages.
-use crate::show;
+use growth_checks::lines::show;
 use hash_tree::node::NodeAt;
 use std::alloc::Global;
 use std::io;

@@ -1,6 +1,6 @@
 // Pairs of ranges that reconcile.
-use crate::{show, unchanged};
-use hash_tree::node::NodeAt;
+use growth_checks::lines::{show, unchanged};
+use growth_checks::states::{is_between, is_same};
 use range_journal::journal::Source;
 use range_state::config::RangeConfig;
 use range_state::state::RangeState;
@@ -8,31 +8,11 @@ use range_state::state::reconciling::{Reconciled, reconcile};
 use std::alloc::Global;
 use std::io;
 use std::thread::Threads;
-use sync_session::state::SessionState;
 use vclock::bytes::Bytes;
 use vclock::clock::Clock;
 use vclock::refusal::Refusal;
 use version_set::kind::Kind;
 use version_set::version::Version;
-
-/// The key of the first of a pair.
-const FIRST: &[u8] = b"a";
-
-/// The key of the second.
-const SECOND: &[u8] = b"abc";
-
-/// How far one of a pair has come.
-#[derive(Clone, Copy, PartialEq, Eq)]
-enum Stage {
-    /// It has no session, and its own key alone.
-    Begun,
-    /// Its session is cancelled, and the other's key has come or not.
-    Cancelled,
-    /// Its session is finished, and the other's key has come.
-    Finished,
-    /// None of these.
-    Astray,
-}
 
 /// Shows the call on a pair.
 pub(crate) fn show_all<R: Print + AllocGlobal + Threads + Sync>(rt: &R) -> io::Result<()> {
@@ -59,17 +39,52 @@ fn range(
     Ok(state)
 }
 
-/// Reconciles two ranges that have a key each. The digits tell how many nodes each asked, and how many versions came to each.
-fn reconcile_pair(rt: &(impl Threads + Sync), alloc: Global) -> Result<u64, Refusal> {
-    let mut a = range(rt, alloc, FIRST, 1, b"x")?;
-    let mut b = range(rt, alloc, SECOND, 2, b"y")?;
-    let told = reconcile_both(alloc, &mut a, &mut b);
-    let stages = (stage_of(&a, SECOND), stage_of(&b, FIRST));
-    match told {
-        Ok(told) if stages == (Stage::Finished, Stage::Finished) => Ok(digits(&told)),
-        Ok(_) => Err(Refusal::Dirty),
-        Err(refusal) => Err(unchanged(refusal, has_stopped(stages))),
+/// Two ranges that have a key each.
+#[derive(Drop)]
+struct Pair {
+    a: RangeState,
+    b: RangeState,
+}
+
+impl Pair {
+    fn new(rt: &(impl Threads + Sync), alloc: Global) -> Result<Pair, Refusal> {
+        Ok(Pair {
+            a: range(rt, alloc, b"a", 1, b"x")?,
+            b: range(rt, alloc, b"abc", 2, b"y")?,
+        })
     }
+
+    /// Reconciles both.
+    fn reconcile(&mut self, alloc: Global) -> Result<Reconciled, Refusal> {
+        reconcile_both(alloc, &mut self.a, &mut self.b)
+    }
+
+    /// Whether the first stopped on its way and the second has not begun, or the first is at its end and the second
+    /// stopped on its way. A session that stopped is cancelled.
+    fn has_stopped(&self, before: &Pair, after: &Pair) -> bool {
+        if is_same(&self.b, &before.b) {
+            is_between(&self.a, &before.a, &after.a) || is_same(&self.a, &after.a)
+        } else {
+            is_same(&self.a, &after.a) && is_between(&self.b, &before.b, &after.b)
+        }
+    }
+}
+
+/// Reconciles a pair. The digits tell how many nodes each asked, and how many versions came to each.
+fn reconcile_pair(rt: &(impl Threads + Sync), alloc: Global) -> Result<u64, Refusal> {
+    let mut pair = Pair::new(rt, alloc)?;
+    match pair.reconcile(alloc) {
+        Ok(told) => Ok(digits(&told)),
+        Err(refusal) => Err(unchanged(refusal, has_stopped(rt, alloc, &pair))),
+    }
+}
+
+/// Whether a pair stopped on its way.
+fn has_stopped(rt: &(impl Threads + Sync), alloc: Global, pair: &Pair) -> Result<bool, Refusal> {
+    let before = Pair::new(rt, alloc)?;
+    let mut after = Pair::new(rt, alloc)?;
+    after.reconcile(alloc)?;
+    Ok(pair.has_stopped(&before, &after))
 }
 
 /// Reconciles two replicas of one range, which are at the nodes 1 and 2.
@@ -86,46 +101,6 @@ fn reconcile_both(
         return Err(Refusal::OtherRange);
     }
     reconcile(alloc, a, 1, b, 2, 0)
-}
-
-/// How far a range has come, where the key of the other one is this.
-fn stage_of(state: &RangeState, other: &[u8]) -> Stage {
-    let session = state
-        .records()
-        .first()
-        .map(|record| record.session().state());
-    match (state.records().len(), session, has_come(state, other)) {
-        (0, _, Some(false)) => Stage::Begun,
-        (1, Some(SessionState::Cancelled), Some(_)) => Stage::Cancelled,
-        (1, Some(SessionState::Finished), Some(true)) => Stage::Finished,
-        _ => Stage::Astray,
-    }
-}
-
-/// Whether the other's key has come to a range, which then has it from its partner, and a dirty root: none where what the
-/// range has is neither what it began with nor both keys.
-fn has_come(state: &RangeState, other: &[u8]) -> Option<bool> {
-    let is_clean = state.digest_at(NodeAt::new(0, 0)?).is_some();
-    let held = state.versions(other).len();
-    match (state.journal().len(), state.journal().get(1)) {
-        (1, _) if held == 0 && is_clean => Some(false),
-        (2, Some(entry))
-            if held == 1
-                && !is_clean
-                && entry.source == Source::Partner
-                && entry.key.as_slice() == other => { Some(true) }
-        _ => None,
-    }
-}
-
-/// Whether the first of a pair stopped before its end and the second has not begun, or the first is finished and the second
-/// stopped.
-fn has_stopped(stages: (Stage, Stage)) -> bool {
-    matches!(
-        stages,
-        (Stage::Begun | Stage::Cancelled, Stage::Begun)
-            | (Stage::Finished, Stage::Begun | Stage::Cancelled)
-    )
 }
 
 /// What is told of a pair, as the digits of a number.

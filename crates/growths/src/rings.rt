@@ -1,5 +1,5 @@
 // Rings.
-use crate::show;
+use growth_checks::lines::show;
 use key_ring::ring::Ring;
 use std::alloc::Global;
 use std::io;
@@ -7,7 +7,7 @@ use vclock::refusal::Refusal;
 
 /// Shows the calls on a ring.
 pub(crate) fn show_all<R: Print + AllocGlobal>(rt: &R) -> io::Result<()> {
-    show(rt, "a ring", ring(rt.alloc()))
+    show(rt, "Ring::new", ring(rt.alloc()))
 }
 
 fn ring(alloc: Global) -> Result<u64, Refusal> {

@@ -1,7 +1,7 @@
 // Row texts.
-use crate::show;
+use growth_checks::lines::{show, unchanged};
 use row_bytes::reading::{a_held_set_is_a_row, read_row, read_rows};
-use row_bytes::writing::write_row;
+use row_bytes::writing::{put_row, write_row};
 use std::alloc::Global;
 use std::io;
 use vclock::format::Format;
@@ -16,6 +16,7 @@ pub(crate) fn show_all<R: Print + AllocGlobal>(rt: &R) -> io::Result<()> {
     let alloc = rt.alloc();
     show(rt, "read_row", read(alloc))?;
     show(rt, "read_rows", read_all(alloc))?;
+    show(rt, "put_row", put(alloc))?;
     show(rt, "write_row", write(alloc))
 }
 
@@ -33,4 +34,15 @@ fn write(alloc: Global) -> Result<u64, Refusal> {
     let (row, _) = read_row(alloc, Format::One, TEXT)?;
     a_held_set_is_a_row();
     Ok(write_row(alloc, Format::One, &row)?.len() as u64)
+}
+
+/// Writes it behind another byte.
+fn put(alloc: Global) -> Result<u64, Refusal> {
+    let (row, _) = read_row(alloc, Format::One, TEXT)?;
+    let mut text = Vec::from_slice(alloc, b"z")?;
+    a_held_set_is_a_row();
+    match put_row(&mut text, Format::One, &row) {
+        Ok(()) => Ok(text.len() as u64),
+        Err(_) => Err(unchanged(Refusal::NoMemory, Ok(text.as_slice() == b"z".as_slice()))),
+    }
 }

@@ -1,118 +1,116 @@
-// Snapshots, and sessions that compare them.
-use crate::trees::range;
-use crate::{show, unchanged};
-use hash_tree::hashed::hash;
-use hash_tree::node::NodeAt;
-use range_state::config::RangeConfig;
-use range_state::state::RangeState;
+// Sessions, which compare snapshots.
+use crate::snapshots::Snapshots;
+use growth_checks::lines::{show, unchanged};
+use growth_checks::sessions::is_same_session;
+use hash_tree::hashed::{Hashed, hash};
+use hash_tree::node::{NodeAt, tree_depth};
 use snapshot::snapshot::Snapshot;
 use std::alloc::Global;
 use std::io;
 use std::sync::Arc;
-use std::thread::Threads;
 use sync_session::session::Session;
 use vclock::bytes::Bytes;
 use vclock::refusal::Refusal;
 use walk_messages::message::Ask;
 
-/// Shows the calls on snapshots and sessions.
-pub(crate) fn show_all<R: Print + AllocGlobal + Threads + Sync>(rt: &R) -> io::Result<()> {
+/// How many nodes are asked where a range without rows compares itself with its partner.
+pub(crate) const ASKED: u64 = 7;
+
+/// Shows the calls on sessions.
+pub(crate) fn show_all<R: Print + AllocGlobal>(rt: &R, both: &Snapshots) -> io::Result<()> {
     let alloc = rt.alloc();
-    show(rt, "snapshot", snapshot(rt, alloc))?;
-    show(rt, "answer", answer(rt, alloc))?;
-    show(rt, "a session", session(rt, alloc))?;
-    show(rt, "open_session", open_session(rt, alloc))?;
-    show(rt, "take_answer", take_answer(rt, alloc))
+    show(rt, "Session::start", start(alloc, both))?;
+    show(rt, "Session::rows_of", rows_of(alloc, both))?;
+    show(rt, "Session::take", take(alloc, both))?;
+    show(rt, "Session::take_leaf", take_leaf(alloc, both))
 }
 
-/// The snapshot of a range with three rows.
-fn partner(rt: &(impl Threads + Sync), alloc: Global) -> Result<Arc<Snapshot, Global>, Refusal> {
-    let mut state = range(alloc)?;
-    state.rehash(rt, alloc)?;
-    state.snapshot(alloc)
+/// A session that has taken nothing.
+fn new_session(alloc: Global, both: &Snapshots) -> Result<Session, Refusal> {
+    Session::start(alloc, Arc::try_clone(&both.own)?, both.partner.root())
 }
 
-/// A range without rows, whose nodes are all clean.
-fn clean_range(rt: &(impl Threads + Sync), alloc: Global) -> Result<RangeState, Refusal> {
-    let config = RangeConfig::new(1, 0, 0, 100).ok_or(Refusal::BadRing)?;
-    let mut state = RangeState::new(alloc, config)?;
-    state.rehash(rt, alloc)?;
-    Ok(state)
+/// How many nodes a new session has asked.
+fn start(alloc: Global, both: &Snapshots) -> Result<u64, Refusal> {
+    Ok(new_session(alloc, both)?.asked().len() as u64)
 }
 
-/// How many bits the number of a range has.
-fn snapshot(rt: &(impl Threads + Sync), alloc: Global) -> Result<u64, Refusal> {
-    Ok(u64::from(partner(rt, alloc)?.bits()))
-}
-
-/// How many bytes the root's text has.
-fn answer(rt: &(impl Threads + Sync), alloc: Global) -> Result<u64, Refusal> {
-    let node = NodeAt::new(0, 0).ok_or(Refusal::Stale)?;
-    let text = partner(rt, alloc)?.answer(alloc, Ask { offer: 1, node })?;
-    Ok(text.len() as u64)
-}
-
-/// Answers the first node that is outstanding. After a refusal it still is.
-fn answer_first(alloc: Global, session: &mut Session, partner: &Snapshot) -> Result<(), Refusal> {
+/// The first node that is outstanding, with the partner's text.
+pub(crate) fn first_text(
+    alloc: Global,
+    session: &Session,
+    partner: &Snapshot,
+) -> Result<(NodeAt, Hashed), Refusal> {
     let node = *session.outstanding().first().ok_or(Refusal::Stale)?;
-    let asked = session.asked().len();
     let text = partner.answer(alloc, Ask { offer: 1, node })?;
-    match session.take(alloc, node, hash(Bytes::from(text))) {
-        Ok(_) => Ok(()),
-        Err(refusal) => Err(unchanged(refusal, session.asked().len() == asked)),
+    Ok((node, hash(Bytes::from(text))))
+}
+
+/// Answers the first node that is outstanding.
+fn take_first(alloc: Global, session: &mut Session, partner: &Snapshot) -> Result<(), Refusal> {
+    let (node, text) = first_text(alloc, session, partner)?;
+    session.take(alloc, node, text)?;
+    Ok(())
+}
+
+/// The session after so many answers.
+fn session_after(alloc: Global, both: &Snapshots, answers: u64) -> Result<Session, Refusal> {
+    let mut session = new_session(alloc, both)?;
+    for _ in 0..answers {
+        take_first(alloc, &mut session, &both.partner)?;
     }
+    Ok(session)
+}
+
+/// Whether a session is as it is after so many answers.
+fn is_after(
+    alloc: Global,
+    session: &Session,
+    both: &Snapshots,
+    answers: u64,
+) -> Result<bool, Refusal> {
+    let other = session_after(alloc, both, answers)?;
+    Ok(is_same_session(session, &other))
+}
+
+/// How many rows the leaf has that is asked first.
+fn rows_of(alloc: Global, both: &Snapshots) -> Result<u64, Refusal> {
+    let session = session_after(alloc, both, ASKED.saturating_sub(1))?;
+    let (node, text) = first_text(alloc, &session, &both.partner)?;
+    Ok(session.rows_of(alloc, node, &text)?.len() as u64)
 }
 
 /// How many nodes a session has asked when it is finished.
-fn session(rt: &(impl Threads + Sync), alloc: Global) -> Result<u64, Refusal> {
-    let partner = partner(rt, alloc)?;
-    let mut session = Session::start(
-        alloc,
-        clean_range(rt, alloc)?.snapshot(alloc)?,
-        partner.root(),
-    )?;
-    for _ in 0..7 {
-        answer_first(alloc, &mut session, &partner)?;
+fn take(alloc: Global, both: &Snapshots) -> Result<u64, Refusal> {
+    let mut session = new_session(alloc, both)?;
+    for answers in 0..ASKED {
+        if let Err(refusal) = take_first(alloc, &mut session, &both.partner) {
+            return Err(unchanged(refusal, is_after(alloc, &session, both, answers)));
+        }
     }
     Ok(session.asked().len() as u64)
 }
 
-/// Opens sessions of a range until its records have had to grow.
-fn open_session(rt: &(impl Threads + Sync), alloc: Global) -> Result<u64, Refusal> {
-    let partner = partner(rt, alloc)?;
-    let mut state = clean_range(rt, alloc)?;
-    for _ in 0..6 {
-        let records = state.records().len();
-        if let Err(refusal) = state.open_session(alloc, 2, partner.offer(1)) {
-            return Err(unchanged(refusal, state.records().len() == records));
-        }
-    }
-    Ok(state.records().len() as u64)
-}
-
-/// Answers the first node that a range's first session awaits. After a refusal nothing was accepted.
-fn take_first(alloc: Global, state: &mut RangeState, partner: &Snapshot) -> Result<(), Refusal> {
-    let record = state.records().first().ok_or(Refusal::Stale)?;
-    let node = *record
-        .session()
-        .outstanding()
-        .first()
-        .ok_or(Refusal::Stale)?;
-    let entries = state.journal().len();
-    let text = partner.answer(alloc, Ask { offer: 1, node })?;
-    match state.take_answer(alloc, 1, 0, node, hash(Bytes::from(text))) {
-        Ok(_) => Ok(()),
-        Err(refusal) => Err(unchanged(refusal, state.journal().len() == entries)),
+/// How many texts a session took whose last one is taken without reading it again.
+fn take_leaf(alloc: Global, both: &Snapshots) -> Result<u64, Refusal> {
+    let before = ASKED.saturating_sub(1);
+    let mut session = session_after(alloc, both, before)?;
+    match take_leaf_first(alloc, &mut session, &both.partner) {
+        Ok(()) => Ok(session.taken().len() as u64),
+        Err(refusal) => Err(unchanged(refusal, is_after(alloc, &session, both, before))),
     }
 }
 
-/// How many versions came in a session of a range when it is finished.
-fn take_answer(rt: &(impl Threads + Sync), alloc: Global) -> Result<u64, Refusal> {
-    let partner = partner(rt, alloc)?;
-    let mut state = clean_range(rt, alloc)?;
-    state.open_session(alloc, 2, partner.offer(1))?;
-    for _ in 0..7 {
-        take_first(alloc, &mut state, &partner)?;
+/// Answers the first node that is outstanding, a leaf.
+fn take_leaf_first(
+    alloc: Global,
+    session: &mut Session,
+    partner: &Snapshot,
+) -> Result<(), Refusal> {
+    let (node, text) = first_text(alloc, session, partner)?;
+    let _rows = session.rows_of(alloc, node, &text)?;
+    if node.depth < tree_depth(session.own().format()) {
+        return Err(Refusal::Stale);
     }
-    Ok(state.journal().len())
+    session.take_leaf(node, text)
 }

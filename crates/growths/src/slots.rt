@@ -1,8 +1,8 @@
 // Slots.
 ghost use Rattle.std.specs.Prelude.{◌≡◌};
 
-use crate::show;
 use admission::controller::Controller;
+use growth_checks::lines::show;
 use std::alloc::Global;
 use std::io;
 use std::marker::Brand;

@@ -1,14 +1,15 @@
 // Trees: texts of nodes, marks, jobs and rehashes.
-use crate::versions::version;
-use crate::{show, unchanged};
-use hash_tree::hashed::hash;
+use crate::leaves::leaf_of;
+use crate::ranges::range_of;
+use growth_checks::lines::{show, unchanged};
+use growth_checks::states::is_between;
+use hash_tree::hashed::{Digest, hash};
 use hash_tree::marks::Marks;
 use hash_tree::node::NodeAt;
-use hash_tree::texts::{inner_text, leaf_text};
-use range_journal::journal::Source;
-use range_state::config::RangeConfig;
+use hash_tree::texts::{inner_text, leaf_text, put_inner_text};
 use range_state::state::RangeState;
 use rehash::bulk::hash_all;
+use rehash::job::{Job, run_job};
 use std::alloc::Global;
 use std::io;
 use std::thread::Threads;
@@ -16,14 +17,21 @@ use vclock::bytes::Bytes;
 use vclock::format::Format;
 use vclock::refusal::Refusal;
 
+/// A digest.
+const DIGEST: Digest = [7; 32];
+
 /// Shows the calls on trees.
 pub(crate) fn show_all<R: Print + AllocGlobal + Threads + Sync>(rt: &R) -> io::Result<()> {
     let alloc = rt.alloc();
-    show(rt, "marks", marks(alloc))?;
+    show(rt, "Marks::new", marks(alloc))?;
     show(rt, "leaf_text and inner_text", texts(alloc))?;
-    show(rt, "take_job", take_job(alloc))?;
-    show(rt, "take_jobs and hash_all", hash_some(rt, alloc))?;
-    show(rt, "rehash", rehash(rt, alloc))
+    show(rt, "put_inner_text", put_text(alloc))?;
+    show(rt, "Job::of_leaf", leaf_job(alloc))?;
+    show(rt, "Job::of_children", inner_job(alloc))?;
+    show(rt, "RangeState::take_job", take_job(alloc))?;
+    show(rt, "RangeState::take_jobs", take_jobs(alloc))?;
+    show(rt, "hash_all", hash_some(rt, alloc))?;
+    show(rt, "RangeState::rehash", rehash(rt, alloc))
 }
 
 fn marks(alloc: Global) -> Result<u64, Refusal> {
@@ -36,15 +44,32 @@ fn texts(alloc: Global) -> Result<u64, Refusal> {
     Ok(inner_text(alloc, Format::One, &[digest; 16])?.len() as u64)
 }
 
+/// How many bytes a text has behind another byte.
+fn put_text(alloc: Global) -> Result<u64, Refusal> {
+    let mut text = Vec::from_slice(alloc, b"z")?;
+    match put_inner_text(&mut text, Format::One, &[DIGEST; 16]) {
+        Ok(()) => Ok(text.len() as u64),
+        Err(_) => Err(unchanged(Refusal::NoMemory, Ok(text.as_slice() == b"z".as_slice()))),
+    }
+}
+
+/// How many bytes the text of a leaf has.
+fn leaf_job(alloc: Global) -> Result<u64, Refusal> {
+    let node = NodeAt::new(2, 0).ok_or(Refusal::Stale)?;
+    let job = Job::of_leaf(alloc, node, leaf_of(alloc, b"ab")?)?;
+    Ok(run_job(job).text().len() as u64)
+}
+
+/// How many bytes the text of another node has.
+fn inner_job(alloc: Global) -> Result<u64, Refusal> {
+    let node = NodeAt::new(1, 0).ok_or(Refusal::Stale)?;
+    let job = Job::of_children(alloc, Format::One, node, [DIGEST; 16])?;
+    Ok(run_job(job).text().len() as u64)
+}
+
 /// A range that holds a version of each of three keys.
 pub(crate) fn range(alloc: Global) -> Result<RangeState, Refusal> {
-    let config = RangeConfig::new(1, 0, 0, 100).ok_or(Refusal::BadRing)?;
-    let mut state = RangeState::new(alloc, config)?;
-    for key in [b"a", b"b", b"c"] {
-        let copy = version(alloc, 2)?;
-        state.accept(alloc, 0, Source::Copy, key, copy)?;
-    }
-    Ok(state)
+    range_of(alloc, b"abc")
 }
 
 fn take_job(alloc: Global) -> Result<u64, Refusal> {
@@ -55,6 +80,10 @@ fn take_job(alloc: Global) -> Result<u64, Refusal> {
     }
 }
 
+fn take_jobs(alloc: Global) -> Result<u64, Refusal> {
+    Ok(range(alloc)?.take_jobs(alloc, 20)?.len() as u64)
+}
+
 /// The jobs are lost where a growth is refused, and can be taken again.
 fn hash_some(rt: &(impl Threads + Sync), alloc: Global) -> Result<u64, Refusal> {
     let state = range(alloc)?;
@@ -62,7 +91,7 @@ fn hash_some(rt: &(impl Threads + Sync), alloc: Global) -> Result<u64, Refusal> 
     Ok(hash_all(rt, alloc, jobs)?.len() as u64)
 }
 
-/// A rehash that is refused leaves the journal as it was.
+/// A rehash that is refused leaves some of the nodes clean, and all else as it was.
 fn rehash(rt: &(impl Threads + Sync), alloc: Global) -> Result<u64, Refusal> {
     let mut state = range(alloc)?;
     match state.rehash(rt, alloc) {
@@ -71,6 +100,18 @@ fn rehash(rt: &(impl Threads + Sync), alloc: Global) -> Result<u64, Refusal> {
             let clean = state.digest_at(root).is_some();
             Ok(hashed.saturating_add(u64::from(clean)))
         }
-        Err(refusal) => Err(unchanged(refusal, state.journal().len() == 3)),
+        Err(refusal) => Err(unchanged(refusal, is_on_the_way(rt, alloc, &state))),
     }
+}
+
+/// Whether a range lies between what it is before a rehash and what it is after.
+fn is_on_the_way(
+    rt: &(impl Threads + Sync),
+    alloc: Global,
+    state: &RangeState,
+) -> Result<bool, Refusal> {
+    let before = range(alloc)?;
+    let mut after = range(alloc)?;
+    after.rehash(rt, alloc)?;
+    Ok(is_between(state, &before, &after))
 }

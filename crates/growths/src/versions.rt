@@ -1,5 +1,5 @@
 // Versions and sets of them.
-use crate::{show, unchanged};
+use growth_checks::lines::{show, unchanged};
 use std::alloc::Global;
 use std::io;
 use vclock::bytes::Bytes;
@@ -12,10 +12,10 @@ use version_set::version::Version;
 /// Shows the calls on versions and sets of them.
 pub(crate) fn show_all<R: Print + AllocGlobal>(rt: &R) -> io::Result<()> {
     let alloc = rt.alloc();
-    show(rt, "clone of a version", clone_of_version(alloc))?;
-    show(rt, "offer", offer(alloc))?;
-    show(rt, "clocks", clocks(alloc))?;
-    show(rt, "clone of a set", clone_of_set(alloc))
+    show(rt, "Version::try_clone", clone_of_version(alloc))?;
+    show(rt, "VersionSet::offer", offer(alloc))?;
+    show(rt, "VersionSet::clocks", clocks(alloc))?;
+    show(rt, "VersionSet::try_clone", clone_of_set(alloc))
 }
 
 /// A version that one node alone has counted.
@@ -27,10 +27,12 @@ pub(crate) fn version(alloc: Global, node: u64) -> Result<Version, Refusal> {
     })
 }
 
-/// A set of one version.
-fn set(alloc: Global) -> Result<VersionSet, Refusal> {
+/// The set of the versions of the nodes before this one.
+fn set_before(alloc: Global, node: u64) -> Result<VersionSet, Refusal> {
     let mut set = VersionSet::empty(alloc);
-    set.offer(version(alloc, 1)?)?;
+    for earlier in 1..node {
+        set.offer(version(alloc, earlier)?)?;
+    }
     Ok(set)
 }
 
@@ -40,20 +42,24 @@ fn clone_of_version(alloc: Global) -> Result<u64, Refusal> {
 
 /// Offers versions until the set has had to grow.
 fn offer(alloc: Global) -> Result<u64, Refusal> {
-    let mut set = set(alloc)?;
-    for node in 2..9u64 {
-        let members = set.len();
+    let mut set = VersionSet::empty(alloc);
+    for node in 1..9u64 {
         if let Err(refusal) = set.offer(version(alloc, node)?) {
-            return Err(unchanged(refusal, set.len() == members));
+            return Err(unchanged(refusal, is_before(alloc, &set, node)));
         }
     }
     Ok(set.len() as u64)
 }
 
+/// Whether a set has the versions of the nodes before this one.
+fn is_before(alloc: Global, set: &VersionSet, node: u64) -> Result<bool, Refusal> {
+    Ok(set.same(&set_before(alloc, node)?))
+}
+
 fn clocks(alloc: Global) -> Result<u64, Refusal> {
-    Ok(set(alloc)?.clocks(alloc)?.as_slice().len() as u64)
+    Ok(set_before(alloc, 3)?.clocks(alloc)?.as_slice().len() as u64)
 }
 
 fn clone_of_set(alloc: Global) -> Result<u64, Refusal> {
-    Ok(set(alloc)?.try_clone(alloc)?.len() as u64)
+    Ok(set_before(alloc, 3)?.try_clone(alloc)?.len() as u64)
 }

@@ -1,9 +1,9 @@
 // Books of passes.
 ghost use Rattle.std.specs.Prelude.{◌≡◌};
 
-use crate::show;
 use caller_pass::book::{Book, open_passes};
 use caller_pass::pass::Pass;
+use growth_checks::lines::show;
 use std::alloc::Global;
 use std::io;
 use std::marker::Brand;

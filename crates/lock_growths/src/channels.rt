@@ -1,7 +1,7 @@
 // Links over channels.
 use crate::links::{ask, offer};
 use crate::partner::Partner;
-use crate::show;
+use growth_checks::lines::show;
 use ring_node::channel::{ChannelLink, channel_link};
 use ring_node::link::Link;
 use std::alloc::Global;

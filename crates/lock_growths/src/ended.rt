@@ -1,7 +1,7 @@
 // What is left when the ranges are closed.
-use crate::states::{clean_nodes, is_between};
 use crate::told::Told;
 use caller_pass::closing::Closed;
+use growth_checks::states::{clean_nodes, is_between};
 use hint_store::hint::Hint;
 use range_journal::journal::Source;
 use range_state::state::RangeState;

@@ -1,6 +1,6 @@
 // Links to a pool in the same memory.
 use crate::partner::Partner;
-use crate::show;
+use growth_checks::lines::show;
 use hash_tree::node::NodeAt;
 use ring_node::deed::Deed;
 use ring_node::link::{Link, Reached};

@@ -1,6 +1,6 @@
 // A partner that has rows which the ranges lack.
-use crate::show;
 use crate::versions::version;
+use growth_checks::lines::show;
 use range_journal::journal::Source;
 use range_state::config::RangeConfig;
 use range_state::state::RangeState;

@@ -1,6 +1,6 @@
 // Pools of offers.
 use crate::partner::Partner;
-use crate::{show, unchanged};
+use growth_checks::lines::{show, unchanged};
 use hash_tree::node::NodeAt;
 use ring_node::offers::OfferPool;
 use std::alloc::Global;
@@ -27,7 +27,7 @@ fn publish<R: Wait>(rt: &R, alloc: Global, partner: &Partner) -> Result<u64, Ref
     let pool = OfferPool::new(alloc);
     for count in 0..5u32 {
         if let Err(refusal) = pool.publish(rt, Arc::try_clone(&partner.snapshot)?) {
-            let same = has(rt, alloc, &pool, partner, count)?;
+            let same = has(rt, alloc, &pool, partner, count);
             return Err(unchanged(refusal, same));
         }
     }
@@ -70,7 +70,7 @@ fn serve<R: Wait>(rt: &R, alloc: Global, partner: &Partner) -> Result<u64, Refus
     match partner.first.serve(rt, alloc, ask(1)?) {
         Ok(answer) => Ok(answer.text.as_slice().len() as u64),
         Err(refusal) => {
-            let same = has(rt, alloc, &partner.first, partner, 1)?;
+            let same = has(rt, alloc, &partner.first, partner, 1);
             Err(unchanged(refusal, same))
         }
     }

@@ -6,7 +6,7 @@ use crate::closing::Closing;
 use crate::ended::{Ended, Left};
 use crate::partner::Partner;
 use crate::scene::{Scene, ended_after};
-use crate::{show, unchanged};
+use growth_checks::lines::{show, unchanged};
 use std::alloc::Global;
 use std::io;
 use std::marker::Brand;
@@ -109,7 +109,7 @@ fn judged<L: Ledger, M: Ledger, C: Ledger, R: AllocGlobal + Wait>(
         Ok(left) => is_right(rt, partner, &left, at, call),
         Err(other) => Err(other),
     };
-    unchanged(refusal, matches!(is_right, Ok(true)))
+    unchanged(refusal, is_right)
 }
 
 /// Whether a refused call left what was there before it. One that is done in steps may leave some of them done.
@@ -163,5 +163,5 @@ fn closed<L: Ledger, R: AllocGlobal + Wait>(
     } else {
         left.is_between(&ended.shared, &ended.shared)
     };
-    Err(unchanged(refusal, is_same))
+    Err(unchanged(refusal, Ok(is_same)))
 }

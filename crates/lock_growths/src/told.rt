@@ -1,7 +1,7 @@
 // What passes were told.
 use caller_pass::pass::Pass;
 use caller_pass::reading::Reading;
-use range_journal::journal::Entry;
+use growth_checks::states::begins;
 use range_state::event::Receipt;
 use std::alloc::Global;
 use std::sync::ledger::Ledger;
@@ -60,15 +60,6 @@ fn copy_of_receipt(receipt: &Receipt) -> Result<Receipt, Refusal> {
         key: receipt.key.try_clone()?,
         version: receipt.version.try_clone()?,
     })
-}
-
-/// Whether entries begin with others, word for word.
-pub(crate) fn begins(entries: &[Entry], others: &[Entry]) -> bool {
-    others.len() <= entries.len()
-        && entries
-            .iter()
-            .zip(others)
-            .all(|(entry, other)| entry.same(other))
 }
 
 fn are_same_readings(readings: &[Reading], others: &[Reading]) -> bool {

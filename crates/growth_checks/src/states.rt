@@ -1,11 +1,9 @@
-// States of ranges, compared by all their readers.
-use crate::told::begins;
+//! States of ranges, compared by all their readers.
+use crate::sessions::{is_cancelled, is_same_session};
 use hash_tree::node::NodeAt;
+use range_journal::journal::Entry;
 use range_state::record::Record;
 use range_state::state::RangeState;
-use sync_session::session::Session;
-use sync_session::state::SessionState;
-use sync_session::taken::Taken;
 use version_set::version::Version;
 
 /// How many nodes a tree has at a depth at the most.
@@ -14,7 +12,7 @@ const MOST_NODES: u16 = 4_096;
 /// Whether a state lies between two others: its entries are those before and the first few of those after, its rows and
 /// digests are those of one of both, and a session that is new after may be there, cancelled halfway. With `before` as
 /// `after` it is exactly that state.
-pub(crate) fn is_between(state: &RangeState, before: &RangeState, after: &RangeState) -> bool {
+pub fn is_between(state: &RangeState, before: &RangeState, after: &RangeState) -> bool {
     let entries = state.journal().entries();
     state.config() == before.config()
         && begins(entries, before.journal().entries())
@@ -22,6 +20,20 @@ pub(crate) fn is_between(state: &RangeState, before: &RangeState, after: &RangeS
         && are_rows_between(state, before, after)
         && are_digests_between(state, before, after)
         && are_records_between(state.records(), before.records(), after.records())
+}
+
+/// Whether two states are the same.
+pub fn is_same(state: &RangeState, other: &RangeState) -> bool {
+    is_between(state, other, other)
+}
+
+/// Whether entries begin with others, word for word.
+pub fn begins(entries: &[Entry], others: &[Entry]) -> bool {
+    others.len() <= entries.len()
+        && entries
+            .iter()
+            .zip(others)
+            .all(|(entry, other)| entry.same(other))
 }
 
 /// Whether each key has the versions of before or of after. The keys are those of a byte, and those of the journal after.
@@ -61,7 +73,7 @@ fn are_digests_between(state: &RangeState, before: &RangeState, after: &RangeSta
 }
 
 /// How many nodes are clean.
-pub(crate) fn clean_nodes(state: &RangeState) -> u64 {
+pub fn clean_nodes(state: &RangeState) -> u64 {
     let mut count = 0u64;
     for depth in 0..4u8 {
         for index in 0..MOST_NODES {
@@ -85,49 +97,14 @@ fn are_records_between(records: &[Record], before: &[Record], after: &[Record]) 
     match (records.get(old), after.get(old)) {
         (None, _) => true,
         (Some(record), Some(whole)) => {
-            records.len() == old.saturating_add(1) && is_cancelled(record, whole)
+            records.len() == old.saturating_add(1)
+                && record.partner() == whole.partner()
+                && is_cancelled(record.session(), whole.session())
         }
         (Some(_), None) => false,
     }
 }
 
-/// Whether two records are of sessions with the same partner that compare the same roots.
-fn is_of_same_walk(record: &Record, other: &Record) -> bool {
-    let (session, other_session) = (record.session(), other.session());
-    record.partner() == other.partner()
-        && session.root() == other_session.root()
-        && session.own().root() == other_session.own().root()
-}
-
 fn is_same_record(record: &Record, other: &Record) -> bool {
-    let (session, other_session) = (record.session(), other.session());
-    is_of_same_walk(record, other)
-        && session.state() == other_session.state()
-        && session.asked() == other_session.asked()
-        && session.outstanding() == other_session.outstanding()
-        && session.taken().len() == other_session.taken().len()
-        && has_taken_first(session, other_session)
-}
-
-/// Whether a record is of a session that was cancelled on the way of another one.
-fn is_cancelled(record: &Record, whole: &Record) -> bool {
-    let (session, other) = (record.session(), whole.session());
-    let mut asked = session.asked().iter().zip(other.asked());
-    is_of_same_walk(record, whole)
-        && session.state() == SessionState::Cancelled
-        && session.outstanding().is_empty()
-        && session.asked().len() <= other.asked().len()
-        && asked.all(|(node, wanted)| node == wanted)
-        && has_taken_first(session, other)
-}
-
-/// Whether what a session took is what another one took first.
-fn has_taken_first(session: &Session, other: &Session) -> bool {
-    let mut pairs = session.taken().iter().zip(other.taken());
-    session.taken().len() <= other.taken().len()
-        && pairs.all(|(taken, wanted)| is_same_text(taken, wanted))
-}
-
-fn is_same_text(taken: &Taken, other: &Taken) -> bool {
-    taken.node() == other.node() && taken.text().text() == other.text().text()
+    record.partner() == other.partner() && is_same_session(record.session(), other.session())
 }
