@@ -1,5 +1,9 @@
 // Scripts over readers and writers that fail.
+use crate::handoffs::WAITING;
+use crate::outages::FORK;
+use crate::syncs::ONE_KEY;
 use outage_script::{ScriptEnd, run_script};
+use std::fmt::Write as _;
 use std::io;
 use std::io::{Read, Write};
 use std::process::Abort;
@@ -38,10 +42,11 @@ impl Calls {
     }
 }
 
-/// A reader that gives a byte a call.
+/// A reader that gives a few bytes a call.
 #[derive(Drop)]
 struct Source<'a> {
     rest: &'a [u8],
+    size: usize,
     reads: Calls,
 }
 
@@ -50,15 +55,16 @@ impl Read for Source<'_> {
         if self.reads.fails() {
             return Err(io::Error::from(io::ErrorKind::Other));
         }
-        let count = buf.len().min(1);
+        let count = buf.len().min(self.size);
         self.rest.read(&mut buf[..count])
     }
 }
 
-/// A writer that takes a byte a call.
+/// A writer that takes a few bytes a call.
 #[derive(Drop)]
 struct Sink {
     bytes: Vec<u8>,
+    size: usize,
     writes: Calls,
     nothings: Calls,
     flushes: Calls,
@@ -79,13 +85,9 @@ impl Write for Sink {
         if self.nothings.fails() {
             return Ok(0);
         }
-        match buf.first() {
-            Some(byte) => {
-                self.bytes.push(*byte)?;
-                Ok(1)
-            }
-            None => Ok(0),
-        }
+        let count = buf.len().min(self.size);
+        self.bytes.extend_from_slice(&buf[..count])?;
+        Ok(count)
     }
 
     fn flush(&mut self) -> io::Result<()> {
@@ -105,19 +107,23 @@ fn calls_before(before: u64, kind: Fault, fault: Fault) -> Calls {
 }
 
 /// Runs the script with a fault after more and more calls of its kind, up to the run that meets no fault: that one is
-/// right. The others end as a device's, and what they write begins the output. Gives how many there are of those.
+/// right. The others end as a device's, and what they write begins the output. Gives how many there are of those. Reads and
+/// writes are of so many bytes at the most.
 fn count_faults(
     rt: &(impl AllocGlobal + Abort + Threads + Sync),
     (input, output, end): (&str, &str, ScriptEnd),
     fault: Fault,
+    size: usize,
 ) -> u64 {
     for before in 0..10_000 {
         let mut reader = Source {
             rest: input.as_bytes(),
+            size,
             reads: calls_before(before, Fault::Read, fault),
         };
         let mut writer = Sink {
             bytes: Vec::new(rt.alloc()),
+            size,
             writes: calls_before(before, Fault::Write, fault),
             nothings: calls_before(before, Fault::Nothing, fault),
             flushes: calls_before(before, Fault::Flush, fault),
@@ -167,9 +173,79 @@ fn each_fault_of_a_device_ends_the_script(rt: HostRuntime) {
         (BAD_LINE, BAD_LINE_ANSWERS, ScriptEnd::BadLine(3)),
     ] {
         let bytes = script.1.len() as u64;
-        assert!(rt; count_faults(&rt, script, Fault::Read) > 70);
-        assert_eq!(rt; count_faults(&rt, script, Fault::Write), bytes);
-        assert_eq!(rt; count_faults(&rt, script, Fault::Nothing), bytes);
-        assert!(rt; count_faults(&rt, script, Fault::Flush) > 70);
+        assert!(rt; count_faults(&rt, script, Fault::Read, 1) > 70);
+        assert_eq!(rt; count_faults(&rt, script, Fault::Write, 1), bytes);
+        assert_eq!(rt; count_faults(&rt, script, Fault::Nothing, 1), bytes);
+        assert!(rt; count_faults(&rt, script, Fault::Flush, 1) > 70);
     }
+}
+
+/// How many bytes a read and a write have at the most in a script of many lines.
+const SIZE: usize = 64;
+
+/// Runs the script of these lines with each call of a device failing in turn, and then with a byte a call. Without a fault it
+/// flushes after each read, and writes each answer at least once.
+fn expect_faults(
+    rt: &(impl AllocGlobal + Abort + Threads + Sync),
+    lines: &[(&str, &str)],
+) -> Result<(), Fail> {
+    let mut input = String::new(rt.alloc());
+    let mut output = String::new(rt.alloc());
+    for (line, answer) in lines {
+        writeln!(input, "{line}")?;
+        writeln!(output, "{answer}")?;
+    }
+    let script = (input.as_str(), output.as_str(), ScriptEnd::Done);
+    let reads = (input.len().div_ceil(SIZE) as u64).saturating_add(1);
+    let answers = lines.len() as u64;
+    assert_eq!(rt; count_faults(rt, script, Fault::Read, SIZE), reads);
+    assert!(rt; count_faults(rt, script, Fault::Write, SIZE) >= answers);
+    assert!(rt; count_faults(rt, script, Fault::Nothing, SIZE) >= answers);
+    assert_eq!(rt; count_faults(rt, script, Fault::Flush, SIZE), reads);
+    expect_whole(rt, script);
+    Ok(())
+}
+
+/// Runs the script with a byte a call and no fault.
+fn expect_whole(
+    rt: &(impl AllocGlobal + Abort + Threads + Sync),
+    (input, output, end): (&str, &str, ScriptEnd),
+) {
+    let mut reader = Source {
+        rest: input.as_bytes(),
+        size: 1,
+        reads: no_fault(),
+    };
+    let mut writer = Sink {
+        bytes: Vec::new(rt.alloc()),
+        size: 1,
+        writes: no_fault(),
+        nothings: no_fault(),
+        flushes: no_fault(),
+    };
+    assert_eq!(rt; run_script(rt, rt.alloc(), &mut reader, &mut writer), end);
+    assert!(rt; writer.bytes.as_slice() == output.as_bytes());
+}
+
+/// Calls of which none fails.
+fn no_fault() -> Calls {
+    Calls {
+        before: 0,
+        failed: true,
+    }
+}
+
+#[test]
+fn each_fault_ends_a_script_of_puts(rt: HostRuntime) -> Result<(), Fail> {
+    expect_faults(&rt, FORK)
+}
+
+#[test]
+fn each_fault_ends_a_script_of_syncs(rt: HostRuntime) -> Result<(), Fail> {
+    expect_faults(&rt, ONE_KEY)
+}
+
+#[test]
+fn each_fault_ends_a_script_of_hints(rt: HostRuntime) -> Result<(), Fail> {
+    expect_faults(&rt, WAITING)
 }

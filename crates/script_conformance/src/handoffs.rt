@@ -25,29 +25,29 @@ const PUT: (&str, &str) = (
 /// The delivery of node 3's hints.
 const DELIVER: &str = r#"{"deliver":{"node":3}}"#;
 
+/// A hint whose owner is down and comes up.
+pub(crate) const WAITING: &[(&str, &str)] = &[
+    RING,
+    DOWN,
+    PUT,
+    (DELIVER, r#"{"delivered":0,"known":0,"pending":1}"#),
+    (
+        r#"{"get":{"node":2,"key":"61"}}"#,
+        r#"{"cause":"Down","refused":28}"#,
+    ),
+    UP,
+    (r#"{"get":{"node":2,"key":"61"}}"#, r#"{"versions":[]}"#),
+    (DELIVER, r#"{"delivered":1,"known":0,"pending":0}"#),
+    (
+        r#"{"get":{"node":2,"key":"61"}}"#,
+        r#"{"versions":[{"clock":[[1,1]],"value":"78"}]}"#,
+    ),
+    (DELIVER, r#"{"delivered":0,"known":0,"pending":0}"#),
+];
+
 #[test]
 fn a_hint_waits_for_its_owner(rt: HostRuntime) -> Result<(), Fail> {
-    expect_answers(
-        &rt,
-        &[
-            RING,
-            DOWN,
-            PUT,
-            (DELIVER, r#"{"delivered":0,"known":0,"pending":1}"#),
-            (
-                r#"{"get":{"node":2,"key":"61"}}"#,
-                r#"{"cause":"Down","refused":28}"#,
-            ),
-            UP,
-            (r#"{"get":{"node":2,"key":"61"}}"#, r#"{"versions":[]}"#),
-            (DELIVER, r#"{"delivered":1,"known":0,"pending":0}"#),
-            (
-                r#"{"get":{"node":2,"key":"61"}}"#,
-                r#"{"versions":[{"clock":[[1,1]],"value":"78"}]}"#,
-            ),
-            (DELIVER, r#"{"delivered":0,"known":0,"pending":0}"#),
-        ],
-    )
+    expect_answers(&rt, WAITING)
 }
 
 #[test]

@@ -13,45 +13,45 @@ const PAIR_ANSWER: &str = r#"{"nodes":2,"ranges":1}"#;
 /// The answer of a line that names a ring or a node that is none.
 const BAD_RING: &str = r#"{"cause":"BadRing","refused":27}"#;
 
+/// Two puts under one context, and a put that has seen both.
+pub(crate) const FORK: &[(&str, &str)] = &[
+    (
+        r#"{"ring":{"bits":0,"copies":3,"nodes":[1,2,3]}}"#,
+        r#"{"nodes":3,"ranges":1}"#,
+    ),
+    (
+        r#"{"put":{"node":1,"key":"61","context":[],"value":"31"}}"#,
+        r#"{"clock":[[1,1]],"copied":2,"hinted":0,"number":0}"#,
+    ),
+    (
+        r#"{"put":{"node":1,"key":"61","context":[[1,1]],"value":"32"}}"#,
+        r#"{"clock":[[1,2]],"copied":2,"hinted":0,"number":1}"#,
+    ),
+    (
+        r#"{"put":{"node":2,"key":"61","context":[[1,2]],"value":"33"}}"#,
+        r#"{"clock":[[1,2],[2,1]],"copied":2,"hinted":0,"number":2}"#,
+    ),
+    (
+        r#"{"put":{"node":3,"key":"61","context":[[1,2]],"value":"34"}}"#,
+        r#"{"clock":[[1,2],[3,1]],"copied":2,"hinted":0,"number":3}"#,
+    ),
+    (
+        r#"{"get":{"node":1,"key":"61"}}"#,
+        r#"{"versions":[{"clock":[[1,2],[2,1]],"value":"33"},{"clock":[[1,2],[3,1]],"value":"34"}]}"#,
+    ),
+    (
+        r#"{"put":{"node":1,"key":"61","context":[[1,2],[2,1],[3,1]],"value":"35"}}"#,
+        r#"{"clock":[[1,3],[2,1],[3,1]],"copied":2,"hinted":0,"number":4}"#,
+    ),
+    (
+        r#"{"get":{"node":2,"key":"61"}}"#,
+        r#"{"versions":[{"clock":[[1,3],[2,1],[3,1]],"value":"35"}]}"#,
+    ),
+];
+
 #[test]
 fn a_fork_is_seen_and_joined(rt: HostRuntime) -> Result<(), Fail> {
-    expect_answers(
-        &rt,
-        &[
-            (
-                r#"{"ring":{"bits":0,"copies":3,"nodes":[1,2,3]}}"#,
-                r#"{"nodes":3,"ranges":1}"#,
-            ),
-            (
-                r#"{"put":{"node":1,"key":"61","context":[],"value":"31"}}"#,
-                r#"{"clock":[[1,1]],"copied":2,"hinted":0,"number":0}"#,
-            ),
-            (
-                r#"{"put":{"node":1,"key":"61","context":[[1,1]],"value":"32"}}"#,
-                r#"{"clock":[[1,2]],"copied":2,"hinted":0,"number":1}"#,
-            ),
-            (
-                r#"{"put":{"node":2,"key":"61","context":[[1,2]],"value":"33"}}"#,
-                r#"{"clock":[[1,2],[2,1]],"copied":2,"hinted":0,"number":2}"#,
-            ),
-            (
-                r#"{"put":{"node":3,"key":"61","context":[[1,2]],"value":"34"}}"#,
-                r#"{"clock":[[1,2],[3,1]],"copied":2,"hinted":0,"number":3}"#,
-            ),
-            (
-                r#"{"get":{"node":1,"key":"61"}}"#,
-                r#"{"versions":[{"clock":[[1,2],[2,1]],"value":"33"},{"clock":[[1,2],[3,1]],"value":"34"}]}"#,
-            ),
-            (
-                r#"{"put":{"node":1,"key":"61","context":[[1,2],[2,1],[3,1]],"value":"35"}}"#,
-                r#"{"clock":[[1,3],[2,1],[3,1]],"copied":2,"hinted":0,"number":4}"#,
-            ),
-            (
-                r#"{"get":{"node":2,"key":"61"}}"#,
-                r#"{"versions":[{"clock":[[1,3],[2,1],[3,1]],"value":"35"}]}"#,
-            ),
-        ],
-    )
+    expect_answers(&rt, FORK)
 }
 
 #[test]

@@ -32,32 +32,32 @@ const SYNC: &str = r#"{"sync":{"from":1,"node":2,"range":0}}"#;
 /// A sync whose node has a dirty tree.
 const DIRTY: &str = r#"{"cause":"Dirty","refused":10}"#;
 
+/// Syncs of two replicas, of which one has a key that the other lacks.
+pub(crate) const ONE_KEY: &[(&str, &str)] = &[
+    RING,
+    PUT,
+    REHASH,
+    (SYNC, DIRTY),
+    (OTHER_REHASH, r#"{"hashed":273}"#),
+    (
+        SYNC,
+        r#"{"accepted":1,"asked":3,"known":0,"state":"Finished"}"#,
+    ),
+    (SYNC, DIRTY),
+    (OTHER_REHASH, r#"{"hashed":3}"#),
+    (
+        SYNC,
+        r#"{"accepted":0,"asked":0,"known":0,"state":"Finished"}"#,
+    ),
+    (
+        r#"{"get":{"node":2,"key":"61"}}"#,
+        r#"{"versions":[{"clock":[[1,1]],"value":"78"}]}"#,
+    ),
+];
+
 #[test]
 fn a_sync_asks_where_the_trees_differ(rt: HostRuntime) -> Result<(), Fail> {
-    expect_answers(
-        &rt,
-        &[
-            RING,
-            PUT,
-            REHASH,
-            (SYNC, DIRTY),
-            (OTHER_REHASH, r#"{"hashed":273}"#),
-            (
-                SYNC,
-                r#"{"accepted":1,"asked":3,"known":0,"state":"Finished"}"#,
-            ),
-            (SYNC, DIRTY),
-            (OTHER_REHASH, r#"{"hashed":3}"#),
-            (
-                SYNC,
-                r#"{"accepted":0,"asked":0,"known":0,"state":"Finished"}"#,
-            ),
-            (
-                r#"{"get":{"node":2,"key":"61"}}"#,
-                r#"{"versions":[{"clock":[[1,1]],"value":"78"}]}"#,
-            ),
-        ],
-    )
+    expect_answers(&rt, ONE_KEY)
 }
 
 #[test]
