@@ -1,6 +1,5 @@
 pub mod CallLaws
 pub mod MakeLaws
-pub mod MergeLaws
 pub mod OfferLaws
 pub mod PlaceWord
 pub mod PublicationWord

@@ -1,22 +1,22 @@
 //! Clocks that C compares.
-ghost use Rattle.std.specs.Prelude.{◌≡◌, ℕ, Result, IfOk};
+ghost use Rattle.std.specs.Prelude.{◌≡◌, ℕ, Result};
 ghost use Rattle.vclock.specs.Answer.{AnswersOrNoMemory, first_fault};
-ghost use Rattle.vclock.specs.Clock.{pairs_fault, clock_of};
+ghost use Rattle.vclock.specs.Clock.{Pairs, pairs_fault, clock_of, merged};
 ghost use Rattle.vclock.specs.declared.refusal.Refusal.{Refusal};
 ghost use Rattle.antientropy_c.specs.Numbers.{Returns};
 ghost use Rattle.antientropy_c.specs.Pairs.{pairs_of, number_of_order, order_between};
-ghost use Rattle.antientropy_c.specs.Merges.{union_of, Merges, HandsClock, GivesClock};
+ghost use Rattle.antientropy_c.specs.Merges.{merges_fault, HandsClock, GivesClock};
 ghost use Rattle.antientropy_c.specs.Sessions.{TellsNumber};
 
 use crate::numbers::code;
 use crate::pair::{Pair, clock_of};
 use crate::showing::copy_pairs;
 use crate::syncing::tell_number;
-use std::alloc::{AllocError, Global};
+use std::alloc::Global;
 use vclock::clock::{Clock, ClockOrder};
 use vclock::refusal::Refusal;
 
-/// How two clocks lie: 0 the first is before the second, 1 after it, 2 equal, 3 neither has seen all that the other has.
+/// How two clocks compare: 0 the first is before the second, 1 after it, 2 equal, 3 neither has seen all that the other has.
 ///
 /// Refused, in order: BadClock, ClockFull of the first and then of the second, NoMemory, which may stand in place of each.
 #[unsafe(no_mangle)]
@@ -60,7 +60,7 @@ fn number_of(order: ClockOrder) -> u64
     }
 }
 
-/// The clock that has seen what both have seen: for each node the greater counter.
+/// The clock that has seen what both have seen, as [`Clock::merge`].
 ///
 /// Refused, in order: BadClock, ClockFull of the first and then of the second, ClockFull (over 32 nodes), NoMemory, which may
 /// stand in place of each, SMALL.
@@ -73,38 +73,22 @@ pub extern "C" fn antientropy_merge(
     out: &mut [Pair],
     need: &mut u64,
 ) -> u32
-    ensures { GivesClock result (need.old, out.old) (need.new, out.new)
-        (Merges (pairs_of first.now) (pairs_of second.now)) }
+    ensures { GivesClock result (need.old, out.old) (need.new, out.new) (λ (r : Result Pairs Refusal).
+        AnswersOrNoMemory r (merges_fault (pairs_of first.now) (pairs_of second.now))
+        (λ c. c ≡ merged (clock_of (pairs_of first.now)) (clock_of (pairs_of second.now)))) }
 {
     let told = merge(alloc, first, second);
     hand_clock(&told, out, need)
 }
 
 /// Does the same.
-#[tactic(auto, using(crate::proofs::MergeLaws::union_counters))]
 fn merge(alloc: Global, first: &[Pair], second: &[Pair]) -> Result<Clock, Refusal>
-    ensures { Merges (pairs_of first.now) (pairs_of second.now) result }
+    ensures { AnswersOrNoMemory result (merges_fault (pairs_of first.now) (pairs_of second.now))
+        (λ c. c ≡ merged (clock_of (pairs_of first.now)) (clock_of (pairs_of second.now))) }
 {
     let first = clock_of(alloc, first)?;
     let second = clock_of(alloc, second)?;
-    let pairs = union(alloc, &first, &second)?;
-    Clock::from_pairs(alloc, &pairs)
-}
-
-/// For each node of either clock the greater counter.
-fn union(alloc: Global, first: &Clock, second: &Clock) -> Result<Vec<(u64, u64)>, AllocError>
-    ensures { IfOk result (λ pairs. pairs.items ≡ union_of first.now second.now) }
-{
-    let mut pairs = Vec::new(alloc);
-    for &(node, counter) in first.pairs() {
-        pairs.push((u64::from(node), counter.max(second.get(node))))?;
-    }
-    for &(node, counter) in second.pairs() {
-        if first.get(node) == 0 {
-            pairs.push((u64::from(node), counter))?;
-        }
-    }
-    Ok(pairs)
+    first.merge(alloc, &second)
 }
 
 /// Hands out the pairs of a clock, or nothing, and returns the number of what came of it.
