@@ -109,6 +109,20 @@ static void merge(struct antientropy *replica, uint16_t node, const char *key, c
          ANTIENTROPY_NO_VERSION);
 }
 
+/* Brings a replica a hint that was kept for it while it was away, twice, and compares its clock with another one. */
+static void deliver(struct antientropy *replica)
+{
+    const struct antientropy_pair clock[] = {{3, 1}}, other[] = {{1, 1}};
+    uint64_t taken, order;
+    for (int n = 0; n < 2; n++) {
+        want("accept", antientropy_accept(replica, (const uint8_t *)"gift", 4, clock, 1, ANTIENTROPY_LIVE,
+                                          (const uint8_t *)"wrapped", 7, &taken), ANTIENTROPY_OK);
+        printf("a hint is %s\n", taken ? "taken" : "known");
+    }
+    want("compare", antientropy_compare(clock, 1, other, 1, &order), ANTIENTROPY_OK);
+    printf("its clock and node 1's first are %s\n", order == ANTIENTROPY_APART ? "concurrent" : "in order");
+}
+
 int main(void)
 {
     struct antientropy a = {0}, b = {0};
@@ -139,6 +153,9 @@ int main(void)
     sync(&a, &b);
     printf("cart: %llu version at a\n", versions(&a, "cart"));
 
+    deliver(&b);
+    want("cancel", antientropy_cancel(&b, 0), ANTIENTROPY_OK);
+    want("cancel", antientropy_cancel(&b, 99), ANTIENTROPY_UNKNOWN_SESSION);
     want("get", antientropy_get(&a, (const uint8_t *)"order", 5, answer, 3, &need), ANTIENTROPY_SMALL);
     want("get", antientropy_get(&a, (const uint8_t *)"order", 5, answer, need, &need), ANTIENTROPY_OK);
     printf("the row of order has %llu bytes\n", (unsigned long long)need);

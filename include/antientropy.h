@@ -174,7 +174,7 @@ uint32_t antientropy_value(struct antientropy *replica, const uint8_t *key, size
 uint32_t antientropy_clock(struct antientropy *replica, const uint8_t *key, size_t key_len, uint64_t index,
                            struct antientropy_pair *out, size_t out_len, uint64_t *need);
 
-/* How two clocks lie. */
+/* How two clocks compare. */
 enum {
     ANTIENTROPY_BEFORE = 0, /* the first has seen nothing that the second has not, and less */
     ANTIENTROPY_AFTER = 1,  /* the other way round */
@@ -182,7 +182,7 @@ enum {
     ANTIENTROPY_APART = 3   /* neither has seen all that the other has: versions under them are concurrent */
 };
 
-/* Gives how two clocks lie. It needs no replica. Refused, in order: BAD_CLOCK and CLOCK_FULL of the first, the same of the
+/* Gives how two clocks compare. It needs no replica. Refused, in order: BAD_CLOCK and CLOCK_FULL of the first, the same of the
  * second, NO_MEMORY, which may stand in place of any. */
 uint32_t antientropy_compare(const struct antientropy_pair *first, size_t first_len, const struct antientropy_pair *second,
                              size_t second_len, uint64_t *order);

@@ -19,6 +19,6 @@ number_of_order After = 1
 number_of_order Equal = 2
 number_of_order Apart = 3
 
--- the number of how two clocks lie
+-- the number of how two clocks compare
 abbrev pub order_between : Pairs → Pairs → ℕ
 order_between a b = number_of_order (order_of (at_most a b) (at_most b a))
