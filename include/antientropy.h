@@ -18,7 +18,7 @@
  *
  * WHAT A CALLER OWES (nothing checks it)
  *
- * - Each pointer is valid, aligned and not NULL, also where its length is 0. Memory for out, need and the like is the
+ * - Each pointer is valid, aligned and not NULL, even if its length is 0. Memory for out, need and the like is the
  *   caller's, and overlaps nothing else that the same call is passed. The library keeps no pointer that it is passed.
  * - A struct antientropy or struct antientropy_snapshot is made by `= {0}`, and its fields are left alone. It may be moved in
  *   memory between calls; of copies only one is used. All bytes zero means that it holds nothing.

@@ -112,8 +112,8 @@ fn offer(alloc: Global, snapshot: &Snapshot, number: u32) -> Result<Bytes, Refus
 
 /// The message that answers an ask, if it is for the offer with this number.
 ///
-/// Refused, in order: EMPTY, BadMessage (the bytes are no ask), Gone (it is of another offer), BadMessage (the tree has no such
-/// node), NoMemory. Where the bytes are an answer, NoMemory may stand in place of BadMessage.
+/// Refused, in order: EMPTY, BadMessage (the bytes are no ask), Gone (it is of another offer), BadMessage (the tree has
+/// no such node), NoMemory. If the bytes are an answer, NoMemory may stand in place of BadMessage.
 #[unsafe(no_mangle)]
 #[tactic(auto, using(crate::proofs::OfferLaws::empty, crate::proofs::OfferLaws::held, crate::proofs::CallLaws::gives))]
 pub extern "C" fn antientropy_serve(

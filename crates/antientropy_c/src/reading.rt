@@ -18,7 +18,7 @@ use vclock::bytes::Bytes;
 use vclock::key::check_key;
 use vclock::refusal::Refusal;
 
-/// The text of the row of a key: no bytes where nothing is held. Refused, in order: EMPTY, BadKey, NoMemory.
+/// The text of the row of a key: no bytes if nothing is held. Refused, in order: EMPTY, BadKey, NoMemory.
 #[unsafe(no_mangle)]
 #[tactic(auto, using(crate::proofs::CallLaws::empty, crate::proofs::CallLaws::held, crate::proofs::CallLaws::gives))]
 pub extern "C" fn antientropy_get(

@@ -11,8 +11,8 @@ use crate::replica::Replica;
 use range_state::state::RangeState;
 use std::alloc::Global;
 
-/// The value of a version that is held for a key, by its index from 0, and its kind: 0 for a live version, 1 for a tombstone.
-/// Refused, in order: EMPTY, NO_VERSION, SMALL. The kind is told where the room is too small, too.
+/// The value of a version that is held for a key, by its index from 0, and its kind: 0 for a live version, 1 for a
+/// tombstone. Refused, in order: EMPTY, NO_VERSION, SMALL. The kind is told even if the room is too small.
 #[unsafe(no_mangle)]
 #[tactic(auto, using(crate::proofs::CallLaws::empty, crate::proofs::CallLaws::held))]
 pub extern "C" fn antientropy_value(

@@ -27,8 +27,8 @@ use walk_messages::message::{Answer, Ask, Message};
 /// Opens a session with a partner by the bytes of its offer, and gives the session's number, from 0.
 ///
 /// Refused, in order: EMPTY, BadMessage (the bytes are no offer); then as [`RangeState::open_session`]: OtherFormat,
-/// OtherRange, SessionsFull, Dirty, NoMemory. Where the bytes are an answer, NoMemory may stand in place of BadMessage. The
-/// replica and the number are then as they were.
+/// OtherRange, SessionsFull, Dirty, NoMemory. If the bytes are an answer, NoMemory may stand in place of BadMessage.
+/// The replica and the number are then as they were.
 #[unsafe(no_mangle)]
 #[tactic(auto, using(crate::proofs::CallLaws::empty, crate::proofs::CallLaws::held, crate::proofs::CallLaws::returns))]
 pub extern "C" fn antientropy_open(
@@ -85,7 +85,7 @@ pub(crate) fn tell_number(told: &Result<u64, Refusal>, out: &mut u64)
 }
 
 /// The message that asks for the first node that a session has outstanding, with the number of the partner's offer: no
-/// bytes where none is outstanding. Refused, in order: EMPTY, UnknownSession, NoMemory.
+/// bytes if nothing is outstanding. Refused, in order: EMPTY, UnknownSession, NoMemory.
 #[unsafe(no_mangle)]
 #[tactic(auto, using(crate::proofs::CallLaws::empty, crate::proofs::CallLaws::held, crate::proofs::CallLaws::gives))]
 pub extern "C" fn antientropy_ask(

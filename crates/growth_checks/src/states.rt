@@ -57,7 +57,7 @@ fn are_same_versions(versions: &[Version], others: &[Version]) -> bool {
             .all(|(version, other)| version.same(other))
 }
 
-/// Whether each node has the digest of before or of after, or none as before or after.
+/// Whether each node has the digest of before or of after, or no digest as before or after.
 fn are_digests_between(state: &RangeState, before: &RangeState, after: &RangeState) -> bool {
     for depth in 0..4u8 {
         for index in 0..MOST_NODES {

@@ -55,7 +55,7 @@ fn events_without(alloc: Global, left_out: usize) -> Result<Vec<Event>, Refusal>
     Ok(events)
 }
 
-/// How many events are done. Where one of them wants memory, it changes nothing and the others are run.
+/// How many events are done. If one of them wants memory, it changes nothing and the others are run.
 fn run(alloc: Global) -> Result<u64, Refusal> {
     let mut state = range(alloc)?;
     let events = events_without(alloc, COUNT)?;

@@ -113,7 +113,7 @@ fn share(alloc: Global) -> Result<u64, Refusal> {
     Ok(count(&leaf.share()?))
 }
 
-/// How many bytes the text has behind another byte.
+/// How many bytes the text has after another byte.
 fn put_text(alloc: Global) -> Result<u64, Refusal> {
     let leaf = leaf_of(alloc, KEYS)?;
     let mut text = Vec::from_slice(alloc, b"z")?;

@@ -33,7 +33,7 @@ pub(crate) fn show_all<R: Print + AllocGlobal + Threads + Sync>(
     show(rt, "RangeState::sync_with", sync_with(rt, alloc, partner))
 }
 
-/// The clean range with so many sessions.
+/// The clean range with that many sessions.
 fn range_with(
     rt: &(impl Threads + Sync),
     alloc: Global,
@@ -47,7 +47,7 @@ fn range_with(
     Ok(state)
 }
 
-/// Whether a range is as it is with so many sessions.
+/// Whether a range is as it is with that many sessions.
 fn is_range_with(
     rt: &(impl Threads + Sync),
     alloc: Global,
@@ -91,7 +91,7 @@ fn take_first_of(alloc: Global, state: &mut RangeState, partner: &Snapshot) -> R
     Ok(())
 }
 
-/// Whether a range is as it is with one session, which had so many answers.
+/// Whether a range is as it is with one session, which had that many answers.
 pub(crate) fn is_after(
     rt: &(impl Threads + Sync),
     alloc: Global,

@@ -36,7 +36,7 @@ fn write(alloc: Global) -> Result<u64, Refusal> {
     Ok(write_row(alloc, Format::One, &row)?.len() as u64)
 }
 
-/// Writes it behind another byte.
+/// Writes it after another byte.
 fn put(alloc: Global) -> Result<u64, Refusal> {
     let (row, _) = read_row(alloc, Format::One, TEXT)?;
     let mut text = Vec::from_slice(alloc, b"z")?;

@@ -13,7 +13,7 @@ use vclock::bytes::Bytes;
 use vclock::refusal::Refusal;
 use walk_messages::message::Ask;
 
-/// How many nodes are asked where a range without rows compares itself with its partner.
+/// How many nodes are asked if a range without rows compares itself with its partner.
 pub(crate) const ASKED: u64 = 7;
 
 /// Shows the calls on sessions.
@@ -53,7 +53,7 @@ fn take_first(alloc: Global, session: &mut Session, partner: &Snapshot) -> Resul
     Ok(())
 }
 
-/// The session after so many answers.
+/// The session after that many answers.
 fn session_after(alloc: Global, both: &Snapshots, answers: u64) -> Result<Session, Refusal> {
     let mut session = new_session(alloc, both)?;
     for _ in 0..answers {
@@ -62,7 +62,7 @@ fn session_after(alloc: Global, both: &Snapshots, answers: u64) -> Result<Sessio
     Ok(session)
 }
 
-/// Whether a session is as it is after so many answers.
+/// Whether a session is as it is after that many answers.
 fn is_after(
     alloc: Global,
     session: &Session,

@@ -44,7 +44,7 @@ fn texts(alloc: Global) -> Result<u64, Refusal> {
     Ok(inner_text(alloc, Format::One, &[digest; 16])?.len() as u64)
 }
 
-/// How many bytes a text has behind another byte.
+/// How many bytes a text has after another byte.
 fn put_text(alloc: Global) -> Result<u64, Refusal> {
     let mut text = Vec::from_slice(alloc, b"z")?;
     match put_inner_text(&mut text, Format::One, &[DIGEST; 16]) {
@@ -84,7 +84,7 @@ fn take_jobs(alloc: Global) -> Result<u64, Refusal> {
     Ok(range(alloc)?.take_jobs(alloc, 20)?.len() as u64)
 }
 
-/// The jobs are lost where a growth is refused, and can be taken again.
+/// The jobs are lost if a growth is refused, and can be taken again.
 fn hash_some(rt: &(impl Threads + Sync), alloc: Global) -> Result<u64, Refusal> {
     let state = range(alloc)?;
     let jobs = state.take_jobs(alloc, 20)?;

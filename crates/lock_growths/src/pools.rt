@@ -42,7 +42,7 @@ fn newest<R: Wait>(rt: &R, pool: &OfferPool) -> u32 {
     }
 }
 
-/// Whether a pool has so many offers, each of the partner's snapshot, and no other.
+/// Whether a pool has that many offers, each of the partner's snapshot, and no other.
 fn has<R: Wait>(
     rt: &R,
     alloc: Global,

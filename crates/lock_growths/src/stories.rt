@@ -17,7 +17,7 @@ use vclock::refusal::Refusal;
 /// The name of what comes before the calls.
 const OPENING: &str = "a locked range and a shared one";
 
-/// Shows the calls on ranges. If one is refused, both ranges are closed, and new ones go on behind that call.
+/// Shows the calls on ranges. If one is refused, both ranges are closed, and new ones go on after that call.
 pub(crate) fn show_all<R: Print + AllocGlobal + Wait>(rt: &R, partner: &Partner) -> io::Result<()> {
     let mut from = 0;
     for _ in 0..2 {
@@ -30,7 +30,7 @@ pub(crate) fn show_all<R: Print + AllocGlobal + Wait>(rt: &R, partner: &Partner)
     Ok(())
 }
 
-/// Makes all calls, and shows those from a line on. Returns the line behind a call that was refused, if one was.
+/// Makes all calls, and shows those from a line on. Returns the line after a call that was refused, if one was.
 fn play<L: Ledger, M: Ledger, C: Ledger, R: Print + AllocGlobal + Wait>(
     rt: &R,
     partner: &Partner,

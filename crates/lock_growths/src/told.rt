@@ -39,8 +39,8 @@ impl Told {
         })
     }
 
-    /// Whether a pass was told what it was told before, and besides the first few of the receipts after. With `before` as
-    /// `after` it was told exactly that.
+    /// Whether a pass was told what it was told before, and as well the first few of the receipts after. With `before`
+    /// as `after` it was told exactly that.
     pub(crate) fn is_between(&self, before: &Told, after: &Told) -> bool {
         self.seat == before.seat
             && before.seen <= self.seen
