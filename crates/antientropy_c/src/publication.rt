@@ -72,8 +72,9 @@ impl Publication {
             .ok()
     }
 
-    /// Holds a snapshot.
+    /// Holds a snapshot, where nothing was held: what is dropped with the handle would never be freed.
     pub(crate) fn hold(&mut self, rows: Box<Published, Global>)
+        requires { self.old.held ≡ false }
         ensures held { self.new.held ≡ true }
         ensures rows { self.new.rows ≡ rows.value }
     {

@@ -72,8 +72,9 @@ impl Replica {
             .ok()
     }
 
-    /// Holds a replica.
+    /// Holds a replica, where nothing was held: what is dropped with the handle would never be freed.
     pub(crate) fn hold(&mut self, state: Box<RangeState, Global>)
+        requires { self.old.held ≡ false }
         ensures held { self.new.held ≡ true }
         ensures state { self.new.state ≡ state.value }
     {
