@@ -37,19 +37,6 @@ impl<K: Link> Watched<K> {
     pub(crate) fn take_answers(&mut self) -> Vec<Answer> {
         replace(&mut self.answers, Vec::new(self.alloc))
     }
-
-    /// Keeps what came if it is an answer of the offer that the message asks of. One that finds no memory is missed by the
-    /// checks.
-    fn keep(&mut self, message: &[u8], came: &[u8]) {
-        let Ok(Message::Ask(ask)) = decode(self.alloc, message) else {
-            return;
-        };
-        if let Ok(Message::Answer(answer)) = decode(self.alloc, came) {
-            if answer.offer == ask.offer {
-                let _kept = self.answers.push(answer);
-            }
-        }
-    }
 }
 
 impl<K: Link> Link for Watched<K> {
@@ -67,8 +54,21 @@ impl<K: Link> Link for Watched<K> {
         self.asks = self.asks.wrapping_add(1);
         let reached = self.link.ask(rt, message);
         if let Reached::Bytes(bytes) = &reached {
-            self.keep(message, bytes);
+            keep(self.alloc, &mut self.answers, message, bytes);
         }
         reached
+    }
+}
+
+/// Keeps what came if it is an answer of the offer that the message asks of. One that finds no memory is missed by the
+/// checks.
+fn keep(alloc: Global, answers: &mut Vec<Answer>, message: &[u8], came: &[u8]) {
+    let Ok(Message::Ask(ask)) = decode(alloc, message) else {
+        return;
+    };
+    if let Ok(Message::Answer(answer)) = decode(alloc, came) {
+        if answer.offer == ask.offer {
+            let _kept = answers.push(answer);
+        }
     }
 }
