@@ -1,7 +1,7 @@
 -- A chunk's rows with their texts: what is kept of them where a row is put among them or changed, or the rows are parted.
 use Rattle.std.proofs.Common.{◌≡◌, ℕ, zero, suc, ◌+◌, ◌<◌, ◌≤◌, None, List, [], ◌∷◌, ◌++◌, map, length, get_or, set, take, drop, refl, sym, ap, subst, ◌∙◌, append_assoc, arith}
 use Rattle.std.specs.List.{AllByRecursion, insert, flat_map, sum_by}
-use Rattle.std.proofs.lemmas.List.{length-append, take-append-drop, take_at, drop_at, take-map, drop-map, map-set, set_split, get_or-map}
+use Rattle.std.proofs.lemmas.List.{length-append, take-append-drop, take_at, drop_at, drop_more, take-map, drop-map, map-set, set_split, get_or-map}
 use Rattle.std.proofs.lemmas.List.Concat.{flat_map-append}
 use Rattle.std.proofs.lemmas.List.Sums.{sum_by-cons, sum_by_more}
 use Rattle.vclock.specs.declared.format.Format.{Format}
@@ -66,6 +66,11 @@ texts_before f xs i n long = ap (take n) (parted f xs i) ∙ take_at (flat_map f
 texts_from : {X : Type 0} (f : X → List ℕ) (xs : List X) (i n : ℕ) → n ≡ length (flat_map f (take i xs)) → drop n (flat_map f xs) ≡ flat_map f (drop i xs)
 texts_from f xs i n long = ap (drop n) (parted f xs i) ∙ drop_at (flat_map f (take i xs)) (flat_map f (drop i xs)) n (sym long)
 
+-- the text of the item at a place
+text_at : {X : Type 0} (f : X → List ℕ) (xs : List X) (i n m : ℕ) (d : X) → i < length xs → n ≡ length (flat_map f (take i xs)) → m ≡ length (f (get_or xs i d)) → take m (drop n (flat_map f xs)) ≡ f (get_or xs i d)
+text_at f xs i n m d within long len =
+    ap (take m) (texts_from f xs i n long ∙ ap (flat_map f) (drop_more xs i d within)) ∙ take_at (f (get_or xs i d)) (flat_map f (drop (i + 1) xs)) m (sym len)
+
 -- an item put among others
 texts_insert : {X : Type 0} (f : X → List ℕ) (xs : List X) (i : ℕ) (y : X) → flat_map f (insert xs i y) ≡ flat_map f (take i xs) ++ f y ++ flat_map f (drop i xs)
 texts_insert f xs i y = flat_map-append f (take i xs) (y ∷ drop i xs) ∙ sym (append_assoc (flat_map f (take i xs)) (f y) (flat_map f (drop i xs)))
@@ -117,6 +122,13 @@ end_is format rows lens text i start len h within begins is =
 pub len_is : (format : Format) (rows : List Row) (lens text : List ℕ) (i len : ℕ) (d : Row) → Keeps format rows lens text → i < length rows → len ≡ get_or lens i len → len ≡ length (row_text format (get_or rows i d))
 len_is format rows lens text i len d h within is =
     is ∙ ap (λ (ls : List ℕ). get_or ls i len) h.1 ∙ get_or-map (λ (r : Row). length (row_text format r)) rows i d len within
+
+-- the text of the row at a place
+pub text_there : (format : Format) (rows : List Row) (lens text : List ℕ) (i start len : ℕ) (d : Row) → Keeps format rows lens text → i < length rows → start ≡ sum_by (λ (n : ℕ). n) (take i lens) → len ≡ get_or lens i len
+    → take len (drop start text) ≡ row_text format (get_or rows i d)
+text_there format rows lens text i start len d h within begins is =
+    ap (λ (t : List ℕ). take len (drop start t)) h.2
+    ∙ text_at (row_text format) rows i start len d within (begins ∙ start_is format rows lens text i h) (len_is format rows lens text i len d h within is)
 
 -- a row is put among the others
 pub keeps-insert : (format : Format) (rows : List Row) (lens text : List ℕ) (i n start : ℕ) (r : Row) (now : List ℕ) → Keeps format rows lens text → FitsText format r → n ≡ length (row_text format r) → start ≡ sum_by (λ (m : ℕ). m) (take i lens)

@@ -19,6 +19,14 @@ key_exact a b e = slice_cmp-IsAntisymmetric nat_cmp-IsAntisymmetric a b e
 pub turned : (a b : List ℕ) (o : Ordering) → key_cmp a b ≡ o → key_cmp b a ≡ ordering_reverse o
 turned a b o e = nat_list_cmp_total.antisymm b a ∙ ap ordering_reverse e
 
+pub same_key : (k : List ℕ) → key_cmp k k ≡ Equal
+same_key k = fixed (key_cmp k k) (nat_list_cmp_total.antisymm k k)
+  where
+    fixed : (o : Ordering) → o ≡ ordering_reverse o → o ≡ Equal
+    fixed Less e = absurd (cc)
+    fixed Equal e = refl
+    fixed Greater e = absurd (cc)
+
 pub less_trans : (a b c : List ℕ) → key_cmp a b ≡ Less → key_cmp b c ≡ Less → key_cmp a c ≡ Less
 less_trans a b c = nat_list_cmp_total.trans a b c
 

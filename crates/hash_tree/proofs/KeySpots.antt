@@ -157,13 +157,19 @@ versions_among k front rows back less greater = in_back k (front ++ rows) back g
 offers_among : (k : List ℕ) (v : Version) (front rows back : List Row) → AllByRecursion (λ (y : Row). key_cmp k y.key ≡ Greater) front → AllByRecursion (λ (y : Row). key_cmp k y.key ≡ Less) back → with_offer k v (front ++ rows ++ back) ≡ front ++ with_offer k v rows ++ back
 offers_among k v front rows back less greater = offer_back k v (front ++ rows) back greater ∙ ap (λ (rs : List Row). rs ++ back) (offer_front k v front rows less)
 
+-- a row among the middle ones
+row_among : (front rows back : List Row) (i n : ℕ) (d : Row) → n ≡ length front → i < length rows → get_or (front ++ rows ++ back) (n + i) d ≡ get_or rows i d
+row_among front rows back i n d is within =
+    get_or_append_left (front ++ rows) back d (n + i) (omega (arith, is, within, length-append front rows))
+    ∙ ap (λ (m : ℕ). get_or (front ++ rows) (m + i) d) is ∙ get_or-append-add front rows i d
+
 -- the row of the key
 pub at_among : (k : List ℕ) (front rows back : List Row) (i n : ℕ) → AllByRecursion (λ (y : Row). key_cmp k y.key ≡ Greater) front → AllByRecursion (λ (y : Row). key_cmp k y.key ≡ Less) back → n ≡ length front → IsAt k rows i → IsAt k (front ++ rows ++ back) (n + i)
 at_among k front rows back i n less greater is at = record {
   within = omega (arith, is, at.within, length-append front rows, length-append (front ++ rows) back);
+  key = λ d. ap (λ (r : Row). r.key) (row_among front rows back i n d is at.within) ∙ at.key d;
   offers = λ v d.
-      let read : get_or (front ++ rows ++ back) (n + i) d ≡ get_or rows i d =
-      get_or_append_left (front ++ rows) back d (n + i) (omega (arith, is, at.within, length-append front rows)) ∙ ap (λ (m : ℕ). get_or (front ++ rows) (m + i) d) is ∙ get_or-append-add front rows i d in
+      let read = row_among front rows back i n d is at.within in
       let new : Row = record { key = (get_or rows i d).key; versions = offered v (get_or rows i d).versions } in
       let back_off : n + i - n ≡ i = omega arith in
       offers_among k v front rows back less greater
@@ -172,7 +178,7 @@ at_among k front rows back i n less greater is at = record {
       ∙ ap (λ (r : Row). set (front ++ rows ++ back) (n + i) (record { key = r.key; versions = offered v r.versions })) (sym read);
   holds = λ d.
       versions_among k front rows back less greater ∙ at.holds d
-      ∙ ap (λ (r : Row). r.versions) (sym (get_or_append_left (front ++ rows) back d (n + i) (omega (arith, is, at.within, length-append front rows)) ∙ ap (λ (m : ℕ). get_or (front ++ rows) (m + i) d) is ∙ get_or-append-add front rows i d));
+      ∙ ap (λ (r : Row). r.versions) (sym (row_among front rows back i n d is at.within));
 }
 
 -- the place for one

@@ -1,15 +1,17 @@
 -- What an offer changes in the leaves that rows are shared out to.
-use Rattle.std.proofs.Common.{◌≡◌, ℕ, true, false, cond, List, [], ◌∷◌, refl, ap, sym, ◌∙◌, arith}
+use Rattle.std.proofs.Common.{◌≡◌, ℕ, zero, suc, ◌≤◌, true, false, cond, List, [], ◌∷◌, length, None, refl, ap, subst, sym, ◌∙◌, arith}
 use Rattle.std.proofs.lemmas.Bool.Decides.{nat_tests}
 use Rattle.std.specs.Prelude.{nat_eq}
-use Rattle.std.specs.List.{AllByRecursion}
+use Rattle.std.specs.List.{AllByRecursion, Contains}
 use Rattle.std.specs.declared.cmp.Ordering.TheVariants.{Less, Equal, Greater}
 use Rattle.version_set.specs.declared.version.Version.{Version}
 use Rattle.version_set.specs.Version.{place_by, offered}
 use Rattle.version_set.proofs.ListLaws.{all-filter}
+use Rattle.vclock.specs.declared.format.Format.{Format}
 use Rattle.row_bytes.specs.declared.row.Row.{Row}
-use Rattle.hash_tree.specs.Leaves.{key_cmp, AscendByKey, rows_at, with_offer, versions_in}
-use Rattle.hash_tree.proofs.KeyLaws.{key_exact, less_rows}
+use Rattle.row_bytes.specs.Rows.{FitsText}
+use Rattle.hash_tree.specs.Leaves.{key_cmp, AscendByKey, FindsRow, rows_at, with_offer, versions_in}
+use Rattle.hash_tree.proofs.KeyLaws.{key_exact, turned, same_key, all_get, less_rows}
 
 pub offer_first : (k : List ℕ) (v : Version) (rows : List Row) → AllByRecursion (λ (y : Row). key_cmp k y.key ≡ Less) rows → with_offer k v rows ≡ record { key = k; versions = offered v [] } ∷ rows
 offer_first k v [] h = refl
@@ -38,6 +40,26 @@ rows_at-with_offer leaf i k v (r ∷ rows) a =
             | false ↦ rest
           ]
     ] refl
+
+-- What the rows have for the key of a row are its versions.
+pub held_by_row : (rows : List Row) (r : Row) → AscendByKey rows → Contains rows r → versions_in r.key rows ≡ r.versions
+held_by_row [] r a has = absurd (omega (arith, has.1))
+held_by_row (x ∷ rows) r a (zero, within, is) =
+    subst (λ (y : Row). place_by (key_cmp r.key y.key) [] y.versions (versions_in r.key rows) ≡ r.versions) (sym is) (rw (same_key r.key) refl)
+held_by_row (x ∷ rows) r a (suc i, within, is) =
+    let less : key_cmp x.key r.key ≡ Less = subst (λ (y : Row). key_cmp x.key y.key ≡ Less) is (all_get (λ (y : Row). key_cmp x.key y.key ≡ Less) rows i r a.0 (omega (arith, within))) in
+    rw (turned x.key r.key Less less) (held_by_row rows r a.1 (i, omega (arith, within), is))
+
+-- Rows within the limits of a format have a version each.
+pub some_each : (format : Format) (rows : List Row) → AllByRecursion (FitsText format) rows → AllByRecursion (λ (r : Row). 1 ≤ length r.versions) rows
+some_each format [] all = tt
+some_each format (r ∷ rows) all = (all.0.some, some_each format rows all.1)
+
+-- A key for which the rows have no versions has no row, as each row has one at least.
+pub no_row : (k : List ℕ) (rows : List Row) → AscendByKey rows → AllByRecursion (λ (r : Row). 1 ≤ length r.versions) rows → versions_in k rows ≡ [] → FindsRow rows k None
+no_row k rows a each none r has same =
+    let some : 1 ≤ length r.versions = subst (λ (y : Row). 1 ≤ length y.versions) has.2 (all_get (λ (y : Row). 1 ≤ length y.versions) rows has.0 r each has.1) in
+    omega (arith, some, ap length (sym (held_by_row rows r a has) ∙ ap (λ (key : List ℕ). versions_in key rows) same ∙ none))
 
 -- What the rows of a key's own leaf have for it is what all rows have.
 pub versions_in-rows_at : (leaf : List ℕ → ℕ) (k : List ℕ) (rows : List Row) → AscendByKey rows → versions_in k (rows_at leaf (leaf k) rows) ≡ versions_in k rows

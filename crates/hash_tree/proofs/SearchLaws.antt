@@ -72,6 +72,7 @@ sorted rows k a i j d le within = elim (cases_eq i j) [
 pub found : (rows : List Row) (k : List ℕ) (r : Result ℕ ℕ) → AscendByKey rows → IsSearchInRange r (length rows) → IsBinarySearchResult (row_cmp k) rows r → IsPlace k rows r
 found rows k (Ok i) a within at = record {
   within = within;
+  key = λ d. key_exact (get_or rows i d).key k (at d);
   offers = λ v d. here_offers rows i k v d a within (at d);
   holds = λ d. here_holds rows i k d a within (at d);
 }

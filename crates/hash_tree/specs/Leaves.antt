@@ -1,6 +1,6 @@
 -- Rows in order of key, and the leaves that they are shared out to: the paper of 2007, section 4.7.
-use Rattle.std.specs.Prelude.{◌≡◌, ℕ, ◌<◌, ◌≤◌, ◌++◌, nat_eq, List, [], ◌∷◌, length, filter, take, drop, slice_index_or, slice_set, Result, Ok, Err}
-use Rattle.std.specs.List.{AllByRecursion}
+use Rattle.std.specs.Prelude.{◌≡◌, ◌≢◌, ℕ, ◌<◌, ◌≤◌, ◌++◌, nat_eq, List, [], ◌∷◌, length, filter, take, drop, slice_index_or, slice_set, Option, Some, None, Result, Ok, Err}
+use Rattle.std.specs.List.{AllByRecursion, Contains}
 use Rattle.std.specs.declared.cmp.Ordering.{Ordering}
 use Rattle.std.specs.declared.cmp.Ordering.TheVariants.{Less}
 use Rattle.std.specs.Ordering.{nat_cmp}
@@ -39,6 +39,11 @@ abbrev pub versions_in : List ℕ → List Row → List Version
 versions_in k [] = []
 versions_in k (r ∷ rows) = place_by (key_cmp k r.key) [] r.versions (versions_in k rows)
 
+-- the versions of the row of a key, if the rows have one
+abbrev pub FindsRow : List Row → List ℕ → Option (List Version) → Type 0
+FindsRow rows k (Some versions) = Contains rows (record { key = k; versions = versions })
+FindsRow rows k None = (r : Row) → Contains rows r → r.key ≢ k
+
 -- the rows after a version was offered to the set of a key
 abbrev pub with_offer : List ℕ → Version → List Row → List Row
 with_offer k v [] = record { key = k; versions = offered v [] } ∷ []
@@ -47,6 +52,7 @@ with_offer k v (r ∷ rows) = place_by (key_cmp k r.key) (record { key = k; vers
 -- the row of the key stands at i
 pub record IsAt (k : List ℕ) (rows : List Row) (i : ℕ) : Type 0 where
   pub within : i < length rows
+  pub key : (d : Row) → (slice_index_or rows i d).key ≡ k
   pub offers : (v : Version) (d : Row) → with_offer k v rows ≡ slice_set rows i (record { key = (slice_index_or rows i d).key; versions = offered v (slice_index_or rows i d).versions })
   pub holds : (d : Row) → versions_in k rows ≡ (slice_index_or rows i d).versions
 

@@ -1,10 +1,11 @@
 //! Consecutive rows of a leaf, which several leaves may share.
-ghost use Rattle.std.specs.Prelude.{◌≡◌, ◌<◌, ◌≤◌, [], ◌∷◌, ⊤, None, length, take, drop, IfOk, OnOk, OnErr};
+ghost use Rattle.std.specs.Prelude.{◌≡◌, ◌<◌, ◌≤◌, [], ◌∷◌, ⊤, None, length, take, drop, slice_index_or, IfOk, OnOk, OnErr};
 ghost use Rattle.std.specs.List.{insert};
 ghost use Rattle.vclock.specs.Answer.{Answers};
 ghost use Rattle.version_set.specs.Kind.{value_fault};
 ghost use Rattle.version_set.specs.Version.{offer_fault};
-ghost use Rattle.row_bytes.specs.Rows.{FitsText};
+ghost use Rattle.row_bytes.specs.Rows.{row_text, FitsText};
+ghost use Rattle.row_bytes.specs.declared.row.Row.{Row};
 ghost use Rattle.hash_tree.specs.Chunks.{chunk_text, begin_by, versions_at, offered_at};
 
 use crate::written::WrittenRows;
@@ -72,6 +73,14 @@ impl Chunk {
         ensures { result.now ≡ chunk_text self.now }
     {
         self.held.text()
+    }
+
+    /// The text of the row at a place.
+    pub(crate) fn row_text(&self, at: usize) -> &[u8]
+        requires { at < length self.now.rows }
+        ensures { (d : Row) → result.now ≡ row_text self.now.format (slice_index_or self.now.rows at d) }
+    {
+        self.held.row_text(at)
     }
 
     /// One more owner of the rows. Refused: NoMemory. No row is copied.

@@ -1,11 +1,12 @@
 //! The rows of one leaf.
-ghost use Rattle.std.specs.Prelude.{◌≡◌, ◌↔◌, ◌++◌, ◌+◌, ◌<◌, ◌≤◌, [], ⊤, None, IsTrue, length, unwrap_or, option_map, OnOk, OnErr};
+ghost use Rattle.std.specs.Prelude.{◌≡◌, ◌↔◌, ◌++◌, ◌+◌, ◌<◌, ◌≤◌, [], ⊤, None, IsTrue, length, unwrap_or, option_map, MatchOption, OnOk, OnErr};
 ghost use Rattle.std.specs.Vec.{vec_capacity};
 ghost use Rattle.vclock.specs.Answer.{Answers};
 ghost use Rattle.vclock.specs.Keys.{key_fault};
 ghost use Rattle.version_set.specs.Kind.{value_fault};
 ghost use Rattle.version_set.specs.Version.{offer_fault, offered};
-ghost use Rattle.hash_tree.specs.Leaves.{AscendByKey, IsBucket, IsPlace, versions_in, with_offer};
+ghost use Rattle.row_bytes.specs.Rows.{row_text};
+ghost use Rattle.hash_tree.specs.Leaves.{AscendByKey, IsBucket, IsPlace, FindsRow, versions_in, with_offer};
 ghost use Rattle.hash_tree.specs.Chunks.{all_rows, AreChunks};
 ghost use Rattle.hash_tree.specs.Texts.{leaf_text};
 
@@ -99,6 +100,21 @@ impl Leaf {
         let rows = self.chunks[chunk_of(&self.chunks, key)].rows();
         match find_place(rows, key) {
             Ok(at) => Some(&rows[at].versions),
+            Err(_) => None,
+        }
+    }
+
+    /// The row of a key, if it has one, with its text. It takes no memory: a binary search.
+    pub(crate) fn find_row(&self, key: &[u8]) -> Option<(&VersionSet, &[u8])>
+        ensures found { FindsRow self.now.rows key.now (option_map (λ x. x.0.now) result) }
+        ensures text { MatchOption result ⊤ (λ x. x.1.now ≡ row_text self.now.format (record { key = key.now; versions = x.0.now })) }
+    {
+        if self.chunks.is_empty() {
+            return None;
+        }
+        let chunk = &self.chunks[chunk_of(&self.chunks, key)];
+        match find_place(chunk.rows(), key) {
+            Ok(at) => Some((&chunk.rows()[at].versions, chunk.row_text(at))),
             Err(_) => None,
         }
     }

@@ -1,12 +1,13 @@
 //! Leaves that have several owners: a range, and the jobs that look at it.
-ghost use Rattle.std.specs.Prelude.{◌≡◌, ◌↔◌, ◌++◌, ◌+◌, ◌<◌, [], ⊤, None, Some, IsTrue, if◌then◌else◌, length, unwrap_or, option_map, OnOk, OnErr};
+ghost use Rattle.std.specs.Prelude.{◌≡◌, ◌↔◌, ◌++◌, ◌+◌, ◌<◌, [], ⊤, None, Some, IsTrue, if◌then◌else◌, length, unwrap_or, option_map, MatchOption, OnOk, OnErr};
 ghost use Rattle.std.specs.Vec.{vec_capacity};
 ghost use Rattle.std.specs.Arc.{arc_value};
 ghost use Rattle.vclock.specs.Answer.{Answers};
 ghost use Rattle.vclock.specs.Keys.{key_fault};
 ghost use Rattle.version_set.specs.Kind.{value_fault};
 ghost use Rattle.version_set.specs.Version.{offer_fault};
-ghost use Rattle.hash_tree.specs.Leaves.{IsBucket, versions_in, with_offer};
+ghost use Rattle.row_bytes.specs.Rows.{row_text};
+ghost use Rattle.hash_tree.specs.Leaves.{IsBucket, FindsRow, versions_in, with_offer};
 ghost use Rattle.hash_tree.specs.Texts.{leaf_text};
 
 use crate::comparing::is_chunked_text;
@@ -119,6 +120,17 @@ impl SharedLeaf {
     {
         match &self.leaf {
             Some(leaf) => leaf.find(key),
+            None => None,
+        }
+    }
+
+    /// The row of a key, if it has one: its versions and its text. It takes no memory: a binary search.
+    pub fn find_row(&self, key: &[u8]) -> Option<(&VersionSet, &[u8])>
+        ensures found { FindsRow self.now.rows key.now (option_map (λ x. x.0.now) result) }
+        ensures text { MatchOption result ⊤ (λ x. x.1.now ≡ row_text self.now.format (record { key = key.now; versions = x.0.now })) }
+    {
+        match &self.leaf {
+            Some(leaf) => leaf.find_row(key),
             None => None,
         }
     }

@@ -1,11 +1,12 @@
 //! Consecutive rows of a leaf with their texts.
-ghost use Rattle.std.specs.Prelude.{◌≡◌, ◌++◌, ◌+◌, ◌-◌, ◌<◌, ◌≤◌, ◌^◌, [], ⊤, None, length, take, drop, IfOk, OnOk, OnErr};
+ghost use Rattle.std.specs.Prelude.{◌≡◌, ◌++◌, ◌+◌, ◌-◌, ◌<◌, ◌≤◌, ◌^◌, [], ⊤, None, length, take, drop, slice_index_or, IfOk, OnOk, OnErr};
 ghost use Rattle.std.specs.List.{AllByRecursion, flat_map, insert, sum_by};
 ghost use Rattle.std.specs.Vec.{vec_capacity};
 ghost use Rattle.vclock.specs.Answer.{Answers};
 ghost use Rattle.version_set.specs.Kind.{value_fault};
 ghost use Rattle.version_set.specs.Version.{offer_fault};
 ghost use Rattle.row_bytes.specs.Rows.{row_text, FitsText};
+ghost use Rattle.row_bytes.specs.declared.row.Row.{Row};
 ghost use Rattle.hash_tree.specs.Chunks.{chunk_text, versions_at, offered_at};
 
 use row_bytes::lengths::{row_len, version_len};
@@ -108,6 +109,15 @@ impl WrittenRows {
         ensures { result.now ≡ chunk_text self.now }
     {
         self.text.as_slice()
+    }
+
+    /// The text of the row at a place.
+    pub(crate) fn row_text(&self, at: usize) -> &[u8]
+        requires { at < length self.now.rows }
+        ensures { (d : Row) → result.now ≡ row_text self.now.format (slice_index_or self.now.rows at d) }
+    {
+        let start = total(&self.lens[..at]);
+        part_of(&self.text, start, self.lens[at] as usize)
     }
 
     /// Offers a version to the set of the row at a place. Refused: NoMemory. The rows are then as they were.
@@ -226,6 +236,16 @@ fn make_room<T>(items: &mut Vec<T>, more: usize, spare: usize) -> Result<(), All
         return Ok(());
     }
     items.reserve_exact(more.saturating_add(spare))
+}
+
+/// So many bytes of a text, from a place on.
+fn part_of(text: &[u8], start: usize, len: usize) -> &[u8]
+    requires { start + len ≤ length text.now }
+    ensures { result.now ≡ take len (drop start text.now) }
+{
+    let (_, rest) = text.split_at(start);
+    let (part, _) = rest.split_at(len);
+    part
 }
 
 /// What a text has from a place on. Refused: NoMemory.

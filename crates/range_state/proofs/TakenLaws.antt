@@ -36,6 +36,7 @@ use Rattle.sync_session.specs.Walks.{Walk, TakenText, AreSpelled, IsCanonical, I
 use Rattle.sync_session.specs.Steps.{IsDue, left_after, after, failed}
 use Rattle.sync_session.specs.declared.state.SessionState.{SessionState}
 use Rattle.sync_session.specs.declared.state.SessionState.TheVariants.{Open, Finished, Failed, Cancelled}
+use Rattle.row_bytes.proofs.TextLengthLaws.{row_short}
 use Rattle.sync_session.proofs.StepLaws.{All-weaker, walked_grows, walked_after, spelled_held}
 use Rattle.sync_session.proofs.CountLaws.{orderly_after}
 use Rattle.sync_session.proofs.TraceLaws.{traced, traced_failed}
@@ -216,20 +217,6 @@ pub offers_among : (rows : List Row) → AllByRecursion (λ o. IsAmong rows o.0 
 offers_among rows = offers_all (IsAmong rows) rows (rows_among rows)
 
 -- ---- there are no more versions than bytes
-
-some_text : (f : Format) (v : Version) → 1 ≤ length (version_text f v)
-some_text One v = omega arith
-some_text Two v = omega arith
-
-versions_short : (f : Format) (vs : List Version) → length vs ≤ length (flat_map (version_text f) vs)
-versions_short f [] = omega arith
-versions_short f (v ∷ vs) = omega (arith, versions_short f vs, some_text f v, length-append (version_text f v) (flat_map (version_text f) vs))
-
-row_short : (f : Format) (r : Row) → length r.versions ≤ length (row_text f r)
-unfolding row_text
-row_short f r =
-    let front = to_be_bytes w16 (length r.key) ++ r.key ++ to_be_bytes w16 (length r.versions) in
-    omega (arith, versions_short f r.versions, length-append front (flat_map (version_text f) r.versions))
 
 offers_short : (f : Format) (rows : List Row) → length (offers_of rows) ≤ length (flat_map (row_text f) rows)
 offers_short f [] = omega arith

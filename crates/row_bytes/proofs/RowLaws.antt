@@ -11,7 +11,7 @@ use Rattle.version_set.specs.declared.version.Version.{Version}
 use Rattle.version_set.specs.Version.{version_text, IsVersionSet}
 use Rattle.version_set.proofs.ListLaws.{all-push}
 use Rattle.row_bytes.specs.declared.row.Row.{Row}
-use Rattle.row_bytes.specs.Rows.{is_before, is_apart, row_text, IsVersion, AreAscending, AreApart, IsRow}
+use Rattle.row_bytes.specs.Rows.{is_before, is_apart, row_text, IsVersion, AreAscending, AreApart, IsRow, BeginsWithKey}
 use Rattle.row_bytes.specs.Reading.{◌>>=◌, number_at, field_at, bytes_at, pair_at, pairs_at, kind_at, longest_value, version_at, may_follow, versions_at, row_at}
 use Rattle.vclock.proofs.ByteLaws.{IsBytes}
 use Rattle.row_bytes.proofs.FieldLaws.{bind_ok, passed_ok, ok_is, Takes, Takes-none, Takes-then, wide16, field_takes, field_again, bytes_takes, bytes_again}
@@ -115,6 +115,18 @@ key_limits key h =
     let some = eqb-false _ _ parts.0 in
     let short = ltb-false _ _ parts.1 in
     record { some = omega (arith, some); short = short }
+
+-- a key that was read at the front is spelled there
+pub key_takes : (bytes : List ℕ) (len : ℕ × List ℕ) (key : List ℕ × List ℕ) → IsBytes bytes → field_at w16 (few 255) bytes ≡ Ok len → bytes_at len.0 len.1 ≡ Ok key → BeginsWithKey bytes key.0 key.1
+key_takes bytes len key fits l k =
+    let front = field_takes w16 (2 ^ 16) wide16 (few 255) bytes len fits l in
+    let text = bytes_takes len.0 len.1 key front.takes.rest_fits k in
+    let limits = both_hold (leb 1 len.0) (leb len.0 255) front.passed in
+    let both = Takes-then bytes (to_be_bytes w16 len.0) len.1 key.0 key.1 front.takes text.0 in
+    record {
+      fits = key_of key.0 (rw text.1 (leb-true _ _ limits.0)) (rw text.1 (leb-true _ _ limits.1));
+      text_is = both.parts ∙ ap (λ (n : ℕ). to_be_bytes w16 n ++ key.0 ++ key.1) (sym text.1);
+    }
 
 -- the versions that were read are a set
 set_read : (format : Format) (count : ℕ) (bytes : List ℕ) (x : List Version × List ℕ) → IsBytes bytes → count ≤ 64 → versions_at format count [] [] bytes ≡ Ok x → IsVersionSet x.0

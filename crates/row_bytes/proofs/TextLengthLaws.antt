@@ -6,6 +6,8 @@ use Rattle.std.proofs.lemmas.List.Folds.{length-flat_map-take}
 use Rattle.std.specs.Int.{w16, to_be_bytes}
 use Rattle.version_set.specs.Version.{pair_text, version_text}
 use Rattle.vclock.specs.declared.format.Format.{Format}
+use Rattle.vclock.specs.declared.format.Format.TheVariants.{One, Two}
+use Rattle.version_set.specs.declared.version.Version.{Version}
 use Rattle.row_bytes.specs.declared.row.Row.{Row}
 use Rattle.row_bytes.specs.Rows.{row_text}
 
@@ -34,3 +36,16 @@ row_text_len format r =
     let k = to_be_bytes w16 (length r.versions) in
     let vs = flat_map (version_text format) r.versions in
     omega (arith, length-append n r.key, length-append (n ++ r.key) k, length-append (n ++ r.key ++ k) vs)
+
+-- ---- there are no more versions than bytes
+
+some_text : (format : Format) (v : Version) → 1 ≤ length (version_text format v)
+some_text One v = omega arith
+some_text Two v = omega arith
+
+versions_short : (format : Format) (vs : List Version) → length vs ≤ length (flat_map (version_text format) vs)
+versions_short format [] = omega arith
+versions_short format (v ∷ vs) = omega (arith, versions_short format vs, some_text format v, length-append (version_text format v) (flat_map (version_text format) vs))
+
+pub row_short : (format : Format) (r : Row) → length r.versions ≤ length (row_text format r)
+row_short format r = omega (arith, versions_short format r.versions, row_text_len format r)

@@ -16,6 +16,11 @@ use Rattle.row_bytes.specs.declared.row.Row.{Row}
 unfoldable pub row_text : Format → Row → List ℕ
 row_text format r = to_be_bytes w16 (length r.key) ++ r.key ++ to_be_bytes w16 (length r.versions) ++ flat_map (version_text format) r.versions
 
+-- the text begins with a key, as that of a row does
+pub record BeginsWithKey (text key rest : List ℕ) : Type 0 where
+  pub fits : key_fault key ≡ None
+  pub text_is : text ≡ to_be_bytes w16 (length key) ++ key ++ rest
+
 -- whether a stands before b, byte by byte
 abbrev pub is_before : List ℕ → List ℕ → Bool
 is_before a b = is_lt (slice_cmp nat_cmp a b)

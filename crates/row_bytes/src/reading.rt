@@ -1,9 +1,9 @@
 //! Reading rows. What a row's text is, this project's profile says.
-ghost use Rattle.std.specs.Prelude.{◌≡◌, ◌++◌, ℕ, List, [], ⊤, length, IfOk, IfErr};
+ghost use Rattle.std.specs.Prelude.{◌≡◌, ◌++◌, ℕ, List, [], ⊤, length, IfOk, IfErr, Some, MatchOption, option_map};
 ghost use Rattle.std.specs.List.{list_all, flat_map};
 ghost use Rattle.version_set.specs.Version.{version_text, IsVersionSet};
 ghost use Rattle.row_bytes.specs.declared.row.Row.{Row};
-ghost use Rattle.row_bytes.specs.Rows.{is_before, is_apart, row_text, IsRow, AreRows, FitsText};
+ghost use Rattle.row_bytes.specs.Rows.{is_before, is_apart, row_text, IsRow, AreRows, FitsText, BeginsWithKey};
 ghost use Rattle.row_bytes.specs.Outcome.{IsRead, IsReadFault, AreRead, AreReadFault};
 ghost use Rattle.row_bytes.specs.Reading.{Gives, HasHead, version_at, may_follow, versions_at, row_at, last_key, rows_at};
 
@@ -151,6 +151,23 @@ pub fn read_row(alloc: Global, format: Format, text: &[u8]) -> Result<(Row, &[u8
         Ok((row, rest)) => Ok((row, rest)),
         Err(ReadError::Memory) => Err(Refusal::NoMemory),
         Err(ReadError::Left(left)) => Err(Refusal::RowBroken((text.len() - left) as u64)),
+    }
+}
+
+/// The key at the front of the text of a row, if the bytes begin with a whole one (this project's profile). What follows
+/// it is not looked at.
+pub fn key_at(text: &[u8]) -> Option<&[u8]>
+    // The text begins with the key.
+    ensures found { MatchOption result ⊤ (λ key. (rest : List ℕ) × BeginsWithKey text.now key.now rest) }
+    // A text that begins with a key begins with no other, and it is found.
+    ensures only { (key rest : List ℕ) → BeginsWithKey text.now key rest → option_map (λ found. found.now) result ≡ Some key }
+{
+    let Ok((len, rest)) = count_of(LONGEST_KEY, text) else {
+        return None;
+    };
+    match slice_of(len as usize, rest) {
+        Ok((key, _)) => Some(key),
+        Err(_) => None,
     }
 }
 
