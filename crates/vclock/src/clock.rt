@@ -109,7 +109,8 @@ impl Clock {
         if counter == u64::MAX {
             return Err(Refusal::CounterFull);
         }
-        let mut raised = copy_with_room(alloc, self.pairs.as_slice())?;
+        let len = self.pairs.len() + usize::from(counter == 0);
+        let mut raised = copy_with_room(alloc, self.pairs.as_slice(), len)?;
         put(&mut raised, node, counter + 1)?;
         Ok(Clock {
             pairs: SmallVec::from_vec(raised),
@@ -158,8 +159,7 @@ impl Clock {
         if len > MOST_PAIRS {
             return Err(Refusal::ClockFull);
         }
-        let mut merged = Vec::with_capacity(alloc, len)?;
-        merged.extend_from_slice(self.pairs.as_slice())?;
+        let mut merged = copy_with_room(alloc, self.pairs.as_slice(), len)?;
         for i in (0..others.len()).rev() {
             let (node, counter) = others[i];
             put(&mut merged, node, counter.max(self.get(node)))?;
@@ -229,11 +229,15 @@ fn walk(a: &[(u16, u64)], b: &[(u16, u64)]) -> (bool, bool)
     (le & (i == a.len()), ge & (j == b.len()))
 }
 
-// The same pairs, with room for one more.
-fn copy_with_room(alloc: Global, pairs: &[(u16, u64)]) -> Result<Vec<(u16, u64)>, AllocError>
+// The same pairs, with room for that many in all.
+fn copy_with_room(
+    alloc: Global,
+    pairs: &[(u16, u64)],
+    len: usize,
+) -> Result<Vec<(u16, u64)>, AllocError>
     ensures { IfOk result (λ copy. copy.items ≡ pairs.now) }
 {
-    let mut copy = Vec::with_capacity(alloc, pairs.len() + 1)?;
+    let mut copy = Vec::with_capacity(alloc, len)?;
     copy.extend_from_slice(pairs)?;
     Ok(copy)
 }

@@ -1,4 +1,4 @@
-use Rattle.std.proofs.Common.{◌≡◌, ◌≤◌, ◌+◌, ◌-◌, ◌++◌, eqb, length, drop, inr, sym, ap, subst, ◌∙◌, arith}
+use Rattle.std.proofs.Common.{◌≡◌, ◌≤◌, ◌+◌, ◌-◌, eqb, length, drop, inr, sym, ap, subst, ◌∙◌, arith}
 use Rattle.std.proofs.Math.ListN.{drop_of_length-le}
 use Rattle.std.specs.List.{filter}
 use Rattle.vclock.specs.Clock.{Pairs, IsClock, counter, merged}
@@ -16,8 +16,7 @@ pub loop-i-init : goal.loop-i-init
 loop-i-init c =
     let all = drop_of_length-le c.as_slice-others.result.now (omega arith) in
     record {
-      is = c.in_ok-extend_from_slice.ensures.items ∙ ap (λ (ps : Pairs). ps ++ c.as_slice.result.now) c.in_ok-merged.ensures.items
-          ∙ (c.as_slice.ensures ∙ c.self.view_is) ∙ sym (ap (merged c.args.self.now) all);
+      is = c.in_ok-merged.ensures ∙ (c.as_slice.ensures ∙ c.self.view_is) ∙ sym (ap (merged c.args.self.now) all);
     }
 
 pub loop-i-preserved : goal.loop-i-preserved
