@@ -4,7 +4,9 @@ ghost use Rattle.std.specs.Int.{w8, w16, w32, w64};
 ghost use Rattle.row_bytes.specs.Reading.{Gives, number_at, field_at, bytes_at, pair_at, pairs_at, kind_at, longest_value};
 
 use crate::fault::ReadError;
+use smallvec::SmallVec;
 use std::alloc::Global;
+use vclock::clock::ClockPairs;
 use vclock::format::Format;
 use version_set::kind::Kind;
 
@@ -171,10 +173,10 @@ pub(crate) fn pairs_of(
     alloc: Global,
     count: u8,
     bytes: &[u8],
-) -> Result<(Vec<(u16, u64)>, &[u8]), ReadError>
+) -> Result<(ClockPairs, &[u8]), ReadError>
     ensures { Gives ⊤ (λ x. (x.0.items, x.1.now)) result (pairs_at count 0 [] bytes.now) }
 {
-    let mut pairs = Vec::new(alloc);
+    let mut pairs = SmallVec::with_capacity(alloc, usize::from(count))?;
     let mut above = 0u16;
     let mut rest = bytes;
     'pairs: for _ in 0..count {

@@ -26,6 +26,17 @@ const LONGEST_KEY: u16 = 255;
 /// How many versions a row has at the most.
 const MOST_VERSIONS: u16 = 64;
 
+/// Equal bytes that are kept.
+fn bytes_of(alloc: Global, bytes: &[u8]) -> Result<Bytes, ReadError>
+    ensures copy { IfOk result (λ copy. copy ≡ bytes.now) }
+    ensures memory { IfErr result (λ e. e ≡ ReadError.Memory) }
+{
+    match Bytes::copy_of(alloc, bytes) {
+        Ok(copy) => Ok(copy),
+        Err(_) => Err(ReadError::Memory),
+    }
+}
+
 /// A version.
 #[tactic(auto, unfolding(crate::specs::Reading::version_at))]
 fn version_of(alloc: Global, format: Format, bytes: &[u8]) -> Result<(Version, &[u8]), ReadError>
@@ -39,7 +50,7 @@ fn version_of(alloc: Global, format: Format, bytes: &[u8]) -> Result<(Version, &
     let version = Version {
         clock: Clock::of_ascending(pairs),
         kind,
-        value: Bytes::from(Vec::from_slice(alloc, value)?),
+        value: bytes_of(alloc, value)?,
     };
     Ok((version, rest))
 }
@@ -128,7 +139,7 @@ fn row_of(alloc: Global, format: Format, bytes: &[u8]) -> Result<(Row, &[u8]), R
     let (count, rest) = count_of(MOST_VERSIONS, rest)?;
     let (versions, rest) = versions_of(alloc, format, count, rest)?;
     let row = Row {
-        key: Bytes::from(Vec::from_slice(alloc, key)?),
+        key: bytes_of(alloc, key)?,
         versions: VersionSet::of_ascending(versions),
     };
     Ok((row, rest))

@@ -15,6 +15,9 @@ const MOST_PAIRS: usize = 32;
 /// How many pairs are stored inline: a clock of one node allocates nothing.
 const FEW_PAIRS: usize = 1;
 
+/// Pairs of node and counter, which lie inline while they are few.
+pub type ClockPairs = SmallVec<(u16, u64), FEW_PAIRS>;
+
 /// The greatest node number.
 const LAST_NODE: u64 = 65_535;
 
@@ -44,7 +47,7 @@ pub enum ClockOrder {
 /// ```
 #[derive(Debug)]
 pub struct Clock {
-    pairs: SmallVec<(u16, u64), FEW_PAIRS>,
+    pairs: ClockPairs,
 }
 
 impl Model for Clock {
@@ -72,25 +75,21 @@ impl Clock {
         if pairs.len() > MOST_PAIRS {
             return Err(Refusal::ClockFull);
         }
-        let mut kept = Vec::with_capacity(alloc, pairs.len())?;
+        let mut kept = SmallVec::with_capacity(alloc, pairs.len())?;
         for i in (0..pairs.len()).rev() {
             let (node, counter) = pairs[i];
             put(&mut kept, node as u16, counter)?;
         }
-        Ok(Clock {
-            pairs: SmallVec::from_vec(kept),
-        })
+        Ok(Clock { pairs: kept })
     }
 
     /// The clock of pairs that are already in order: by rising node, each node once, at most 32 pairs. It takes no
     /// memory.
-    pub fn of_ascending(pairs: Vec<(u16, u64)>) -> Clock
+    pub fn of_ascending(pairs: ClockPairs) -> Clock
         requires { IsClock pairs.items }
         ensures { result ≡ pairs.items }
     {
-        Clock {
-            pairs: SmallVec::from_vec(pairs),
-        }
+        Clock { pairs }
     }
 
     /// The clock with the counter of a node, 1 to 65,535, raised by one.
@@ -112,9 +111,7 @@ impl Clock {
         let len = self.pairs.len() + usize::from(counter == 0);
         let mut raised = copy_with_room(alloc, self.pairs.as_slice(), len)?;
         put(&mut raised, node, counter + 1)?;
-        Ok(Clock {
-            pairs: SmallVec::from_vec(raised),
-        })
+        Ok(Clock { pairs: raised })
     }
 
     /// The pairs of node and counter, by rising node.
@@ -164,9 +161,7 @@ impl Clock {
             let (node, counter) = others[i];
             put(&mut merged, node, counter.max(self.get(node)))?;
         }
-        Ok(Clock {
-            pairs: SmallVec::from_vec(merged),
-        })
+        Ok(Clock { pairs: merged })
     }
 
     // How many of the pairs have a node that is absent here.
@@ -230,20 +225,16 @@ fn walk(a: &[(u16, u64)], b: &[(u16, u64)]) -> (bool, bool)
 }
 
 // The same pairs, with room for that many in all.
-fn copy_with_room(
-    alloc: Global,
-    pairs: &[(u16, u64)],
-    len: usize,
-) -> Result<Vec<(u16, u64)>, AllocError>
+fn copy_with_room(alloc: Global, pairs: &[(u16, u64)], len: usize) -> Result<ClockPairs, AllocError>
     ensures { IfOk result (λ copy. copy.items ≡ pairs.now) }
 {
-    let mut copy = Vec::with_capacity(alloc, len)?;
+    let mut copy = SmallVec::with_capacity(alloc, len)?;
     copy.extend_from_slice(pairs)?;
     Ok(copy)
 }
 
 // Sets the counter of a node.
-fn put(pairs: &mut Vec<(u16, u64)>, node: u16, counter: u64) -> Result<(), AllocError>
+fn put(pairs: &mut ClockPairs, node: u16, counter: u64) -> Result<(), AllocError>
     ensures ok { OnOk result (pairs.new.items ≡ with_counter pairs.old.items node counter) }
     ensures err { OnErr result (pairs.new.items ≡ pairs.old.items) }
 {

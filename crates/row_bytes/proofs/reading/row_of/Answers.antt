@@ -14,7 +14,7 @@ returns-in_err-versions c =
     let p = err_from_is_err_and c.from_residual-in_err-versions.result c.from_residual-in_err-versions.ensures.1 in
     rw (p.1, p.2) (row_ends c.in_err-versions.field-0.0 c.args.format c.args.bytes.now (c.in_ok-len.len, c.in_ok-len.rest.now) (c.in_ok-key.key.now, c.in_ok-key.rest.now) (c.in_ok-count.count, c.in_ok-count.rest.now) c.in_ok-len.ensures c.in_ok-key.ensures c.in_ok-count.ensures c.in_err-versions.ensures)
 
-pub returns-in_err-from_slice : goal.returns-in_err-from_slice
-returns-in_err-from_slice c =
-    let p = err_from_is_err_and c.from_residual-in_err-from_slice.result c.from_residual-in_err-from_slice.ensures.1 in
-    rw (p.1, p.2) (head_is c.args.bytes.now (c.in_ok-len.len, c.in_ok-len.rest.now) (c.in_ok-key.key.now, c.in_ok-key.rest.now) (c.in_ok-count.count, c.in_ok-count.rest.now) c.in_ok-len.ensures c.in_ok-key.ensures c.in_ok-count.ensures)
+pub returns-in_err-bytes_of : goal.returns-in_err-bytes_of
+returns-in_err-bytes_of c =
+    let p = err_from_is_err_and c.from_residual-in_err-bytes_of.result c.from_residual-in_err-bytes_of.ensures.1 in
+    rw (p.1, p.2, c.in_err-bytes_of.ensures.memory) (head_is c.args.bytes.now (c.in_ok-len.len, c.in_ok-len.rest.now) (c.in_ok-key.key.now, c.in_ok-key.rest.now) (c.in_ok-count.count, c.in_ok-count.rest.now) c.in_ok-len.ensures c.in_ok-key.ensures c.in_ok-count.ensures)

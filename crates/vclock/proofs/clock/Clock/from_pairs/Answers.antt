@@ -28,4 +28,4 @@ loop-i-preserved c =
 pub returns-clause-counters : goal.returns-clause-counters
 returns-clause-counters c n =
     let e : c.loop-i.kept.items ≡ clock_of c.args.pairs.now = c.loop-i.invariant.is ∙ ap (λ k. clock_of (drop k c.args.pairs.now)) (let z : c.loop-i.i ≡ 0 = omega arith in z) in
-    ap (λ t. counter t n) (c.from_vec.ensures.items ∙ e) ∙ counter-clock_of c.args.pairs.now n
+    ap (λ t. counter t n) e ∙ counter-clock_of c.args.pairs.now n

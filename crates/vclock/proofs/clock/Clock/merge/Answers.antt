@@ -26,13 +26,13 @@ loop-i-preserved c =
     record { is = cc (c.in_ok-put.ensures.ok, c.loop-i.invariant.is, step, back, c.get.ensures, c.max.ensures) }
 
 -- the pairs at the end
-made : (c : goal.After-from_vec) → c.from_vec.result.items ≡ merged c.args.self.now c.args.other.now
+made : (c : goal.After-loop-i) → c.loop-i.merged.items ≡ merged c.args.self.now c.args.other.now
 made c =
     let z : c.loop-i.i ≡ 0 = omega arith in
-    c.from_vec.ensures.items ∙ c.loop-i.invariant.is ∙ ap (λ k. merged c.args.self.now (drop k c.as_slice-others.result.now)) z
+    c.loop-i.invariant.is ∙ ap (λ k. merged c.args.self.now (drop k c.as_slice-others.result.now)) z
     ∙ ap (merged c.args.self.now) (c.as_slice-others.ensures ∙ c.other.view_is)
 
-few : (c : goal.After-from_vec) → length c.args.self.now + length (filter (λ p. eqb (counter c.args.self.now p.0) 0) c.args.other.now) ≤ 32
+few : (c : goal.After-loop-i) → length c.args.self.now + length (filter (λ p. eqb (counter c.args.self.now p.0) 0) c.args.other.now) ≤ 32
 few c =
     let other : c.as_slice-others.result.now ≡ c.args.other.now = c.as_slice-others.ensures ∙ c.other.view_is in
     let absent = subst (λ (ps : Pairs). c.count_absent.result ≡ length (filter (λ p. eqb (counter c.args.self.now p.0) 0) ps)) other c.count_absent.ensures.count in

@@ -7,10 +7,10 @@ use Rattle.vclock.specs.Clock.{raised, raise_fault, IsClock, counter}
 use Rattle.vclock.proofs.clock.Clock.raise.Goals as goal
 
 -- what is made
-made : (c : goal.After-from_vec) → c.from_vec.result.items ≡ raised c.args.self.now c.args.node
-made c = cc (c.from_vec.ensures.items, c.in_ok-raised.ensures, c.in_ok-put.ensures.ok, c.self.view_is, c.get-counter.ensures, c.as_slice.ensures)
+made : (c : goal.In_ok-put) → c.put.new.pairs.items ≡ raised c.args.self.now c.args.node
+made c = cc (c.in_ok-raised.ensures, c.in_ok-put.ensures.ok, c.self.view_is, c.get-counter.ensures, c.as_slice.ensures)
 
-none : (c : goal.After-from_vec) → raise_fault c.args.self.now c.args.node ≡ None
+none : (c : goal.In_ok-put) → raise_fault c.args.self.now c.args.node ≡ None
 none c = grind (arith, nat_tests, common_steps)
 
 pub returns-clause-answers : goal.returns-clause-answers
