@@ -114,7 +114,7 @@ fn versions_of(
 ) -> Result<(Vec<Version>, &[u8]), ReadError>
     ensures { Gives ⊤ (λ x. (x.0.items, x.1.now)) result (versions_at format count [] [] bytes.now) }
 {
-    let mut versions = Vec::new(alloc);
+    let mut versions = Vec::with_capacity(alloc, usize::from(count))?;
     let mut last: &[u8] = &[];
     let mut rest = bytes;
     'versions: for _ in 0..count {

@@ -6,7 +6,7 @@ use Rattle.row_bytes.proofs.reading.versions_of.Goals as goal
 
 pub returns-in_err-version : goal.returns-in_err-version
 returns-in_err-version c =
-    let p = err_from_is_err_and c.from_residual.result c.from_residual.ensures.1 in
+    let p = err_from_is_err_and c.from_residual-in_err-version.result c.from_residual-in_err-version.ensures.1 in
     let l = c.versions in
     rw (p.1, p.2) (versions_end c.in_err-version.field-0.0 c.args.format c.args.count l.counter l.last.now l.versions.items l.rest.now (versions_at c.args.format c.args.count [] [] c.args.bytes.now) c.versions-test.true c.in_err-version.ensures.read l.invariant)
 
