@@ -7,3 +7,4 @@ pub mod HonestLaws
 pub mod OrderLaws
 pub mod NodeLists
 pub mod ReadingLaws
+pub mod NewsLaws

@@ -1,13 +1,23 @@
 -- What a text would give, without taking it.
-use Rattle.std.specs.Prelude.{◌≡◌, ◌⊎◌, ◌<◌, ℕ, Result, Ok, Err, List, []}
+use Rattle.std.specs.Prelude.{◌≡◌, ◌⊎◌, ◌<◌, ℕ, ◌+◌, ◌++◌, Option, Some, None, Result, Ok, Err, List, [], ◌∷◌, length}
+use Rattle.std.specs.List.{Contains}
 use Rattle.vclock.specs.declared.refusal.Refusal.{Refusal}
 use Rattle.vclock.specs.declared.refusal.Refusal.TheVariants as refusals
+use Rattle.key_ring.specs.Places.{range_at}
 use Rattle.row_bytes.specs.declared.row.Row.{Row}
+use Rattle.row_bytes.specs.Rows.{row_text, IsRow}
+use Rattle.hash_tree.specs.Leaves.{Bucket}
 use Rattle.hash_tree.specs.Nodes.{tree_depth}
-use Rattle.snapshot.specs.RowMaps.{RowMap}
+use Rattle.snapshot.specs.RowMaps.{RowMap, leaf_in}
+use Rattle.sync_session.specs.declared.news.News.{News}
 use Rattle.sync_session.specs.TreeNodes.{Node}
 use Rattle.sync_session.specs.Walks.{TakenText, Walk, AreSpelled, IsInnerText}
 use Rattle.sync_session.specs.Steps.{IsDue, IsTakeFault}
+
+-- whether a text is awaited, or why not
+abbrev pub Awaits : Walk → TakenText → Result (Unit {0}) Refusal → Type 0
+Awaits w t (Ok ok) = IsDue w t
+Awaits w t (Err e) = IsTakeFault w t e
 
 -- the rows of a leaf's text
 abbrev pub ReadsLeaf : RowMap → Node → List ℕ → Result (List Row) Refusal → Type 0
@@ -19,3 +29,41 @@ ReadsLeaf m n text (Err e) = e ≡ refusals.NoMemory
 abbrev pub Shows : Walk → TakenText → Result (List Row) Refusal → Type 0
 Shows w t (Ok rows) = IsDue w t × (((t.node.depth < tree_depth w.own.format) × IsInnerText w.own.format t.text × (rows ≡ [])) ⊎ ((t.node.depth ≡ tree_depth w.own.format) × AreSpelled w.own t.node t.text rows))
 Shows w t (Err e) = IsTakeFault w t e
+
+-- ---- a leaf's text beside the own rows
+
+-- The rows of a text, of which the own rows have some as they are: the others, in order, and how many versions the former have.
+abbrev pub AreNews : List Row → List Row → List Row → ℕ → Type 0
+AreNews own [] others known = (others ≡ []) × (known ≡ 0)
+AreNews own (r ∷ rows) others known =
+    ((Contains own r → ⊥) × ((more : List Row) × (others ≡ r ∷ more) × AreNews own rows more known))
+    ⊎ (Contains own r × ((n : ℕ) × (known ≡ length r.versions + n) × AreNews own rows others n))
+
+-- the rows of a leaf's text beside the own ones
+abbrev pub ReadsNews : RowMap → Node → List ℕ → Result News Refusal → Type 0
+ReadsNews m n text (Ok news) = (rows : List Row) × AreSpelled m n text rows × AreNews m.rows rows news.rows.items news.known
+ReadsNews m n text (Err refusals.NotCanonical) = (rows : List Row) → AreSpelled m n text rows → ⊥
+ReadsNews m n text (Err e) = e ≡ refusals.NoMemory
+
+-- the rows that taking a text would give beside the own ones, none for an inner one; or why it would be refused
+abbrev pub Tells : Walk → TakenText → Result News Refusal → Type 0
+Tells w t (Ok news) =
+    IsDue w t
+    × (((t.node.depth < tree_depth w.own.format) × IsInnerText w.own.format t.text × (news.rows.items ≡ []) × (news.known ≡ 0))
+    ⊎ ((t.node.depth ≡ tree_depth w.own.format) × ((rows : List Row) × AreSpelled w.own t.node t.text rows × AreNews w.own.rows rows news.rows.items news.known)))
+Tells w t (Err e) = IsTakeFault w t e
+
+-- a key lies in the range, and in this leaf
+pub record LiesIn (m : RowMap) (leaf : ℕ) (key : List ℕ) : Type 0 where
+  pub range : range_at m.bits key ≡ m.range
+  pub leaf_is : leaf_in m key ≡ leaf
+
+-- the row at the front of a text, and what follows it, if a row of this leaf stands there
+abbrev pub FrontRow : RowMap → ℕ → List ℕ → Option (Row × List ℕ) → Type 0
+FrontRow m leaf text (Some x) = IsRow m.format x.0 × LiesIn m leaf x.0.key × (text ≡ row_text m.format x.0 ++ x.1)
+FrontRow m leaf text None = (r : Row) (rest : List ℕ) → IsRow m.format r → LiesIn m leaf r.key → text ≡ row_text m.format r ++ rest → ⊥
+
+-- how many versions the row of a key has, and what follows its text, if a text begins with that
+abbrev pub FrontOwn : Bucket → List ℕ → List ℕ → Option (ℕ × List ℕ) → Type 0
+FrontOwn b key text (Some x) = (r : Row) × Contains b.rows r × (r.key ≡ key) × (length r.versions ≡ x.0) × (text ≡ row_text b.format r ++ x.1)
+FrontOwn b key text None = (r : Row) (rest : List ℕ) → Contains b.rows r → r.key ≡ key → text ≡ row_text b.format r ++ rest → ⊥

@@ -2,6 +2,7 @@
 //! that the partner held.
 //!
 //! - [`session`]: one walk: what is asked, and what the answers are worth.
+//! - [`news`]: what a leaf's text has beside the own rows.
 //! - [`state`]: how a session stands.
 //! - [`taken`]: texts that a session took.
 //! - [`laws`]: what the definitions say: a finished session holds what the partner's rows had.
@@ -9,6 +10,7 @@
 
 mod asking;
 pub mod laws;
+pub mod news;
 mod reading;
 pub mod session;
 pub mod state;

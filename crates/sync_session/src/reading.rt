@@ -28,7 +28,7 @@ pub fn is_inner(format: Format, text: &[u8]) -> bool
 }
 
 /// What follows the first byte of a text, if that byte is `mark`.
-fn body_of(mark: u8, text: &[u8]) -> Option<&[u8]>
+pub fn body_of(mark: u8, text: &[u8]) -> Option<&[u8]>
     ensures { MatchOption result ((body : List ℕ) → text.now ≡ mark ∷ body → ⊥) (λ body. text.now ≡ mark ∷ body.now) }
 {
     match text {
@@ -38,7 +38,7 @@ fn body_of(mark: u8, text: &[u8]) -> Option<&[u8]>
 }
 
 /// Whether a key lies in the range of the own rows, and in this leaf.
-fn is_here(own: &Snapshot, leaf: u16, key: &[u8]) -> bool
+pub fn is_here(own: &Snapshot, leaf: u16, key: &[u8]) -> bool
     ensures { result ≡ (nat_eq (range_at own.now.bits key.now) own.now.range && nat_eq (leaf_in own.now key.now) leaf) }
 {
     let place = place(own.format(), own.bits(), key);

@@ -6,8 +6,9 @@ ghost use Rattle.hash_tree.specs.Nodes.{tree_depth};
 ghost use Rattle.sync_session.specs.TreeNodes.{node_of};
 ghost use Rattle.sync_session.specs.Walks.{TakenText, asks, IsCanonical};
 ghost use Rattle.sync_session.specs.Steps.{state_by, started, after, failed, cancelled_by, IsDue, Takes};
-ghost use Rattle.sync_session.specs.Readings.{Shows};
+ghost use Rattle.sync_session.specs.Readings.{Shows, Tells, Awaits};
 
+use crate::news::{News, leaf_news};
 use crate::state::SessionState;
 use crate::taken::Taken;
 use crate::{asking, reading};
@@ -139,13 +140,10 @@ impl Session {
         self.state
     }
 
-    /// The rows that taking this text would give. A node with children gives no rows. The session stays as it is.
-    ///
-    /// Refused, in order: NotAsked (the node is not outstanding), WrongDigest (the text has not the digest that is
-    /// expected at the node), NotCanonical (no rows of the range give the node this text), NoMemory. Reading a leaf takes
-    /// memory, so at a leaf NoMemory may stand in place of NotCanonical.
-    pub fn rows_of(&self, alloc: Global, node: NodeAt, text: &Hashed) -> Result<RowList, Refusal>
-        ensures { Shows self.now (record { node = node_of node; text = text.now }) result }
+    /// Whether this text is awaited for the node. Refused, in order: NotAsked (the node is not outstanding), WrongDigest (the
+    /// text has not the digest that is expected at the node).
+    fn expects(&self, node: NodeAt, text: &Hashed) -> Result<(), Refusal>
+        ensures { Awaits self.now (record { node = node_of node; text = text.now }) result }
     {
         if !asking::has(&self.outstanding, node) {
             return Err(Refusal::NotAsked);
@@ -153,11 +151,42 @@ impl Session {
         if !asking::is_expected(&self.root, &self.taken, node, &text.digest()) {
             return Err(Refusal::WrongDigest);
         }
+        Ok(())
+    }
+
+    /// The rows that taking this text would give. A node with children gives no rows. The session stays as it is.
+    ///
+    /// Refused, in order: NotAsked (the node is not outstanding), WrongDigest (the text has not the digest that is
+    /// expected at the node), NotCanonical (no rows of the range give the node this text), NoMemory. Reading a leaf takes
+    /// memory, so at a leaf NoMemory may stand in place of NotCanonical.
+    fn rows_of(&self, alloc: Global, node: NodeAt, text: &Hashed) -> Result<RowList, Refusal>
+        ensures { Shows self.now (record { node = node_of node; text = text.now }) result }
+    {
+        self.expects(node, text)?;
         let format = self.own.format();
         if node.depth == tree_depth(format) {
             reading::leaf_rows(alloc, &self.own, node, text.text())
         } else if node.depth < tree_depth(format) && reading::is_inner(format, text.text()) {
             Ok(RowList::from(Vec::new(alloc)))
+        } else {
+            Err(Refusal::NotCanonical)
+        }
+    }
+
+    /// The rows that taking this text would give, beside the own ones: a row that the own snapshot has is counted and not
+    /// read. A node with children gives none. The session stays as it is.
+    ///
+    /// Refused as by `take`: in order NotAsked, WrongDigest, NotCanonical, NoMemory. It takes memory only for rows that the
+    /// own snapshot does not have, and then NoMemory may stand in place of NotCanonical.
+    pub fn news_of(&self, alloc: Global, node: NodeAt, text: &Hashed) -> Result<News, Refusal>
+        ensures { Tells self.now (record { node = node_of node; text = text.now }) result }
+    {
+        self.expects(node, text)?;
+        let format = self.own.format();
+        if node.depth == tree_depth(format) {
+            leaf_news(alloc, &self.own, node, text.text())
+        } else if node.depth < tree_depth(format) && reading::is_inner(format, text.text()) {
+            Ok(News::none(alloc))
         } else {
             Err(Refusal::NotCanonical)
         }

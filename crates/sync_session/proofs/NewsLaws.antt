@@ -1,0 +1,263 @@
+-- Reading a leaf's text beside the own rows.
+use Rattle.std.proofs.Common.{◌≡◌, ◌⊎◌, inl, inr, ℕ, zero, suc, ◌+◌, ◌<◌, ◌≤◌, Bool, true, false, cond, ◌&&◌, Option, Some, None, List, [], ◌∷◌, ◌++◌, length, get_or, refl, sym, ap, subst, ◌∙◌, append_assoc, arith}
+use Rattle.std.specs.Prelude.{nat_eq}
+use Rattle.std.specs.Int.{w16, to_be_bytes}
+use Rattle.std.specs.List.{flat_map, filter, AllByRecursion, Contains}
+use Rattle.std.proofs.lemmas.Bool.{eqb-true, eq-eqb, and_parts, and_from}
+use Rattle.std.proofs.lemmas.List.{append-nil, length-append}
+use Rattle.std.proofs.lemmas.List.Concat.{flat_map-append}
+use Rattle.vclock.specs.declared.format.Format.{Format}
+use Rattle.version_set.specs.declared.version.Version.{Version}
+use Rattle.version_set.specs.Version.{version_text}
+use Rattle.version_set.proofs.ListLaws.{all-append, all-push}
+use Rattle.key_ring.specs.Places.{range_at}
+use Rattle.row_bytes.specs.declared.row.Row.{Row}
+use Rattle.row_bytes.specs.Rows.{is_before, row_text, IsRow, KeysAscend, AreRows, BeginsWithKey}
+use Rattle.row_bytes.proofs.RowLaws.{one_row}
+use Rattle.row_bytes.proofs.TextLengthLaws.{row_text_len, row_short}
+use Rattle.hash_tree.specs.Leaves.{Bucket, AscendByKey, rows_at, versions_in}
+use Rattle.hash_tree.specs.Texts.{leaf_byte, leaf_text}
+use Rattle.hash_tree.proofs.KeyLaws.{all_get, AscendByKey-filter}
+use Rattle.hash_tree.proofs.LeafLaws.{held_by_row}
+use Rattle.snapshot.specs.RowMaps.{RowMap, IsRowMap, leaf_in}
+use Rattle.sync_session.specs.TreeNodes.{Node}
+use Rattle.sync_session.specs.Walks.{AreSpelled}
+use Rattle.sync_session.specs.Readings.{AreNews, LiesIn, FrontRow, FrontOwn}
+use Rattle.sync_session.proofs.ReadingLaws.{spelled_body}
+
+-- ---- the last key
+
+-- the key of the last row, or else the key before them
+abbrev pub end_key : List ℕ → List Row → List ℕ
+end_key last [] = last
+end_key last (r ∷ rows) = end_key r.key rows
+
+end_key-push : (last : List ℕ) (rows : List Row) (r : Row) → end_key last (rows ++ r ∷ []) ≡ r.key
+end_key-push last [] r = refl
+end_key-push last (x ∷ rows) r = end_key-push x.key rows r
+
+ascend-push : (last : List ℕ) (rows : List Row) (r : Row) → KeysAscend last rows → is_before (end_key last rows) r.key ≡ true → KeysAscend last (rows ++ r ∷ [])
+ascend-push last [] r a next = (next, tt)
+ascend-push last (x ∷ rows) r a next = (a.0, ascend-push x.key rows r a.1 next)
+
+ascend-next : (last : List ℕ) (rows : List Row) (r : Row) (more : List Row) → KeysAscend last (rows ++ r ∷ more) → is_before (end_key last rows) r.key ≡ true
+ascend-next last [] r more a = a.0
+ascend-next last (x ∷ rows) r more a = ascend-next x.key rows r more a.1
+
+all-inner : {X : Type 0} (P : X → Type 0) (xs : List X) (y : X) (ys : List X) → AllByRecursion P (xs ++ y ∷ ys) → P y
+all-inner P [] y ys h = h.0
+all-inner P (x ∷ xs) y ys h = all-inner P xs y ys h.1
+
+-- ---- one row more among the news
+
+news_own : (own rows others : List Row) (known : ℕ) (r : Row) → AreNews own rows others known → Contains own r → AreNews own (rows ++ r ∷ []) others (known + length r.versions)
+news_own own [] others known r news has = inr (has, (0, omega (arith, news.1), (news.0, refl)))
+news_own own (x ∷ rows) others known r news has = elim news [
+  | inl other ↦ inl (other.0, (other.1.0, other.1.1, news_own own rows other.1.0 known r other.1.2 has))
+  | inr held ↦ inr (held.0, (held.1.0 + length r.versions, omega (arith, held.1.1), news_own own rows others held.1.0 r held.1.2 has))
+]
+
+news_other : (own rows others : List Row) (known : ℕ) (r : Row) → AreNews own rows others known → (Contains own r → ⊥) → AreNews own (rows ++ r ∷ []) (others ++ r ∷ []) known
+news_other own [] others known r news has = inl (has, ([], ap (λ (xs : List Row). xs ++ r ∷ []) news.0, (refl, news.1)))
+news_other own (x ∷ rows) others known r news has = elim news [
+  | inl other ↦ inl (other.0, (other.1.0 ++ r ∷ [], ap (λ (xs : List Row). xs ++ r ∷ []) other.1.1, news_other own rows other.1.0 known r other.1.2 has))
+  | inr held ↦ inr (held.0, (held.1.0, held.1.1, news_other own rows others held.1.0 r held.1.2 has))
+]
+
+-- no more versions are known than there are bytes
+news_short : (format : Format) (own rows others : List Row) (known : ℕ) → AreNews own rows others known → known ≤ length (flat_map (row_text format) rows)
+news_short format own [] others known news = omega (arith, news.1)
+news_short format own (x ∷ rows) others known news = elim news [
+  | inl other ↦ omega (arith, news_short format own rows other.1.0 known other.1.2, length-append (row_text format x) (flat_map (row_text format) rows))
+  | inr held ↦ omega (arith, held.1.1, news_short format own rows others held.1.0 held.1.2, row_short format x, length-append (row_text format x) (flat_map (row_text format) rows))
+]
+
+-- ---- on the way
+
+-- the rows that were read from a body up to here, beside the own ones; and any that spell all of the text begin with them
+pub record OnTheWay (m : RowMap) (n : Node) (text body last rest : List ℕ) (others : List Row) (known : ℕ) : Type 0 where
+  pub rows : List Row
+  pub are : AreRows m.format rows
+  pub here : AllByRecursion (λ (r : Row). LiesIn m n.index r.key) rows
+  pub body_is : body ≡ flat_map (row_text m.format) rows ++ rest
+  pub last_is : last ≡ end_key [] rows
+  pub news : AreNews m.rows rows others known
+  pub only : (all : List Row) → AreSpelled m n text all → (more : List Row) × (all ≡ rows ++ more) × (rest ≡ flat_map (row_text m.format) more)
+
+pub way_begins : (m : RowMap) (n : Node) (text body : List ℕ) (others : List Row) (known mark : ℕ) (format : Format) → format ≡ m.format → mark ≡ leaf_byte format → text ≡ mark ∷ body → others ≡ [] → known ≡ 0 → OnTheWay m n text body [] body others known
+way_begins m n text body others known mark format same first is none nothing = record {
+  rows = [];
+  are = record { each = tt; ascending = tt };
+  here = tt;
+  body_is = refl;
+  last_is = refl;
+  news = (none, nothing);
+  only = λ all spelled. (all, refl, (spelled_body m n text all format mark body spelled same first is).1 ∙ ap (λ (f : Format). flat_map (row_text f) all) same);
+}
+
+pub row_is_text : (format : Format) (r : Row) → 1 ≤ length (row_text format r)
+row_is_text format r = omega (arith, row_text_len format r)
+
+-- a row at the front is the next of those that spell all
+next_is : (format : Format) (more : List Row) (r : Row) (rest after : List ℕ) → AllByRecursion (IsRow format) more → IsRow format r → rest ≡ flat_map (row_text format) more → rest ≡ row_text format r ++ after → (others : List Row) × (more ≡ r ∷ others) × (after ≡ flat_map (row_text format) others)
+next_is format [] r rest after each is e begins = absurd (omega (arith, ap length (sym e ∙ begins), length-append (row_text format r) after, row_is_text format r))
+next_is format (x ∷ more) r rest after each is e begins =
+    let one = one_row format x r (flat_map (row_text format) more) after each.0 is (sym e ∙ begins) in
+    (more, ap (λ (y : Row). y ∷ more) one.0, sym one.1)
+
+all-rest : {X : Type 0} (P : X → Type 0) (xs ys : List X) → AllByRecursion P (xs ++ ys) → AllByRecursion P ys
+all-rest P [] ys h = h
+all-rest P (x ∷ xs) ys h = all-rest P xs ys h.1
+
+-- one row more
+way_more : (m : RowMap) (n : Node) (text body last rest : List ℕ) (others : List Row) (known : ℕ) (r : Row) (after : List ℕ) (others_now : List Row) (known_now : ℕ) (way : OnTheWay m n text body last rest others known)
+    → IsRow m.format r → LiesIn m n.index r.key → rest ≡ row_text m.format r ++ after → is_before last r.key ≡ true → AreNews m.rows (way.rows ++ r ∷ []) others_now known_now → OnTheWay m n text body r.key after others_now known_now
+way_more m n text body last rest others known r after others_now known_now way is here begins next news =
+    let f = row_text m.format in
+    record {
+      rows = way.rows ++ r ∷ [];
+      are = record {
+        each = all-push (IsRow m.format) way.rows r way.are.each is;
+        ascending = ascend-push [] way.rows r way.are.ascending (subst (λ (k : List ℕ). is_before k r.key ≡ true) way.last_is next);
+      };
+      here = all-push (λ (x : Row). LiesIn m n.index x.key) way.rows r way.here here;
+      body_is =
+          way.body_is ∙ ap (λ (t : List ℕ). flat_map f way.rows ++ t) begins ∙ sym (append_assoc (flat_map f way.rows) (f r) after)
+          ∙ ap (λ (t : List ℕ). t ++ after) (sym (flat_map-append f way.rows (r ∷ []) ∙ ap (λ (t : List ℕ). flat_map f way.rows ++ t) (append-nil (f r))));
+      last_is = sym (end_key-push [] way.rows r);
+      news = news;
+      only = λ all spelled.
+          let so_far = way.only all spelled in
+          let each = all-rest (IsRow m.format) way.rows so_far.0 (subst (AllByRecursion (IsRow m.format)) so_far.1 spelled.are.each) in
+          let more = next_is m.format so_far.0 r rest after each is so_far.2 begins in
+          (more.0, so_far.1 ∙ ap (λ (xs : List Row). way.rows ++ xs) more.1 ∙ sym (append_assoc way.rows (r ∷ []) more.0), more.2);
+    }
+
+-- ---- one row more, which the own rows have, or not
+
+-- how many versions are known then
+pub known_more : (m : RowMap) (n : Node) (text body last rest : List ℕ) (others : List Row) (known : ℕ) (r : Row) (after : List ℕ) → OnTheWay m n text body last rest others known → rest ≡ row_text m.format r ++ after → known + length r.versions ≤ length body
+known_more m n text body last rest others known r after way begins =
+    let f = row_text m.format in
+    omega (arith, ap length way.body_is, ap length begins, length-append (flat_map f way.rows) rest, length-append (f r) after, news_short m.format m.rows way.rows others known way.news, row_short m.format r)
+
+-- the own rows of a leaf are of the range, and lie in the leaf
+own_lies : (m : RowMap) (leaf : ℕ) (rows : List Row) (r : Row) → AllByRecursion (λ (x : Row). range_at m.bits x.key ≡ m.range) rows → Contains (rows_at (leaf_in m) leaf rows) r → Contains rows r × LiesIn m leaf r.key
+own_lies m leaf [] r range has = absurd (omega (arith, has.1))
+own_lies m leaf (x ∷ rows) r range has = by_case (λ rest. own_lies m leaf rows r range.1 rest) (nat_eq (leaf_in m x.key) leaf) refl has
+  where
+    later : Contains rows r × LiesIn m leaf r.key → Contains (x ∷ rows) r × LiesIn m leaf r.key
+    later rest = ((suc rest.0.0, omega (arith, rest.0.1), rest.0.2), rest.1)
+
+    by_case : (Contains (rows_at (leaf_in m) leaf rows) r → Contains rows r × LiesIn m leaf r.key) → (b : Bool) → nat_eq (leaf_in m x.key) leaf ≡ b → Contains (cond b (x ∷ rows_at (leaf_in m) leaf rows) (rows_at (leaf_in m) leaf rows)) r → Contains (x ∷ rows) r × LiesIn m leaf r.key
+    by_case more true here (zero, within, is) = ((0, omega arith, is), subst (λ (y : Row). LiesIn m leaf y.key) is (record { range = range.0; leaf_is = eqb-true _ _ here }))
+    by_case more true here (suc k, within, is) = later (more (k, omega (arith, within), is))
+    by_case more false here has = later (more has)
+
+-- an own row that lies in a leaf is one of the leaf's
+own_there : (m : RowMap) (leaf : ℕ) (rows : List Row) (r : Row) → leaf_in m r.key ≡ leaf → Contains rows r → Contains (rows_at (leaf_in m) leaf rows) r
+own_there m leaf [] r home has = absurd (omega (arith, has.1))
+own_there m leaf (x ∷ rows) r home (zero, within, is) =
+    let here : nat_eq (leaf_in m x.key) leaf ≡ true = eq-eqb _ _ (ap (λ (y : Row). leaf_in m y.key) is ∙ home) in
+    rw here (0, omega arith, is)
+own_there m leaf (x ∷ rows) r home (suc k, within, is) =
+    let rest = own_there m leaf rows r home (k, omega (arith, within), is) in
+    elim (nat_eq (leaf_in m x.key) leaf) as (λ b. Contains (cond b (x ∷ rows_at (leaf_in m) leaf rows) (rows_at (leaf_in m) leaf rows)) r) [ true ↦ (suc rest.0, omega (arith, rest.1), rest.2) | false ↦ rest ]
+
+-- a row of the own leaf
+pub way_own : (m : RowMap) (n : Node) (text body last rest : List ℕ) (others : List Row) (known : ℕ) (r : Row) (after : List ℕ) → IsRowMap m → OnTheWay m n text body last rest others known → Contains (rows_at (leaf_in m) n.index m.rows) r
+    → rest ≡ row_text m.format r ++ after → is_before last r.key ≡ true → OnTheWay m n text body r.key after others (known + length r.versions)
+way_own m n text body last rest others known r after is way has begins next =
+    let own = own_lies m n.index m.rows r is.here has in
+    let row : IsRow m.format r = subst (IsRow m.format) own.0.2 (all_get (IsRow m.format) m.rows own.0.0 r is.each own.0.1) in
+    way_more m n text body last rest others known r after others (known + length r.versions) way row own.1 begins next (news_own m.rows way.rows others known r way.news own.0)
+
+-- a row that was read, which the own leaf has not
+pub way_other : (m : RowMap) (n : Node) (text body last rest : List ℕ) (others : List Row) (known : ℕ) (r : Row) (after : List ℕ) → OnTheWay m n text body last rest others known → IsRow m.format r → LiesIn m n.index r.key
+    → (Contains (rows_at (leaf_in m) n.index m.rows) r → ⊥) → rest ≡ row_text m.format r ++ after → is_before last r.key ≡ true → OnTheWay m n text body r.key after (others ++ r ∷ []) known
+way_other m n text body last rest others known r after way row lies has begins next =
+    way_more m n text body last rest others known r after (others ++ r ∷ []) known way row lies begins next
+    (news_other m.rows way.rows others known r way.news (λ own. has (own_there m n.index m.rows r lies.leaf_is own)))
+
+-- ---- the own row of a key
+
+-- rows that ascend have one row of a key
+one_of_key : (rows : List Row) (r s : Row) → AscendByKey rows → Contains rows r → Contains rows s → r.key ≡ s.key → r ≡ s
+one_of_key rows r s a p q same =
+    let versions : r.versions ≡ s.versions = sym (held_by_row rows r a p) ∙ ap (λ (k : List ℕ). versions_in k rows) same ∙ held_by_row rows s a q in
+    λ i. record { key = same i; versions = versions i }
+
+-- a text that does not begin with the text of the row of a key begins with that of no row of the key
+pub front_differs : (b : Bucket) (key own text : List ℕ) (versions : List Version) → AscendByKey b.rows → Contains b.rows (record { key = key; versions = versions }) → own ≡ row_text b.format (record { key = key; versions = versions }) → ((rest : List ℕ) → text ≡ own ++ rest → ⊥) → FrontOwn b key text None
+front_differs b key own text versions a has is off r rest other same begins =
+    let row : Row = record { key = key; versions = versions } in
+    let one : r ≡ row = one_of_key b.rows r row a other has same in
+    off rest (begins ∙ ap (λ (x : Row). row_text b.format x ++ rest) one ∙ ap (λ (t : List ℕ). t ++ rest) (sym is))
+
+-- the rows of a leaf ascend
+pub leaf_ascends : (m : RowMap) (leaf : ℕ) → IsRowMap m → AscendByKey (rows_at (leaf_in m) leaf m.rows)
+leaf_ascends m leaf is = AscendByKey-filter _ m.rows is.ascending
+
+-- ---- at the end, or where no rows spell the text
+
+split_here : (m : RowMap) (leaf : ℕ) (rows : List Row) → AllByRecursion (λ (r : Row). LiesIn m leaf r.key) rows → AllByRecursion (λ (r : Row). range_at m.bits r.key ≡ m.range) rows × AllByRecursion (λ (r : Row). leaf_in m r.key ≡ leaf) rows
+split_here m leaf [] all = (tt, tt)
+split_here m leaf (r ∷ rows) all = let rest = split_here m leaf rows all.1 in ((all.0.range, rest.0), (all.0.leaf_is, rest.1))
+
+pub way_done : (m : RowMap) (n : Node) (text body last rest : List ℕ) (others : List Row) (known mark : ℕ) (format : Format) → OnTheWay m n text body last rest others known → rest ≡ [] → format ≡ m.format → mark ≡ leaf_byte format → text ≡ mark ∷ body
+    → (rows : List Row) × AreSpelled m n text rows × AreNews m.rows rows others known
+unfolding leaf_text
+way_done m n text body last rest others known mark format way none same first is =
+    let f = row_text m.format in
+    let whole : body ≡ flat_map f way.rows = way.body_is ∙ ap (λ (t : List ℕ). flat_map f way.rows ++ t) none ∙ append-nil (flat_map f way.rows) in
+    let place = split_here m n.index way.rows way.here in (
+      way.rows,
+      record {
+        text_is = is ∙ (λ i. (first ∙ ap leaf_byte same) i ∷ whole i);
+        are = way.are;
+        range = place.0;
+        leaf = place.1;
+      },
+      way.news,
+    )
+
+-- the row that is next in rows that spell the text
+pub record IsNext (m : RowMap) (n : Node) (last rest : List ℕ) : Type 0 where
+  pub row : Row
+  pub after : List ℕ
+  pub is : IsRow m.format row
+  pub lies : LiesIn m n.index row.key
+  pub begins : rest ≡ row_text m.format row ++ after
+  pub next : is_before last row.key ≡ true
+
+pub next_of : (m : RowMap) (n : Node) (text body last rest : List ℕ) (others : List Row) (known : ℕ) (all : List Row) → OnTheWay m n text body last rest others known → AreSpelled m n text all → 0 < length rest → IsNext m n last rest
+next_of m n text body last rest others known all way spelled some =
+    let so_far = way.only all spelled in
+    by_more so_far.0 so_far.1 so_far.2
+  where
+    by_more : (more : List Row) → all ≡ way.rows ++ more → rest ≡ flat_map (row_text m.format) more → IsNext m n last rest
+    by_more [] are e = absurd (omega (arith, some, ap length e))
+    by_more (r ∷ more) are e = record {
+      row = r;
+      after = flat_map (row_text m.format) more;
+      is = all-inner (IsRow m.format) way.rows r more (subst (AllByRecursion (IsRow m.format)) are spelled.are.each);
+      lies = record {
+        range = all-inner (λ (x : Row). range_at m.bits x.key ≡ m.range) way.rows r more (subst (AllByRecursion (λ (x : Row). range_at m.bits x.key ≡ m.range)) are spelled.range);
+        leaf_is = all-inner (λ (x : Row). leaf_in m x.key ≡ n.index) way.rows r more (subst (AllByRecursion (λ (x : Row). leaf_in m x.key ≡ n.index)) are spelled.leaf);
+      };
+      begins = e;
+      next = subst (λ (k : List ℕ). is_before k r.key ≡ true) (sym way.last_is) (ascend-next [] way.rows r more (subst (KeysAscend []) are spelled.are.ascending));
+    }
+
+-- a row's text begins with its key
+pub begins_with_key : (format : Format) (r : Row) (text after : List ℕ) → IsRow format r → text ≡ row_text format r ++ after → BeginsWithKey text r.key (to_be_bytes w16 (length r.versions) ++ flat_map (version_text format) r.versions ++ after)
+unfolding row_text
+begins_with_key format r text after is begins = record { fits = is.key; text_is = begins ∙ simp append_assoc }
+
+-- a key that is found is the one
+pub found_key : (a b : List ℕ) → Some a ≡ Some b → a ≡ b
+found_key a b e = ap bytes_of e
+  where
+    bytes_of : Option (List ℕ) → List ℕ
+    bytes_of None = []
+    bytes_of (Some bytes) = bytes
