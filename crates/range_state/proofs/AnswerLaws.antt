@@ -24,6 +24,8 @@ use Rattle.row_bytes.specs.declared.row.Row.{Row}
 use Rattle.hash_tree.specs.Leaves.{Bucket, rows_at}
 use Rattle.hash_tree.specs.Nodes.{tree_depth, dirtied}
 use Rattle.sync_session.specs.Walks.{Walk, TakenText, IsInnerText, AreSpelled, IsCanonical}
+use Rattle.sync_session.specs.Readings.{AreNews}
+use Rattle.sync_session.specs.declared.news.News.{News}
 use Rattle.sync_session.specs.Steps.{IsDue, after, failed, after_refusal, IsTakeFault}
 use Rattle.sync_session.proofs.StepLaws.{All-weaker}
 use Rattle.range_state.specs.Config.{Config}
@@ -33,7 +35,7 @@ use Rattle.range_state.specs.declared.state.preparing.Batch.{Batch}
 use Rattle.range_state.specs.Records.{IsKept}
 use Rattle.range_state.specs.Rows.{rows_of}
 use Rattle.range_state.specs.State.{State, IsRight, AreLeaves, leaf_in, leaf_count, bucket_of, accept_step}
-use Rattle.range_state.specs.Sessions.{offers_of, taken_in, crowded_in, walked_to, IsInnerRead, IsLeafRead, TakesLeaf, IsLeafFault, Refuses, TakesText, TakesFor}
+use Rattle.range_state.specs.Sessions.{offers_of, taken_in, crowded_in, walked_to, IsInnerRead, IsLeafRead, IsNewsRead, TakesLeaf, IsLeafFault, Refuses, TakesText, TakesFor}
 use Rattle.range_state.specs.Batches.{IsRowFor, IsBatch, seen_count}
 use Rattle.range_state.proofs.RowLaws.{leaf-push}
 use Rattle.range_state.proofs.BatchLaws.{Offers}
@@ -52,7 +54,7 @@ got_record rs id r within was = slice_get_read rs (length rs) id r refl within w
 pub the_record : (rs : List Record) (id : ℕ) (r : Record) (P : Record → Type 0) → id < length rs → r ≡ get_or rs id r → MatchOption (slice_get rs id) ⊥ P → P r
 the_record rs id r P within was h = subst (λ (o : Option Record). MatchOption o ⊥ P) (got_record rs id r within was) h
 
-with_record : (rs : List Record) (id : ℕ) (P : Record → Type 0) (Q : Type 0) → ((r : Record) → id < length rs → r ≡ get_or rs id r → P r → Q) → MatchOption (slice_get rs id) ⊥ P → Q
+pub with_record : (rs : List Record) (id : ℕ) (P : Record → Type 0) (Q : Type 0) → ((r : Record) → id < length rs → r ≡ get_or rs id r → P r → Q) → MatchOption (slice_get rs id) ⊥ P → Q
 with_record [] id P Q f h = absurd h
 with_record (r ∷ rs) zero P Q f h = f r (omega arith) refl h
 with_record (r ∷ rs) (suc id) P Q f h = with_record rs id P Q (λ x within was p. f x (omega (arith, within)) was p) h
@@ -294,20 +296,20 @@ leaf_inside c depth index deep within = counted c.format index (subst (λ (d : �
 
 -- ---- what was read
 
-abbrev pub Reads : Record → TakenText → List Row → Type 0
-Reads r t rows = ((t.node.depth < tree_depth r.session.own.format) × IsInnerText r.session.own.format t.text × (rows ≡ [])) ⊎ ((t.node.depth ≡ tree_depth r.session.own.format) × AreSpelled r.session.own t.node t.text rows)
+abbrev pub Reads : Record → TakenText → News → Type 0
+Reads r t news = ((t.node.depth < tree_depth r.session.own.format) × IsInnerText r.session.own.format t.text × (news.rows.items ≡ []) × (news.known ≡ 0)) ⊎ ((t.node.depth ≡ tree_depth r.session.own.format) × ((rows : List Row) × AreSpelled r.session.own t.node t.text rows × AreNews r.session.own.rows rows news.rows.items news.known))
 
-pub leaf_read : (s : State) (id : ℕ) (r : Record) (t : TakenText) (rows : List Row) → IsRight s → slice_get s.records id ≡ Some r → IsDue r.session t → Reads r t rows → t.node.depth ≡ tree_depth s.config.format → IsLeafRead s r t rows
-leaf_read s id r t rows ok here due reads deep =
+pub leaf_read : (s : State) (id : ℕ) (r : Record) (t : TakenText) (news : News) → IsRight s → slice_get s.records id ≡ Some r → IsDue r.session t → Reads r t news → t.node.depth ≡ tree_depth s.config.format → IsNewsRead s r t news
+leaf_read s id r t news ok here due reads deep =
     let format = format_now s.config s.entries r t (kept_at s id r ok here) due in
     let depth : tree_depth r.session.own.format ≡ tree_depth s.config.format = ap tree_depth format in
     elim reads [
       | inl inner ↦ absurd (omega (arith, inner.0, depth, deep))
-      | inr leaf ↦ record { due = due; leaf = deep; spelled = leaf.1 }
+      | inr leaf ↦ record { rows = leaf.1.0; read = record { due = due; leaf = deep; spelled = leaf.1.1 }; parted = leaf.1.2 }
     ]
 
-pub inner_read : (s : State) (id : ℕ) (r : Record) (t : TakenText) (rows : List Row) → IsRight s → slice_get s.records id ≡ Some r → IsDue r.session t → Reads r t rows → t.node.depth ≢ tree_depth s.config.format → IsInnerRead s r t
-inner_read s id r t rows ok here due reads other =
+pub inner_read : (s : State) (id : ℕ) (r : Record) (t : TakenText) (news : News) → IsRight s → slice_get s.records id ≡ Some r → IsDue r.session t → Reads r t news → t.node.depth ≢ tree_depth s.config.format → IsInnerRead s r t
+inner_read s id r t news ok here due reads other =
     let format = format_now s.config s.entries r t (kept_at s id r ok here) due in
     let depth : tree_depth r.session.own.format ≡ tree_depth s.config.format = ap tree_depth format in
     elim reads [

@@ -60,7 +60,7 @@ fault_assoc : (a b c : Option Refusal) → first_fault a (first_fault b c) ≡ f
 fault_assoc None b c = refl
 fault_assoc (Some e) b c = refl
 
-crowded-append : (s : State) (seat : ℕ) (xs ys : Offers) → crowded_in s seat (xs ++ ys) ≡ first_fault (crowded_in s seat xs) (crowded_in (taken_in s seat xs) seat ys)
+pub crowded-append : (s : State) (seat : ℕ) (xs ys : Offers) → crowded_in s seat (xs ++ ys) ≡ first_fault (crowded_in s seat xs) (crowded_in (taken_in s seat xs) seat ys)
 crowded-append s seat [] ys = refl
 crowded-append s seat (x ∷ xs) ys =
     let next = accept_step s seat Partner x.0 x.1 in

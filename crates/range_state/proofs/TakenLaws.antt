@@ -163,10 +163,10 @@ held_step t seat key v = elim (knows t key v) as (λ b. knows t key v ≡ b → 
       ∙ or_right (covered v (versions_of t.entries key)) _ (or_left _ _ (or_left _ _ (covered-itself v)))
 ] refl
 
-abbrev Nothing : List ℕ → Version → Type 0
+abbrev pub Nothing : List ℕ → Version → Type 0
 Nothing key v = Unit {0}
 
-nothing : (offers : Offers) → AllByRecursion (λ o. Nothing o.0 o.1) offers
+pub nothing : (offers : Offers) → AllByRecursion (λ o. Nothing o.0 o.1) offers
 nothing [] = tt
 nothing (o ∷ offers) = (tt, nothing offers)
 
@@ -298,7 +298,7 @@ pub not_open : (w : Walk) → IsOver w → w.state ≢ Open
 not_open w (inl failed) open_is = let clash : Failed ≡ Open = sym failed ∙ open_is in cc
 not_open w (inr cancelled) open_is = let clash : Cancelled ≡ Open = sym cancelled ∙ open_is in cc
 
-goes_on : (c : Config) (es : List Entry) (r : Record) (t : TakenText) → IsKept c es r → IsDue r.session t → IsGoing es r.session
+pub goes_on : (c : Config) (es : List Entry) (r : Record) (t : TakenText) → IsKept c es r → IsDue r.session t → IsGoing es r.session
 goes_on c es r t kept due = elim kept.going [
   | inl over ↦ absurd (awaits c es r t kept due (not_open r.session over))
   | inr on ↦ on

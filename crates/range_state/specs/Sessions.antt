@@ -13,6 +13,8 @@ use Rattle.range_journal.specs.Journal.{held}
 use Rattle.row_bytes.specs.declared.row.Row.{Row}
 use Rattle.hash_tree.specs.Nodes.{tree_depth}
 use Rattle.walk_messages.specs.declared.message.Offer.{Offer}
+use Rattle.sync_session.specs.Readings.{AreNews}
+use Rattle.sync_session.specs.declared.news.News.{News}
 use Rattle.sync_session.specs.Steps.{started, after, failed, cancelled_by, IsDue, IsTakeFault}
 use Rattle.sync_session.specs.Walks.{TakenText, Walk, AreSpelled, IsInnerText}
 use Rattle.sync_session.specs.declared.state.SessionState.{SessionState}
@@ -109,6 +111,12 @@ pub record IsLeafRead (s : State) (r : Record) (t : TakenText) (rows : List Row)
   pub due : IsDue r.session t
   pub leaf : t.node.depth ≡ tree_depth s.config.format
   pub spelled : AreSpelled r.session.own t.node t.text rows
+
+-- a text that a session awaits, of a leaf, and its rows beside the session's own ones
+pub record IsNewsRead (s : State) (r : Record) (t : TakenText) (news : News) : Type 0 where
+  pub rows : List Row
+  pub read : IsLeafRead s r t rows
+  pub parted : AreNews r.session.own.rows rows news.rows.items news.known
 
 -- nothing comes of a node with children, and the session alone goes on
 pub record TakesInner (s : State) (id : ℕ) (r : Record) (t : TakenText) (a : AnswerTaken) (new : State) : Type 0 where

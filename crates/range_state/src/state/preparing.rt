@@ -1,9 +1,13 @@
 //! Preparing the versions of a leaf, so that they are accepted all or none.
-ghost use Rattle.std.specs.Prelude.{◌≡◌, ◌+◌, ◌<◌, ◌≤◌, ◌^◌, ◌∷◌, ◌++◌, ◌⊎◌, ⊤, [], length, None, OnOk, IfOk};
+ghost use Rattle.std.specs.Prelude.{◌≡◌, ◌+◌, ◌<◌, ◌≤◌, ◌^◌, ◌∷◌, ◌++◌, ◌⊎◌, ⊤, List, [], length, None, OnOk, IfOk};
 ghost use Rattle.std.specs.List.{AllByRecursion};
 ghost use Rattle.std.specs.Vec.{vec_len, vec_capacity};
 ghost use Rattle.vclock.specs.Answer.{Answers, AnswersOrNoMemory};
+ghost use Rattle.range_journal.specs.Journal.{held};
 ghost use Rattle.range_journal.specs.declared.journal.Source.TheVariants as sources;
+ghost use Rattle.row_bytes.specs.declared.row.Row.{Row};
+ghost use Rattle.sync_session.specs.Readings.{AreNews};
+ghost use Rattle.sync_session.specs.Walks.{Held};
 ghost use Rattle.range_state.specs.State.{leaf_in, leaf_count, place_fault};
 ghost use Rattle.range_state.specs.Sessions.{offers_in, offers_of, taken_in, crowded_in};
 ghost use Rattle.range_state.specs.Batches.{IsRowFor, ahead, IsBatch, seen_count, IsPrepared};
@@ -14,6 +18,7 @@ use hash_tree::shared::SharedLeaf;
 use range_journal::journal::{Entry, Source};
 use row_bytes::row::Row;
 use std::alloc::Global;
+use sync_session::news::News;
 use vclock::bytes::Bytes;
 use vclock::refusal::Refusal;
 use version_set::version::Version;
@@ -61,27 +66,32 @@ impl RangeState {
         Ok(batch)
     }
 
-    /// Prepares the versions of rows that lie in a leaf, and makes room for their receipts in a list that has some.
+    /// Prepares the versions of a leaf's text, of which own rows that are held have some, and makes room for their receipts
+    /// in a list that has some. What is held is counted as known.
     pub(super) fn prepare_beside(
         &self,
         alloc: Global,
         told: &mut Vec<Receipt>,
         seat: u16,
         leaf: u16,
-        rows: &[Row],
+        news: &News,
     ) -> Result<Batch, Refusal>
         requires inside { leaf < leaf_count self.now.config }
-        requires here { AllByRecursion (IsRowFor self.now.config leaf) rows.now }
-        requires few { length (offers_of rows.now) < 2 ^ 64 }
-        ensures answers { AnswersOrNoMemory result (crowded_in self.now seat (offers_of rows.now))
+        requires here { AllByRecursion (IsRowFor self.now.config leaf) news.now.rows.items }
+        requires few { length (offers_of news.now.rows.items) + news.now.known < 2 ^ 64 }
+        ensures answers { (own rows : List Row)
+            → Held own (held self.now.entries)
+            → AreNews own rows news.now.rows.items news.now.known
+            → AnswersOrNoMemory result (crowded_in self.now seat (offers_of rows))
             (λ batch. IsBatch self.now leaf batch
-            × (self.now.entries ++ batch.entries.items ≡ (taken_in self.now seat (offers_of rows.now)).entries)
-            × (seen_count batch ≡ length (offers_of rows.now))) }
+            × (self.now.entries ++ batch.entries.items ≡ (taken_in self.now seat (offers_of rows)).entries)
+            × (seen_count batch ≡ length (offers_of rows))) }
         ensures same { told.new.items ≡ told.old.items }
         ensures room { IfOk result (λ batch. (told.new.items ≡ [])
             ⊎ (vec_len told.new + vec_len batch.receipts ≤ vec_capacity told.new)) }
     {
-        let batch = self.prepare_rows(alloc, seat, leaf, rows)?;
+        let mut batch = self.prepare_rows(alloc, seat, leaf, &news.rows)?;
+        batch.known += news.known;
         if !told.is_empty() {
             told.reserve(batch.receipts.len())?;
         }

@@ -6,7 +6,7 @@ ghost use Rattle.hash_tree.specs.Nodes.{dirtied, tree_depth};
 ghost use Rattle.sync_session.specs.TreeNodes.{node_of};
 ghost use Rattle.sync_session.specs.Steps.{failed, IsDue};
 ghost use Rattle.sync_session.specs.Walks.{TakenText, IsCanonical};
-ghost use Rattle.range_state.specs.Sessions.{walked_to, IsInnerRead, IsLeafRead, TakesAnswer};
+ghost use Rattle.range_state.specs.Sessions.{walked_to, IsInnerRead, IsNewsRead, TakesAnswer};
 
 use crate::event::{AnswerTaken, Receipt};
 use crate::state::RangeState;
@@ -15,8 +15,8 @@ use hash_tree::hashed::Hashed;
 use hash_tree::marks::Marks;
 use hash_tree::node::{NodeAt, tree_depth};
 use range_journal::journal::{Entry, Journal};
-use row_bytes::row::Row;
 use std::alloc::Global;
+use sync_session::news::News;
 use vclock::refusal::Refusal;
 
 impl RangeState {
@@ -27,6 +27,8 @@ impl RangeState {
     /// session has failed then), Crowded (in its turn one would be a version too many for its key), JournalFull, NoMemory.
     /// Reading a leaf takes memory, so at a leaf NoMemory may stand in place of NotCanonical, Crowded and JournalFull. After
     /// any but NotCanonical the state is as it was.
+    ///
+    /// A row of a leaf that the session's own snapshot has is not read: its bytes are compared, and its versions are known.
     pub fn take_answer(
         &mut self,
         alloc: Global,
@@ -61,10 +63,10 @@ impl RangeState {
         let Some(record) = self.records.get(id as usize) else {
             return Err(Refusal::UnknownSession);
         };
-        match record.session.rows_of(alloc, node, &text) {
-            Ok(rows) => {
+        match record.session.news_of(alloc, node, &text) {
+            Ok(news) => {
                 if node.depth == tree_depth(self.config.format()) {
-                    self.take_leaf(alloc, told, seat, id, node, text, rows.as_slice())
+                    self.take_leaf(alloc, told, seat, id, node, text, &news)
                 } else {
                     self.take_inner(alloc, id, node, text)
                 }
@@ -100,7 +102,7 @@ impl RangeState {
         })
     }
 
-    /// Takes a text of a leaf that has these rows, with room for the receipts in a list that has some. Every growth is made
+    /// Takes a text of a leaf that has these news, with room for the receipts in a list that has some. Every growth is made
     /// before anything changes.
     fn take_leaf(
         &mut self,
@@ -110,10 +112,10 @@ impl RangeState {
         id: u64,
         node: NodeAt,
         text: Hashed,
-        rows: &[Row],
+        news: &News,
     ) -> Result<AnswerTaken, Refusal>
         requires { MatchOption (slice_get self.old.records id) ⊥
-            (λ r. IsLeafRead self.old r (record { node = node_of node; text = text }) rows.now) }
+            (λ r. IsNewsRead self.old r (record { node = node_of node; text = text }) news.now) }
         ensures answers { TakesAnswer self.old seat id
             (record { node = node_of node; text = text }) result self.new }
         ensures same { told.new.items ≡ told.old.items }
@@ -122,7 +124,7 @@ impl RangeState {
     {
         // Called for its clause alone: the digest is the text's.
         let _bytes = text.text();
-        let batch = self.prepare_beside(alloc, told, seat, node.index, rows)?;
+        let batch = self.prepare_beside(alloc, told, seat, node.index, news)?;
         self.journal.reserve(batch.entries.len() as u64)?;
         let session = &mut self.records[id as usize].session;
         session.take_leaf(node, text)?;

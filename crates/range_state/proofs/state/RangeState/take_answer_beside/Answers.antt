@@ -3,14 +3,13 @@ use Rattle.std.specs.Prelude.{MatchOption}
 use Rattle.std.proofs.lemmas.Bool.{ltb-true}
 use Rattle.vclock.specs.declared.format.Format.{Format}
 use Rattle.vclock.specs.declared.refusal.Refusal.TheVariants.{NotCanonical}
-use Rattle.row_bytes.specs.declared.row.Row.{Row}
 use Rattle.hash_tree.specs.Nodes.{tree_depth}
 use Rattle.sync_session.specs.Steps.{IsDue, failed}
 use Rattle.sync_session.specs.TreeNodes.{node_of}
 use Rattle.sync_session.specs.Walks.{TakenText, IsCanonical}
 use Rattle.range_state.specs.declared.«record».Record.{Record}
 use Rattle.range_state.specs.State.{State, IsRight}
-use Rattle.range_state.specs.Sessions.{walked_to, IsInnerRead, IsLeafRead}
+use Rattle.range_state.specs.Sessions.{walked_to, IsInnerRead, IsNewsRead}
 use Rattle.range_state.proofs.AnswerLaws.{got_record, leaf_read, inner_read, refused, refused_for_good}
 use Rattle.range_state.proofs.state.RangeState.take_answer_beside.Goals as goal
 
@@ -23,8 +22,8 @@ take_leaf-requires c =
     let within : c.args.id < length c.self.inside.records.items = omega (arith, ltb-true _ _ (sym c.in-Some.ensures.lookup.0), ap length c.deref.ensures.value) in
     let here : slice_get now.records c.args.id ≡ Some r = ap (λ (u : State). slice_get u.records c.args.id) (sym c.self.view_is) ∙ got_record c.self.inside.records.items c.args.id r within was in
     let deep = c.if-node-tree_depth.true ∙ c.tree_depth.ensures ∙ ap (λ (f : Format). tree_depth f) c.format.ensures ∙ ap (λ (u : State). tree_depth u.config.format) c.self.view_is in
-    let read = leaf_read now c.args.id r t c.in-Ok.rows (subst IsRight c.self.view_is c.self.invariant.0) here c.in-Ok.ensures.0 c.in-Ok.ensures.1 deep in
-    subst (λ (o : Option Record). MatchOption o ⊥ (λ x. IsLeafRead now x t c.as_slice.result.now)) (sym here) (subst (λ (rows : List Row). IsLeafRead now r t rows) (sym c.as_slice.ensures) read)
+    let read = leaf_read now c.args.id r t c.in-Ok.news (subst IsRight c.self.view_is c.self.invariant.0) here c.in-Ok.ensures.0 c.in-Ok.ensures.1 deep in
+    subst (λ (o : Option Record). MatchOption o ⊥ (λ x. IsNewsRead now x t c.in-Ok.news)) (sym here) read
 
 pub take_inner-requires : goal.take_inner-requires
 take_inner-requires c =
@@ -35,7 +34,7 @@ take_inner-requires c =
     let within : c.args.id < length c.self.inside.records.items = omega (arith, ltb-true _ _ (sym c.in-Some.ensures.lookup.0), ap length c.deref.ensures.value) in
     let here : slice_get now.records c.args.id ≡ Some r = ap (λ (u : State). slice_get u.records c.args.id) (sym c.self.view_is) ∙ got_record c.self.inside.records.items c.args.id r within was in
     let depth = c.tree_depth.ensures ∙ ap (λ (f : Format). tree_depth f) c.format.ensures ∙ ap (λ (u : State). tree_depth u.config.format) c.self.view_is in
-    let read = inner_read now c.args.id r t c.in-Ok.rows (subst IsRight c.self.view_is c.self.invariant.0) here c.in-Ok.ensures.0 c.in-Ok.ensures.1 (λ e. c.if-node-tree_depth.false (e ∙ sym depth)) in
+    let read = inner_read now c.args.id r t c.in-Ok.news (subst IsRight c.self.view_is c.self.invariant.0) here c.in-Ok.ensures.0 c.in-Ok.ensures.1 (λ e. c.if-node-tree_depth.false (e ∙ sym depth)) in
     subst (λ (o : Option Record). MatchOption o ⊥ (λ x. IsInnerRead now x t)) (sym here) read
 
 pub fail_session-requires : goal.fail_session-requires
