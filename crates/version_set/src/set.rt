@@ -11,6 +11,7 @@ use std::alloc::{AllocError, Global};
 use std::cmp::Ordering;
 use std::marker::Model;
 use std::slice::Iter;
+use vclock::clock::ClockOrder;
 use vclock::format::Format;
 use vclock::refusal::{Clocks, Refusal};
 
@@ -152,6 +153,10 @@ impl VersionSet {
     pub fn crowds(&self, version: &Version) -> bool
         ensures { offer_fault version.now self.now ≡ (if result then Some Refusal.Crowded else None) }
     {
+        // Most sets have so few members that there is room for any version.
+        if self.versions.len() < MOST_VERSIONS {
+            return false;
+        }
         if is_covered(&self.versions, version) {
             return false;
         }
@@ -207,7 +212,11 @@ fn is_covered(versions: &[Version], version: &Version) -> bool
 fn is_covered_by(version: &Version, held: &Version) -> bool
     ensures { result ≡ (is_same version.now held.now || is_below version.now held.now) }
 {
-    version.text_order(held) == Ordering::Equal || version.is_below(held)
+    match version.clock.compare(&held.clock) {
+        ClockOrder::Before => true,
+        ClockOrder::Equal => version.text_order(held) == Ordering::Equal,
+        ClockOrder::After | ClockOrder::Apart => false,
+    }
 }
 
 // How many are not below the version.
