@@ -118,6 +118,11 @@ pub end_is : (format : Format) (rows : List Row) (lens text : List ℕ) (i start
 end_is format rows lens text i start len h within begins is =
     omega (arith, begins, is, sum_by_more (λ (n : ℕ). n) lens i len (omega (arith, within, as_many format rows lens text h)))
 
+-- that is within the text
+pub ends_within : (format : Format) (rows : List Row) (lens text : List ℕ) (i start len : ℕ) → Keeps format rows lens text → i < length rows → start ≡ sum_by (λ (n : ℕ). n) (take i lens) → len ≡ get_or lens i len → start + len ≤ length text
+ends_within format rows lens text i start len h within begins is =
+    omega (arith, end_is format rows lens text i start len h within begins is, start_within format rows lens text (i + 1) h)
+
 -- the length of the text of the row at a place
 pub len_is : (format : Format) (rows : List Row) (lens text : List ℕ) (i len : ℕ) (d : Row) → Keeps format rows lens text → i < length rows → len ≡ get_or lens i len → len ≡ length (row_text format (get_or rows i d))
 len_is format rows lens text i len d h within is =
@@ -210,10 +215,9 @@ fits-at format rows lens text i r v h within is value =
     let fits : FitsText format r = subst (FitsText format) (sym is) (all_get (FitsText format) rows i r h.0 within) in
     fits-offered format r.key v r.versions fits.key value fits.each
 
--- its text has room in place of its old text, before the rest, where the text of the version has room besides
-pub room-at : (format : Format) (rows : List Row) (lens text : List ℕ) (i len more start rest capacity : ℕ) (r : Row) (v : Version) → Keeps format rows lens text → i < length rows → r ≡ get_or rows i r
-    → len ≡ get_or lens i len → more ≡ length (version_text format v) → start + len + rest + more ≤ capacity
-    → start + length (row_text format (record { key = r.key; versions = offered v r.versions })) + rest ≤ capacity
-room-at format rows lens text i len more start rest capacity r v h within is at long room =
+-- its text is longer than its old text by at most that of the version
+pub grows-at : (format : Format) (rows : List Row) (lens text : List ℕ) (i len more : ℕ) (r : Row) (v : Version) → Keeps format rows lens text → i < length rows → r ≡ get_or rows i r → len ≡ get_or lens i len → more ≡ length (version_text format v)
+    → length (row_text format (record { key = r.key; versions = offered v r.versions })) ≤ len + more
+grows-at format rows lens text i len more r v h within is at long =
     let was : len ≡ length (row_text format r) = len_is format rows lens text i len r h within at ∙ ap (λ (x : Row). length (row_text format x)) (sym is) in
-    omega (arith, was, row-grows format r.key v r.versions, long, room)
+    omega (arith, was, row-grows format r.key v r.versions, long)

@@ -137,12 +137,13 @@ impl WrittenRows {
         let more = version_len(self.format, &version) as usize;
         let start = total(&self.lens[..at]);
         let end = start + self.lens[at] as usize;
-        let rest = rest_of(alloc, &self.text, end)?;
+        let mut tail = Vec::with_capacity(alloc, self.text.len() - start + more)?;
         let spare = self.spare_bytes();
         make_room(&mut self.text, more, spare)?;
         let row = &mut self.rows[at];
         row.versions.offer(version)?;
-        put_before(&mut self.text, start, self.format, row, &rest);
+        put_row(&mut tail, self.format, row).unwrap();
+        replace(&mut self.text, start, end, tail);
         self.lens[at] = row_len(self.format, row) as u32;
         Ok(())
     }
@@ -266,4 +267,22 @@ fn put_before(text: &mut Vec<u8>, start: usize, format: Format, row: &Row, rest:
     text.truncate(start);
     put_row(text, format, row).unwrap();
     text.extend_from_slice(rest).unwrap();
+}
+
+/// Puts bytes in place of those between two places of a text. If they are as many, nothing else moves. The text and the
+/// bytes have room for the bytes and for what follows the second place.
+fn replace(text: &mut Vec<u8>, start: usize, end: usize, mut bytes: Vec<u8>)
+    requires begins { start ≤ end }
+    requires ends { end ≤ length text.old.items }
+    requires room { start + length bytes.items + (length text.old.items - end) ≤ vec_capacity text.old }
+    requires spare { length bytes.items + (length text.old.items - end) ≤ vec_capacity bytes }
+    ensures { text.new.items ≡ take start text.old.items ++ bytes.items ++ drop end text.old.items }
+{
+    if bytes.len() == end - start {
+        text[start..end].copy_from_slice(&bytes);
+        return;
+    }
+    bytes.extend_from_slice(&text[end..]).unwrap();
+    text.truncate(start);
+    text.extend_from_slice(&bytes).unwrap();
 }
