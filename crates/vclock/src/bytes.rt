@@ -45,9 +45,8 @@ impl Bytes {
     pub fn try_clone(&self) -> Result<Bytes, Refusal>
         ensures { Answers result None (λ copy. copy ≡ self.now) }
     {
-        Ok(Bytes {
-            bytes: self.bytes.clone()?,
-        })
+        // A clone of the small vector would take its bytes one by one.
+        Bytes::copy_of(*self.bytes.allocator(), self.bytes.as_slice())
     }
 
     /// The bytes in order.

@@ -138,9 +138,8 @@ impl Clock {
     pub fn try_clone(&self) -> Result<Clock, Refusal>
         ensures { Answers result None (λ copy. copy ≡ self.now) }
     {
-        Ok(Clock {
-            pairs: self.pairs.clone()?,
-        })
+        let pairs = SmallVec::from_slice(*self.pairs.allocator(), self.pairs.as_slice())?;
+        Ok(Clock { pairs })
     }
 
     /// The least clock that has seen what either has: for each node the greater of both counters. A client merges the
