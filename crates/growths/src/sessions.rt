@@ -20,7 +20,7 @@ pub(crate) const ASKED: u64 = 7;
 pub(crate) fn show_all<R: Print + AllocGlobal>(rt: &R, both: &Snapshots) -> io::Result<()> {
     let alloc = rt.alloc();
     show(rt, "Session::start", start(alloc, both))?;
-    show(rt, "Session::rows_of", rows_of(alloc, both))?;
+    show(rt, "Session::news_of", news_of(alloc, both))?;
     show(rt, "Session::take", take(alloc, both))?;
     show(rt, "Session::take_leaf", take_leaf(alloc, both))
 }
@@ -73,11 +73,11 @@ fn is_after(
     Ok(is_same_session(session, &other))
 }
 
-/// How many rows the leaf has that is asked first.
-fn rows_of(alloc: Global, both: &Snapshots) -> Result<u64, Refusal> {
+/// How many rows the leaf that is asked first has beside the own ones.
+fn news_of(alloc: Global, both: &Snapshots) -> Result<u64, Refusal> {
     let session = session_after(alloc, both, ASKED.saturating_sub(1))?;
     let (node, text) = first_text(alloc, &session, &both.partner)?;
-    Ok(session.rows_of(alloc, node, &text)?.len() as u64)
+    Ok(session.news_of(alloc, node, &text)?.rows.len() as u64)
 }
 
 /// How many nodes a session has asked when it is finished.
@@ -108,7 +108,7 @@ fn take_leaf_first(
     partner: &Snapshot,
 ) -> Result<(), Refusal> {
     let (node, text) = first_text(alloc, session, partner)?;
-    let _rows = session.rows_of(alloc, node, &text)?;
+    let _news = session.news_of(alloc, node, &text)?;
     if node.depth < tree_depth(session.own().format()) {
         return Err(Refusal::Stale);
     }

@@ -75,16 +75,17 @@ fn answer_first(
     }
 }
 
-/// Asserts that the partner's text of the first outstanding node would give no rows.
-fn expect_no_rows(
+/// Asserts that the partner's text of the first outstanding node would give no rows beside the own ones.
+fn expect_no_news(
     rt: &impl Abort,
     alloc: Global,
     session: &Session,
     partner: &Snapshot,
 ) -> Result<(), Fail> {
     let node = first(session)?;
-    let rows = session.rows_of(alloc, node, &text_of(alloc, partner, node)?)?;
-    assert!(rt; rows.is_empty());
+    let news = session.news_of(alloc, node, &text_of(alloc, partner, node)?)?;
+    assert!(rt; news.rows.is_empty());
+    assert_eq!(rt; news.known, 0);
     Ok(())
 }
 
@@ -93,7 +94,7 @@ fn a_session_ends_with_the_partners_rows(rt: HostRuntime) -> Result<(), Fail> {
     let alloc = rt.alloc();
     let partner = snapshot(&rt, alloc, true)?;
     let mut session = session(&rt, alloc, partner.root())?;
-    expect_no_rows(&rt, alloc, &session, &partner)?;
+    expect_no_news(&rt, alloc, &session, &partner)?;
     assert_eq!(rt; answer_first(alloc, &mut session, &partner)?, None);
     assert_eq!(rt; answer_first(alloc, &mut session, &partner)?, None);
     assert_eq!(rt; answer_first(alloc, &mut session, &partner)?, Some(1));

@@ -1,15 +1,15 @@
 -- Reading a leaf's text beside the own rows.
-use Rattle.std.proofs.Common.{◌≡◌, ◌⊎◌, inl, inr, ℕ, zero, suc, ◌+◌, ◌<◌, ◌≤◌, Bool, true, false, cond, ◌&&◌, Option, Some, None, List, [], ◌∷◌, ◌++◌, length, get_or, refl, sym, ap, subst, ◌∙◌, append_assoc, arith}
+use Rattle.std.proofs.Common.{◌≡◌, inl, inr, ℕ, zero, suc, ◌+◌, ◌<◌, ◌≤◌, Bool, true, false, cond, Option, Some, None, List, [], ◌∷◌, ◌++◌, length, refl, sym, ap, subst, ◌∙◌, append_assoc, arith}
 use Rattle.std.specs.Prelude.{nat_eq}
 use Rattle.std.specs.Int.{w16, to_be_bytes}
-use Rattle.std.specs.List.{flat_map, filter, AllByRecursion, Contains}
-use Rattle.std.proofs.lemmas.Bool.{eqb-true, eq-eqb, and_parts, and_from}
+use Rattle.std.specs.List.{flat_map, AllByRecursion, Contains}
+use Rattle.std.proofs.lemmas.Bool.{eqb-true, eq-eqb}
 use Rattle.std.proofs.lemmas.List.{append-nil, length-append}
 use Rattle.std.proofs.lemmas.List.Concat.{flat_map-append}
 use Rattle.vclock.specs.declared.format.Format.{Format}
 use Rattle.version_set.specs.declared.version.Version.{Version}
 use Rattle.version_set.specs.Version.{version_text}
-use Rattle.version_set.proofs.ListLaws.{all-append, all-push}
+use Rattle.version_set.proofs.ListLaws.{all-push}
 use Rattle.key_ring.specs.Places.{range_at}
 use Rattle.row_bytes.specs.declared.row.Row.{Row}
 use Rattle.row_bytes.specs.Rows.{is_before, row_text, IsRow, KeysAscend, AreRows, BeginsWithKey}
@@ -22,7 +22,7 @@ use Rattle.hash_tree.proofs.LeafLaws.{held_by_row}
 use Rattle.snapshot.specs.RowMaps.{RowMap, IsRowMap, leaf_in}
 use Rattle.sync_session.specs.TreeNodes.{Node}
 use Rattle.sync_session.specs.Walks.{AreSpelled}
-use Rattle.sync_session.specs.Readings.{AreNews, LiesIn, FrontRow, FrontOwn}
+use Rattle.sync_session.specs.Readings.{AreNews, LiesIn, FrontOwn}
 use Rattle.sync_session.proofs.ReadingLaws.{spelled_body}
 
 -- ---- the last key

@@ -1,10 +1,10 @@
 //! One walk of two trees.
-ghost use Rattle.std.specs.Prelude.{◌≡◌, ⊤, None, [], OnOk, OnErr, map};
+ghost use Rattle.std.specs.Prelude.{◌≡◌, ◌<◌, ◌↔◌, ⊤, None, [], IsTrue, OnOk, OnErr, map};
 ghost use Rattle.std.specs.Arc.{arc_value};
 ghost use Rattle.vclock.specs.Answer.{Answers};
 ghost use Rattle.hash_tree.specs.Nodes.{tree_depth};
 ghost use Rattle.sync_session.specs.TreeNodes.{node_of};
-ghost use Rattle.sync_session.specs.Walks.{TakenText, asks, IsCanonical};
+ghost use Rattle.sync_session.specs.Walks.{TakenText, asks, IsCanonical, IsInnerText};
 ghost use Rattle.sync_session.specs.Steps.{state_by, started, after, failed, cancelled_by, IsDue, Takes};
 ghost use Rattle.sync_session.specs.Readings.{Shows, Tells, Awaits};
 
@@ -154,6 +154,14 @@ impl Session {
         Ok(())
     }
 
+    /// Whether a node has children, and a text the form of such a node's.
+    fn is_inner(&self, node: NodeAt, text: &Hashed) -> bool
+        ensures { IsTrue result ↔ ((node.depth < tree_depth self.now.own.format) × IsInnerText self.now.own.format text.now) }
+    {
+        let format = self.own.format();
+        node.depth < tree_depth(format) && reading::is_inner(format, text.text())
+    }
+
     /// The rows that taking this text would give. A node with children gives no rows. The session stays as it is.
     ///
     /// Refused, in order: NotAsked (the node is not outstanding), WrongDigest (the text has not the digest that is
@@ -163,10 +171,9 @@ impl Session {
         ensures { Shows self.now (record { node = node_of node; text = text.now }) result }
     {
         self.expects(node, text)?;
-        let format = self.own.format();
-        if node.depth == tree_depth(format) {
+        if node.depth == tree_depth(self.own.format()) {
             reading::leaf_rows(alloc, &self.own, node, text.text())
-        } else if node.depth < tree_depth(format) && reading::is_inner(format, text.text()) {
+        } else if self.is_inner(node, text) {
             Ok(RowList::from(Vec::new(alloc)))
         } else {
             Err(Refusal::NotCanonical)
@@ -182,14 +189,13 @@ impl Session {
         ensures { Tells self.now (record { node = node_of node; text = text.now }) result }
     {
         self.expects(node, text)?;
-        let format = self.own.format();
-        if node.depth == tree_depth(format) {
-            leaf_news(alloc, &self.own, node, text.text())
-        } else if node.depth < tree_depth(format) && reading::is_inner(format, text.text()) {
-            Ok(News::none(alloc))
-        } else {
-            Err(Refusal::NotCanonical)
+        if self.is_inner(node, text) {
+            return Ok(News::none(alloc));
         }
+        if node.depth != tree_depth(self.own.format()) {
+            return Err(Refusal::NotCanonical);
+        }
+        leaf_news(alloc, &self.own, node, text.text())
     }
 
     /// Takes a text for a node. A node with children asks each child whose digest in the text is not the own snapshot's,

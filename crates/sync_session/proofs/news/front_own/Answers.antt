@@ -1,4 +1,4 @@
-use Rattle.std.proofs.Common.{◌≡◌, ◌++◌, ◌∙◌, ℕ, List, None, Some, refl, sym, ap}
+use Rattle.std.proofs.Common.{◌++◌, ◌∙◌, ℕ, List, None, Some, refl, sym, ap}
 use Rattle.std.proofs.lemmas.Bool.Decides.{Decides-eqb}
 use Rattle.std.proofs.lemmas.Slice.Eq.{strip_prefix_is}
 use Rattle.hash_tree.proofs.Strips.{to_strips}

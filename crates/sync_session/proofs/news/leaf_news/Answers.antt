@@ -1,15 +1,14 @@
-use Rattle.std.proofs.Common.{rules, ◌≡◌, ℕ, ◌+◌, ◌*◌, ◌<◌, true, false, true≢false, List, ◌∷◌, ◌++◌, ◌∙◌, length, [], None, Some, refl, sym, ap, subst, arith}
+use Rattle.std.proofs.Common.{◌≡◌, ℕ, ◌+◌, true, false, true≢false, List, ◌∷◌, ◌++◌, ◌∙◌, length, [], None, Some, sym, ap, subst, arith}
 use Rattle.std.proofs.lemmas.List.{length-append}
 use Rattle.std.specs.List.{flat_map, Contains}
 use Rattle.row_bytes.specs.declared.row.Row.{Row}
 use Rattle.row_bytes.specs.Rows.{is_before, row_text}
 use Rattle.row_bytes.proofs.ManyRows.{some_left, none_left}
 use Rattle.hash_tree.specs.Leaves.{Bucket, AscendByKey, rows_at}
-use Rattle.snapshot.specs.RowMaps.{RowMap, leaf_in}
+use Rattle.snapshot.specs.RowMaps.{leaf_in}
 use Rattle.sync_session.specs.TreeNodes.{node_of}
-use Rattle.sync_session.specs.Walks.{AreSpelled}
 use Rattle.sync_session.proofs.ReadingLaws.{spelled_text}
-use Rattle.sync_session.proofs.NewsLaws.{OnTheWay, IsNext, way_begins, way_own, way_other, way_done, next_of, known_more, leaf_ascends, begins_with_key, row_is_text, found_key}
+use Rattle.sync_session.proofs.NewsLaws.{OnTheWay, way_begins, way_own, way_other, way_done, next_of, known_more, leaf_ascends, begins_with_key, row_is_text, found_key}
 use Rattle.sync_session.proofs.news.leaf_news.Goals as goal
 
 pub returns-in_default : goal.returns-in_default

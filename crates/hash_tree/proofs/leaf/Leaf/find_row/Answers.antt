@@ -1,8 +1,7 @@
-use Rattle.std.proofs.Common.{◌≡◌, ◌<◌, ◌+◌, ◌++◌, ◌∙◌, List, [], length, take, drop, get_or, None, subst, sym, ap, arith}
+use Rattle.std.proofs.Common.{◌≡◌, ◌<◌, ◌+◌, ◌++◌, ◌∙◌, List, [], length, take, drop, get_or, None, subst, sym, ap}
 use Rattle.std.proofs.lemmas.List.Elements.{Contains-get_or, Contains-append_left, Contains-append_right}
-use Rattle.std.specs.List.{AllByRecursion, Contains}
+use Rattle.std.specs.List.{Contains}
 use Rattle.row_bytes.specs.declared.row.Row.{Row}
-use Rattle.row_bytes.specs.Rows.{FitsText}
 use Rattle.hash_tree.specs.Chunks.{all_rows, rows_of}
 use Rattle.hash_tree.specs.Leaves.{Bucket, AscendByKey, FindsRow, versions_in}
 use Rattle.hash_tree.proofs.ChunkPlaces.{rows_read, three_parts}

@@ -1,4 +1,4 @@
-use Rattle.std.proofs.Common.{◌≡◌, ◌+◌, ◌∙◌, ℕ, List, length, take, drop, get_or, sym, ap, arith}
+use Rattle.std.proofs.Common.{◌≡◌, ◌+◌, ◌∙◌, ℕ, List, length, take, drop, get_or, ap, arith}
 use Rattle.std.specs.List.{sum_by}
 use Rattle.row_bytes.specs.Rows.{row_text}
 use Rattle.hash_tree.specs.Leaves.{Bucket}

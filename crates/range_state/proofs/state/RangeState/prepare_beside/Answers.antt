@@ -1,4 +1,4 @@
-use Rattle.std.proofs.Common.{rules, ◌≡◌, ◌+◌, ◌++◌, ◌∙◌, List, length, inl, inr, sym, ap, arith}
+use Rattle.std.proofs.Common.{rules, ◌∙◌, List, length, inl, inr, sym, ap, arith}
 use Rattle.std.proofs.lemmas.Result.{err_from_is_err_and}
 use Rattle.row_bytes.specs.declared.row.Row.{Row}
 use Rattle.range_state.specs.State.{State}
