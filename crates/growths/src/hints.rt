@@ -1,5 +1,5 @@
 // Hints.
-use crate::versions::version;
+use crate::versions::{LONG, version};
 use growth_checks::lines::{show, unchanged};
 use hint_store::hint::{Hint, Kept};
 use hint_store::store::HintStore;
@@ -7,9 +7,6 @@ use std::alloc::Global;
 use std::io;
 use vclock::bytes::Bytes;
 use vclock::refusal::Refusal;
-
-/// A value that isn't kept in place, so that each copy of it takes memory.
-const LONG: &[u8] = b"more than sixteen bytes";
 
 /// How many hints are kept.
 const HINTS: u16 = 8;

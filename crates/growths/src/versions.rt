@@ -9,6 +9,9 @@ use version_set::kind::Kind;
 use version_set::set::VersionSet;
 use version_set::version::Version;
 
+/// A value that isn't kept in place, so that each copy of it takes memory.
+pub(crate) const LONG: &[u8] = b"more than sixteen bytes";
+
 /// Shows the calls on versions and sets of them.
 pub(crate) fn show_all<R: Print + AllocGlobal>(rt: &R) -> io::Result<()> {
     let alloc = rt.alloc();
@@ -37,7 +40,9 @@ fn set_before(alloc: Global, node: u64) -> Result<VersionSet, Refusal> {
 }
 
 fn clone_of_version(alloc: Global) -> Result<u64, Refusal> {
-    Ok(version(alloc, 7)?.try_clone()?.clock.get(7))
+    let mut version = version(alloc, 7)?;
+    version.value = Bytes::copy_of(alloc, LONG)?;
+    Ok(version.try_clone()?.clock.get(7))
 }
 
 /// Offers versions until the set has had to grow.
