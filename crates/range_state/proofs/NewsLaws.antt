@@ -94,7 +94,7 @@ news_stand s seat own (r ∷ rows) others known h news = elim news [
   | inr has ↦
       let there = has.0 in
       let row = subst (λ (x : Row). AllByRecursion (λ v. covered v (held s.entries x.key) ≡ true) x.versions) there.2
-          (all_get (λ (x : Row). AllByRecursion (λ v. covered v (held s.entries x.key) ≡ true) x.versions) own there.0 r h there.1) in
+      (all_get (λ (x : Row). AllByRecursion (λ v. covered v (held s.entries x.key) ≡ true) x.versions) own there.0 r h there.1) in
       same_idle s seat r rows others has.1.0 known (idle s seat r.key r.versions row) has.1.1 (news_stand s seat own rows others has.1.0 h has.1.2)
 ]
 

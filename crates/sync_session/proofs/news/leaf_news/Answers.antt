@@ -100,7 +100,7 @@ rows-preserved c =
     let less : is_before l.last.now key ≡ true = cc (c.if-not-is_lt.false, c.is_lt.ensures, c.cmp.ensures) in
     let next : is_before l.last.now r.key ≡ true = ap (is_before l.last.now) (sym same) ∙ less in
     let other = λ (has : Contains (rows_at (leaf_in m) n.index m.rows) r).
-        c.in-None.ensures r after (subst (λ (b : Bucket). Contains b.rows r) (sym c.rows-leaf.ensures) has) (sym same) (front.2 ∙ ap (λ (b : Bucket). row_text b.format r ++ after) (sym c.rows-leaf.ensures)) in
+    c.in-None.ensures r after (subst (λ (b : Bucket). Contains b.rows r) (sym c.rows-leaf.ensures) has) (sym same) (front.2 ∙ ap (λ (b : Bucket). row_text b.format r ++ after) (sym c.rows-leaf.ensures)) in
     rw c.in_ok-push-in-None.ensures.items (subst (λ (k : List ℕ). OnTheWay m n c.args.text.now c.in-Some.body.now k after (l.news.rows.items ++ r ∷ []) l.news.known) (sym same)
     (way_other m n c.args.text.now c.in-Some.body.now l.last.now l.rest.now l.news.rows.items l.news.known r after l.invariant front.0 front.1 other front.2 next))
 
