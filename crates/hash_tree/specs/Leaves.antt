@@ -44,6 +44,21 @@ abbrev pub FindsRow : List Row → List ℕ → Option (List Version) → Type 0
 FindsRow rows k (Some versions) = Contains rows (record { key = k; versions = versions })
 FindsRow rows k None = (r : Row) → Contains rows r → r.key ≢ k
 
+-- rows that follow each other among others, the first of which has the key
+pub record IsRun (rows : List Row) (k : List ℕ) (run : List Row) : Type 0 where
+  pub front : List Row
+  pub first : Row
+  pub more : List Row
+  pub back : List Row
+  pub rows_are : rows ≡ front ++ run ++ back
+  pub run_is : run ≡ first ∷ more
+  pub key : first.key ≡ k
+
+-- a run from the row of a key on, if the rows have one
+abbrev pub FindsRun : List Row → List ℕ → Option (List Row) → Type 0
+FindsRun rows k (Some run) = IsRun rows k run
+FindsRun rows k None = (r : Row) → Contains rows r → r.key ≢ k
+
 -- the rows after a version was offered to the set of a key
 abbrev pub with_offer : List ℕ → Version → List Row → List Row
 with_offer k v [] = record { key = k; versions = offered v [] } ∷ []

@@ -1,6 +1,6 @@
 //! Consecutive rows of a leaf, which several leaves may share.
 ghost use Rattle.std.specs.Prelude.{◌≡◌, ◌<◌, ◌≤◌, [], ◌∷◌, ⊤, None, length, take, drop, slice_index_or, IfOk, OnOk, OnErr};
-ghost use Rattle.std.specs.List.{insert};
+ghost use Rattle.std.specs.List.{flat_map, insert};
 ghost use Rattle.vclock.specs.Answer.{Answers};
 ghost use Rattle.version_set.specs.Kind.{value_fault};
 ghost use Rattle.version_set.specs.Version.{offer_fault};
@@ -81,6 +81,14 @@ impl Chunk {
         ensures { (d : Row) → result.now ≡ row_text self.now.format (slice_index_or self.now.rows at d) }
     {
         self.held.row_text(at)
+    }
+
+    /// The texts of the rows from a place on, one after another.
+    pub(crate) fn texts_from(&self, at: usize) -> &[u8]
+        requires { at < length self.now.rows }
+        ensures { result.now ≡ flat_map (row_text self.now.format) (drop at self.now.rows) }
+    {
+        self.held.texts_from(at)
     }
 
     /// One more owner of the rows. Refused: NoMemory. No row is copied.

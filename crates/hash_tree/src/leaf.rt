@@ -1,12 +1,13 @@
 //! The rows of one leaf.
 ghost use Rattle.std.specs.Prelude.{◌≡◌, ◌↔◌, ◌++◌, ◌+◌, ◌<◌, ◌≤◌, [], ⊤, None, IsTrue, length, unwrap_or, option_map, MatchOption, OnOk, OnErr};
+ghost use Rattle.std.specs.List.{flat_map};
 ghost use Rattle.std.specs.Vec.{vec_capacity};
 ghost use Rattle.vclock.specs.Answer.{Answers};
 ghost use Rattle.vclock.specs.Keys.{key_fault};
 ghost use Rattle.version_set.specs.Kind.{value_fault};
 ghost use Rattle.version_set.specs.Version.{offer_fault, offered};
 ghost use Rattle.row_bytes.specs.Rows.{row_text};
-ghost use Rattle.hash_tree.specs.Leaves.{AscendByKey, IsBucket, IsPlace, FindsRow, versions_in, with_offer};
+ghost use Rattle.hash_tree.specs.Leaves.{AscendByKey, IsBucket, IsPlace, FindsRow, FindsRun, versions_in, with_offer};
 ghost use Rattle.hash_tree.specs.Chunks.{all_rows, AreChunks};
 ghost use Rattle.hash_tree.specs.Texts.{leaf_text};
 
@@ -115,6 +116,25 @@ impl Leaf {
         let chunk = &self.chunks[chunk_of(&self.chunks, key)];
         match find_place(chunk.rows(), key) {
             Ok(at) => Some((&chunk.rows()[at].versions, chunk.row_text(at))),
+            Err(_) => None,
+        }
+    }
+
+    /// The row of a key, if it has one, and some that follow it, with their texts, one after another. It takes no memory: a
+    /// binary search. How many follow is a matter of speed: those that the leaf keeps together.
+    pub(crate) fn find_run(&self, key: &[u8]) -> Option<(&[Row], &[u8])>
+        ensures found { FindsRun self.now.rows key.now (option_map (λ x. x.0.now) result) }
+        ensures text { MatchOption result ⊤ (λ x. x.1.now ≡ flat_map (row_text self.now.format) x.0.now) }
+    {
+        if self.chunks.is_empty() {
+            return None;
+        }
+        let chunk = &self.chunks[chunk_of(&self.chunks, key)];
+        match find_place(chunk.rows(), key) {
+            Ok(at) => {
+                let (_, rows) = chunk.rows().split_at(at);
+                Some((rows, chunk.texts_from(at)))
+            }
             Err(_) => None,
         }
     }

@@ -1,5 +1,6 @@
 //! Leaves that have several owners: a range, and the jobs that look at it.
 ghost use Rattle.std.specs.Prelude.{◌≡◌, ◌↔◌, ◌++◌, ◌+◌, ◌<◌, [], ⊤, None, Some, IsTrue, if◌then◌else◌, length, unwrap_or, option_map, MatchOption, OnOk, OnErr};
+ghost use Rattle.std.specs.List.{flat_map};
 ghost use Rattle.std.specs.Vec.{vec_capacity};
 ghost use Rattle.std.specs.Arc.{arc_value};
 ghost use Rattle.vclock.specs.Answer.{Answers};
@@ -7,12 +8,13 @@ ghost use Rattle.vclock.specs.Keys.{key_fault};
 ghost use Rattle.version_set.specs.Kind.{value_fault};
 ghost use Rattle.version_set.specs.Version.{offer_fault};
 ghost use Rattle.row_bytes.specs.Rows.{row_text};
-ghost use Rattle.hash_tree.specs.Leaves.{IsBucket, FindsRow, versions_in, with_offer};
+ghost use Rattle.hash_tree.specs.Leaves.{IsBucket, FindsRow, FindsRun, versions_in, with_offer};
 ghost use Rattle.hash_tree.specs.Texts.{leaf_text};
 
 use crate::comparing::is_chunked_text;
 use crate::leaf::Leaf;
 use crate::texts::leaf_byte;
+use row_bytes::row::Row;
 use std::alloc::{AllocError, Global};
 use std::marker::Model;
 use std::sync::Arc;
@@ -131,6 +133,18 @@ impl SharedLeaf {
     {
         match &self.leaf {
             Some(leaf) => leaf.find_row(key),
+            None => None,
+        }
+    }
+
+    /// The row of a key, if it has one, and some that follow it, with their texts, one after another. It takes no memory: a
+    /// binary search. How many follow is a matter of speed: those that the leaf keeps together.
+    pub fn find_run(&self, key: &[u8]) -> Option<(&[Row], &[u8])>
+        ensures found { FindsRun self.now.rows key.now (option_map (λ x. x.0.now) result) }
+        ensures text { MatchOption result ⊤ (λ x. x.1.now ≡ flat_map (row_text self.now.format) x.0.now) }
+    {
+        match &self.leaf {
+            Some(leaf) => leaf.find_run(key),
             None => None,
         }
     }

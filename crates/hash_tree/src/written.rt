@@ -120,6 +120,15 @@ impl WrittenRows {
         part_of(&self.text, start, self.lens[at] as usize)
     }
 
+    /// The texts of the rows from a place on, one after another.
+    pub(crate) fn texts_from(&self, at: usize) -> &[u8]
+        requires { at < length self.now.rows }
+        ensures { result.now ≡ flat_map (row_text self.now.format) (drop at self.now.rows) }
+    {
+        let (_, texts) = self.text.split_at(total(&self.lens[..at]));
+        texts
+    }
+
     /// Offers a version to the set of the row at a place. Refused: NoMemory. The rows are then as they were.
     pub(crate) fn offer(
         &mut self,

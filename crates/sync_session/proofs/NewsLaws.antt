@@ -1,11 +1,14 @@
 -- Reading a leaf's text beside the own rows.
-use Rattle.std.proofs.Common.{◌≡◌, inl, inr, ℕ, zero, suc, ◌+◌, ◌<◌, ◌≤◌, Bool, true, false, cond, Option, Some, None, List, [], ◌∷◌, ◌++◌, length, refl, sym, ap, subst, ◌∙◌, append_assoc, arith}
+use Rattle.std.proofs.Common.{◌≡◌, inl, inr, ℕ, zero, suc, ◌+◌, ◌<◌, ◌≤◌, Bool, true, false, cond, Option, Some, None, List, [], ◌∷◌, ◌++◌, ◌-◌, length, get_or, refl, sym, ap, subst, ◌∙◌, append_assoc, slice_get, arith}
 use Rattle.std.specs.Prelude.{nat_eq}
 use Rattle.std.specs.Int.{w16, to_be_bytes}
-use Rattle.std.specs.List.{flat_map, AllByRecursion, Contains}
+use Rattle.std.specs.List.{flat_map, sum_by, AllByRecursion, Contains}
 use Rattle.std.proofs.lemmas.Bool.{eqb-true, eq-eqb}
 use Rattle.std.proofs.lemmas.List.{append-nil, length-append}
 use Rattle.std.proofs.lemmas.List.Concat.{flat_map-append}
+use Rattle.std.proofs.lemmas.List.Elements.{Contains-append_left, Contains-append_right}
+use Rattle.std.proofs.lemmas.List.Sums.{sum_by-cons}
+use Rattle.std.proofs.lemmas.Option.{slice_get-get_or}
 use Rattle.vclock.specs.declared.format.Format.{Format}
 use Rattle.version_set.specs.declared.version.Version.{Version}
 use Rattle.version_set.specs.Version.{version_text}
@@ -13,17 +16,20 @@ use Rattle.version_set.proofs.ListLaws.{all-push}
 use Rattle.key_ring.specs.Places.{range_at}
 use Rattle.row_bytes.specs.declared.row.Row.{Row}
 use Rattle.row_bytes.specs.Rows.{is_before, row_text, IsRow, KeysAscend, AreRows, BeginsWithKey}
+use Rattle.row_bytes.specs.Reading.{key_of, last_key}
 use Rattle.row_bytes.proofs.RowLaws.{one_row}
 use Rattle.row_bytes.proofs.TextLengthLaws.{row_text_len, row_short}
 use Rattle.hash_tree.specs.Leaves.{Bucket, AscendByKey, rows_at, versions_in}
 use Rattle.hash_tree.specs.Texts.{leaf_byte, leaf_text}
 use Rattle.hash_tree.proofs.KeyLaws.{all_get, AscendByKey-filter}
+use Rattle.hash_tree.proofs.KeySpots.{ascend_middle}
 use Rattle.hash_tree.proofs.LeafLaws.{held_by_row}
 use Rattle.snapshot.specs.RowMaps.{RowMap, IsRowMap, leaf_in}
 use Rattle.sync_session.specs.TreeNodes.{Node}
 use Rattle.sync_session.specs.Walks.{AreSpelled}
-use Rattle.sync_session.specs.Readings.{AreNews, LiesIn, FrontOwn}
+use Rattle.sync_session.specs.Readings.{AreNews, LiesIn, FrontOwn, FrontRun}
 use Rattle.sync_session.proofs.ReadingLaws.{spelled_body}
+use Rattle.sync_session.proofs.TextLaws.{keys_ascend}
 
 -- ---- the last key
 
@@ -172,6 +178,85 @@ way_own m n text body last rest others known r after is way has begins next =
     let row : IsRow m.format r = subst (IsRow m.format) own.0.2 (all_get (IsRow m.format) m.rows own.0.0 r is.each own.0.1) in
     way_more m n text body last rest others known r after others (known + length r.versions) way row own.1 begins next (news_own m.rows way.rows others known r way.news own.0)
 
+-- ---- a run of the own leaf's rows
+
+-- the rows of a leaf ascend
+pub leaf_ascends : (m : RowMap) (leaf : ℕ) → IsRowMap m → AscendByKey (rows_at (leaf_in m) leaf m.rows)
+leaf_ascends m leaf is = AscendByKey-filter _ m.rows is.ascending
+
+run_short : (format : Format) (rows : List Row) → sum_by (λ (r : Row). length r.versions) rows ≤ length (flat_map (row_text format) rows)
+run_short format [] = omega arith
+run_short format (r ∷ rows) = omega (arith, run_short format rows, sum_by-cons (λ (x : Row). length x.versions) r rows, row_short format r, length-append (row_text format r) (flat_map (row_text format) rows))
+
+-- a run has no more versions than a text that begins with it has bytes
+pub run_within : (format : Format) (run : List Row) (own text after : List ℕ) → own ≡ flat_map (row_text format) run → text ≡ own ++ after → sum_by (λ (r : Row). length r.versions) run ≤ length text
+run_within format run own text after is begins = omega (arith, run_short format run, ap length is, ap length begins, length-append own after)
+
+-- the last key of a run
+end_at : (last : List ℕ) (rows : List Row) (i : ℕ) (d : Row) → length rows ≡ suc i → (get_or rows i d).key ≡ end_key last rows
+end_at last [] i d e = absurd (omega (arith, e))
+end_at last (r ∷ []) zero d e = refl
+end_at last (r ∷ []) (suc i) d e = absurd (omega (arith, e))
+end_at last (r ∷ x ∷ rows) zero d e = absurd (omega (arith, e))
+end_at last (r ∷ x ∷ rows) (suc i) d e = end_at r.key (x ∷ rows) i d (omega (arith, e))
+
+end_is : (last : List ℕ) (run : List Row) (d : Row) → 1 ≤ length run → last_key run ≡ end_key last run
+unfolding last_key
+end_is last run d some =
+    ap key_of (slice_get-get_or run (length run - 1) d (omega (arith, some))) ∙ end_at last run (length run - 1) d (omega (arith, some))
+
+-- the last row of a run has its last key
+pub last_of : (run : List Row) (r : Row) → Some r ≡ slice_get run (length run - 1) → r.key ≡ last_key run
+unfolding last_key
+last_of run r is = ap key_of is
+
+run_contained : (front run back : List Row) → AllByRecursion (Contains (front ++ run ++ back)) run
+run_contained front [] back = tt
+run_contained front (r ∷ run) back = (
+  Contains-append_left (front ++ r ∷ run) back r (Contains-append_right front (r ∷ run) r (0, omega arith, refl)),
+  subst (λ (rows : List Row). AllByRecursion (Contains (rows ++ back)) run) (append_assoc front (r ∷ []) run) (run_contained (front ++ r ∷ []) run back),
+)
+
+way_run : (m : RowMap) (n : Node) (text body last rest : List ℕ) (others : List Row) (known : ℕ) (run : List Row) (after : List ℕ) → IsRowMap m → OnTheWay m n text body last rest others known → AllByRecursion (Contains (rows_at (leaf_in m) n.index m.rows)) run
+    → KeysAscend last run → rest ≡ flat_map (row_text m.format) run ++ after → OnTheWay m n text body (end_key last run) after others (known + sum_by (λ (r : Row). length r.versions) run)
+way_run m n text body last rest others known [] after is way all rising begins =
+    let same : known ≡ known + 0 = omega arith in
+    subst (λ (p : List ℕ × ℕ). OnTheWay m n text body last p.0 others p.1) (λ i. (begins i, same i)) way
+way_run m n text body last rest others known (r ∷ run) after is way all rising begins =
+    let behind = flat_map (row_text m.format) run ++ after in
+    let step = way_own m n text body last rest others known r behind is way all.0 (begins ∙ append_assoc (row_text m.format r) (flat_map (row_text m.format) run) after) rising.0 in
+    let done = way_run m n text body r.key behind others (known + length r.versions) run after is step all.1 rising.1 refl in
+    subst (OnTheWay m n text body (end_key r.key run) after others) (omega (arith, sum_by-cons (λ (x : Row). length x.versions) r run)) done
+
+-- the run that a text begins with
+pub way_front : (m : RowMap) (n : Node) (b : Bucket) (text body last rest : List ℕ) (others : List Row) (known : ℕ) (key : List ℕ) (versions : ℕ) (end after : List ℕ) → IsRowMap m → b ≡ record { format = m.format; rows = rows_at (leaf_in m) n.index m.rows }
+    → OnTheWay m n text body last rest others known → FrontRun b key rest versions end after → is_before last key ≡ true → OnTheWay m n text body end after others (known + versions)
+way_front m n b text body last rest others known key versions end after is same way there next =
+    let front = subst (λ (x : Bucket). FrontRun x key rest versions end after) same there in
+    let run = front.run in
+    let leaf = rows_at (leaf_in m) n.index m.rows in
+    let all : AllByRecursion (Contains leaf) run = subst (λ (rows : List Row). AllByRecursion (Contains rows) run) (sym front.is.rows_are) (run_contained front.is.front run front.is.back) in
+    let ascends : AscendByKey (front.is.first ∷ front.is.more) = subst AscendByKey front.is.run_is (ascend_middle front.is.front run front.is.back (subst AscendByKey front.is.rows_are (leaf_ascends m n.index is))) in
+    let first : is_before last front.is.first.key ≡ true = ap (is_before last) front.is.key ∙ next in
+    let rising : KeysAscend last run = subst (KeysAscend last) (sym front.is.run_is) (first, keys_ascend front.is.first.key front.is.more ascends.0 ascends.1) in
+    let done = way_run m n text body last rest others known run after is way all rising front.text_is in
+    let ends : end_key last run ≡ end = sym (front.last_is ∙ end_is last run front.is.first (omega (arith, ap length front.is.run_is))) in
+    subst (λ (p : List ℕ × ℕ). OnTheWay m n text body p.0 after others (known + p.1)) (λ i. (ends i, sym front.versions_is i)) done
+
+-- no more versions are known than the body has bytes
+pub way_known : (m : RowMap) (n : Node) (text body last rest : List ℕ) (others : List Row) (known : ℕ) → OnTheWay m n text body last rest others known → known ≤ length body
+way_known m n text body last rest others known way =
+    let f = row_text m.format in
+    omega (arith, ap length way.body_is, length-append (flat_map f way.rows) rest, news_short m.format m.rows way.rows others known way.news)
+
+-- a run is some bytes
+pub run_is_text : (b : Bucket) (key text : List ℕ) (versions : ℕ) (last after : List ℕ) → FrontRun b key text versions last after → length after < length text
+run_is_text b key text versions last after front =
+    let f = row_text b.format in
+    omega (arith, ap length (front.text_is ∙ ap (λ (rs : List Row). flat_map f rs ++ after) front.is.run_is), length-append (flat_map f (front.is.first ∷ front.is.more)) after, length-append (f front.is.first) (flat_map f front.is.more), row_is_text b.format front.is.first)
+
+-- ---- a row that was read
+
 -- a row that was read, which the own leaf has not
 pub way_other : (m : RowMap) (n : Node) (text body last rest : List ℕ) (others : List Row) (known : ℕ) (r : Row) (after : List ℕ) → OnTheWay m n text body last rest others known → IsRow m.format r → LiesIn m n.index r.key
     → (Contains (rows_at (leaf_in m) n.index m.rows) r → ⊥) → rest ≡ row_text m.format r ++ after → is_before last r.key ≡ true → OnTheWay m n text body r.key after (others ++ r ∷ []) known
@@ -193,10 +278,6 @@ front_differs b key own text versions a has is off r rest other same begins =
     let row : Row = record { key = key; versions = versions } in
     let one : r ≡ row = one_of_key b.rows r row a other has same in
     off rest (begins ∙ ap (λ (x : Row). row_text b.format x ++ rest) one ∙ ap (λ (t : List ℕ). t ++ rest) (sym is))
-
--- the rows of a leaf ascend
-pub leaf_ascends : (m : RowMap) (leaf : ℕ) → IsRowMap m → AscendByKey (rows_at (leaf_in m) leaf m.rows)
-leaf_ascends m leaf is = AscendByKey-filter _ m.rows is.ascending
 
 -- ---- at the end, or where no rows spell the text
 

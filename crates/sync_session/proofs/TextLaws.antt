@@ -95,7 +95,7 @@ ancestor_below (suc h) d leaf lt =
 -- ---- the order of a leaf's rows
 
 -- keys that ascend among each other ascend one by one
-keys_ascend : (last : List ℕ) (rows : List Row) → AllByRecursion (λ (x : Row). key_cmp last x.key ≡ Less) rows → AscendByKey rows → KeysAscend last rows
+pub keys_ascend : (last : List ℕ) (rows : List Row) → AllByRecursion (λ (x : Row). key_cmp last x.key ≡ Less) rows → AscendByKey rows → KeysAscend last rows
 keys_ascend last [] all a = tt
 keys_ascend last (r ∷ rows) all a = (ap is_lt all.0, keys_ascend r.key rows a.0 a.1)
 

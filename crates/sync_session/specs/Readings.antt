@@ -1,12 +1,13 @@
 -- What a text would give, without taking it.
 use Rattle.std.specs.Prelude.{◌≡◌, ◌⊎◌, ◌<◌, ℕ, ◌+◌, ◌++◌, Option, Some, None, Result, Ok, Err, List, [], ◌∷◌, length}
-use Rattle.std.specs.List.{Contains}
+use Rattle.std.specs.List.{Contains, flat_map, sum_by}
 use Rattle.vclock.specs.declared.refusal.Refusal.{Refusal}
 use Rattle.vclock.specs.declared.refusal.Refusal.TheVariants as refusals
 use Rattle.key_ring.specs.Places.{range_at}
 use Rattle.row_bytes.specs.declared.row.Row.{Row}
+use Rattle.row_bytes.specs.Reading.{last_key}
 use Rattle.row_bytes.specs.Rows.{row_text, IsRow}
-use Rattle.hash_tree.specs.Leaves.{Bucket}
+use Rattle.hash_tree.specs.Leaves.{Bucket, IsRun}
 use Rattle.hash_tree.specs.Nodes.{tree_depth}
 use Rattle.snapshot.specs.RowMaps.{RowMap, leaf_in}
 use Rattle.sync_session.specs.declared.news.News.{News}
@@ -67,3 +68,11 @@ FrontRow m leaf text None = (r : Row) (rest : List ℕ) → IsRow m.format r →
 abbrev pub FrontOwn : Bucket → List ℕ → List ℕ → Option (ℕ × List ℕ) → Type 0
 FrontOwn b key text (Some x) = (r : Row) × Contains b.rows r × (r.key ≡ key) × (length r.versions ≡ x.0) × (text ≡ row_text b.format r ++ x.1)
 FrontOwn b key text None = (r : Row) (rest : List ℕ) → Contains b.rows r → r.key ≡ key → text ≡ row_text b.format r ++ rest → ⊥
+
+-- the own rows that a text begins with, from that of a key on: how many versions they have, the last key, and what follows
+pub record FrontRun (b : Bucket) (key text : List ℕ) (versions : ℕ) (last after : List ℕ) : Type 0 where
+  pub run : List Row
+  pub is : IsRun b.rows key run
+  pub versions_is : versions ≡ sum_by (λ (r : Row). length r.versions) run
+  pub last_is : last ≡ last_key run
+  pub text_is : text ≡ flat_map (row_text b.format) run ++ after

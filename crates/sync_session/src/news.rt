@@ -1,10 +1,12 @@
 //! What a partner's leaf has beside the own rows.
-ghost use Rattle.std.specs.Prelude.{◌≡◌, [], None, option_map};
+ghost use Rattle.std.specs.Prelude.{◌≡◌, ◌<◌, ◌^◌, ⊤, [], None, length, MatchOption, option_map};
+ghost use Rattle.std.specs.List.{sum_by};
 ghost use Rattle.vclock.specs.Answer.{Answers};
+ghost use Rattle.row_bytes.specs.declared.row.Row.{Row};
 ghost use Rattle.hash_tree.specs.Leaves.{AscendByKey};
 ghost use Rattle.hash_tree.specs.Nodes.{tree_depth};
 ghost use Rattle.sync_session.specs.TreeNodes.{node_of};
-ghost use Rattle.sync_session.specs.Readings.{ReadsNews, FrontRow, FrontOwn};
+ghost use Rattle.sync_session.specs.Readings.{ReadsNews, FrontRow, FrontOwn, FrontRun};
 
 use crate::reading::{body_of, is_here};
 use hash_tree::node::NodeAt;
@@ -59,6 +61,12 @@ pub fn leaf_news(alloc: Global, own: &Snapshot, node: NodeAt, text: &[u8]) -> Re
         if !last.cmp(key).is_lt() {
             return Err(Refusal::NotCanonical);
         }
+        if let Some(skipped) = front_run(leaf, key, rest) {
+            news.known += skipped.versions;
+            last = skipped.last;
+            rest = skipped.after;
+            continue;
+        }
         rest = match front_own(leaf, key, rest) {
             Some((versions, after)) => {
                 news.known += versions;
@@ -75,6 +83,40 @@ pub fn leaf_news(alloc: Global, own: &Snapshot, node: NodeAt, text: &[u8]) -> Re
         last = key;
     }
     Ok(news)
+}
+
+/// Own rows that a text begins with, one after another.
+#[derive(Clone, Copy)]
+struct Run<'a> {
+    /// How many versions they have together.
+    versions: u64,
+    /// The key of the last one.
+    last: &'a [u8],
+    /// What follows their texts.
+    after: &'a [u8],
+}
+
+/// The run of a leaf's rows from that of a key on, if the bytes begin with the texts of all of it. Most of a text is skipped
+/// so, a run at a time.
+fn front_run<'a>(leaf: &'a SharedLeaf, key: &[u8], text: &'a [u8]) -> Option<Run<'a>>
+    ensures { MatchOption result ⊤ (λ x. FrontRun leaf.now key.now text.now x.versions x.last.now x.after.now) }
+{
+    let (rows, texts) = leaf.find_run(key)?;
+    let after = text.strip_prefix(texts)?;
+    let last = rows.last()?;
+    Some(Run {
+        versions: version_count(rows),
+        last: last.key.as_slice(),
+        after,
+    })
+}
+
+/// How many versions rows have together.
+fn version_count(rows: &[Row]) -> u64
+    requires { sum_by (λ (r : Row). length r.versions) rows.now < 2 ^ 64 }
+    ensures { result ≡ sum_by (λ (r : Row). length r.versions) rows.now }
+{
+    rows.iter().map(|row| row.versions.len() as u64).sum()
 }
 
 /// How many versions the row of a key has in a leaf, and what follows its text, if the bytes begin with that.

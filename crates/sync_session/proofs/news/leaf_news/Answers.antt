@@ -8,7 +8,7 @@ use Rattle.hash_tree.specs.Leaves.{Bucket, AscendByKey, rows_at}
 use Rattle.snapshot.specs.RowMaps.{leaf_in}
 use Rattle.sync_session.specs.TreeNodes.{node_of}
 use Rattle.sync_session.proofs.ReadingLaws.{spelled_text}
-use Rattle.sync_session.proofs.NewsLaws.{OnTheWay, way_begins, way_own, way_other, way_done, next_of, known_more, leaf_ascends, begins_with_key, row_is_text, found_key}
+use Rattle.sync_session.proofs.NewsLaws.{OnTheWay, way_begins, way_front, way_known, way_own, way_other, way_done, next_of, known_more, leaf_ascends, begins_with_key, row_is_text, run_is_text, found_key}
 use Rattle.sync_session.proofs.news.leaf_news.Goals as goal
 
 pub returns-in_default : goal.returns-in_default
@@ -42,11 +42,33 @@ returns-then-not-is_lt c =
     let off : is_before l.last.now key ≡ false = cc (c.if-not-is_lt.true, c.is_lt.ensures, c.cmp.ensures) in
     absurd (true≢false (sym next.next ∙ ap (is_before l.last.now) (sym same) ∙ off))
 
+pub overflow_add-news : goal.overflow_add-news
+overflow_add-news c =
+    let l = c.rows in
+    let skipped = c.in-Some-front_run.skipped in
+    let key = c.in-Some-key_at.key.now in
+    let less : is_before l.last.now key ≡ true = cc (c.if-not-is_lt.false, c.is_lt.ensures, c.cmp.ensures) in
+    let way = way_front c.args.own.now (node_of c.args.node) c.rows-leaf.result.now c.args.text.now c.in-Some.body.now l.last.now l.rest.now l.news.rows.items l.news.known key skipped.versions skipped.last.now skipped.after.now c.format.ensures.valid c.rows-leaf.ensures l.invariant c.in-Some-front_run.ensures less in
+    omega (arith, way_known c.args.own.now (node_of c.args.node) c.args.text.now c.in-Some.body.now skipped.last.now skipped.after.now l.news.rows.items (l.news.known + skipped.versions) way, ap length c.in-Some.ensures)
+
+pub rows-smaller-in-Some-front_run : goal.rows-smaller-in-Some-front_run
+rows-smaller-in-Some-front_run c =
+    let skipped = c.in-Some-front_run.skipped in
+    run_is_text c.rows-leaf.result.now c.in-Some-key_at.key.now c.rows.rest.now skipped.versions skipped.last.now skipped.after.now c.in-Some-front_run.ensures
+
+pub rows-preserved-in-Some-front_run : goal.rows-preserved-in-Some-front_run
+rows-preserved-in-Some-front_run c =
+    let l = c.rows in
+    let skipped = c.in-Some-front_run.skipped in
+    let key = c.in-Some-key_at.key.now in
+    let less : is_before l.last.now key ≡ true = cc (c.if-not-is_lt.false, c.is_lt.ensures, c.cmp.ensures) in
+    way_front c.args.own.now (node_of c.args.node) c.rows-leaf.result.now c.args.text.now c.in-Some.body.now l.last.now l.rest.now l.news.rows.items l.news.known key skipped.versions skipped.last.now skipped.after.now c.format.ensures.valid c.rows-leaf.ensures l.invariant c.in-Some-front_run.ensures less
+
 pub front_own-requires : goal.front_own-requires
 front_own-requires c = subst (λ (b : Bucket). AscendByKey b.rows) (sym c.rows-leaf.ensures) (leaf_ascends c.args.own.now c.args.node.index c.format.ensures.valid)
 
-pub overflow_add-news : goal.overflow_add-news
-overflow_add-news c =
+pub overflow_add-news-in-Some-front_own : goal.overflow_add-news-in-Some-front_own
+overflow_add-news-in-Some-front_own c =
     let m = c.args.own.now in
     let l = c.rows in
     let r = c.in-Some-front_own.ensures in
