@@ -11,7 +11,8 @@ Prints N, how many rehashes or syncs WITHOUT lacks, of how many nodes each is, a
 """
 import hashlib, itertools, random, sys
 
-LEAVES, ROUNDS, SINGLE_PUTS, SYNCS, JOURNAL = 256, 10, 2000, 500, 1_000_000
+LEAVES, ROUNDS, SINGLE_PUTS, JOURNAL = 256, 10, 2000, 1_000_000
+SYNCS = {1: 500, 10: 200, 1000: 20}
 kind, wanted, without, with_them = sys.argv[1], int(sys.argv[2]), open(sys.argv[3], "w"), open(sys.argv[4], "w")
 rnd = random.Random(1)
 row_bytes, dirty = [0] * LEAVES, set(range(LEAVES))
@@ -49,17 +50,23 @@ def rehash(*scripts, node=1):
     dirty.clear()
 
 
-def sync(i):
+def sync(leaves):
     global rehashes, nodes, hashed
     with_them.write('{"sync":{"from":1,"node":2,"range":0}}\n')
+    inner = 1 + len({leaf // 16 for leaf in leaves})
     rehashes += 1
-    nodes = 3
-    hashed += 2 * 513 + 1 + row_bytes[leaf_of(i)]
+    nodes = inner + len(leaves)
+    hashed += 513 * inner + sum(1 + row_bytes[leaf] for leaf in leaves)
 
 
-n = min(wanted, JOURNAL - {"full": ROUNDS * LEAVES, "one": SINGLE_PUTS, "sync": SYNCS}[kind])
+missed = int(kind[4:]) if kind.startswith("sync") else 0
+if missed:
+    taken = missed * SYNCS[missed]
+else:
+    taken = {"full": ROUNDS * LEAVES, "one": SINGLE_PUTS}[kind]
+n = min(wanted, JOURNAL - taken)
 further = itertools.count(n)
-if kind == "sync":
+if missed:
     for script in (without, with_them):
         script.write('{"ring":{"bits":0,"copies":2,"nodes":[1,2]}}\n')
 for i in range(n):
@@ -73,14 +80,15 @@ if kind == "full":
                 stock[leaf_of(i)].append(i)
             put(stock[leaf].pop(0))
         rehash(with_them)
-elif kind == "sync":
+elif missed:
     rehash(without, with_them)
     rehash(without, with_them, node=2)
-    for _ in range(SYNCS):
-        i = next(further)
-        put(i, ',"lose":[2]')
+    for _ in range(SYNCS[missed]):
+        keys = [next(further) for _ in range(missed)]
+        for i in keys:
+            put(i, ',"lose":[2]')
         rehash(without, with_them)
-        sync(i)
+        sync({leaf_of(i) for i in keys})
         rehash(without, with_them, node=2)
 else:
     rehash(without, with_them)
