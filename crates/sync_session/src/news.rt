@@ -43,7 +43,12 @@ impl News {
 
 /// The news in a leaf's text. Refused: NotCanonical (no rows of the range give the leaf this text), NoMemory, which may
 /// stand in place of NotCanonical.
-pub fn leaf_news(alloc: Global, own: &Snapshot, node: NodeAt, text: &[u8]) -> Result<News, Refusal>
+pub(crate) fn leaf_news(
+    alloc: Global,
+    own: &Snapshot,
+    node: NodeAt,
+    text: &[u8],
+) -> Result<News, Refusal>
     requires { node.depth ≡ tree_depth own.now.format }
     ensures { ReadsNews own.now (node_of node) text.now result }
 {
