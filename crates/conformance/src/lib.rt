@@ -17,6 +17,7 @@ mod limits;
 mod messages;
 #[cfg(test)]
 mod places;
+pub mod refusals;
 #[cfg(test)]
 mod rows;
 #[cfg(test)]

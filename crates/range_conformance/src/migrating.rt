@@ -1,11 +1,14 @@
 // A range that goes over to format 2.
+use conformance::refusals::is_refused;
 use hash_tree::node::NodeAt;
 use range_state::config::RangeConfig;
 use range_state::event::{Event, Reply};
 use range_state::state::RangeState;
 use rehash::job::run_job;
 use std::alloc::Global;
+use std::process::Abort;
 use std::test::Fail;
+use std::thread::Threads;
 use sync_session::state::SessionState;
 use vclock::bytes::Bytes;
 use vclock::clock::Clock;
@@ -34,58 +37,89 @@ fn offer() -> Offer {
     }
 }
 
+/// A range with a value of `a` goes over to format 2, where each node is to be hashed.
+fn expect_format_2(
+    rt: &(impl Abort + Threads + Sync),
+    alloc: Global,
+    state: &mut RangeState,
+) -> Result<(), Fail> {
+    state.rehash(rt, alloc)?;
+    state.migrate(alloc)?;
+    assert!(rt; matches!(state.config().format(), Format::Two));
+    assert_eq!(rt; (state.journal().len(), state.versions(b"a").len()), (1, 1));
+    let leaf = NodeAt::new(3, 204).ok_or("no such node")?;
+    assert!(rt; state.digest_at(leaf).is_none());
+    assert_eq!(rt; state.rehash(rt, alloc)?, 4_369);
+    Ok(())
+}
+
 #[test]
 fn the_rows_lie_in_the_leaves_of_format_2(rt: HostRuntime) -> Result<(), Fail> {
     let alloc = rt.alloc();
-    let mut state = range(alloc)?;
-    state.rehash(&rt, alloc)?;
+    expect_format_2(&rt, alloc, &mut range(alloc)?)
+}
+
+/// A job's text is late once its range has gone over.
+fn expect_late(rt: &impl Abort, alloc: Global, state: &mut RangeState) -> Result<(), Fail> {
+    let job = state.take_job(alloc, 0)?.ok_or("no job")?;
+    let node = job.node();
     state.migrate(alloc)?;
-    assert!(rt; matches!(state.config().format(), Format::Two));
-    assert_eq!(rt; state.journal().len(), 1);
-    assert_eq!(rt; state.versions(b"a").len(), 1);
-    let leaf = NodeAt::new(3, 204).ok_or("no such node")?;
-    assert!(rt; state.digest_at(leaf).is_none());
-    assert_eq!(rt; state.rehash(&rt, alloc)?, 4_369);
+    assert!(rt; is_refused(state.install(node, &run_job(job)), Refusal::Stale));
     Ok(())
 }
 
 #[test]
 fn a_job_that_was_taken_before_is_stale(rt: HostRuntime) -> Result<(), Fail> {
     let alloc = rt.alloc();
-    let mut state = range(alloc)?;
-    let job = state.take_job(alloc, 0)?.ok_or("no job")?;
-    let node = job.node();
+    expect_late(&rt, alloc, &mut range(alloc)?)
+}
+
+/// A session that is open when its range goes over is cancelled, and an offer of format 1 is refused then.
+fn expect_cancelled(
+    rt: &(impl Abort + Threads + Sync),
+    alloc: Global,
+    state: &mut RangeState,
+) -> Result<(), Fail> {
+    state.rehash(rt, alloc)?;
+    let id = state.open_session(alloc, 2, offer())?;
     state.migrate(alloc)?;
-    let late = state.install(node, &run_job(job));
-    assert!(rt; matches!(&late, Err(Refusal::Stale)));
+    let record = state.records().first().ok_or("no record")?;
+    assert_eq!(rt; record.session().state(), SessionState::Cancelled);
+    assert!(rt; state.outstanding(id)?.is_none());
+    assert!(rt; is_refused(state.open_session(alloc, 2, offer()), Refusal::OtherFormat));
     Ok(())
 }
 
 #[test]
 fn open_sessions_are_cancelled(rt: HostRuntime) -> Result<(), Fail> {
     let alloc = rt.alloc();
-    let mut state = range(alloc)?;
-    state.rehash(&rt, alloc)?;
-    let id = state.open_session(alloc, 2, offer())?;
+    expect_cancelled(&rt, alloc, &mut range(alloc)?)
+}
+
+/// A migration is an event, which is taken.
+fn expect_migrated(rt: &impl Abort, alloc: Global, state: &mut RangeState) -> Result<(), Fail> {
+    let mut events = Vec::with_capacity(alloc, 1)?;
+    events.push(Event::Migrate)?;
+    let replies = state.run_events(alloc, events)?;
+    assert!(rt; matches!(replies.first(), Some(Reply::Migrate(Ok(())))));
+    Ok(())
+}
+
+/// A range that has gone over does so again, and nothing is to be hashed.
+fn expect_unchanged(
+    rt: &(impl Abort + Threads + Sync),
+    alloc: Global,
+    state: &mut RangeState,
+) -> Result<(), Fail> {
     state.migrate(alloc)?;
-    let record = state.records().first().ok_or("no record")?;
-    assert_eq!(rt; record.session().state(), SessionState::Cancelled);
-    assert!(rt; state.outstanding(id)?.is_none());
-    let other_format = state.open_session(alloc, 2, offer());
-    assert!(rt; matches!(&other_format, Err(Refusal::OtherFormat)));
+    state.rehash(rt, alloc)?;
+    expect_migrated(rt, alloc, state)?;
+    assert_eq!(rt; state.rehash(rt, alloc)?, 0);
     Ok(())
 }
 
 #[test]
 fn a_range_of_format_2_stays_as_it_is(rt: HostRuntime) -> Result<(), Fail> {
     let alloc = rt.alloc();
-    let mut state = range(alloc)?;
-    state.migrate(alloc)?;
-    state.rehash(&rt, alloc)?;
-    let mut events = Vec::with_capacity(alloc, 1)?;
-    events.push(Event::Migrate)?;
-    let replies = state.run_events(alloc, events)?;
-    assert!(rt; matches!(replies.first(), Some(Reply::Migrate(Ok(())))));
-    assert_eq!(rt; state.rehash(&rt, alloc)?, 0);
-    Ok(())
+    expect_unchanged(&rt, alloc, &mut range(alloc)?)
 }

@@ -1,6 +1,7 @@
 // Range states.
 ghost use Rattle.std.specs.Prelude.{◌<◌};
 
+use conformance::refusals::is_refused;
 use conformance::versions::{members, version};
 use range_journal::journal::Source;
 use range_state::config::RangeConfig;
@@ -54,17 +55,21 @@ fn accept_a(alloc: Global, state: &mut RangeState, value: &[u8]) -> Result<Optio
     }
 }
 
-#[test]
-fn versions_with_equal_clocks_are_both_kept(rt: HostRuntime) -> Result<(), Fail> {
-    let alloc = rt.alloc();
-    let mut state = range(alloc, 1, 10)?;
-    assert_eq!(rt; accept_a(alloc, &mut state, b"q")?, Some(0));
-    assert_eq!(rt; accept_a(alloc, &mut state, b"p")?, Some(1));
-    assert_eq!(rt; accept_a(alloc, &mut state, b"q")?, None);
+/// Two values of `a` with one clock are taken, the first is known then, and both are held.
+fn expect_both(rt: &impl Abort, alloc: Global, state: &mut RangeState) -> Result<(), Fail> {
+    assert_eq!(rt; accept_a(alloc, state, b"q")?, Some(0));
+    assert_eq!(rt; accept_a(alloc, state, b"p")?, Some(1));
+    assert_eq!(rt; accept_a(alloc, state, b"q")?, None);
     let both = "[(2, 1)] Live [112]\n[(2, 1)] Live [113]\n";
     let held = state.get(alloc, b"a")?;
     assert_eq!(rt; members(alloc, &held)?.as_str(), both);
     Ok(())
+}
+
+#[test]
+fn versions_with_equal_clocks_are_both_kept(rt: HostRuntime) -> Result<(), Fail> {
+    let alloc = rt.alloc();
+    expect_both(&rt, alloc, &mut range(alloc, 1, 10)?)
 }
 
 /// A put of `a` at node 1.
@@ -148,14 +153,17 @@ fn rows_lie_in_the_leaf_of_their_key(rt: HostRuntime) -> Result<(), Fail> {
     Ok(())
 }
 
+/// A range whose journal has room for an entry alone takes one key, and no other one.
+fn expect_full(rt: &impl Abort, alloc: Global, state: &mut RangeState) -> Result<(), Fail> {
+    accept_key(alloc, state, b"a")?;
+    let entry = state.journal().get(0).ok_or("no entry 0")?;
+    assert_eq!(rt; (entry.seat, entry.source), (3, Source::Copy));
+    assert!(rt; is_refused(accept_key(alloc, state, b"b"), Refusal::JournalFull));
+    Ok(())
+}
+
 #[test]
 fn a_journal_is_full_at_its_limit(rt: HostRuntime) -> Result<(), Fail> {
     let alloc = rt.alloc();
-    let mut state = range(alloc, 1, 1)?;
-    accept_key(alloc, &mut state, b"a")?;
-    let entry = state.journal().get(0).ok_or("no entry 0")?;
-    assert_eq!(rt; (entry.seat, entry.source), (3, Source::Copy));
-    let full = accept_key(alloc, &mut state, b"b");
-    assert!(rt; matches!(&full, Err(Refusal::JournalFull)));
-    Ok(())
+    expect_full(&rt, alloc, &mut range(alloc, 1, 1)?)
 }

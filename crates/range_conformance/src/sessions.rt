@@ -1,4 +1,5 @@
 // Sessions: two trees compared, and what is taken of the partner's answers.
+use conformance::refusals::is_refused;
 use hash_tree::hashed::{Digest, Hashed, hash};
 use hash_tree::node::NodeAt;
 use range_state::config::RangeConfig;
@@ -89,19 +90,29 @@ fn expect_no_news(
     Ok(())
 }
 
+/// A session ends with the third answer, which brings a row.
+fn expect_row(
+    rt: &impl Abort,
+    alloc: Global,
+    session: &mut Session,
+    partner: &Snapshot,
+) -> Result<(), Fail> {
+    assert_eq!(rt; answer_first(alloc, session, partner)?, None);
+    assert_eq!(rt; answer_first(alloc, session, partner)?, None);
+    assert_eq!(rt; answer_first(alloc, session, partner)?, Some(1));
+    assert_eq!(rt; session.state(), SessionState::Finished);
+    assert_eq!(rt; session.asked().len(), 3);
+    assert_eq!(rt; session.taken().len(), 3);
+    Ok(())
+}
+
 #[test]
 fn a_session_ends_with_the_partners_rows(rt: HostRuntime) -> Result<(), Fail> {
     let alloc = rt.alloc();
     let partner = snapshot(&rt, alloc, true)?;
     let mut session = session(&rt, alloc, partner.root())?;
     expect_no_news(&rt, alloc, &session, &partner)?;
-    assert_eq!(rt; answer_first(alloc, &mut session, &partner)?, None);
-    assert_eq!(rt; answer_first(alloc, &mut session, &partner)?, None);
-    assert_eq!(rt; answer_first(alloc, &mut session, &partner)?, Some(1));
-    assert_eq!(rt; session.state(), SessionState::Finished);
-    assert_eq!(rt; session.asked().len(), 3);
-    assert_eq!(rt; session.taken().len(), 3);
-    Ok(())
+    expect_row(&rt, alloc, &mut session, &partner)
 }
 
 #[test]
@@ -130,17 +141,40 @@ fn abc(alloc: Global) -> Result<Hashed, Refusal> {
     Ok(hash(Bytes::copy_of(alloc, b"abc")?))
 }
 
+/// A session takes the root's true text once, after another one.
+fn expect_once(
+    rt: &impl Abort,
+    alloc: Global,
+    session: &mut Session,
+    partner: &Snapshot,
+) -> Result<(), Fail> {
+    let root = first(session)?;
+    assert!(rt; is_refused(session.take(alloc, root, abc(alloc)?), Refusal::WrongDigest));
+    answer_first(alloc, session, partner)?;
+    let again = text_of(alloc, partner, root)?;
+    assert!(rt; is_refused(session.take(alloc, root, again), Refusal::NotAsked));
+    Ok(())
+}
+
 #[test]
 fn a_session_takes_a_true_text_once(rt: HostRuntime) -> Result<(), Fail> {
     let alloc = rt.alloc();
     let partner = snapshot(&rt, alloc, true)?;
     let mut session = session(&rt, alloc, partner.root())?;
-    let root = first(&session)?;
-    let forged = session.take(alloc, root, abc(alloc)?);
-    assert!(rt; matches!(&forged, Err(Refusal::WrongDigest)));
-    answer_first(alloc, &mut session, &partner)?;
-    let again = session.take(alloc, root, text_of(alloc, &partner, root)?);
-    assert!(rt; matches!(&again, Err(Refusal::NotAsked)));
+    expect_once(&rt, alloc, &mut session, &partner)
+}
+
+/// A session fails by the text `abc` of the root, and asks for no other one.
+fn expect_failure(rt: &impl Abort, alloc: Global, session: &mut Session) -> Result<(), Fail> {
+    let root = first(session)?;
+    assert!(rt;
+        is_refused(
+            session.take(alloc, root, abc(alloc)?),
+            Refusal::NotCanonical
+        )
+    );
+    assert_eq!(rt; session.state(), SessionState::Failed);
+    assert!(rt; is_refused(session.take(alloc, root, abc(alloc)?), Refusal::NotAsked));
     Ok(())
 }
 
@@ -148,11 +182,5 @@ fn a_session_takes_a_true_text_once(rt: HostRuntime) -> Result<(), Fail> {
 fn a_session_fails_by_a_text_of_no_node(rt: HostRuntime) -> Result<(), Fail> {
     let alloc = rt.alloc();
     let mut session = session(&rt, alloc, abc(alloc)?.digest())?;
-    let root = first(&session)?;
-    let broken = session.take(alloc, root, abc(alloc)?);
-    assert!(rt; matches!(&broken, Err(Refusal::NotCanonical)));
-    assert_eq!(rt; session.state(), SessionState::Failed);
-    let again = session.take(alloc, root, abc(alloc)?);
-    assert!(rt; matches!(&again, Err(Refusal::NotAsked)));
-    Ok(())
+    expect_failure(&rt, alloc, &mut session)
 }

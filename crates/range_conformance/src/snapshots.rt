@@ -3,6 +3,7 @@ ghost use Rattle.std.specs.Prelude.{◌≡◌, ◌∷◌, ◌++◌, [], replicat
 ghost use Rattle.sha2.specs.Sha256.{sha256};
 ghost use Rattle.hash_tree.specs.Texts.{inner_text};
 
+use conformance::refusals::is_refused;
 use hash_tree::hashed::Digest;
 use hash_tree::node::NodeAt;
 use hash_tree::shared::SharedLeaf;
@@ -10,7 +11,7 @@ use hash_tree::texts::{inner_text, leaf_text};
 use range_state::config::RangeConfig;
 use range_state::event::{Event, Reply};
 use range_state::state::RangeState;
-use rehash::job::run_job;
+use rehash::job::{Job, run_job};
 use sha2::{Digest as _, Sha256};
 use snapshot::snapshot::Snapshot;
 use std::alloc::Global;
@@ -60,8 +61,19 @@ fn text_at(alloc: Global, snapshot: &Snapshot, depth: u8, index: u16) -> Result<
 fn a_dirty_range_offers_nothing(rt: HostRuntime) -> Result<(), Fail> {
     let alloc = rt.alloc();
     let state = range(alloc)?;
-    let offered = state.snapshot(alloc);
-    assert!(rt; matches!(&offered, Err(Refusal::Dirty)));
+    assert!(rt; is_refused(state.snapshot(alloc), Refusal::Dirty));
+    Ok(())
+}
+
+/// Asserts that a snapshot has this text of a node.
+fn expect_text(
+    rt: &impl Abort,
+    alloc: Global,
+    snapshot: &Snapshot,
+    node: (u8, u16),
+    text: &[u8],
+) -> Result<(), Fail> {
+    assert_eq!(rt; text_at(alloc, snapshot, node.0, node.1)?.as_slice(), text);
     Ok(())
 }
 
@@ -71,8 +83,7 @@ fn a_snapshot_answers_for_each_node_of_its_tree(rt: HostRuntime) -> Result<(), F
     let snapshot = clean_range(&rt, alloc)?.snapshot(alloc)?;
     assert_eq!(rt; text_at(alloc, &snapshot, 2, 0)?.as_slice(), [0].as_slice());
     assert_eq!(rt; text_at(alloc, &snapshot, 1, 0)?.len(), 513);
-    let deeper = snapshot.answer(alloc, ask(3, 0)?);
-    assert!(rt; matches!(&deeper, Err(Refusal::BadMessage)));
+    assert!(rt; is_refused(snapshot.answer(alloc, ask(3, 0)?), Refusal::BadMessage));
     Ok(())
 }
 
@@ -83,19 +94,14 @@ fn expect_leaf(
     snapshot: &Snapshot,
     text: &[u8],
 ) -> Result<(), Fail> {
-    assert_eq!(rt; text_at(alloc, snapshot, 2, 12)?.as_slice(), text);
-    Ok(())
+    expect_text(rt, alloc, snapshot, (2, 12), text)
 }
 
-#[test]
-fn what_was_taken_before_a_put_has_the_old_text(rt: HostRuntime) -> Result<(), Fail> {
-    let alloc = rt.alloc();
+/// A range with a value under `a`, whose nodes are all clean, and with an open session.
+fn range_in_session(rt: &(impl Threads + Sync), alloc: Global) -> Result<RangeState, Fail> {
     let mut state = range(alloc)?;
     put(alloc, &mut state, &[])?;
-    state.rehash(&rt, alloc)?;
-    let snapshot = state.snapshot(alloc)?;
-    let old = text_at(alloc, &snapshot, 2, 12)?;
-    assert_eq!(rt; old.len(), 22);
+    state.rehash(rt, alloc)?;
     let offer = Offer {
         offer: 1,
         format: 1,
@@ -103,25 +109,75 @@ fn what_was_taken_before_a_put_has_the_old_text(rt: HostRuntime) -> Result<(), F
         root: [7; 32],
     };
     state.open_session(alloc, 7, offer)?;
-    put(alloc, &mut state, &[(1, 1)])?;
-    expect_leaf(&rt, alloc, &snapshot, &old)?;
+    Ok(state)
+}
+
+/// Asserts that the snapshot of the first session has this text of leaf 12.
+fn expect_own_leaf(
+    rt: &impl Abort,
+    alloc: Global,
+    state: &RangeState,
+    text: &[u8],
+) -> Result<(), Fail> {
     let record = state.records().get(0).ok_or("no record")?;
-    expect_leaf(&rt, alloc, &**record.session().own(), &old)?;
-    state.rehash(&rt, alloc)?;
-    assert!(rt; text_at(alloc, &*state.snapshot(alloc)?, 2, 12)?.as_slice() != old.as_slice());
+    expect_leaf(rt, alloc, &**record.session().own(), text)
+}
+
+/// Whether a new snapshot of a range has this text of leaf 12.
+fn has_leaf(
+    rt: &(impl Threads + Sync),
+    alloc: Global,
+    state: &mut RangeState,
+    text: &[u8],
+) -> Result<bool, Fail> {
+    state.rehash(rt, alloc)?;
+    let snapshot = state.snapshot(alloc)?;
+    Ok(text_at(alloc, &snapshot, 2, 12)?.as_slice() == text)
+}
+
+/// After another put the snapshots that were taken before have the old text, and a new one has another text.
+fn expect_old_text(
+    rt: &(impl Abort + Threads + Sync),
+    alloc: Global,
+    state: &mut RangeState,
+    snapshot: &Snapshot,
+) -> Result<(), Fail> {
+    let old = text_at(alloc, snapshot, 2, 12)?;
+    assert_eq!(rt; old.len(), 22);
+    put(alloc, state, &[(1, 1)])?;
+    expect_leaf(rt, alloc, snapshot, &old)?;
+    expect_own_leaf(rt, alloc, state, &old)?;
+    assert!(rt; !has_leaf(rt, alloc, state, &old)?);
+    Ok(())
+}
+
+#[test]
+fn what_was_taken_before_a_put_has_the_old_text(rt: HostRuntime) -> Result<(), Fail> {
+    let alloc = rt.alloc();
+    let mut state = range_in_session(&rt, alloc)?;
+    let snapshot = state.snapshot(alloc)?;
+    expect_old_text(&rt, alloc, &mut state, &snapshot)
+}
+
+/// The next job of a range.
+fn next_job(alloc: Global, state: &RangeState) -> Result<Job, Fail> {
+    Ok(state.take_job(alloc, 0)?.ok_or("no job")?)
+}
+
+/// Puts two values under `a`: a job that was taken in between has the text with the first alone.
+fn expect_old_job(rt: &impl Abort, alloc: Global, state: &mut RangeState) -> Result<(), Fail> {
+    put(alloc, state, &[])?;
+    let old = run_job(next_job(alloc, state)?);
+    let job = next_job(alloc, state)?;
+    put(alloc, state, &[(1, 1)])?;
+    assert_eq!(rt; run_job(job).text(), old.text());
     Ok(())
 }
 
 #[test]
 fn a_job_has_the_text_of_its_leaf_as_it_was_taken(rt: HostRuntime) -> Result<(), Fail> {
     let alloc = rt.alloc();
-    let mut state = clean_range(&rt, alloc)?;
-    put(alloc, &mut state, &[])?;
-    let old = run_job(state.take_job(alloc, 0)?.ok_or("no job")?);
-    let job = state.take_job(alloc, 0)?.ok_or("no job")?;
-    put(alloc, &mut state, &[(1, 1)])?;
-    assert_eq!(rt; run_job(job).text(), old.text());
-    Ok(())
+    expect_old_job(&rt, alloc, &mut clean_range(&rt, alloc)?)
 }
 
 #[test]
@@ -173,6 +229,28 @@ fn digests_by_place(
     Ok(digests)
 }
 
+/// Asserts the format, the place and the root of a snapshot that was made with this text of the root.
+fn expect_head(rt: &impl Abort, snapshot: &Snapshot, root: &[u8]) {
+    assert!(rt; matches!(snapshot.format(), Format::One));
+    assert_eq!(rt; (snapshot.bits(), snapshot.range()), (3, 5));
+    assert_eq!(rt; snapshot.root(), Sha256::digest(root));
+}
+
+/// Asserts that a snapshot without rows has these texts of the root, of an inner node and of a leaf.
+fn expect_texts(
+    rt: &impl Abort,
+    alloc: Global,
+    snapshot: &Snapshot,
+    texts: [&[u8]; 3],
+) -> Result<(), Fail> {
+    let [root, inner, leaf] = texts;
+    assert_eq!(rt; leaf, [0].as_slice());
+    assert_eq!(rt; inner.len(), 513);
+    expect_text(rt, alloc, snapshot, (0, 0), root)?;
+    expect_text(rt, alloc, snapshot, (1, 0), inner)?;
+    expect_text(rt, alloc, snapshot, (2, 255), leaf)
+}
+
 #[test]
 fn a_snapshot_is_made_of_leaves_and_digests(rt: HostRuntime) -> Result<(), Fail> {
     let alloc = rt.alloc();
@@ -182,14 +260,11 @@ fn a_snapshot_is_made_of_leaves_and_digests(rt: HostRuntime) -> Result<(), Fail>
     let leaves = empty_leaves(alloc)?;
     let digests = digests_by_place(alloc, &root, &inner, &leaf)?;
     let snapshot = Snapshot::new(alloc, Format::One, 3, 5, leaves, digests)?;
-    assert!(rt; matches!(snapshot.format(), Format::One));
-    assert_eq!(rt; snapshot.bits(), 3);
-    assert_eq!(rt; snapshot.range(), 5);
-    assert_eq!(rt; snapshot.root(), Sha256::digest(&root));
-    assert_eq!(rt; leaf.as_slice(), [0].as_slice());
-    assert_eq!(rt; inner.len(), 513);
-    assert_eq!(rt; text_at(alloc, &snapshot, 0, 0)?, root);
-    assert_eq!(rt; text_at(alloc, &snapshot, 1, 0)?, inner);
-    assert_eq!(rt; text_at(alloc, &snapshot, 2, 255)?, leaf);
-    Ok(())
+    expect_head(&rt, &snapshot, &root);
+    expect_texts(
+        &rt,
+        alloc,
+        &snapshot,
+        [root.as_slice(), inner.as_slice(), leaf.as_slice()],
+    )
 }

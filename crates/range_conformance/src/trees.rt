@@ -1,4 +1,5 @@
 // Trees: node texts, marks, jobs and rehashes. The digests were made by another program from the definition.
+use conformance::refusals::is_refused;
 use conformance::versions::version;
 use hash_tree::comparing::is_inner_text;
 use hash_tree::hashed::{Digest, Hashed, hash};
@@ -14,6 +15,7 @@ use rehash::job::{Job, run_job};
 use std::alloc::Global;
 use std::process::Abort;
 use std::test::Fail;
+use std::thread::Threads;
 use vclock::bytes::Bytes;
 use vclock::clock::Clock;
 use vclock::format::Format;
@@ -112,22 +114,32 @@ fn install_next(
     Ok(state.install(node, &run_job(job))?)
 }
 
+/// Puts two values under `a`: a digest of its leaf with the first alone comes too late.
+fn expect_late(rt: &impl Abort, alloc: Global, state: &mut RangeState) -> Result<(), Fail> {
+    put(alloc, state, &[])?;
+    let job = job_at(rt, alloc, state, 2, 12)?;
+    let node = job.node();
+    put(alloc, state, &[(1, 1)])?;
+    assert!(rt; is_refused(state.install(node, &run_job(job)), Refusal::Stale));
+    Ok(())
+}
+
+/// The nodes above the leaf of `a`, and it, are hashed and installed from the leaf up, and no other one.
+fn expect_path(rt: &impl Abort, alloc: Global, state: &mut RangeState) -> Result<(), Fail> {
+    for (depth, index) in [(2, 12), (1, 0), (0, 0)] {
+        install_next(rt, alloc, state, depth, index)?;
+    }
+    assert!(rt; state.take_job(alloc, 0)?.is_none());
+    Ok(())
+}
+
 #[test]
 fn a_late_digest_is_not_installed(rt: HostRuntime) -> Result<(), Fail> {
     let alloc = rt.alloc();
     let mut state = range(alloc, 1)?;
     assert_eq!(rt; state.rehash(&rt, alloc)?, 273);
-    put(alloc, &mut state, &[])?;
-    let job = job_at(&rt, alloc, &state, 2, 12)?;
-    let node = job.node();
-    put(alloc, &mut state, &[(1, 1)])?;
-    let late = state.install(node, &run_job(job));
-    assert!(rt; matches!(&late, Err(Refusal::Stale)));
-    for (depth, index) in [(2, 12), (1, 0), (0, 0)] {
-        install_next(&rt, alloc, &mut state, depth, index)?;
-    }
-    assert!(rt; state.take_job(alloc, 0)?.is_none());
-    Ok(())
+    expect_late(&rt, alloc, &mut state)?;
+    expect_path(&rt, alloc, &mut state)
 }
 
 #[test]
@@ -175,14 +187,25 @@ fn expect_run(rt: &impl Abort, hashed: &[Hashed], jobs: Vec<Job>) {
     }
 }
 
+/// So many jobs of a range are hashed in order.
+fn expect_hashed(
+    rt: &(impl Abort + Threads + Sync),
+    alloc: Global,
+    state: &RangeState,
+    count: usize,
+) -> Result<(), Fail> {
+    let hashed = hash_all(rt, alloc, state.take_jobs(alloc, count)?)?;
+    assert_eq!(rt; hashed.len(), count);
+    expect_run(rt, &hashed, state.take_jobs(alloc, count)?);
+    Ok(())
+}
+
 #[test]
 fn many_jobs_are_hashed_in_order(rt: HostRuntime) -> Result<(), Fail> {
     let alloc = rt.alloc();
     let state = three_rows(alloc)?;
     for count in [0, 1, 3, 4_000] {
-        let hashed = hash_all(&rt, alloc, state.take_jobs(alloc, count)?)?;
-        assert_eq!(rt; hashed.len(), count);
-        expect_run(&rt, &hashed, state.take_jobs(alloc, count)?);
+        expect_hashed(&rt, alloc, &state, count)?;
     }
     Ok(())
 }
