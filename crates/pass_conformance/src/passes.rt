@@ -2,7 +2,7 @@
 ghost use Rattle.std.specs.Prelude.{◌≡◌};
 
 use crate::ranges::range;
-use caller_pass::book::open_passes;
+use caller_pass::book::{Book, open_passes};
 use caller_pass::closing::Unclosed;
 use caller_pass::locked::LockedRange;
 use caller_pass::pass::Pass;
@@ -20,12 +20,12 @@ use vclock::clock::Clock;
 use vclock::refusal::Refusal;
 use version_set::kind::Kind;
 
-/// Opens two passes, whose seats are 0 and 1, and takes both back.
-fn absorb_two<L: Ledger>(rt: &impl Abort, alloc: Global, blank: Blank) -> Result<(), Fail>
-    requires name { blank.name ≡ L.name }
-    requires parts { (blank.parts ≡ L.parts) × (L.parts ≡ 2) }
-{
-    let (mut book, mut passes) = open_passes::<L>(blank, alloc, 2)?;
+/// A book takes back its two passes, whose seats are 0 and 1.
+fn expect_absorbed<L: Ledger>(
+    rt: &impl Abort,
+    book: &mut Book<L>,
+    passes: &mut Vec<Pass<L>>,
+) -> Result<(), Fail> {
     let one = passes.pop().ok_or("no pass")?;
     let zero = passes.pop().ok_or("one pass")?;
     assert!(rt; passes.is_empty());
@@ -34,6 +34,15 @@ fn absorb_two<L: Ledger>(rt: &impl Abort, alloc: Global, blank: Blank) -> Result
     book.absorb(one).ok().ok_or("no room")?;
     assert_eq!(rt; book.seats(), 2);
     Ok(())
+}
+
+/// Opens two passes, and takes both back.
+fn absorb_two<L: Ledger>(rt: &impl Abort, alloc: Global, blank: Blank) -> Result<(), Fail>
+    requires name { blank.name ≡ L.name }
+    requires parts { (blank.parts ≡ L.parts) × (L.parts ≡ 2) }
+{
+    let (mut book, mut passes) = open_passes::<L>(blank, alloc, 2)?;
+    expect_absorbed(rt, &mut book, &mut passes)
 }
 
 #[test]
@@ -88,28 +97,48 @@ fn copy<L: Ledger>(
     Ok(())
 }
 
-/// Closes the range with the pass of seat 1 alone, and then with both.
-fn close_both<L: Ledger>(
+/// Closes a range with its pass of seat 1 alone: that is refused, and hands both back.
+fn close_with_one<L: Ledger>(
     rt: &impl Abort,
     alloc: Global,
     range: LockedRange<L>,
     one: Pass<L>,
-    zero: Pass<L>,
-) -> Result<(), Fail> {
+) -> Result<(LockedRange<L>, Vec<Pass<L>>), Fail> {
     let mut passes = Vec::new(alloc);
     passes.push(one)?;
     let unclosed = range.close(alloc, passes).err().ok_or("closed")?;
     assert!(rt; matches!(&unclosed.refusal, Refusal::Stranger));
     let Unclosed {
         range,
-        mut passes,
+        passes,
         refusal: _,
     } = unclosed;
     assert_eq!(rt; passes.len(), 1);
-    passes.push(zero)?;
+    Ok((range, passes))
+}
+
+/// Closes a range of two entries with both of its passes.
+fn close_with_both<L: Ledger>(
+    rt: &impl Abort,
+    alloc: Global,
+    range: LockedRange<L>,
+    passes: Vec<Pass<L>>,
+) -> Result<(), Fail> {
     let closed = range.close(alloc, passes).ok().ok_or("not closed")?;
     assert_eq!(rt; (closed.state.journal().len(), closed.passes.len()), (2, 2));
     Ok(())
+}
+
+/// What both callers are told.
+fn tell<L: Ledger>(
+    rt: &impl Abort,
+    alloc: Global,
+    range: &mut LockedRange<L>,
+    one: &mut Pass<L>,
+    zero: &mut Pass<L>,
+) -> Result<(), Fail> {
+    write(rt, alloc, range, one)?;
+    copy(rt, alloc, range, zero)
 }
 
 /// What two callers are told, up to the close.
@@ -122,9 +151,10 @@ fn tell_two<L: Ledger>(
     requires parts { (blank.parts ≡ L.parts) × (L.parts ≡ 2) }
 {
     let (mut range, mut one, mut zero) = range::<L>(rt, alloc, blank)?;
-    write(rt, alloc, &mut range, &mut one)?;
-    copy(rt, alloc, &mut range, &mut zero)?;
-    close_both(rt, alloc, range, one, zero)
+    tell(rt, alloc, &mut range, &mut one, &mut zero)?;
+    let (range, mut passes) = close_with_one(rt, alloc, range, one)?;
+    passes.push(zero)?;
+    close_with_both(rt, alloc, range, passes)
 }
 
 #[test]
