@@ -101,7 +101,7 @@ where
         orders,
     };
     day.run(rt)?;
-    day.evening(rt)
+    day.close(rt)
 }
 
 impl<A, B, C> Day<A, B, C>
@@ -110,14 +110,15 @@ where
     B: Ledger + Send + Sync,
     C: Ledger + Send + Sync,
 {
-    /// All that is done before the evening, in order.
+    /// All that is done before the close, in order.
     fn run<R: Threads + Wait + Print + Sync>(&mut self, rt: &R) -> Result<(), Fault> {
         self.morning(rt)?;
         self.outage(rt)?;
         self.partition(rt)?;
         self.sync_second(rt)?;
         self.sync_first(rt)?;
-        self.merge(rt)
+        self.merge(rt)?;
+        self.evening(rt)
     }
 
     /// Puts a value for each cart at the first replica, and sends each version to the second one.
@@ -235,8 +236,8 @@ where
         Ok(())
     }
 
-    /// Takes both replicas over to format 2, ends their day, and closes them.
-    fn evening<R: Wait + Print>(self, rt: &R) -> Result<(), Fault> {
+    /// Takes both replicas over to format 2, and ends their day.
+    fn evening<R: Wait + Print>(&self, rt: &R) -> Result<(), Fault> {
         self.first.range.migrate(rt, self.alloc)?;
         self.second.range.migrate(rt, self.alloc)?;
         println!(rt; "  evening: both replicas migrated to format 2")?;
@@ -244,8 +245,13 @@ where
         let other = self.second.end_day(rt, self.alloc, &self.slots)?;
         let roots = if root == other { "equal" } else { "different" };
         println!(rt; "  evening: {roots} roots")?;
-        let entries = self.first.close(self.alloc)?;
-        let others = self.second.close(self.alloc)?;
+        Ok(())
+    }
+
+    /// Closes both replicas.
+    fn close<R: Print>(self, rt: &R) -> Result<(), Fault> {
+        let (first, second) = (self.first.close(self.alloc), self.second.close(self.alloc));
+        let (entries, others) = (first?, second?);
         println!(rt; "  evening: {entries} and {others} entries, all receipts settled")?;
         Ok(())
     }
