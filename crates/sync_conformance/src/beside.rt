@@ -1,13 +1,12 @@
 // Syncs that are held while something else is done at their range.
 ghost use Rattle.std.specs.Prelude.{◌≡◌};
 
-use crate::partners::pool_of;
+use crate::partners::{close, pool_of, rehash, sync};
 use crate::syncs::finished;
 use caller_pass::pass::Pass;
 use node_conformance::barrier::Barrier;
-use node_conformance::opening::{counted, last_pass, open_range, open_slots, value};
+use node_conformance::opening::{counted, open_range, open_slots, value};
 use ring_node::controller::SharedController;
-use ring_node::gate::OpenGate;
 use ring_node::link::{Link, Reached};
 use ring_node::memory::MemoryLink;
 use ring_node::range::SharedRange;
@@ -54,16 +53,10 @@ fn sync_held<L: Ledger, C: Ledger, R: Wait>(
     range: &SharedRange<L>,
     slots: &SharedController<C>,
     held: Held<'_, MemoryLink<'_>>,
-    pass: Pass<L>,
-) -> (Pass<L>, Result<SyncReport, Refusal>) {
-    let (mut link, mut pass) = (held, pass);
-    let slot = match slots.lend(rt) {
-        Ok(slot) => slot,
-        Err(refusal) => return (pass, Err(refusal)),
-    };
-    let report = range.sync_worker(rt, alloc, &slot, &mut link, &mut pass, 2, 600);
-    slots.give_back(rt, slot);
-    (pass, report)
+    pass: &mut Pass<L>,
+) -> Result<SyncReport, Refusal> {
+    let mut link = held;
+    sync(rt, alloc, range, slots, pass, &mut link, 600)
 }
 
 /// What is done at a range while a sync is held.
@@ -105,71 +98,74 @@ fn do_beside<L: Ledger, R: Wait>(
     range: &SharedRange<L>,
     barrier: &Barrier,
     deed: Deed,
-    pass: Pass<L>,
-) -> (Pass<L>, Result<Option<u64>, Refusal>) {
-    let mut pass = pass;
+    pass: &mut Pass<L>,
+) -> Result<Option<u64>, Refusal> {
     barrier.wait_for_arrival();
-    let done = deed.run(rt, alloc, range, &mut pass);
+    let done = deed.run(rt, alloc, range, pass);
     barrier.open();
-    (pass, done)
+    done
 }
 
-/// What came of a sync that was held at its asks until a deed was done, and how its session ended.
+/// What came of a sync that was held at its asks until a deed was done.
 #[derive(Drop)]
 struct Passed {
     report: Result<SyncReport, Refusal>,
     done: Result<Option<u64>, Refusal>,
     gave_up: bool,
-    entries: u64,
 }
 
-/// Syncs a range with a partner that has `a`, while a deed is done at it, and closes the range.
-fn do_at_a_sync<L: Ledger + Send + Sync, C: Ledger + Send + Sync, R: Threads + Wait + Sync>(
+/// Syncs a clean range with a partner that has `a`, while a deed is done at it. The sync has the last of two passes.
+fn hold_a_sync<L: Ledger + Send + Sync, C: Ledger + Send + Sync, R: Threads + Wait + Sync>(
     rt: &R,
     alloc: Global,
-    blank: Blank,
-    slots: Blank,
+    range: &SharedRange<L>,
+    slots: &SharedController<C>,
     deed: Deed,
-) -> Result<Passed, Fail>
-    requires range { (blank.name ≡ L.name) × (blank.parts ≡ L.parts) × (blank.parts ≡ 2) }
-    requires slots { (slots.name ≡ C.name) × (slots.parts ≡ C.parts) × (slots.parts ≡ 1024) }
-{
-    let (range, mut passes) = open_range::<L>(alloc, blank, 2, 10)?;
-    let (second, first) = (last_pass(&mut passes)?, last_pass(&mut passes)?);
-    let slots = open_slots::<C>(alloc, slots)?;
-    let slot = slots.lend(rt)?;
-    let rehashed = range.rehash_worker(rt, alloc, &slot, &OpenGate, 0, 300);
-    slots.give_back(rt, slot);
-    rehashed?;
+    passes: &mut Vec<Pass<L>>,
+) -> Result<Passed, Fail> {
+    let (second, others) = passes.split_last_mut().ok_or("no pass")?;
+    let first = others.first_mut().ok_or("one pass")?;
     let pool = pool_of(rt, alloc, &[b"a".as_slice()])?;
     let barrier = Barrier::new(0);
     let held = Held {
         link: MemoryLink::new(alloc, &pool),
         barrier: &barrier,
     };
-    let ((second, report), (first, done)) = thread::join(
+    let (report, done) = thread::join(
         rt,
-        || sync_held(rt, alloc, &range, &slots, held, second),
-        || do_beside(rt, alloc, &range, &barrier, deed, first),
+        || sync_held(rt, alloc, range, slots, held, second),
+        || do_beside(rt, alloc, range, &barrier, deed, first),
     );
-    passes.push(first)?;
-    passes.push(second)?;
-    let gave_up = barrier.gave_up();
-    match range.close(alloc, passes) {
-        Ok(closed) => Ok(Passed {
-            report,
-            done,
-            gave_up,
-            entries: closed.state.journal().len(),
-        }),
-        Err(refused) => Err(Fail::from(refused.refusal)),
-    }
+    Ok(Passed {
+        report,
+        done,
+        gave_up: barrier.gave_up(),
+    })
+}
+
+/// What came of such a sync of a range without rows, and how many entries the range had when it was closed.
+fn do_at_a_sync<L: Ledger + Send + Sync, C: Ledger + Send + Sync, R: Threads + Wait + Sync>(
+    rt: &R,
+    alloc: Global,
+    blank: Blank,
+    slots: Blank,
+    deed: Deed,
+) -> Result<(Passed, u64), Fail>
+    requires range { (blank.name ≡ L.name) × (blank.parts ≡ L.parts) × (blank.parts ≡ 2) }
+    requires slots { (slots.name ≡ C.name) × (slots.parts ≡ C.parts) × (slots.parts ≡ 1024) }
+{
+    let slots = open_slots::<C>(alloc, slots)?;
+    let (range, mut passes) = open_range::<L>(alloc, blank, 2, 10)?;
+    rehash(rt, alloc, &range, &slots)?;
+    let passed = hold_a_sync(rt, alloc, &range, &slots, deed, &mut passes)?;
+    let state = close(alloc, range, passes)?;
+    Ok((passed, state.journal().len()))
 }
 
 #[test]
 fn a_write_passes_a_sync(rt: HostRuntime) -> Result<(), Fail> {
     let (range, slots) = (Blank::new(2), Blank::new(1024));
-    let passed = do_at_a_sync::<Brand, Brand, HostRuntime>(
+    let (passed, entries) = do_at_a_sync::<Brand, Brand, HostRuntime>(
         &rt,
         rt.alloc(),
         range,
@@ -179,14 +175,14 @@ fn a_write_passes_a_sync(rt: HostRuntime) -> Result<(), Fail> {
     assert!(rt; !passed.gave_up);
     assert_eq!(rt; passed.done?, Some(0));
     assert_eq!(rt; passed.report?, finished(3, 1));
-    assert_eq!(rt; passed.entries, 2);
+    assert_eq!(rt; entries, 2);
     Ok(())
 }
 
 #[test]
 fn a_sync_ends_when_its_range_is_migrated(rt: HostRuntime) -> Result<(), Fail> {
     let (range, slots) = (Blank::new(2), Blank::new(1024));
-    let passed = do_at_a_sync::<Brand, Brand, HostRuntime>(
+    let (passed, entries) = do_at_a_sync::<Brand, Brand, HostRuntime>(
         &rt,
         rt.alloc(),
         range,
@@ -201,6 +197,6 @@ fn a_sync_ends_when_its_range_is_migrated(rt: HostRuntime) -> Result<(), Fail> {
         ..finished(1, 0)
     };
     assert_eq!(rt; passed.report?, ended);
-    assert_eq!(rt; passed.entries, 0);
+    assert_eq!(rt; entries, 0);
     Ok(())
 }

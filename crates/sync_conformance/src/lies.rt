@@ -11,6 +11,7 @@ use ring_node::scripted::ScriptedLink;
 use ring_node::syncer::SyncReport;
 use std::alloc::Global;
 use std::marker::Brand;
+use std::process::Abort;
 use std::sync::Wait;
 use std::sync::ledger::{Blank, Ledger};
 use std::test::Fail;
@@ -34,8 +35,8 @@ fn sync_by<L: Ledger, C: Ledger, R: Threads + Wait + Sync>(
     requires range { (blanks.0.name ≡ L.name) × (blanks.0.parts ≡ L.parts) × (blanks.0.parts ≡ 1) }
     requires slots { (blanks.1.name ≡ C.name) × (blanks.1.parts ≡ C.parts) × (blanks.1.parts ≡ 1024) }
 {
-    let pool = pool_of(rt, alloc, keys)?;
     let deeds = Vec::from_slice(alloc, deeds)?;
+    let pool = pool_of(rt, alloc, keys)?;
     let mut link = ScriptedLink::new(alloc, MemoryLink::new(alloc, &pool), deeds);
     sync_over::<L, C, ScriptedLink<MemoryLink>, R>(rt, alloc, blanks, None, &mut link, turns)
 }
@@ -123,6 +124,19 @@ fn sync_until<L: Ledger, C: Ledger, R: Threads + Wait + Sync>(
     sync_by::<L, C, R>(rt, alloc, blanks, &[b"a".as_slice()], &deeds, 600)
 }
 
+/// A sync that a call ends has so many failures of its link and no entry, and a session, which is cancelled, if the call was
+/// not the first.
+fn expect_end(rt: &impl Abort, synced: &Synced, call: u64, failures: u64) {
+    let cancelled = [SessionState::Cancelled];
+    let sessions = if call == 1 {
+        [].as_slice()
+    } else {
+        cancelled.as_slice()
+    };
+    assert_eq!(rt; synced.sessions.as_slice(), sessions);
+    assert_eq!(rt; (synced.failures, synced.entries), (failures, 0));
+}
+
 #[test]
 fn a_lost_call_ends_the_sync(rt: HostRuntime) -> Result<(), Fail> {
     let alloc = rt.alloc();
@@ -130,14 +144,7 @@ fn a_lost_call_ends_the_sync(rt: HostRuntime) -> Result<(), Fail> {
         let blanks = (Blank::new(1), Blank::new(1024));
         let synced = sync_until::<Brand, Brand, HostRuntime>(&rt, alloc, blanks, call, Deed::Lost)?;
         assert!(rt; matches!(&synced.report, Err(Refusal::LinkLost)));
-        let cancelled = [SessionState::Cancelled];
-        let sessions = if call == 1 {
-            [].as_slice()
-        } else {
-            cancelled.as_slice()
-        };
-        assert_eq!(rt; synced.sessions.as_slice(), sessions);
-        assert_eq!(rt; (synced.failures, synced.entries), (1, 0));
+        expect_end(&rt, &synced, call, 1);
     }
     Ok(())
 }
@@ -149,14 +156,7 @@ fn a_call_that_is_gone_ends_the_sync(rt: HostRuntime) -> Result<(), Fail> {
         let blanks = (Blank::new(1), Blank::new(1024));
         let synced = sync_until::<Brand, Brand, HostRuntime>(&rt, alloc, blanks, call, Deed::Gone)?;
         assert!(rt; matches!(&synced.report, Err(Refusal::Gone)));
-        let cancelled = [SessionState::Cancelled];
-        let sessions = if call == 1 {
-            [].as_slice()
-        } else {
-            cancelled.as_slice()
-        };
-        assert_eq!(rt; synced.sessions.as_slice(), sessions);
-        assert_eq!(rt; (synced.failures, synced.entries), (0, 0));
+        expect_end(&rt, &synced, call, 0);
     }
     Ok(())
 }

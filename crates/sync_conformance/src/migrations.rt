@@ -1,8 +1,9 @@
 // Two nodes that write, rehash and sync in threads, and go over to format 2 half-way.
 ghost use Rattle.std.specs.Prelude.{◌≡◌};
 
+use crate::partners;
 use caller_pass::pass::Pass;
-use node_conformance::opening::{last_pass, open_range, open_slots};
+use node_conformance::opening::{open_range, open_slots};
 use ring_node::controller::SharedController;
 use ring_node::gate::OpenGate;
 use ring_node::memory::MemoryLink;
@@ -39,13 +40,12 @@ struct Node<L: Ledger> {
 
 impl<L: Ledger> Node<L> {
     /// A node whose range is empty, with the passes of its writer and of its sync worker.
-    fn open(alloc: Global, blank: Blank) -> Result<(Node<L>, Pass<L>, Pass<L>), Fail>
+    fn open(alloc: Global, blank: Blank) -> Result<(Node<L>, Vec<Pass<L>>), Fail>
         requires { (blank.name ≡ L.name) × (blank.parts ≡ L.parts) × (blank.parts ≡ 2) }
     {
-        let (range, mut passes) = open_range::<L>(alloc, blank, 2, 1_000)?;
-        let (syncer, writer) = (last_pass(&mut passes)?, last_pass(&mut passes)?);
+        let (range, passes) = open_range::<L>(alloc, blank, 2, 1_000)?;
         let pool = OfferPool::new(alloc);
-        Ok((Node { range, pool }, writer, syncer))
+        Ok((Node { range, pool }, passes))
     }
 
     /// Puts keys, and migrates the range after half of them.
@@ -130,7 +130,7 @@ fn pass_over(round: Result<(), Refusal>) -> Result<(), Refusal> {
     }
 }
 
-/// Writes at a node, and tends its tree beside that.
+/// Writes at a node, and tends its tree beside that. The sync worker has the last of its two passes.
 fn run_node<L: Ledger + Send + Sync, C: Ledger + Send + Sync, R: Threads + Wait + Sync>(
     rt: &R,
     alloc: Global,
@@ -138,9 +138,10 @@ fn run_node<L: Ledger + Send + Sync, C: Ledger + Send + Sync, R: Threads + Wait 
     node: &Node<L>,
     partner: &OfferPool,
     slots: &SharedController<C>,
-    writer: &mut Pass<L>,
-    syncer: &mut Pass<L>,
+    passes: &mut Vec<Pass<L>>,
 ) -> Result<(), Refusal> {
+    let (syncer, others) = passes.split_last_mut().ok_or(Refusal::Stranger)?;
+    let writer = others.first_mut().ok_or(Refusal::Stranger)?;
     let (written, tended) = thread::join(
         rt,
         || node.write(rt, alloc, name, writer),
@@ -150,12 +151,12 @@ fn run_node<L: Ledger + Send + Sync, C: Ledger + Send + Sync, R: Threads + Wait 
     tended
 }
 
-/// Writes at two nodes, and tends their trees beside that: each node with the passes of its writer and of its syncs.
+/// Writes at two nodes, and tends their trees beside that: each node has its passes.
 fn run_both<L, M, C, R>(
     rt: &R,
     alloc: Global,
-    one: (&Node<L>, &mut Pass<L>, &mut Pass<L>),
-    two: (&Node<M>, &mut Pass<M>, &mut Pass<M>),
+    one: (&Node<L>, &mut Vec<Pass<L>>),
+    two: (&Node<M>, &mut Vec<Pass<M>>),
     slots: &SharedController<C>,
 ) -> Result<(), Refusal>
 where
@@ -164,59 +165,57 @@ where
     C: Ledger + Send + Sync,
     R: Threads + Wait + Sync,
 {
-    let (node, writer, syncer) = one;
-    let (other, other_writer, other_syncer) = two;
+    let (node, passes) = one;
+    let (other, other_passes) = two;
     let (pool, other_pool) = (&node.pool, &other.pool);
     let (ran, other_ran) = thread::join(
         rt,
-        || run_node(rt, alloc, "one", node, other_pool, slots, writer, syncer),
-        || run_node(
-            rt,
-            alloc,
-            "two",
-            other,
-            pool,
-            slots,
-            other_writer,
-            other_syncer,
-        ),
+        || run_node(rt, alloc, "one", node, other_pool, slots, passes),
+        || run_node(rt, alloc, "two", other, pool, slots, other_passes),
     );
     ran?;
     other_ran
 }
 
-/// Brings two nodes together that nobody writes to any more.
+/// Rehashes the trees of two nodes that nobody writes to any more, and publishes a snapshot of each.
+fn publish_both<L: Ledger, M: Ledger, C: Ledger, R: Wait>(
+    rt: &R,
+    alloc: Global,
+    one: &Node<L>,
+    two: &Node<M>,
+    slots: &SharedController<C>,
+) -> Result<(), Refusal> {
+    one.publish(rt, alloc, slots)?;
+    two.publish(rt, alloc, slots)
+}
+
+/// Brings two nodes together that nobody writes to any more: whether their roots are equal then.
 fn bring_together<L: Ledger, M: Ledger, C: Ledger, R: Wait>(
     rt: &R,
     alloc: Global,
-    one: (&Node<L>, &mut Pass<L>),
-    two: (&Node<M>, &mut Pass<M>),
+    one: (&Node<L>, &mut Vec<Pass<L>>),
+    two: (&Node<M>, &mut Vec<Pass<M>>),
     slots: &SharedController<C>,
 ) -> Result<bool, Refusal> {
-    one.0.publish(rt, alloc, slots)?;
-    two.0.publish(rt, alloc, slots)?;
-    one.0.sync(rt, alloc, slots, &two.0.pool, one.1)?;
-    two.0.sync(rt, alloc, slots, &one.0.pool, two.1)?;
-    one.0.publish(rt, alloc, slots)?;
-    two.0.publish(rt, alloc, slots)?;
-    let root = one.0.range.snapshot(rt, alloc)?.root();
-    Ok(root == two.0.range.snapshot(rt, alloc)?.root())
+    let ((node, passes), (other, other_passes)) = (one, two);
+    let syncer = passes.last_mut().ok_or(Refusal::Stranger)?;
+    let other_syncer = other_passes.last_mut().ok_or(Refusal::Stranger)?;
+    publish_both(rt, alloc, node, other, slots)?;
+    node.sync(rt, alloc, slots, &other.pool, syncer)?;
+    other.sync(rt, alloc, slots, &node.pool, other_syncer)?;
+    publish_both(rt, alloc, node, other, slots)?;
+    let root = node.range.snapshot(rt, alloc)?.root();
+    Ok(root == other.range.snapshot(rt, alloc)?.root())
 }
 
 /// Closes a node's range, and returns its format and how many entries its journal has.
 fn close<L: Ledger>(
     alloc: Global,
     node: Node<L>,
-    writer: Pass<L>,
-    syncer: Pass<L>,
+    passes: Vec<Pass<L>>,
 ) -> Result<(Format, u64), Fail> {
-    let mut passes = Vec::with_capacity(alloc, 2)?;
-    passes.push(writer)?;
-    passes.push(syncer)?;
-    match node.range.close(alloc, passes) {
-        Ok(closed) => Ok((closed.state.config().format(), closed.state.journal().len())),
-        Err(refused) => Err(Fail::from(refused.refusal)),
-    }
+    let state = partners::close(alloc, node.range, passes)?;
+    Ok((state.config().format(), state.journal().len()))
 }
 
 /// How a storm ended: whether the roots are equal, and the format and the entries of each node.
@@ -244,26 +243,14 @@ where
     requires slots { (slots.name ≡ C.name) × (slots.parts ≡ C.parts) × (slots.parts ≡ 1024) }
 {
     let slots = open_slots::<C>(alloc, slots)?;
-    let (one, mut writer, mut syncer) = Node::<L>::open(alloc, first)?;
-    let (two, mut other_writer, mut other_syncer) = Node::<M>::open(alloc, second)?;
-    run_both(
-        rt,
-        alloc,
-        (&one, &mut writer, &mut syncer),
-        (&two, &mut other_writer, &mut other_syncer),
-        &slots,
-    )?;
-    let equal = bring_together(
-        rt,
-        alloc,
-        (&one, &mut syncer),
-        (&two, &mut other_syncer),
-        &slots,
-    )?;
+    let (one, mut passes) = Node::<L>::open(alloc, first)?;
+    let (two, mut others) = Node::<M>::open(alloc, second)?;
+    run_both(rt, alloc, (&one, &mut passes), (&two, &mut others), &slots)?;
+    let equal = bring_together(rt, alloc, (&one, &mut passes), (&two, &mut others), &slots)?;
     Ok(Ended {
         equal,
-        one: close(alloc, one, writer, syncer)?,
-        two: close(alloc, two, other_writer, other_syncer)?,
+        one: close(alloc, one, passes)?,
+        two: close(alloc, two, others)?,
     })
 }
 

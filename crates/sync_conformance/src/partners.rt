@@ -1,15 +1,18 @@
 // Partners, and syncs with what links give.
 ghost use Rattle.std.specs.Prelude.{◌≡◌};
 
+use caller_pass::pass::Pass;
 use conformance::versions::{members, version};
 use hash_tree::node::NodeAt;
-use node_conformance::opening::{last_pass, open_range, open_slots};
+use node_conformance::opening::{open_range, open_slots};
 use range_journal::journal::Source;
 use range_state::config::RangeConfig;
 use range_state::state::RangeState;
+use ring_node::controller::SharedController;
 use ring_node::gate::OpenGate;
 use ring_node::link::Link;
 use ring_node::offers::OfferPool;
+use ring_node::range::SharedRange;
 use ring_node::syncer::SyncReport;
 use snapshot::snapshot::Snapshot;
 use std::alloc::Global;
@@ -21,6 +24,23 @@ use sync_session::state::SessionState;
 use vclock::refusal::Refusal;
 use version_set::kind::Kind;
 
+/// Has a range take a version of that clock and value for each key, and makes all its nodes clean.
+fn fill(
+    rt: &(impl Threads + Sync),
+    alloc: Global,
+    state: &mut RangeState,
+    keys: &[&[u8]],
+    pair: (u64, u64),
+    value: &[u8],
+) -> Result<(), Refusal> {
+    for key in keys {
+        let version = version(alloc, pair, Kind::Live, value)?;
+        state.accept(alloc, 0, Source::Copy, key, version)?;
+    }
+    state.rehash(rt, alloc)?;
+    Ok(())
+}
+
 /// The snapshot of a partner of format 1 that has these keys, each with a version of that clock and value.
 pub fn snapshot_of(
     rt: &(impl Threads + Sync),
@@ -31,11 +51,7 @@ pub fn snapshot_of(
 ) -> Result<Arc<Snapshot, Global>, Fail> {
     let config = RangeConfig::new(1, 0, 0, 1_000).ok_or("no such range")?;
     let mut state = RangeState::new(alloc, config)?;
-    for key in keys {
-        let version = version(alloc, pair, Kind::Live, value)?;
-        state.accept(alloc, 0, Source::Copy, key, version)?;
-    }
-    state.rehash(rt, alloc)?;
+    fill(rt, alloc, &mut state, keys, pair, value)?;
     Ok(state.snapshot(alloc)?)
 }
 
@@ -45,9 +61,52 @@ pub fn pool_of<R: Threads + Wait + Sync>(
     alloc: Global,
     keys: &[&[u8]],
 ) -> Result<OfferPool, Fail> {
+    let snapshot = snapshot_of(rt, alloc, keys, (1, 1), b"x")?;
     let pool = OfferPool::new(alloc);
-    pool.publish(rt, snapshot_of(rt, alloc, keys, (1, 1), b"x")?)?;
+    pool.publish(rt, snapshot)?;
     Ok(pool)
+}
+
+/// Rehashes a range.
+pub fn rehash<L: Ledger, C: Ledger, R: Wait>(
+    rt: &R,
+    alloc: Global,
+    range: &SharedRange<L>,
+    slots: &SharedController<C>,
+) -> Result<(), Refusal> {
+    let slot = slots.lend(rt)?;
+    let rehashed = range.rehash_worker(rt, alloc, &slot, &OpenGate, 0, 300);
+    slots.give_back(rt, slot);
+    rehashed?;
+    Ok(())
+}
+
+/// Syncs a clean range with what a link gives, in so many turns.
+pub fn sync<L: Ledger, C: Ledger, K: Link, R: Wait>(
+    rt: &R,
+    alloc: Global,
+    range: &SharedRange<L>,
+    slots: &SharedController<C>,
+    pass: &mut Pass<L>,
+    link: &mut K,
+    turns: u64,
+) -> Result<SyncReport, Refusal> {
+    let slot = slots.lend(rt)?;
+    let report = range.sync_worker(rt, alloc, &slot, link, pass, 2, turns);
+    slots.give_back(rt, slot);
+    report
+}
+
+/// Closes a range, and returns its state.
+pub fn close<L: Ledger>(
+    alloc: Global,
+    range: SharedRange<L>,
+    passes: Vec<Pass<L>>,
+) -> Result<RangeState, Fail> {
+    match range.close(alloc, passes) {
+        Ok(closed) => Ok(closed.state),
+        Err(refused) => Err(Fail::from(refused.refusal)),
+    }
 }
 
 /// What came of a sync, and what the range had when it was closed.
@@ -78,6 +137,55 @@ impl Synced {
     }
 }
 
+/// Has a range take a version of `a` with that value, if there is one.
+fn take_own<L: Ledger, R: Wait>(
+    rt: &R,
+    alloc: Global,
+    range: &SharedRange<L>,
+    pass: &mut Pass<L>,
+    own: Option<&[u8]>,
+) -> Result<(), Refusal> {
+    if let Some(value) = own {
+        let version = version(alloc, (2, 1), Kind::Live, value)?;
+        range.copy(rt, alloc, pass, Source::Copy, b"a", version)?;
+    }
+    Ok(())
+}
+
+/// How each session of a range stands.
+fn sessions_of(alloc: Global, state: &RangeState) -> Result<Vec<SessionState>, Refusal> {
+    let mut sessions = Vec::new(alloc);
+    for record in state.records() {
+        sessions.push(record.session().state())?;
+    }
+    Ok(sessions)
+}
+
+/// Which nodes the last session of a range asked for.
+fn last_asked(alloc: Global, state: &RangeState) -> Result<Vec<NodeAt>, Refusal> {
+    match state.records().last() {
+        Some(record) => Ok(Vec::from_slice(alloc, record.session().asked())?),
+        None => Ok(Vec::new(alloc)),
+    }
+}
+
+/// What came of a sync, by the state that the range has when it is closed.
+fn sum_up(
+    alloc: Global,
+    state: &RangeState,
+    report: Result<SyncReport, Refusal>,
+    failures: u64,
+) -> Result<Synced, Fail> {
+    Ok(Synced {
+        report,
+        failures,
+        entries: state.journal().len(),
+        sessions: sessions_of(alloc, state)?,
+        asked: last_asked(alloc, state)?,
+        held: members(alloc, &state.get(alloc, b"a")?)?,
+    })
+}
+
 /// Syncs a clean range with what a link gives, in so many turns, and closes the range. It has a version of `a` with that
 /// value before, if there is one.
 pub fn sync_over<L: Ledger, C: Ledger, K: Link, R: Threads + Wait + Sync>(
@@ -92,36 +200,12 @@ pub fn sync_over<L: Ledger, C: Ledger, K: Link, R: Threads + Wait + Sync>(
     requires slots { (blanks.1.name ≡ C.name) × (blanks.1.parts ≡ C.parts) × (blanks.1.parts ≡ 1024) }
 {
     let (range, slots) = blanks;
-    let (range, mut passes) = open_range::<L>(alloc, range, 1, 1_000)?;
     let slots = open_slots::<C>(alloc, slots)?;
-    let mut pass = last_pass(&mut passes)?;
-    if let Some(value) = own {
-        let version = version(alloc, (2, 1), Kind::Live, value)?;
-        range.copy(rt, alloc, &mut pass, Source::Copy, b"a", version)?;
-    }
-    let slot = slots.lend(rt)?;
-    let rehashed = range.rehash_worker(rt, alloc, &slot, &OpenGate, 0, 300);
-    let report = range.sync_worker(rt, alloc, &slot, link, &mut pass, 2, turns);
-    slots.give_back(rt, slot);
-    rehashed?;
-    passes.push(pass)?;
-    let closed = match range.close(alloc, passes) {
-        Ok(closed) => closed,
-        Err(refused) => return Err(Fail::from(refused.refusal)),
-    };
-    let mut sessions = Vec::new(alloc);
-    let mut asked = Vec::new(alloc);
-    for record in closed.state.records() {
-        sessions.push(record.session().state())?;
-        asked = Vec::from_slice(alloc, record.session().asked())?;
-    }
-    let held = closed.state.get(alloc, b"a")?;
-    Ok(Synced {
-        report,
-        failures: link.failures(),
-        entries: closed.state.journal().len(),
-        sessions,
-        asked,
-        held: members(alloc, &held)?,
-    })
+    let (range, mut passes) = open_range::<L>(alloc, range, 1, 1_000)?;
+    let pass = passes.first_mut().ok_or("no pass")?;
+    take_own(rt, alloc, &range, pass, own)?;
+    rehash(rt, alloc, &range, &slots)?;
+    let report = sync(rt, alloc, &range, &slots, pass, link, turns);
+    let state = close(alloc, range, passes)?;
+    sum_up(alloc, &state, report, link.failures())
 }
