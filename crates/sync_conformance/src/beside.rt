@@ -13,6 +13,7 @@ use ring_node::range::SharedRange;
 use ring_node::syncer::SyncReport;
 use std::alloc::Global;
 use std::marker::Brand;
+use std::process::Abort;
 use std::sync::Wait;
 use std::sync::ledger::{Blank, Ledger};
 use std::test::Fail;
@@ -162,6 +163,19 @@ fn do_at_a_sync<L: Ledger + Send + Sync, C: Ledger + Send + Sync, R: Threads + W
     Ok((passed, state.journal().len()))
 }
 
+/// Asserts that a thread was held until the deed was done, what the deed returned, and what the sync reported.
+fn expect_passed(
+    rt: &impl Abort,
+    passed: Passed,
+    done: Option<u64>,
+    report: SyncReport,
+) -> Result<(), Fail> {
+    assert!(rt; !passed.gave_up);
+    assert_eq!(rt; passed.done?, done);
+    assert_eq!(rt; passed.report?, report);
+    Ok(())
+}
+
 #[test]
 fn a_write_passes_a_sync(rt: HostRuntime) -> Result<(), Fail> {
     let (range, slots) = (Blank::new(2), Blank::new(1024));
@@ -172,11 +186,8 @@ fn a_write_passes_a_sync(rt: HostRuntime) -> Result<(), Fail> {
         slots,
         Deed::Put,
     )?;
-    assert!(rt; !passed.gave_up);
-    assert_eq!(rt; passed.done?, Some(0));
-    assert_eq!(rt; passed.report?, finished(3, 1));
     assert_eq!(rt; entries, 2);
-    Ok(())
+    expect_passed(&rt, passed, Some(0), finished(3, 1))
 }
 
 #[test]
@@ -189,14 +200,11 @@ fn a_sync_ends_when_its_range_is_migrated(rt: HostRuntime) -> Result<(), Fail> {
         slots,
         Deed::Migrate,
     )?;
-    assert!(rt; !passed.gave_up);
-    assert_eq!(rt; passed.done?, None);
+    assert_eq!(rt; entries, 0);
     let ended = SyncReport {
         state: SessionState::Cancelled,
         bad: 1,
         ..finished(1, 0)
     };
-    assert_eq!(rt; passed.report?, ended);
-    assert_eq!(rt; entries, 0);
-    Ok(())
+    expect_passed(&rt, passed, None, ended)
 }

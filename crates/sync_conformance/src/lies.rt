@@ -1,7 +1,7 @@
 // Sync workers whose links lie or fail.
 ghost use Rattle.std.specs.Prelude.{◌≡◌};
 
-use crate::partners::{Synced, pool_of, sync_over};
+use crate::partners::{Synced, expect_asked, expect_counts, expect_report, pool_of, sync_over};
 use hash_tree::hashed::hash;
 use hash_tree::node::NodeAt;
 use ring_node::deed::Deed;
@@ -71,9 +71,8 @@ fn lies_are_counted_and_asked_again(rt: HostRuntime) -> Result<(), Fail> {
     let blanks = (Blank::new(1), Blank::new(1024));
     let keys = [b"a".as_slice()];
     let synced = sync_by::<Brand, Brand, HostRuntime>(&rt, alloc, blanks, &keys, &LIES, 7)?;
-    assert_eq!(rt; (synced.failures, synced.entries), (0, 1));
-    assert_eq!(rt; synced.report?, report(SessionState::Finished, 3, 1, 4));
-    Ok(())
+    expect_counts(&rt, &synced, 0, 1);
+    expect_report(&rt, synced, report(SessionState::Finished, 3, 1, 4))
 }
 
 #[test]
@@ -86,9 +85,8 @@ fn a_session_is_cancelled_when_its_turns_are_used(rt: HostRuntime) -> Result<(),
         synced.sessions.as_slice(),
         [SessionState::Cancelled].as_slice()
     );
-    assert_eq!(rt; (synced.failures, synced.entries), (0, 0));
-    assert_eq!(rt; synced.report?, report(SessionState::Cancelled, 3, 0, 4));
-    Ok(())
+    expect_counts(&rt, &synced, 0, 0);
+    expect_report(&rt, synced, report(SessionState::Cancelled, 3, 0, 4))
 }
 
 #[test]
@@ -100,9 +98,8 @@ fn the_node_of_the_answer_is_taken(rt: HostRuntime) -> Result<(), Fail> {
     let deeds = [Deed::Pass, Deed::Pass, Deed::Node(other)];
     let synced = sync_by::<Brand, Brand, HostRuntime>(&rt, alloc, blanks, &keys, &deeds, 5)?;
     let asked = [(0, 0), (1, 0), (1, 9), (2, 144), (2, 12)];
-    assert_eq!(rt; synced.asked(alloc)?.as_slice(), asked.as_slice());
-    assert_eq!(rt; synced.report?, report(SessionState::Finished, 5, 2, 0));
-    Ok(())
+    expect_asked(&rt, alloc, &synced, &asked)?;
+    expect_report(&rt, synced, report(SessionState::Finished, 5, 2, 0))
 }
 
 /// What a sync of three asks comes to whose call of that number, counted from 1, has a deed done.
@@ -134,7 +131,7 @@ fn expect_end(rt: &impl Abort, synced: &Synced, call: u64, failures: u64) {
         cancelled.as_slice()
     };
     assert_eq!(rt; synced.sessions.as_slice(), sessions);
-    assert_eq!(rt; (synced.failures, synced.entries), (failures, 0));
+    expect_counts(rt, synced, failures, 0);
 }
 
 #[test]
@@ -229,8 +226,7 @@ fn a_text_of_no_node_fails_the_session(rt: HostRuntime) -> Result<(), Fail> {
         &rt, alloc, blanks, None, &mut link, 600,
     )?;
     assert_eq!(rt; synced.entries, 0);
-    assert_eq!(rt; synced.report?, report(SessionState::Failed, 1, 0, 0));
-    Ok(())
+    expect_report(&rt, synced, report(SessionState::Failed, 1, 0, 0))
 }
 
 /// How many bytes a flood has.
@@ -297,7 +293,6 @@ fn floods_are_bad_answers(rt: HostRuntime) -> Result<(), Fail> {
     let synced = sync_over::<Brand, Brand, Flood<MemoryLink>, HostRuntime>(
         &rt, alloc, blanks, None, &mut flood, 3,
     )?;
-    assert_eq!(rt; (synced.failures, synced.entries), (0, 0));
-    assert_eq!(rt; synced.report?, report(SessionState::Cancelled, 1, 0, 3));
-    Ok(())
+    expect_counts(&rt, &synced, 0, 0);
+    expect_report(&rt, synced, report(SessionState::Cancelled, 1, 0, 3))
 }

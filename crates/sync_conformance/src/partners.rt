@@ -16,6 +16,7 @@ use ring_node::range::SharedRange;
 use ring_node::syncer::SyncReport;
 use snapshot::snapshot::Snapshot;
 use std::alloc::Global;
+use std::process::Abort;
 use std::sync::ledger::{Blank, Ledger};
 use std::sync::{Arc, Wait};
 use std::test::Fail;
@@ -184,6 +185,33 @@ fn sum_up(
         asked: last_asked(alloc, state)?,
         held: members(alloc, &state.get(alloc, b"a")?)?,
     })
+}
+
+/// Asserts that the last session of a sync asked for these nodes, in order: of each its depth and its index.
+pub fn expect_asked(
+    rt: &impl Abort,
+    alloc: Global,
+    synced: &Synced,
+    nodes: &[(u8, u16)],
+) -> Result<(), Fail> {
+    assert_eq!(rt; synced.asked(alloc)?.as_slice(), nodes);
+    Ok(())
+}
+
+/// Asserts that a sync had so many failures of its link, and that its range had so many entries then.
+pub fn expect_counts(rt: &impl Abort, synced: &Synced, failures: u64, entries: u64) {
+    assert_eq!(rt; (synced.failures, synced.entries), (failures, entries));
+}
+
+/// Asserts which versions of `a` a range held after a sync.
+pub fn expect_held(rt: &impl Abort, synced: &Synced, held: &str) {
+    assert_eq!(rt; synced.held.as_str(), held);
+}
+
+/// Asserts that a sync was not refused, and reported this.
+pub fn expect_report(rt: &impl Abort, synced: Synced, report: SyncReport) -> Result<(), Fail> {
+    assert_eq!(rt; synced.report?, report);
+    Ok(())
 }
 
 /// Syncs a clean range with what a link gives, in so many turns, and closes the range. It has a version of `a` with that

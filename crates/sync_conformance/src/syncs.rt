@@ -1,5 +1,7 @@
 // Sync workers whose partners answer truly.
-use crate::partners::{pool_of, snapshot_of, sync_over};
+use crate::partners::{
+    expect_asked, expect_counts, expect_held, expect_report, pool_of, snapshot_of, sync_over,
+};
 use ring_node::link::{Link, Reached};
 use ring_node::memory::MemoryLink;
 use ring_node::offers::OfferPool;
@@ -34,14 +36,10 @@ fn a_sync_takes_what_is_missing(rt: HostRuntime) -> Result<(), Fail> {
     let synced = sync_over::<Brand, Brand, MemoryLink, HostRuntime>(
         &rt, alloc, blanks, None, &mut link, 600,
     )?;
-    assert_eq!(rt;
-        synced.asked(alloc)?.as_slice(),
-        [(0, 0), (1, 0), (2, 12)].as_slice()
-    );
-    assert_eq!(rt; (synced.failures, synced.entries), (0, 1));
-    assert_eq!(rt; synced.held.as_str(), "[(1, 1)] Live [120]\n");
-    assert_eq!(rt; synced.report?, finished(3, 1));
-    Ok(())
+    expect_asked(&rt, alloc, &synced, &[(0, 0), (1, 0), (2, 12)])?;
+    expect_counts(&rt, &synced, 0, 1);
+    expect_held(&rt, &synced, "[(1, 1)] Live [120]\n");
+    expect_report(&rt, synced, finished(3, 1))
 }
 
 #[test]
@@ -56,12 +54,8 @@ fn two_values_with_equal_clocks_are_held(rt: HostRuntime) -> Result<(), Fail> {
     let synced = sync_over::<Brand, Brand, MemoryLink, HostRuntime>(
         &rt, alloc, blanks, own, &mut link, 600,
     )?;
-    assert_eq!(rt;
-        synced.held.as_str(),
-        "[(2, 1)] Live [112]\n[(2, 1)] Live [113]\n"
-    );
-    assert_eq!(rt; synced.report?, finished(3, 1));
-    Ok(())
+    expect_held(&rt, &synced, "[(2, 1)] Live [112]\n[(2, 1)] Live [113]\n");
+    expect_report(&rt, synced, finished(3, 1))
 }
 
 /// A link whose partner publishes 16 more snapshots before it answers the second ask.
@@ -122,6 +116,6 @@ fn a_dropped_offer_is_gone(rt: HostRuntime) -> Result<(), Fail> {
         synced.sessions.as_slice(),
         [SessionState::Cancelled].as_slice()
     );
-    assert_eq!(rt; (synced.failures, synced.entries), (0, 0));
+    expect_counts(&rt, &synced, 0, 0);
     Ok(())
 }
