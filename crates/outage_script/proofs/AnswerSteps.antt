@@ -1,6 +1,6 @@
 -- What follows from an answer.
 use Rattle.std.proofs.Common.{Result, Ok, Err}
-use Rattle.std.specs.Prelude.{OnOk, IfOk}
+use Rattle.std.specs.Prelude.{OnOk}
 
 -- what holds whatever was answered
 pub on_ok_always : {T E : Type 0} (r : Result T E) (Q : Type 0) → Q → OnOk r Q
@@ -11,7 +11,3 @@ on_ok_always (Err e) Q q = tt {0}
 pub on_ok_then : {T E : Type 0} (r : Result T E) (P Q : Type 0) → OnOk r P → (P → Q) → OnOk r Q
 on_ok_then (Ok x) P Q p f = f p
 on_ok_then (Err e) P Q p f = tt {0}
-
-pub if_ok_then : {T E : Type 0} (r : Result T E) (P Q : T → Type 0) → IfOk r P → ((x : T) → P x → Q x) → IfOk r Q
-if_ok_then (Ok x) P Q p f = f x p
-if_ok_then (Err e) P Q p f = tt {0}

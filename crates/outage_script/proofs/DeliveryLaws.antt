@@ -13,10 +13,10 @@ use Rattle.vclock.specs.Outcome.{Outcome, gives, refuses, ◌>>◌}
 use Rattle.version_set.specs.declared.kind.Kind.{Kind}
 use Rattle.range_state.specs.State as range
 use Rattle.range_state.specs.Sessions.{crowd_fault}
-use Rattle.serde_json.specs.Data.{Data}
+use Rattle.outage_script.specs.declared.answer.Answer.{Answer}
 use Rattle.outage_script.specs.Asks.{PutAsk, SyncAsk}
 use Rattle.outage_script.specs.Acts.{after_copy, ask_fault, gets_hint, kept_at, kind_of, nodes_fault, put_act, put_at, put_into, replica_in, sync_at, synced_in, takes, value_of}
-use Rattle.outage_script.specs.Answers.{deliver_answer, put_answer}
+use Rattle.outage_script.specs.declared.answer.Answer.TheVariants as Answers
 use Rattle.outage_script.specs.Handoff.{Round, carrier_of, deliver_at, hinted, kept_all, owners_of, round_of}
 use Rattle.outage_script.specs.State.{Cluster, Replica, at_home, hints_of, is_down, is_member, replica_at, replicas_of, with_replicas}
 use Rattle.outage_script.specs.Syncs.{walk_fault}
@@ -31,7 +31,7 @@ pub has_place : (s : Cluster) (n : ℕ) → nodes_fault s n [] ≡ None → posi
 has_place s n fine none = placed (λ m. m == n) s.ring.nodes (member (is_member s n) (cond (is_down s n) (Some Down) None) fine) none
 
 -- what a delivery is where the node is at i
-pub delivered_at : (s : Cluster) (n i : ℕ) (hs : List Kept) (r : Round) → position (λ m. m == n) s.ring.nodes ≡ Some i → slice_get s.hints i ≡ Some hs → round_of s hs ≡ r → deliver_at s n (hints_of s n) ≡ gives (deliver_answer r.taken r.known (pending_count r.hints)) (record s { replicas = r.replicas; hints = slice_set s.hints i r.hints })
+pub delivered_at : (s : Cluster) (n i : ℕ) (hs : List Kept) (r : Round) → position (λ m. m == n) s.ring.nodes ≡ Some i → slice_get s.hints i ≡ Some hs → round_of s hs ≡ r → deliver_at s n (hints_of s n) ≡ gives (Answers.Deliver r.taken r.known (pending_count r.hints)) (record s { replicas = r.replicas; hints = slice_set s.hints i r.hints })
 delivered_at s n i hs r p e is = rw (p, e, is, p) refl
 
 -- what the hints of a put do where the carrier is at i
@@ -43,7 +43,7 @@ pub hinted_none : (e : Entry) (owners : List ℕ) (s : Cluster) (o : Option ℕ)
 hinted_none e owners s o n is p = rw (is, p) refl
 
 -- a put that was taken
-pub put_result : (p : PutAsk) (s : Cluster) (e : Entry) (copies n : ℕ) (owners : List ℕ) (new : List Replica) (after : Cluster) → ask_fault p s ≡ None → put_into s.down p (replicas_of s p.key) ≡ gives (e, copies) new → owners ≡ owners_of (gets_hint s.down p.node p.lose) (replicas_of s p.key) → n ≡ (hinted e owners (with_replicas s p.key new) (carrier_of s (range_at s.ring.bits p.key))).0 → after ≡ (hinted e owners (with_replicas s p.key new) (carrier_of s (range_at s.ring.bits p.key))).1 → put_act p s ≡ gives (put_answer e.version.clock copies n e.number) after
+pub put_result : (p : PutAsk) (s : Cluster) (e : Entry) (copies n : ℕ) (owners : List ℕ) (new : List Replica) (after : Cluster) → ask_fault p s ≡ None → put_into s.down p (replicas_of s p.key) ≡ gives (e, copies) new → owners ≡ owners_of (gets_hint s.down p.node p.lose) (replicas_of s p.key) → n ≡ (hinted e owners (with_replicas s p.key new) (carrier_of s (range_at s.ring.bits p.key))).0 → after ≡ (hinted e owners (with_replicas s p.key new) (carrier_of s (range_at s.ring.bits p.key))).1 → put_act p s ≡ gives (Answers.Put e.version.clock copies n e.number) after
 unfolding put_act
 put_result p s e copies n owners new after fine made own count is = rw (fine, made, count, is, own) refl
 
@@ -79,7 +79,7 @@ pub sync_refused : (q : SyncAsk) (s : Cluster) (e : Refusal) → walk_fault (kep
 unfolding sync_at
 sync_refused q s e cause = pick (kept_at s q.from q.range) (replica_in s q.node q.range) cause
   where
-    one : (f : Option Refusal) (rest : Outcome Data Cluster) (later : Option Refusal) → (later ≡ Some e → rest ≡ refuses e) → first_fault f later ≡ Some e → (f >> rest) ≡ refuses e
+    one : (f : Option Refusal) (rest : Outcome Answer Cluster) (later : Option Refusal) → (later ≡ Some e → rest ≡ refuses e) → first_fault f later ≡ Some e → (f >> rest) ≡ refuses e
     one (Some x) rest later more is = cc
     one None rest later more is = more is
 
@@ -88,6 +88,6 @@ sync_refused q s e cause = pick (kept_at s q.from q.range) (replica_in s q.node 
     pick (Some h) None is = one (range.dirty_fault h) _ _ (λ later. cc) is
     pick (Some h) (Some r) is = one (range.dirty_fault h) _ _ (one (crowd_fault r.sessions) _ _ (stands (range.dirty_fault r.range) _)) is
       where
-        stands : (f : Option Refusal) (rest : Outcome Data Cluster) → f ≡ Some e → (f >> rest) ≡ refuses e
+        stands : (f : Option Refusal) (rest : Outcome Answer Cluster) → f ≡ Some e → (f >> rest) ≡ refuses e
         stands (Some x) rest is = cc
         stands None rest is = cc

@@ -1,6 +1,7 @@
 pub mod Known
 pub mod OutcomeSteps
 pub mod ReadLemmas
+pub mod TreeLemmas
 pub mod AnswerLemmas
 pub mod ReplicaLaws
 pub mod LineLemmas

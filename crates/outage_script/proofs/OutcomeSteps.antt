@@ -1,11 +1,13 @@
 -- What the outcome of a part tells of the whole.
 use Rattle.std.proofs.Common.{◌≡◌, ℕ, Bool, true, false, set, get_or, List, Option, Some, None, refl, sym, ap, ◌∙◌, subst, inl, inr, cond}
 use Rattle.std.proofs.lemmas.List.{set-get_or}
-use Rattle.std.specs.Prelude.{Result, Ok, Err, OnOk}
+use Rattle.std.specs.Prelude.{Result, Ok, Err, OnOk, IfOk, IfErr, ◌≢◌}
+use Rattle.std.specs.declared.alloc.AllocError.{AllocError}
 use Rattle.vclock.specs.Answer.{Answers}
 use Rattle.vclock.specs.Clock.{Pairs, raise_fault, raised}
 use Rattle.vclock.specs.Outcome.{Outcome, gives, refuses, through, Does, DoesOrNoMemory, DoesOrBreaksOff, ◌>>◌, ◌>>=◌}
 use Rattle.vclock.specs.declared.refusal.Refusal.{Refusal}
+use Rattle.vclock.specs.declared.refusal.Refusal.TheVariants.{NoMemory}
 use Rattle.version_set.specs.declared.kind.Kind.{Kind}
 use Rattle.version_set.specs.declared.version.Version.{Version}
 use Rattle.version_set.specs.Version.{offer_fault}
@@ -18,8 +20,11 @@ use Rattle.range_state.specs.declared.event.Accepted.TheVariants.{Taken, Known}
 use Rattle.range_state.specs.State.{State, place_fault, knows, full_fault, stale_fault, entry_of, journaled, accept, put, put_entry, put_version}
 use Rattle.range_state.specs.Trees.{rehashed}
 use Rattle.outage_script.specs.Acts.{clean_at}
+use Rattle.outage_script.specs.Answers.{replied}
+use Rattle.outage_script.specs.declared.answer.Answer.{Answer}
+use Rattle.outage_script.specs.declared.answer.Answer.TheVariants.{Refused}
 use Rattle.outage_script.specs.Homes.{IsHome}
-use Rattle.outage_script.specs.State.{Replica, keeping, replica_of, without_records, with_home, in_replica, in_home, at_home}
+use Rattle.outage_script.specs.State.{Replica, keeping, replica_of, without_records, with_home, in_replica, in_home, at_home, left}
 use Rattle.outage_script.proofs.SyncLaws.{rehash_kept}
 
 -- a call that wants memory for a cause says no more than one that does not
@@ -130,3 +135,23 @@ pub homed_off : {T : Type 0} (n : ℕ) (reps : List Replica) (i : ℕ) (r new : 
 homed_off n reps i r new call (Ok x) its is did = at_its n reps i r call its is ∙ given n reps i r new x (call r.range) its is did
 homed_off n reps i r new call (Err e) its is (inl m) = inl m
 homed_off n reps i r new call (Err e) its is (inr (same, cause)) = inr (unchanged reps i r new is same, at_its n reps i r call its is ∙ turned_down n reps r e (call r.range) cause)
+
+-- ---- what is told
+
+-- a refusal is told by its name, and want of memory is not told
+pub told_reply : {S : Type 0} (r : Result Answer Refusal) (a : Result Answer AllocError) (old new : S) (o : Outcome Answer S) → DoesOrBreaksOff r old new o
+    → IfOk r (λ x. a ≡ Ok x) → IfErr r (λ e. IfOk a (λ x. (e ≢ NoMemory) × (x ≡ Refused e))) → IfOk a (λ x. x ≡ replied o)
+told_reply (Ok x) (Ok y) old new o did ok err = let same : y ≡ x = cc in same ∙ ap replied (sym did)
+told_reply (Ok x) (Err f) old new o did ok err = tt {0}
+told_reply (Err e) (Ok y) old new o (inl m) ok err = absurd (err.0 m)
+told_reply (Err e) (Ok y) old new o (inr is) ok err = err.1 ∙ ap replied (sym is.1)
+told_reply (Err e) (Err f) old new o did ok err = tt {0}
+
+-- and changes nothing
+pub told_after : {S : Type 0} (r : Result Answer Refusal) (a : Result Answer AllocError) (old new : S) (o : Outcome Answer S) → DoesOrBreaksOff r old new o
+    → IfOk r (λ x. a ≡ Ok x) → IfErr r (λ e. IfOk a (λ x. (e ≢ NoMemory) × (x ≡ Refused e))) → OnOk a (new ≡ left o old)
+told_after (Ok x) (Ok y) old new o did ok err = ap (λ p. left p old) (sym did)
+told_after (Ok x) (Err f) old new o did ok err = tt {0}
+told_after (Err e) (Ok y) old new o (inl m) ok err = absurd (err.0 m)
+told_after (Err e) (Ok y) old new o (inr is) ok err = is.0 ∙ ap (λ p. left p old) (sym is.1)
+told_after (Err e) (Err f) old new o did ok err = tt {0}

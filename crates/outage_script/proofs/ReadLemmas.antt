@@ -1,15 +1,17 @@
 -- JSON values beside what is read of them.
-use Rattle.std.proofs.Common.{◌≡◌, ◌≢◌, ℕ, List, [], ◌∷◌, length, Option, Some, None, option_map, Bool, true, false, cond, String, Global, string_bytes, slice_get, refl, arith}
-use Rattle.std.specs.Prelude.{IsUtf8, option_and_then}
+use Rattle.std.proofs.Common.{◌≡◌, ◌≢◌, ℕ, List, [], ◌∷◌, length, Some, None, Bool, true, false, cond, String, Global, string_bytes, slice_get, refl, sym, ap, ◌∙◌, arith}
+use Rattle.std.specs.Prelude.{IsUtf8}
 use Rattle.std.specs.Str.{is_utf8}
 use Rattle.std.proofs.lemmas.Str.{IsUtf8-from_is_utf8, is_utf8-from_IsUtf8}
 use Rattle.serde_json.specs.Data.{Data}
-use Rattle.serde_json.specs.Read.{read}
-use Rattle.serde_json.specs.Events.{members_len}
-use Rattle.serde_json.specs.View.{view, items_view, members_view}
+use Rattle.json.specs.Json as json
+use Rattle.json.specs.Lex.{tokens}
+use Rattle.json.specs.Token.{Token}
+use Rattle.serde_json.specs.Read.{read, of_json, max_depth}
+use Rattle.serde_json.specs.View.{view, members_view}
 use Rattle.serde_json.specs.declared.value.Value.{Value}
-use Rattle.serde_json.proofs.Views.{members_len-members_view, Entry}
-use Rattle.outage_script.specs.Reading.{sole, value_of, each_of, number_of, two_of}
+use Rattle.serde_json.proofs.Views.{Entry}
+use Rattle.outage_script.specs.Reading.{sole, value_of}
 
 -- a line that was read has that value
 pub value_read : (line : List ℕ) (d : Data) → IsUtf8 line → read line ≡ Some d → value_of line ≡ Some d
@@ -25,9 +27,25 @@ value_refused line none = by_test (is_utf8 line) (λ h. none (IsUtf8-from_is_utf
     by_test true h = h refl
     by_test false h = refl
 
--- an object has as many members as its map has entries
-pub counted : (es : List Entry) → members_len (members_view es) ≡ length es
-counted es = members_len-members_view es
+-- a line whose tokens are those of a tree has the tree's value
+pub tree_read : (line : List ℕ) (j : json.Json) → IsUtf8 line → json.value max_depth (tokens line) ≡ Some (j, []) → value_of line ≡ of_json j
+unfolding value_of
+tree_read line j text e = rw (is_utf8-from_IsUtf8 line text, e) refl
+
+-- the same in steps: the tokens of the text, all of which are read
+pub tree_value : (line text : List ℕ) (start rest : List Token) (j : json.Json) → IsUtf8 line → text ≡ line → start ≡ tokens text → json.value max_depth start ≡ Some (j, rest) → rest ≡ [] → value_of line ≡ of_json j
+tree_value line text start rest j good same from e none =
+    tree_read line j good (ap (json.value max_depth) (sym (from ∙ ap tokens same)) ∙ e ∙ ap (λ r. Some (j, r)) none)
+
+-- a line with more after a tree has no value
+pub more_read : (line : List ℕ) (j : json.Json) (t : Token) (ts : List Token) → IsUtf8 line → json.value max_depth (tokens line) ≡ Some (j, t ∷ ts) → value_of line ≡ None
+unfolding value_of
+more_read line j t ts text e = rw (is_utf8-from_IsUtf8 line text, e) refl
+
+-- nor has a line that begins with no tree
+pub no_tree : (line : List ℕ) → IsUtf8 line → json.value max_depth (tokens line) ≡ None → value_of line ≡ None
+unfolding value_of
+no_tree line text e = rw (is_utf8-from_IsUtf8 line text, e) refl
 
 -- the first of one entry is the sole member
 pub one_member : (es : List Entry) (k : String Global) (v : Value) → length es ≡ 1 → slice_get es 0 ≡ Some (k, v) → sole (members_view es) ≡ Some (string_bytes k, view v)
@@ -40,21 +58,3 @@ pub other_members : (es : List Entry) → length es ≢ 1 → sole (members_view
 other_members [] other = refl
 other_members (e ∷ []) other = absurd (other refl)
 other_members (e ∷ f ∷ es) other = refl
-
--- a list of other than two items is no pair
-pub other_items : (vs : List Value) → length vs ≢ 2 → option_and_then two_of (each_of number_of (items_view vs)) ≡ None
-other_items [] other = refl
-other_items (v ∷ []) other = one (number_of (view v))
-  where
-    one : (o : Option ℕ) → option_and_then two_of (option_and_then (λ a. Some (a ∷ [])) o) ≡ None
-    one None = refl
-    one (Some a) = refl
-other_items (v ∷ w ∷ []) other = absurd (other refl)
-other_items (v ∷ w ∷ x ∷ vs) other = several (number_of (view v)) (number_of (view w)) (number_of (view x)) (each_of number_of (items_view vs))
-  where
-    several : (o p q : Option ℕ) (r : Option (List ℕ)) → option_and_then two_of (option_and_then (λ a. option_map (λ more. a ∷ more) (option_and_then (λ b. option_map (λ more. b ∷ more) (option_and_then (λ c. option_map (λ more. c ∷ more) r) q)) p)) o) ≡ None
-    several None p q r = refl
-    several (Some a) None q r = refl
-    several (Some a) (Some b) None r = refl
-    several (Some a) (Some b) (Some c) None = refl
-    several (Some a) (Some b) (Some c) (Some r) = refl

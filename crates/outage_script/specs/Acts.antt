@@ -1,7 +1,6 @@
 -- What the commands do to the state, and what they answer.
 use Rattle.std.specs.Prelude.{ℕ, ◌^◌, Bool, true, false, not, ◌==◌, ◌&&◌, ◌-◌, nat_le, nat_lt, slice_index_or, List, [], ◌∷◌, length, map, filter, if◌then◌else◌, Option, Some, None, is_some}
 use Rattle.std.specs.List.{list_any, list_all}
-use Rattle.serde_json.specs.Data.{Data}
 use Rattle.vclock.specs.Answer.{first_fault}
 use Rattle.vclock.specs.Clock.{clock_of, pairs_fault}
 use Rattle.vclock.specs.Keys.{key_fault}
@@ -12,6 +11,8 @@ use Rattle.vclock.specs.declared.refusal.Refusal.{Refusal}
 use Rattle.vclock.specs.declared.refusal.Refusal.TheVariants.{BadRing, Down, OtherRange}
 use Rattle.version_set.specs.Kind.{value_fault}
 use Rattle.version_set.specs.declared.kind.Kind.{Kind}
+use Rattle.version_set.specs.declared.version.Version.{Version}
+use Rattle.row_bytes.specs.Rows.{row_text}
 use Rattle.version_set.specs.declared.kind.Kind.TheVariants.{Live, Tombstone}
 use Rattle.key_ring.specs.Places.{range_at}
 use Rattle.key_ring.specs.Ring.{Places, ring_fault}
@@ -28,7 +29,8 @@ use Rattle.range_state.specs.declared.event.Accepted.{Accepted}
 use Rattle.hash_tree.specs.Nodes.{tree_depth, place_at, digest_at, dirty_count}
 use Rattle.hash_tree.specs.Texts.{node_digest}
 use Rattle.outage_script.specs.Asks.{RingAsk, PutAsk, GetAsk, RehashAsk, SyncAsk, NodeAsk, Ask, ring, put, get, row, take_down, bring_up, deliver, rehash, sync, show_node, slot, sample}
-use Rattle.outage_script.specs.Answers.{ring_answer, put_answer, versions_answer, row_answer, up_answer, rehash_answer, node_answer}
+use Rattle.outage_script.specs.declared.answer.Answer.{Answer}
+use Rattle.outage_script.specs.declared.answer.Answer.TheVariants as Answers
 use Rattle.outage_script.specs.State.{Cluster, State, Replica, first_slots, made, in_replica, at_home, left, replica_at, at_node, replicas_of, with_range, with_replicas, home, is_member, is_down, taken_down, brought_up, hints_of}
 use Rattle.outage_script.specs.Handoff.{owners_of, carrier_of, hinted, deliver_at}
 use Rattle.outage_script.specs.Syncs.{told, synced_with}
@@ -44,11 +46,11 @@ abbrev pub ring_config : RingAsk → Option Config
 ring_config r = config_of r.format r.bits 0 r.limit
 
 -- everything anew
-abbrev pub ring_act : RingAsk → Option Config → Outcome Data State
+abbrev pub ring_act : RingAsk → Option Config → Outcome Answer State
 ring_act r None = refuses BadRing
 ring_act r (Some c) = do
   ring_fault (places_of r)
-  gives (ring_answer (length r.nodes) (2 ^ r.bits)) (record { cluster = made (places_of r) c; slots = first_slots })
+  gives (Answers.Ring (length r.nodes) (2 ^ r.bits)) (record { cluster = made (places_of r) c; slots = first_slots })
 
 -- ---- nodes
 
@@ -64,15 +66,15 @@ down_fault s node = if is_down s node then Some Down else None
 abbrev pub nodes_fault : Cluster → ℕ → List ℕ → Option Refusal
 nodes_fault s node others = first_fault (ring_nodes_fault s node others) (down_fault s node)
 
-unfoldable pub down_act : ℕ → Cluster → Outcome Data Cluster
+unfoldable pub down_act : ℕ → Cluster → Outcome Answer Cluster
 down_act n s = do
   ring_nodes_fault s n []
-  gives (up_answer n false) (taken_down s n)
+  gives (Answers.Up n false) (taken_down s n)
 
-unfoldable pub up_act : ℕ → Cluster → Outcome Data Cluster
+unfoldable pub up_act : ℕ → Cluster → Outcome Answer Cluster
 up_act n s = do
   ring_nodes_fault s n []
-  gives (up_answer n true) (brought_up s n)
+  gives (Answers.Up n true) (brought_up s n)
 
 -- ---- a put
 
@@ -124,10 +126,10 @@ put_into down p reps = do
   gives (at.0, length (filter (takes down p.node p.lose at.0) at.1)) (map (after_copy down p.node p.lose at.0) at.1)
 
 -- a put whose hints were kept
-abbrev pub put_told : Entry × ℕ → ℕ × Cluster → Outcome Data Cluster
-put_told e kept = gives (put_answer e.0.version.clock e.1 kept.0 e.0.number) kept.1
+abbrev pub put_told : Entry × ℕ → ℕ × Cluster → Outcome Answer Cluster
+put_told e kept = gives (Answers.Put e.0.version.clock e.1 kept.0 e.0.number) kept.1
 
-unfoldable pub put_act : PutAsk → Cluster → Outcome Data Cluster
+unfoldable pub put_act : PutAsk → Cluster → Outcome Answer Cluster
 put_act p s = do
   ask_fault p s
   at ← put_into s.down p (replicas_of s p.key)
@@ -136,22 +138,27 @@ put_act p s = do
 -- ---- what a node keeps
 
 -- what is shown of what a node keeps
-abbrev pub shown : Cluster → (range.State → Data) → Option range.State → Outcome Data Cluster
+abbrev pub shown : Cluster → (range.State → Answer) → Option range.State → Outcome Answer Cluster
 shown s show None = refuses OtherRange
 shown s show (Some h) = gives (show h) s
 
 -- what is shown of a key at a node
-unfoldable pub key_act : (range.State → Data) → GetAsk → Cluster → Outcome Data Cluster
+unfoldable pub key_act : (range.State → Answer) → GetAsk → Cluster → Outcome Answer Cluster
 key_act show g s = do
   nodes_fault s g.node []
   key_fault g.key
   shown s show (home g.node (replicas_of s g.key))
 
-abbrev pub held_at : GetAsk → range.State → Data
-held_at g h = versions_answer (held h.entries g.key)
+abbrev pub held_at : GetAsk → range.State → Answer
+held_at g h = Answers.Versions (held h.entries g.key)
 
-abbrev pub row_at : GetAsk → range.State → Data
-row_at g h = row_answer h.config.format g.key (held h.entries g.key)
+-- a row's text in a format, or none where nothing is held
+abbrev pub text_of : Format → List ℕ → List Version → List ℕ
+text_of format key [] = []
+text_of format key (v ∷ vs) = row_text format (record { key = key; versions = v ∷ vs })
+
+abbrev pub row_at : GetAsk → range.State → Answer
+row_at g h = Answers.Row (text_of h.config.format g.key (held h.entries g.key))
 
 -- what a node keeps of the range of that number: nothing too if the ring has no such range
 abbrev pub kept_at : Cluster → ℕ → ℕ → Option range.State
@@ -161,10 +168,10 @@ kept_at s node r = home node (slice_index_or s.replicas r [])
 abbrev pub shown_digest : ℕ → ℕ → range.State → Option (List ℕ)
 shown_digest depth index h = if is_some (digest_at h.marks (place_at depth index)) then Some (node_digest h.config.format (range.leaf_in h.config) (rows_of h.entries) (tree_depth h.config.format - depth) index) else None
 
-abbrev pub node_at : NodeAsk → range.State → Data
-node_at q h = node_answer (shown_digest q.depth q.index h)
+abbrev pub node_at : NodeAsk → range.State → Answer
+node_at q h = Answers.Node (shown_digest q.depth q.index h)
 
-unfoldable pub node_act : NodeAsk → Cluster → Outcome Data Cluster
+unfoldable pub node_act : NodeAsk → Cluster → Outcome Answer Cluster
 node_act q s = do
   nodes_fault s q.node []
   shown s (node_at q) (kept_at s q.node q.range)
@@ -184,10 +191,10 @@ range_fault s node r = first_fault (nodes_fault s node []) (kept_fault (kept_at 
 abbrev pub clean_at : range.State → Outcome ℕ range.State
 clean_at h = gives (dirty_count h.marks) (rehashed h)
 
-unfoldable pub rehash_at : RehashAsk → Cluster → Outcome Data Cluster
+unfoldable pub rehash_at : RehashAsk → Cluster → Outcome Answer Cluster
 rehash_at q s = do
   hashed ← at_home q.node clean_at (slice_index_or s.replicas q.range [])
-  gives (rehash_answer hashed.0) (with_range s q.range hashed.1)
+  gives (Answers.Rehash hashed.0) (with_range s q.range hashed.1)
 
 -- why a sync is refused for its nodes: one is not on the ring, one is down, or one does not keep the range
 abbrev pub pair_fault : SyncAsk → Cluster → Option Refusal
@@ -201,7 +208,7 @@ abbrev pub replica_in : Cluster → ℕ → ℕ → Option Replica
 replica_in s node r = replica_at node (slice_index_or s.replicas r [])
 
 -- a sync of a replica with what another node keeps
-abbrev pub synced_in : SyncAsk → Cluster → Option range.State → Option Replica → Outcome Data Cluster
+abbrev pub synced_in : SyncAsk → Cluster → Option range.State → Option Replica → Outcome Answer Cluster
 synced_in q s None own = refuses OtherRange
 synced_in q s (Some h) None = do
   range.dirty_fault h
@@ -210,41 +217,41 @@ synced_in q s (Some h) (Some own) = do
   range.dirty_fault h
   crowd_fault own.sessions
   range.dirty_fault own.range
-  gives (told own (range.rows_now h)) (with_range s q.range (at_node q.node (synced_with (range.rows_now h)) (slice_index_or s.replicas q.range [])))
+  gives (Answers.Sync (told own (range.rows_now h))) (with_range s q.range (at_node q.node (synced_with (range.rows_now h)) (slice_index_or s.replicas q.range [])))
 
-unfoldable pub sync_at : SyncAsk → Cluster → Outcome Data Cluster
+unfoldable pub sync_at : SyncAsk → Cluster → Outcome Answer Cluster
 sync_at q s = synced_in q s (kept_at s q.from q.range) (replica_in s q.node q.range)
 
 -- ---- the commands
 
 -- what is done in the cluster, or with the slots, as done with the state
-abbrev pub in_cluster : State → Outcome Data Cluster → Outcome Data State
+abbrev pub in_cluster : State → Outcome Answer Cluster → Outcome Answer State
 in_cluster s done = through (λ c. record s { cluster = c }) done
 
-abbrev pub in_slots : State → Outcome Data Admission → Outcome Data State
+abbrev pub in_slots : State → Outcome Answer Admission → Outcome Answer State
 in_slots s done = through (λ a. record s { slots = a }) done
 
 -- background work, with a slot that is given back
-abbrev pub with_slot : State → Outcome Data Cluster → Outcome Data State
+abbrev pub with_slot : State → Outcome Answer Cluster → Outcome Answer State
 with_slot s work = lend s.slots >>= (λ lent. in_cluster s work)
 
-unfoldable pub deliver_act : ℕ → State → Outcome Data State
+unfoldable pub deliver_act : ℕ → State → Outcome Answer State
 deliver_act n s = do
   nodes_fault s.cluster n []
   with_slot s (deliver_at s.cluster n (hints_of s.cluster n))
 
-unfoldable pub rehash_act : RehashAsk → State → Outcome Data State
+unfoldable pub rehash_act : RehashAsk → State → Outcome Answer State
 rehash_act q s = do
   range_fault s.cluster q.node q.range
   with_slot s (rehash_at q s.cluster)
 
-unfoldable pub sync_act : SyncAsk → State → Outcome Data State
+unfoldable pub sync_act : SyncAsk → State → Outcome Answer State
 sync_act q s = do
   keepers_fault q s.cluster
   with_slot s (sync_at q s.cluster)
 
 -- what a command tells, and the state after it
-unfoldable pub act : Ask → State → Outcome Data State
+unfoldable pub act : Ask → State → Outcome Answer State
 act (ring r) s = ring_act r (ring_config r)
 act (put p) s = in_cluster s (put_act p s.cluster)
 act (get g) s = in_cluster s (key_act (held_at g) g s.cluster)
@@ -268,15 +275,7 @@ has_value One value = is_some value
 has_value Two value = true
 
 abbrev pub suits : State → Ask → Bool
-suits s (ring r) = true
 suits s (put p) = has_value s.cluster.format p.value
-suits s (get g) = true
-suits s (row g) = true
-suits s (take_down n) = true
-suits s (bring_up n) = true
-suits s (deliver n) = true
-suits s (rehash q) = true
-suits s (sync q) = true
 suits s (show_node q) = is_tree_node s.cluster.format q.depth q.index
 suits s (slot x) = is_target s.slots x
-suits s (sample q) = true
+suits s ask = true

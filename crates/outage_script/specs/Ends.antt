@@ -43,8 +43,6 @@ IsAnswer NoMemory input written = Begins (script_outcome input).text written
 
 -- the reason that comes with the end: at a bad line it is that of the input's first bad line, and no other end has one
 abbrev pub Explains : ScriptEnd → Option LineFault → Option (List ℕ) → Type 0
-Explains Done why input = why ≡ None
 Explains (BadLine n) why None = ⊤
 Explains (BadLine n) why (Some input) = (line : List ℕ) × ((script_outcome input).spoiled ≡ Some line) × IsExplained why line
-Explains Device why input = why ≡ None
-Explains NoMemory why input = why ≡ None
+Explains end why input = why ≡ None

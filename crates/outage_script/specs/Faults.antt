@@ -1,7 +1,9 @@
 -- Why a line is no command.
-use Rattle.std.specs.Prelude.{◌≡◌, ℕ, List, length, codes, Bool, true, false, ◌||◌, Option, None, Some, IsTrue, nat_lt, nat_le}
+use Rattle.std.specs.Prelude.{◌≡◌, ℕ, List, length, Bool, true, false, Option, None, Some, IsTrue, nat_lt, nat_le}
+use Rattle.std.specs.List.{list_any}
 use Rattle.std.specs.Str.{bytes_eq}
 use Rattle.serde_json.specs.Data.{Data}
+use Rattle.outage_script.specs.Commands.{Form, forms}
 use Rattle.outage_script.specs.Reading.{value_of, sole_member}
 use Rattle.outage_script.specs.Script.{line_limit}
 use Rattle.outage_script.specs.declared.fault.LineFault.{LineFault}
@@ -9,7 +11,7 @@ use Rattle.outage_script.specs.declared.fault.LineFault.TheVariants.{TooLong, No
 
 -- a name that a command has
 abbrev pub is_command : List ℕ → Bool
-is_command name = bytes_eq name (codes "ring") || bytes_eq name (codes "put") || bytes_eq name (codes "get") || bytes_eq name (codes "row") || bytes_eq name (codes "down") || bytes_eq name (codes "up") || bytes_eq name (codes "deliver") || bytes_eq name (codes "rehash") || bytes_eq name (codes "sync") || bytes_eq name (codes "node") || bytes_eq name (codes "slot") || bytes_eq name (codes "sample")
+is_command name = list_any (λ (form : Form). bytes_eq name form.0) forms
 
 -- an object whose one member's name is a command's, or is not
 abbrev pub Names : Bool → Data → Type 0
@@ -26,10 +28,7 @@ IsFaultOf (Members members) line = (d : Data) × (value_of line ≡ Some d) × N
 -- what a fault says of a bad line
 abbrev pub IsWhy : LineFault → List ℕ → Type 0
 IsWhy TooLong line = IsTrue (nat_lt line_limit (length line))
-IsWhy (NoJson e) line = IsFaultOf (NoJson e) line
-IsWhy NoName line = IsFaultOf NoName line
-IsWhy (Unknown name nearest) line = IsFaultOf (Unknown name nearest) line
-IsWhy (Members members) line = IsFaultOf (Members members) line
+IsWhy fault line = IsFaultOf fault line
 
 -- the reason that is told of a bad line: there is none if memory ran out, but for a line that is too long it needs none
 abbrev pub IsExplained : Option LineFault → List ℕ → Type 0

@@ -1,7 +1,6 @@
 -- Hints in a script: who keeps them, and how they are delivered: the paper of 2007, section 4.6.
 use Rattle.std.specs.Prelude.{ℕ, ◌+◌, ◌-◌, Bool, true, false, not, ◌&&◌, nat_eq, slice_index_or, slice_set, List, [], length, map, filter, find, fold, drop, if◌then◌else◌, Option, Some, None}
 use Rattle.std.specs.List.{list_any}
-use Rattle.serde_json.specs.Data.{Data}
 use Rattle.vclock.specs.Outcome.{Outcome, gives, refuses}
 use Rattle.vclock.specs.declared.refusal.Refusal.TheVariants.{BadRing}
 use Rattle.key_ring.specs.Places.{range_at}
@@ -15,7 +14,8 @@ use Rattle.hint_store.specs.Hints.{is_pending, pending_count, keep, confirmed}
 use Rattle.hint_store.specs.declared.hint.Delivery.{Delivery}
 use Rattle.hint_store.specs.declared.hint.Hint.{Hint}
 use Rattle.hint_store.specs.declared.hint.Kept.{Kept}
-use Rattle.outage_script.specs.Answers.{deliver_answer}
+use Rattle.outage_script.specs.declared.answer.Answer.{Answer}
+use Rattle.outage_script.specs.declared.answer.Answer.TheVariants as Answers
 use Rattle.outage_script.specs.State.{Cluster, Replica, at_home, left, is_down, hints_of, with_hints}
 
 -- the owners of a put's hints: the nodes among these replicas that are to have one, in order
@@ -102,10 +102,10 @@ abbrev pub round_of : Cluster → List Kept → Round
 round_of s hs = fold (offer_one (up_nodes s) s.ring.bits) (first_round s.replicas hs) hs
 
 -- a delivery that is over: its answer, and the cluster after it
-abbrev pub delivered : Cluster → ℕ → Round → Outcome Data Cluster
-delivered s n r = gives (deliver_answer r.taken r.known (pending_count r.hints)) (with_hints (record s { replicas = r.replicas }) n r.hints)
+abbrev pub delivered : Cluster → ℕ → Round → Outcome Answer Cluster
+delivered s n r = gives (Answers.Deliver r.taken r.known (pending_count r.hints)) (with_hints (record s { replicas = r.replicas }) n r.hints)
 
 -- a delivery of the hints that a node keeps; one that is not on the ring keeps none
-abbrev pub deliver_at : Cluster → ℕ → Option (List Kept) → Outcome Data Cluster
+abbrev pub deliver_at : Cluster → ℕ → Option (List Kept) → Outcome Answer Cluster
 deliver_at s n None = refuses BadRing
 deliver_at s n (Some hs) = delivered s n (round_of s hs)

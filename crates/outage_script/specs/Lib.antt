@@ -1,10 +1,12 @@
 pub mod Lines
 pub mod Asks
 pub mod Reading
+pub mod Trees
 pub mod Commands
 pub mod Faults
 pub mod Orders
 pub mod Answers
+pub mod Told
 pub mod State
 pub mod Handoff
 pub mod Syncs

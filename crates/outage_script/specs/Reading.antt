@@ -1,11 +1,11 @@
 -- Reading a JSON value: numbers, bytes, lists, and the members of an object.
-use Rattle.std.specs.Prelude.{ℕ, ◌+◌, List, [], ◌∷◌, Bool, false, ◌==◌, if◌then◌else◌, Option, Some, None, option_map, option_and_then, is_some, Result, Ok, Err}
-use Rattle.std.specs.Str.{is_utf8}
+use Rattle.std.specs.Prelude.{ℕ, List, [], ◌∷◌, Bool, true, false, ◌&&◌, if◌then◌else◌, Option, Some, None, option_map, option_and_then, is_some, Result, Ok, Err}
+use Rattle.std.specs.List.{list_any}
+use Rattle.std.specs.Str.{is_utf8, bytes_eq}
 use Rattle.hex.specs.Hex.{decode_of}
 use Rattle.hex.specs.declared.error.FromHexError.{FromHexError}
 use Rattle.serde_json.specs.Data.{Data, Items, no_items, item, Members, no_members, member}
 use Rattle.serde_json.specs.Find.{get, as_null, as_number, as_u64, as_str, as_array, as_object}
-use Rattle.serde_json.specs.Events.{members_len}
 use Rattle.serde_json.specs.Read.{read}
 
 -- the second step, if the first gave a value
@@ -13,10 +13,27 @@ infixl 10 ◌>>=◌
 abbrev pub ◌>>=◌ : {A B : Type 0} → Option A → (A → Option B) → Option B
 o >>= f = option_and_then f o
 
--- an object with that many members
-abbrev pub has_members : ℕ → Option Members → Bool
-has_members n None = false
-has_members n (Some ms) = members_len ms == n
+-- the second step, if this holds
+infixl 10 ◌>>◌
+abbrev pub ◌>>◌ : {A : Type 0} → Bool → Option A → Option A
+holds >> o = if holds then o else None
+
+-- whether each name of the members is one that fits
+abbrev pub all_named : (List ℕ → Bool) → Members → Bool
+all_named fits no_members = true
+all_named fits (member name d more) = fits name && all_named fits more
+
+-- whether a name is among these
+abbrev pub is_among : List (List ℕ) → List ℕ → Bool
+is_among names name = list_any (λ n. bytes_eq n name) names
+
+abbrev pub only_named : List (List ℕ) → Option Members → Bool
+only_named names None = false
+only_named names (Some ms) = all_named (is_among names) ms
+
+-- an object that has no other members than these
+abbrev pub has_only : List (List ℕ) → Data → Bool
+has_only names d = only_named names (as_object d)
 
 -- a whole number, without sign, point or exponent, below 2^64
 abbrev pub number_of : Data → Option ℕ
@@ -46,10 +63,8 @@ numbers_of d = list_of number_of d
 
 -- the two numbers, if there are two
 abbrev pub two_of : List ℕ → Option (ℕ × ℕ)
-two_of [] = None
-two_of (m ∷ []) = None
 two_of (m ∷ n ∷ []) = Some (m, n)
-two_of (m ∷ n ∷ k ∷ more) = None
+two_of numbers = None
 
 -- a list of two numbers, as a node and its counter
 abbrev pub pair_of : Data → Option (ℕ × ℕ)
@@ -63,17 +78,9 @@ pairs_of d = list_of pair_of d
 abbrev pub member_of : {A : Type 0} → (Data → Option A) → List ℕ → Data → Option A
 member_of f name d = option_and_then f (get name d)
 
--- a member that may be left out of an object that has n members without it
-abbrev pub optional_of : {A : Type 0} → A → (Data → Option A) → ℕ → List ℕ → Data → Option A
-optional_of absent f n name d = if has_members n (as_object d) then Some absent else if has_members (n + 1) (as_object d) then member_of f name d else None
-
 -- null, or what f reads
 abbrev pub nullable : {A : Type 0} → (Data → Option A) → Data → Option (Option A)
 nullable f d = if is_some (as_null d) then Some None else option_map Some (f d)
-
--- how many members of that name there are, none or one
-abbrev pub count_of : List ℕ → Data → ℕ
-count_of name d = if is_some (get name d) then 1 else 0
 
 -- what f reads, or that where there is nothing
 abbrev pub read_or : {A : Type 0} → A → (Data → Option A) → Option Data → Option A
@@ -84,11 +91,14 @@ read_or absent f (Some d) = f d
 abbrev pub default_of : {A : Type 0} → A → (Data → Option A) → List ℕ → Data → Option A
 default_of absent f name d = read_or absent f (get name d)
 
+-- what f reads, or nothing where there is nothing
+abbrev pub maybe_of : {A : Type 0} → (Data → Option A) → List ℕ → Data → Option (Option A)
+maybe_of f name d = default_of None (λ e. option_map Some (f e)) name d
+
 -- the name and the value of the one member there is
 abbrev pub sole : Members → Option (List ℕ × Data)
-sole no_members = None
 sole (member name d no_members) = Some (name, d)
-sole (member name d (member k e more)) = None
+sole ms = None
 
 -- the name and the value of an object's one member
 abbrev pub sole_member : Data → Option (List ℕ × Data)

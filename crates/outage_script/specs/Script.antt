@@ -5,7 +5,8 @@ use Rattle.outage_script.specs.Lines.{lines_of, is_space}
 use Rattle.outage_script.specs.State.{State, start, left}
 use Rattle.outage_script.specs.Asks.{Ask}
 use Rattle.outage_script.specs.Acts.{act, suits}
-use Rattle.outage_script.specs.Answers.{answer_line, bad_line_answer, replied}
+use Rattle.outage_script.specs.Answers.{answer_line, replied}
+use Rattle.outage_script.specs.declared.answer.Answer.TheVariants.{BadLine}
 use Rattle.outage_script.specs.Reading.{value_of}
 use Rattle.outage_script.specs.Commands.{command_of}
 
@@ -29,7 +30,7 @@ step s line = if nat_lt line_limit (length line) then None else if list_all is_s
 
 -- what is written for a bad line
 unfoldable pub bad_line : ℕ → List ℕ
-bad_line n = answer_line (bad_line_answer n)
+bad_line n = answer_line (BadLine n)
 
 -- what is written, and the number and the text of the first bad line, if there is one
 pub record Outcome : Type 0 where

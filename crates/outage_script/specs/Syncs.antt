@@ -1,6 +1,5 @@
 -- What a sync leaves and answers: the paper of 2007, section 4.7.
 use Rattle.std.specs.Prelude.{◌≡◌, ◌+◌, ◌-◌, ◌++◌, [], ◌∷◌, length, Option, Some, None}
-use Rattle.serde_json.specs.Data.{Data}
 use Rattle.vclock.specs.Answer.{first_fault}
 use Rattle.vclock.specs.declared.refusal.Refusal.{Refusal}
 use Rattle.vclock.specs.declared.refusal.Refusal.TheVariants.{OtherRange}
@@ -11,7 +10,6 @@ use Rattle.range_state.specs.State.{dirty_fault, rows_now}
 use Rattle.range_state.specs.Sessions.{crowd_fault}
 use Rattle.range_state.specs.Syncs.{Progress, synced, ended}
 use Rattle.range_state.specs.declared.state.syncing.Synced.{Synced}
-use Rattle.outage_script.specs.Answers.{sync_answer}
 use Rattle.outage_script.specs.State.{Replica}
 
 -- why a node opens no session: it does not keep the range, too many sessions are open, or a node of its own tree is dirty
@@ -36,11 +34,11 @@ after_sync p r = record { node = r.node; range = p.state; sessions = r.sessions 
 abbrev pub synced_with : RowMap → Replica → Replica
 synced_with other r = after_sync (progress other r) r
 
--- what is answered: each node where the trees differ was asked
-abbrev pub told_of : Replica → RowMap → Progress → Data
-told_of r other p = sync_answer (length p.state.entries - length r.range.entries) (length (differ (rows_now r.range) other)) p.known p.fault
+-- what is told of it: each node where the trees differ was asked
+abbrev pub told_of : Replica → RowMap → Progress → Synced
+told_of r other p = record { accepted = length p.state.entries - length r.range.entries; known = p.known; asked = length (differ (rows_now r.range) other); fault = p.fault }
 
-abbrev pub told : Replica → RowMap → Data
+abbrev pub told : Replica → RowMap → Synced
 told r other = told_of r other (progress other r)
 
 -- the counts and the refusal of a sync

@@ -1,305 +1,375 @@
-//! The answers of the commands, as JSON.
-ghost use Rattle.std.specs.Prelude.{◌≡◌, false, IfOk, string_bytes};
-ghost use Rattle.outage_script.specs.Answers.{pair_data, clock_data, put_answer, put_members, refusal_answer, cause_members, held_members, line_members, bad_line_answer, answer_line, version_data, version_members, versions_members, versions_answer, row_members, bytes_data, ring_answer, rehash_answer, sync_answer, finished_members, stopped_members, digest_data, digest_members, node_answer, up_answer, deliver_answer, slot_answer, adjust_answer, sample_answer};
-ghost use Rattle.serde_json.specs.Written.{has_float};
-ghost use Rattle.serde_json.specs.View.{view};
+//! The answers of the commands, and their text as JSON.
+ghost use Rattle.std.specs.Prelude.{◌≡◌, [], ◌++◌, ◌∷◌, IfOk, OnOk};
+ghost use Rattle.outage_script.specs.Answers.{answer_data, answer_line, digest_data, maybe_number, object_of, refusal_data, sync_data};
+ghost use Rattle.outage_script.specs.Slots.{counts};
+ghost use Rattle.outage_script.specs.Told.{part_data, tokens_of};
 
-use crate::json::{ToValue, list_value};
+use crate::part::{Part, write_object};
 use admission::controller::Controller;
 use hash_tree::hashed::Digest;
+use json::Writer;
 use range_state::state::syncing::Synced;
-use serde_json::{Value, json};
 use std::alloc::{AllocError, Global};
 use std::sync::ledger::Ledger;
 use vclock::bytes::Bytes;
 use vclock::clock::Clock;
 use vclock::refusal::Refusal;
-use version_set::kind::Kind;
-use version_set::version::Version;
+use version_set::set::VersionSet;
 
-impl ToValue for (u16, u64) {
-    ghost shown = { pair_data };
+/// For how many bytes a line has room at first.
+const LINE_ROOM: usize = 128;
 
-    /// A node and its counter.
-    fn to_value(&self, alloc: Global) -> Result<Value, AllocError> {
-        json!(in alloc; [self.0, self.1])
-    }
+/// What a command answers.
+#[derive(Drop)]
+pub(crate) enum Answer {
+    /// A new ring.
+    Ring {
+        /// How many nodes it has.
+        nodes: u64,
+        /// How many ranges it has.
+        ranges: u64,
+    },
+    /// A put.
+    Put {
+        /// The clock of the new version.
+        clock: Clock,
+        /// How many replicas took a copy or knew it.
+        copied: u64,
+        /// How many hints are kept.
+        hinted: u64,
+        /// The number of the entry.
+        number: u64,
+    },
+    /// The versions that are held for a key.
+    Versions(VersionSet),
+    /// The text of the row of a key.
+    Row(Bytes),
+    /// How many nodes a rehash found dirty.
+    Rehash(u64),
+    /// What came of a sync.
+    Sync(Synced),
+    /// The digest of a tree's node, or `None` if it is dirty.
+    Node(Option<Digest>),
+    /// A node that is taken down or up.
+    Up {
+        /// The node.
+        node: u64,
+        /// Whether it is up now.
+        up: bool,
+    },
+    /// A delivery of hints.
+    Deliver {
+        /// How many their owners took.
+        delivered: u64,
+        /// How many their owners knew.
+        known: u64,
+        /// How many are pending after it.
+        pending: u32,
+    },
+    /// The slots.
+    Slots(SlotCounts),
+    /// The slots, and the percentile by which their target was adjusted, or `None` if there was no sample.
+    Adjusted(SlotCounts, Option<u32>),
+    /// How many samples are kept.
+    Sample(u32),
+    /// Why a command is refused.
+    Refused(Refusal),
+    /// The line of that number is no command.
+    BadLine(u64),
 }
 
-impl ToValue for Clock {
-    ghost shown = { clock_data };
-
-    /// The pairs, by rising node.
-    fn to_value(&self, alloc: Global) -> Result<Value, AllocError> {
-        list_value(alloc, self.pairs())
-    }
+/// How many slots there are.
+#[derive(Clone, Copy)]
+pub(crate) struct SlotCounts {
+    /// How many are lent or could be.
+    pub(crate) allowance: u64,
+    /// How many could be lent.
+    pub(crate) free: u64,
+    /// How many are lent.
+    pub(crate) lent: u64,
+    /// How many there may be.
+    pub(crate) target: u64,
 }
 
-impl ToValue for Version {
-    ghost shown = { version_data };
-
-    /// The clock, and the value, which is null for a tombstone.
-    fn to_value(&self, alloc: Global) -> Result<Value, AllocError> {
-        let value = match self.kind {
-            Kind::Live => self.value.to_value(alloc)?,
-            Kind::Tombstone => Value::Null,
-        };
-        version_members(alloc, self.clock.to_value(alloc)?, value)
+impl SlotCounts {
+    /// The slots of a controller.
+    pub(crate) fn of<L: Ledger>(slots: &Controller<L>) -> SlotCounts
+        ensures { result ≡ counts slots.now }
+    {
+        SlotCounts {
+            allowance: u64::from(slots.allowance()),
+            free: u64::from(slots.free()),
+            lent: u64::from(slots.lent()),
+            target: u64::from(slots.target()),
+        }
     }
 }
 
 /// The text of an answer, with its line feed.
-pub(crate) fn answer_line(alloc: Global, answer: &Value) -> Result<String, AllocError>
-    requires { has_float (view answer.now) ≡ false }
-    ensures { IfOk result (λ s. string_bytes s ≡ answer_line (view answer.now)) }
+pub(crate) fn answer_line(alloc: Global, answer: &Answer) -> Result<Vec<u8>, AllocError>
+    ensures { IfOk result (λ line. line.items ≡ answer_line answer.now) }
 {
-    let mut text = answer.to_string(alloc)?;
-    text.push('\n')?;
-    Ok(text)
+    let mut out = Writer::new(Vec::with_capacity(alloc, LINE_ROOM)?);
+    write_answer(alloc, answer, &mut out)?;
+    let mut line = out.into_inner();
+    line.push(b'\n')?;
+    Ok(line)
 }
 
-/// The answer of a put.
-#[tactic(auto, unfolding(crate::specs::Answers::put_answer))]
-pub(crate) fn put_answer(
+/// Writes an answer.
+fn write_answer(alloc: Global, answer: &Answer, out: &mut Writer) -> Result<(), AllocError>
+    ensures tokens { OnOk result (out.new.tokens ≡ out.old.tokens ++ tokens_of (answer_data answer.now)) }
+    ensures before { out.new.before ≡ out.old.before }
+{
+    match answer {
+        Answer::Ring { nodes, ranges } => write_ring(alloc, *nodes, *ranges, out),
+        Answer::Put {
+            clock,
+            copied,
+            hinted,
+            number,
+        } => write_put(alloc, clock, *copied, *hinted, *number, out),
+        Answer::Versions(versions) => {
+            write_one(alloc, "versions", Part::Versions(versions.as_slice()), out)
+        }
+        Answer::Row(text) => write_one(alloc, "row", Part::Bytes(text.as_slice()), out),
+        Answer::Rehash(hashed) => write_one(alloc, "hashed", Part::Number(*hashed), out),
+        Answer::Sync(done) => write_sync(alloc, done, out),
+        Answer::Node(digest) => write_one(alloc, "digest", digest_part(digest), out),
+        Answer::Up { node, up } => write_up(alloc, *node, *up, out),
+        Answer::Deliver {
+            delivered,
+            known,
+            pending,
+        } => write_delivery(alloc, *delivered, *known, *pending, out),
+        Answer::Slots(slots) => write_slots(alloc, slots, out),
+        Answer::Adjusted(slots, percentile) => write_adjusted(alloc, slots, *percentile, out),
+        Answer::Sample(kept) => write_one(alloc, "samples", Part::Number(u64::from(*kept)), out),
+        Answer::Refused(refusal) => write_refusal(alloc, refusal, out),
+        Answer::BadLine(line) => write_bad_line(alloc, *line, out),
+    }
+}
+
+/// Writes an answer of one member.
+fn write_one(alloc: Global, name: &str, part: Part<'_>, out: &mut Writer) -> Result<(), AllocError>
+    ensures tokens { OnOk result (out.new.tokens
+        ≡ out.old.tokens ++ tokens_of (object_of ((name.now, part_data part.entry) ∷ []))) }
+    ensures before { out.new.before ≡ out.old.before }
+{
+    write_object(alloc, &[(name, part)], out)
+}
+
+/// Writes how many nodes and ranges a new ring has.
+fn write_ring(alloc: Global, nodes: u64, ranges: u64, out: &mut Writer) -> Result<(), AllocError>
+    ensures tokens { OnOk result (out.new.tokens
+        ≡ out.old.tokens ++ tokens_of (answer_data (Answer.Ring nodes ranges))) }
+    ensures before { out.new.before ≡ out.old.before }
+{
+    write_object(
+        alloc,
+        &[
+            ("nodes", Part::Number(nodes)),
+            ("ranges", Part::Number(ranges)),
+        ],
+        out,
+    )
+}
+
+/// Writes what came of a put.
+fn write_put(
     alloc: Global,
     clock: &Clock,
     copied: u64,
     hinted: u64,
     number: u64,
-) -> Result<Value, AllocError>
-    ensures { IfOk result (λ v. view v ≡ put_answer clock.now copied hinted number) }
+    out: &mut Writer,
+) -> Result<(), AllocError>
+    ensures tokens { OnOk result (out.new.tokens
+        ≡ out.old.tokens ++ tokens_of (answer_data (Answer.Put clock.now copied hinted number))) }
+    ensures before { out.new.before ≡ out.old.before }
 {
-    put_members(alloc, clock.to_value(alloc)?, copied, hinted, number)
+    write_object(
+        alloc,
+        &[
+            ("clock", Part::Clock(clock)),
+            ("copied", Part::Number(copied)),
+            ("hinted", Part::Number(hinted)),
+            ("number", Part::Number(number)),
+        ],
+        out,
+    )
 }
 
-/// The answer of a refusal.
-#[tactic(auto, unfolding(crate::specs::Answers::refusal_answer))]
-pub(crate) fn refusal_answer(alloc: Global, refusal: &Refusal) -> Result<Value, AllocError>
-    ensures { IfOk result (λ v. view v ≡ refusal_answer refusal.now) }
+/// Writes whether a node is up.
+fn write_up(alloc: Global, node: u64, up: bool, out: &mut Writer) -> Result<(), AllocError>
+    ensures tokens { OnOk result (out.new.tokens
+        ≡ out.old.tokens ++ tokens_of (answer_data (Answer.Up node up))) }
+    ensures before { out.new.before ≡ out.old.before }
 {
-    match refusal {
-        Refusal::StaleContext(held) => held_members(
-            alloc,
-            refusal.name(),
-            list_value(alloc, held.as_slice())?,
-            refusal.number(),
-        ),
-        _ => cause_members(alloc, refusal.name(), refusal.number()),
-    }
+    write_object(
+        alloc,
+        &[("node", Part::Number(node)), ("up", Part::Flag(up))],
+        out,
+    )
 }
 
-/// The answer to the line of that number, which is no command.
-#[tactic(auto, unfolding(crate::specs::Answers::bad_line_answer))]
-pub(crate) fn bad_line_answer(alloc: Global, line: u64) -> Result<Value, AllocError>
-    ensures { IfOk result (λ v. view v ≡ bad_line_answer line) }
-{
-    let refusal = Refusal::BadLine;
-    line_members(alloc, refusal.name(), line, refusal.number())
-}
-
-/// The members of a put's answer.
-#[tactic(auto, unfolding(crate::specs::Answers::put_members))]
-fn put_members(
-    alloc: Global,
-    clock: Value,
-    copied: u64,
-    hinted: u64,
-    number: u64,
-) -> Result<Value, AllocError>
-    ensures { IfOk result (λ v. view v ≡ put_members (view clock) copied hinted number) }
-{
-    json!(in alloc; {"clock": clock, "copied": copied, "hinted": hinted, "number": number})
-}
-
-/// The members of a refusal's answer.
-#[tactic(auto, unfolding(crate::specs::Answers::cause_members))]
-fn cause_members(alloc: Global, cause: &str, number: u64) -> Result<Value, AllocError>
-    ensures { IfOk result (λ v. view v ≡ cause_members cause.now number) }
-{
-    json!(in alloc; {"cause": cause, "refused": number})
-}
-
-/// The members of a bad line's answer.
-#[tactic(auto, unfolding(crate::specs::Answers::line_members))]
-fn line_members(alloc: Global, cause: &str, line: u64, number: u64) -> Result<Value, AllocError>
-    ensures { IfOk result (λ v. view v ≡ line_members cause.now line number) }
-{
-    json!(in alloc; {"cause": cause, "line": line, "refused": number})
-}
-
-/// The same with the clocks that are held.
-#[tactic(auto, unfolding(crate::specs::Answers::held_members))]
-fn held_members(alloc: Global, cause: &str, held: Value, number: u64) -> Result<Value, AllocError>
-    ensures { IfOk result (λ v. view v ≡ held_members cause.now (view held) number) }
-{
-    json!(in alloc; {"cause": cause, "held": held, "refused": number})
-}
-
-/// The answer of a get.
-#[tactic(auto, unfolding(crate::specs::Answers::versions_answer))]
-pub(crate) fn versions_answer(alloc: Global, versions: &[Version]) -> Result<Value, AllocError>
-    ensures { IfOk result (λ v. view v ≡ versions_answer versions.now) }
-{
-    versions_members(alloc, list_value(alloc, versions)?)
-}
-
-/// The members of a version.
-#[tactic(auto, unfolding(crate::specs::Answers::version_members))]
-fn version_members(alloc: Global, clock: Value, value: Value) -> Result<Value, AllocError>
-    ensures { IfOk result (λ v. view v ≡ version_members (view clock) (view value)) }
-{
-    json!(in alloc; {"clock": clock, "value": value})
-}
-
-/// The member of a get's answer.
-#[tactic(auto, unfolding(crate::specs::Answers::versions_members))]
-fn versions_members(alloc: Global, versions: Value) -> Result<Value, AllocError>
-    ensures { IfOk result (λ v. view v ≡ versions_members (view versions)) }
-{
-    json!(in alloc; {"versions": versions})
-}
-
-/// The answer of a row, which is its text.
-pub(crate) fn row_answer(alloc: Global, text: &Bytes) -> Result<Value, AllocError>
-    ensures { IfOk result (λ v. view v ≡ row_members (bytes_data text.now)) }
-{
-    row_members(alloc, text.to_value(alloc)?)
-}
-
-/// The member of a row's answer.
-#[tactic(auto, unfolding(crate::specs::Answers::row_members))]
-fn row_members(alloc: Global, text: Value) -> Result<Value, AllocError>
-    ensures { IfOk result (λ v. view v ≡ row_members (view text)) }
-{
-    json!(in alloc; {"row": text})
-}
-
-/// The answer of a new ring.
-#[tactic(auto, unfolding(crate::specs::Answers::ring_answer))]
-pub(crate) fn ring_answer(alloc: Global, nodes: u64, ranges: u64) -> Result<Value, AllocError>
-    ensures { IfOk result (λ v. view v ≡ ring_answer nodes ranges) }
-{
-    json!(in alloc; {"nodes": nodes, "ranges": ranges})
-}
-
-/// The answer of a rehash.
-#[tactic(auto, unfolding(crate::specs::Answers::rehash_answer))]
-pub(crate) fn rehash_answer(alloc: Global, hashed: u64) -> Result<Value, AllocError>
-    ensures { IfOk result (λ v. view v ≡ rehash_answer hashed) }
-{
-    json!(in alloc; {"hashed": hashed})
-}
-
-/// The answer of a sync.
-#[tactic(auto, unfolding(crate::specs::Answers::sync_answer))]
-pub(crate) fn sync_answer(alloc: Global, done: &Synced) -> Result<Value, AllocError>
-    ensures { IfOk result (λ v. view v ≡ sync_answer done.now.accepted done.now.asked done.now.known done.now.fault) }
-{
-    match &done.fault {
-        Some(refusal) => stopped_members(alloc, done, refusal.name(), refusal.number()),
-        None => finished_members(alloc, done),
-    }
-}
-
-/// The members of the answer of a sync.
-#[tactic(auto, unfolding(crate::specs::Answers::finished_members))]
-fn finished_members(alloc: Global, done: &Synced) -> Result<Value, AllocError>
-    ensures { IfOk result (λ v. view v ≡ finished_members done.now.accepted done.now.asked done.now.known) }
-{
-    let (accepted, asked, known) = (done.accepted, done.asked, done.known);
-    json!(in alloc; {"accepted": accepted, "asked": asked, "known": known, "state": "Finished"})
-}
-
-/// The members of the answer of a sync that a refusal stopped.
-#[tactic(auto, unfolding(crate::specs::Answers::stopped_members))]
-fn stopped_members(
-    alloc: Global,
-    done: &Synced,
-    cause: &str,
-    number: u64,
-) -> Result<Value, AllocError>
-    ensures { IfOk result (λ v. view v ≡ stopped_members done.now.accepted done.now.asked cause.now done.now.known number) }
-{
-    let (accepted, asked, known) = (done.accepted, done.asked, done.known);
-    json!(in alloc; {"accepted": accepted, "asked": asked, "cause": cause, "known": known, "refused": number, "state": "Open"})
-}
-
-/// The answer of a node: its digest, or null if it is dirty.
-#[tactic(auto, unfolding(crate::specs::Answers::node_answer))]
-pub(crate) fn node_answer(alloc: Global, digest: Option<Digest>) -> Result<Value, AllocError>
-    ensures { IfOk result (λ v. view v ≡ node_answer digest) }
-{
-    let digest = match digest {
-        Some(digest) => Value::String(hex::encode(alloc, digest.as_slice())?),
-        None => Value::Null,
-    };
-    digest_members(alloc, digest)
-}
-
-/// The member of a node's answer.
-#[tactic(auto, unfolding(crate::specs::Answers::digest_members))]
-fn digest_members(alloc: Global, digest: Value) -> Result<Value, AllocError>
-    ensures { IfOk result (λ v. view v ≡ digest_members (view digest)) }
-{
-    json!(in alloc; {"digest": digest})
-}
-
-/// The answer of a node that is taken down or up.
-#[tactic(auto, unfolding(crate::specs::Answers::up_answer))]
-pub(crate) fn up_answer(alloc: Global, node: u64, up: bool) -> Result<Value, AllocError>
-    ensures { IfOk result (λ v. view v ≡ up_answer node up) }
-{
-    json!(in alloc; {"node": node, "up": up})
-}
-
-/// The answer of a delivery.
-#[tactic(auto, unfolding(crate::specs::Answers::deliver_answer))]
-pub(crate) fn deliver_answer(
+/// Writes what came of a delivery.
+fn write_delivery(
     alloc: Global,
     delivered: u64,
     known: u64,
     pending: u32,
-) -> Result<Value, AllocError>
-    ensures { IfOk result (λ v. view v ≡ deliver_answer delivered known pending) }
+    out: &mut Writer,
+) -> Result<(), AllocError>
+    ensures tokens { OnOk result (out.new.tokens
+        ≡ out.old.tokens ++ tokens_of (answer_data (Answer.Deliver delivered known pending))) }
+    ensures before { out.new.before ≡ out.old.before }
 {
-    json!(in alloc; {"delivered": delivered, "known": known, "pending": pending})
+    write_object(
+        alloc,
+        &[
+            ("delivered", Part::Number(delivered)),
+            ("known", Part::Number(known)),
+            ("pending", Part::Number(u64::from(pending))),
+        ],
+        out,
+    )
 }
 
-/// The answer of what was done with the slots.
-#[tactic(auto, unfolding(crate::specs::Answers::slot_members))]
-pub(crate) fn slot_answer<L: Ledger>(
-    alloc: Global,
-    slots: &Controller<L>,
-) -> Result<Value, AllocError>
-    ensures { IfOk result (λ v. view v ≡ slot_answer slots.now) }
+/// Writes how many slots there are.
+fn write_slots(alloc: Global, slots: &SlotCounts, out: &mut Writer) -> Result<(), AllocError>
+    ensures tokens { OnOk result (out.new.tokens
+        ≡ out.old.tokens ++ tokens_of (answer_data (Answer.Slots slots.now))) }
+    ensures before { out.new.before ≡ out.old.before }
 {
-    let (allowance, free) = (slots.allowance(), slots.free());
-    let (lent, target) = (slots.lent(), slots.target());
-    json!(in alloc; {"allowance": allowance, "free": free, "lent": lent, "target": target})
+    write_object(
+        alloc,
+        &[
+            ("allowance", Part::Number(slots.allowance)),
+            ("free", Part::Number(slots.free)),
+            ("lent", Part::Number(slots.lent)),
+            ("target", Part::Number(slots.target)),
+        ],
+        out,
+    )
 }
 
-/// The answer of an adjustment: the slots, and the percentile, or null if there was no sample.
-#[tactic(auto, unfolding(crate::specs::Answers::adjust_members))]
-pub(crate) fn adjust_answer<L: Ledger>(
+/// Writes the slots, and the percentile by which their target was adjusted.
+fn write_adjusted(
     alloc: Global,
+    slots: &SlotCounts,
     percentile: Option<u32>,
-    slots: &Controller<L>,
-) -> Result<Value, AllocError>
-    ensures { IfOk result (λ v. view v ≡ adjust_answer percentile slots.now) }
+    out: &mut Writer,
+) -> Result<(), AllocError>
+    ensures tokens { OnOk result (out.new.tokens
+        ≡ out.old.tokens ++ tokens_of (answer_data (Answer.Adjusted slots.now percentile))) }
+    ensures before { out.new.before ≡ out.old.before }
 {
-    let percentile = match percentile {
-        Some(percentile) => Value::from(percentile),
-        None => Value::Null,
-    };
-    let (allowance, free) = (slots.allowance(), slots.free());
-    let (lent, target) = (slots.lent(), slots.target());
-    json!(in alloc; {"allowance": allowance, "free": free, "lent": lent, "p99": percentile, "target": target})
+    write_object(
+        alloc,
+        &[
+            ("allowance", Part::Number(slots.allowance)),
+            ("free", Part::Number(slots.free)),
+            ("lent", Part::Number(slots.lent)),
+            ("p99", maybe_number(percentile)),
+            ("target", Part::Number(slots.target)),
+        ],
+        out,
+    )
 }
 
-/// The answer of a sample.
-#[tactic(auto, unfolding(crate::specs::Answers::sample_answer))]
-pub(crate) fn sample_answer(alloc: Global, kept: u32) -> Result<Value, AllocError>
-    ensures { IfOk result (λ v. view v ≡ sample_answer kept) }
+/// Writes that a line is no command.
+fn write_bad_line(alloc: Global, line: u64, out: &mut Writer) -> Result<(), AllocError>
+    ensures tokens { OnOk result (out.new.tokens
+        ≡ out.old.tokens ++ tokens_of (answer_data (Answer.BadLine line))) }
+    ensures before { out.new.before ≡ out.old.before }
 {
-    json!(in alloc; {"samples": kept})
+    let refusal = Refusal::BadLine;
+    write_object(
+        alloc,
+        &[
+            ("cause", Part::Text(refusal.name())),
+            ("line", Part::Number(line)),
+            ("refused", Part::Number(refusal.number())),
+        ],
+        out,
+    )
+}
+
+/// Writes what came of a sync.
+fn write_sync(alloc: Global, done: &Synced, out: &mut Writer) -> Result<(), AllocError>
+    ensures tokens { OnOk result (out.new.tokens ≡ out.old.tokens
+        ++ tokens_of (sync_data done.now.accepted done.now.asked done.now.known done.now.fault)) }
+    ensures before { out.new.before ≡ out.old.before }
+{
+    match &done.fault {
+        None => write_object(
+            alloc,
+            &[
+                ("accepted", Part::Number(done.accepted)),
+                ("asked", Part::Number(done.asked)),
+                ("known", Part::Number(done.known)),
+                ("state", Part::Text("Finished")),
+            ],
+            out,
+        ),
+        Some(refusal) => write_object(
+            alloc,
+            &[
+                ("accepted", Part::Number(done.accepted)),
+                ("asked", Part::Number(done.asked)),
+                ("cause", Part::Text(refusal.name())),
+                ("known", Part::Number(done.known)),
+                ("refused", Part::Number(refusal.number())),
+                ("state", Part::Text("Open")),
+            ],
+            out,
+        ),
+    }
+}
+
+/// Writes why a command is refused.
+fn write_refusal(alloc: Global, refusal: &Refusal, out: &mut Writer) -> Result<(), AllocError>
+    ensures tokens { OnOk result (out.new.tokens ≡ out.old.tokens ++ tokens_of (refusal_data refusal.now)) }
+    ensures before { out.new.before ≡ out.old.before }
+{
+    match refusal {
+        Refusal::StaleContext(held) => write_object(
+            alloc,
+            &[
+                ("cause", Part::Text(refusal.name())),
+                ("held", Part::Clocks(held.as_slice())),
+                ("refused", Part::Number(refusal.number())),
+            ],
+            out,
+        ),
+        _ => write_object(
+            alloc,
+            &[
+                ("cause", Part::Text(refusal.name())),
+                ("refused", Part::Number(refusal.number())),
+            ],
+            out,
+        ),
+    }
+}
+
+/// A digest, or null for a dirty node.
+fn digest_part(digest: &Option<Digest>) -> Part<'_>
+    ensures { part_data result ≡ digest_data digest.now }
+{
+    match digest {
+        Some(digest) => Part::Bytes(digest.as_slice()),
+        None => Part::Null,
+    }
+}
+
+/// A number, or null if there is none.
+fn maybe_number<'a>(number: Option<u32>) -> Part<'a>
+    ensures { part_data result ≡ maybe_number number }
+{
+    match number {
+        Some(number) => Part::Number(u64::from(number)),
+        None => Part::Null,
+    }
 }

@@ -1,26 +1,21 @@
 // The cluster that a script changes: a ring, its nodes and their hints, and the replicas of its ranges.
 ghost use Rattle.std.specs.Prelude.{◌≡◌, ◌<◌, ◌≤◌, ◌^◌, ◌==◌, ⊤, [], length, filter, not, position, replicate, None, is_some, option_map, IsTrue, IfOk, IfSome, OnOk};
 ghost use Rattle.std.specs.List.{list_any, list_all, AllByRecursion};
-ghost use Rattle.serde_json.specs.View.{view};
 ghost use Rattle.vclock.specs.Answer.{Answers, AnswersAtOnce, AnswersOrNoMemory};
 ghost use Rattle.vclock.specs.Clock.{clock_of};
-ghost use Rattle.vclock.specs.Outcome.{gives};
+ghost use Rattle.vclock.specs.Outcome.{gives, DoesOrBreaksOff};
 ghost use Rattle.vclock.specs.Keys.{key_fault};
 ghost use Rattle.version_set.specs.Kind.{value_fault};
-ghost use Rattle.outage_script.specs.Acts.{ask_fault, down_act, down_fault, held_at, is_tree_node, keepers_fault, kept_at, key_act, kind_of, node_act, nodes_fault, put_act, range_fault, rehash_at, ring_nodes_fault, row_at, sync_at, up_act, value_of};
-ghost use Rattle.outage_script.specs.Answers.{Tells, text_of};
+ghost use Rattle.outage_script.specs.Acts.{ask_fault, down_act, down_fault, held_at, is_tree_node, keepers_fault, kept_at, key_act, kind_of, node_act, nodes_fault, put_act, range_fault, rehash_at, ring_nodes_fault, row_at, sync_at, text_of, up_act, value_of};
 ghost use Rattle.outage_script.specs.Handoff.{carrier_of, deliver_at, hinted, up_nodes};
 ghost use Rattle.outage_script.specs.Orders.{get_ask, node_ask, put_ask, rehash_ask, sync_ask};
 ghost use Rattle.outage_script.specs.State.{first_config, first_ring, hints_of, home, is_down, is_member, made, replicas_of};
 
-use crate::answer::{
-    deliver_answer, node_answer, put_answer, rehash_answer, row_answer, sync_answer, up_answer,
-    versions_answer,
-};
+use crate::answer::Answer;
 use crate::command::{Get, Put, Rehash, ShowNode, SyncFrom};
 use crate::handoff::{deliver_all, keep_all};
 use crate::replica::Replica;
-use crate::replicas::Replicas;
+use crate::replicas::{Replicas, Sent};
 use hash_tree::node::{NodeAt, tree_depth};
 use hint_store::store::HintStore;
 use key_ring::ring::Ring;
@@ -28,7 +23,6 @@ use range_state::config::RangeConfig;
 use range_state::event::Receipt;
 use row_bytes::row::Row;
 use row_bytes::writing::write_row;
-use serde_json::Value;
 use std::alloc::{AllocError, Global};
 use std::marker::Model;
 use std::thread::Threads;
@@ -104,16 +98,29 @@ impl Cluster {
     }
 
     /// Puts a value at a node, sends the copies and keeps the hints. Returns the answer with the clock and the number.
-    pub(crate) fn put(&mut self, alloc: Global, put: Put) -> Result<Value, Refusal>
-        ensures { Tells result self.old self.new (put_act (put_ask put) self.old) }
+    pub(crate) fn put(&mut self, alloc: Global, put: Put) -> Result<Answer, Refusal>
+        ensures { DoesOrBreaksOff result self.old self.new (put_act (put_ask put) self.old) }
     {
         let context = self.check_put(alloc, &put)?;
         let range = self.ring.range_of(put.key.as_slice());
         let sent = self.ranges[usize::from(range)].put(alloc, &context, &self.down, put)?;
-        let receipt = sent.receipt;
-        let hinted = self.keep_hints(range, &sent.owners, &receipt)?;
-        let clock = &receipt.version.clock;
-        Ok(put_answer(alloc, clock, sent.copied, hinted, receipt.number)?)
+        let hinted = self.keep_hints(range, &sent.owners, &sent.receipt)?;
+        let Sent {
+            receipt,
+            copied,
+            ..
+        } = sent;
+        let Receipt {
+            number,
+            version,
+            ..
+        } = receipt;
+        Ok(Answer::Put {
+            clock: version.clock,
+            copied,
+            hinted,
+            number,
+        })
     }
 
     /// Keeps a hint of an entry for each of these owners at the carrier of a range, and returns how many were kept.
@@ -155,26 +162,24 @@ impl Cluster {
 
     /// Takes a node down.
     #[tactic(auto, unfolding(crate::specs::Acts::down_act))]
-    pub(crate) fn take_down(&mut self, alloc: Global, node: u64) -> Result<Value, Refusal>
-        ensures { Tells result self.old self.new (down_act node self.old) }
+    pub(crate) fn take_down(&mut self, node: u64) -> Result<Answer, Refusal>
+        ensures { DoesOrBreaksOff result self.old self.new (down_act node self.old) }
     {
         self.check_ring_nodes(node, &[])?;
-        let answer = up_answer(alloc, node, false)?;
         if !self.is_down(node) {
             self.down.push(node)?;
         }
-        Ok(answer)
+        Ok(Answer::Up { node, up: false })
     }
 
     /// Brings a node up.
     #[tactic(auto, unfolding(crate::specs::Acts::up_act))]
-    pub(crate) fn bring_up(&mut self, alloc: Global, node: u64) -> Result<Value, Refusal>
-        ensures { Tells result self.old self.new (up_act node self.old) }
+    pub(crate) fn bring_up(&mut self, node: u64) -> Result<Answer, Refusal>
+        ensures { DoesOrBreaksOff result self.old self.new (up_act node self.old) }
     {
         self.check_ring_nodes(node, &[])?;
-        let answer = up_answer(alloc, node, true)?;
         self.down.retain(|member| *member != node);
-        Ok(answer)
+        Ok(Answer::Up { node, up: true })
     }
 
     /// Whether a node is down.
@@ -205,9 +210,9 @@ impl Cluster {
 
     /// Offers the hints that a node keeps to their owners. Returns the answer with how many were taken, known, and
     /// still pending.
-    pub(crate) fn deliver(&mut self, alloc: Global, node: u64) -> Result<Value, AllocError>
+    pub(crate) fn deliver(&mut self, alloc: Global, node: u64) -> Result<Answer, AllocError>
         requires { nodes_fault self.old node [] ≡ None }
-        ensures { IfOk result (λ v. deliver_at self.old node (hints_of self.old node) ≡ gives (view v) self.new) }
+        ensures { IfOk result (λ a. deliver_at self.old node (hints_of self.old node) ≡ gives a self.new) }
     {
         let up = self.up_nodes(alloc)?;
         let Some(place) = self.place_of(node) else {
@@ -215,26 +220,31 @@ impl Cluster {
         };
         let hints = &mut self.carriers[place];
         let done = deliver_all(alloc, &self.ring, &up, &mut self.ranges, hints)?;
-        deliver_answer(alloc, done.taken, done.known, hints.pending())
+        Ok(Answer::Deliver {
+            delivered: done.taken,
+            known: done.known,
+            pending: hints.pending(),
+        })
     }
 
     /// Returns the answer with the versions that are held for a key.
     #[tactic(auto, unfolding(crate::specs::Acts::key_act))]
-    pub(crate) fn get(&self, alloc: Global, get: &Get) -> Result<Value, Refusal>
-        ensures { Tells result self.now self.now (key_act (held_at (get_ask get.now)) (get_ask get.now) self.now) }
+    pub(crate) fn get(&self, alloc: Global, get: &Get) -> Result<Answer, Refusal>
+        ensures { DoesOrBreaksOff result self.now self.now (key_act (held_at (get_ask get.now)) (get_ask get.now) self.now) }
     {
         self.check_nodes(get.node, &[])?;
         check_key(get.key.as_slice())?;
         let Some(replica) = self.replica_of(get.node, get.key.as_slice()) else {
             return Err(Refusal::OtherRange);
         };
-        Ok(versions_answer(alloc, replica.versions(get.key.as_slice()))?)
+        let versions = replica.version_set(alloc, get.key.as_slice())?;
+        Ok(Answer::Versions(versions))
     }
 
     /// Returns the answer with the text of the row of a key.
-    #[tactic(auto, unfolding(crate::specs::Acts::key_act, crate::specs::Answers::row_answer))]
-    pub(crate) fn row(&self, alloc: Global, get: Get) -> Result<Value, Refusal>
-        ensures { Tells result self.now self.now (key_act (row_at (get_ask get)) (get_ask get) self.now) }
+    #[tactic(auto, unfolding(crate::specs::Acts::key_act))]
+    pub(crate) fn row(&self, alloc: Global, get: Get) -> Result<Answer, Refusal>
+        ensures { DoesOrBreaksOff result self.now self.now (key_act (row_at (get_ask get)) (get_ask get) self.now) }
     {
         self.check_nodes(get.node, &[])?;
         check_key(get.key.as_slice())?;
@@ -243,7 +253,7 @@ impl Cluster {
         };
         let versions = replica.version_set(alloc, get.key.as_slice())?;
         let text = row_text(alloc, replica.format(), get.key, versions)?;
-        Ok(row_answer(alloc, &text)?)
+        Ok(Answer::Row(text))
     }
 
     /// Whether a node that is up keeps a range of that number.
@@ -264,14 +274,14 @@ impl Cluster {
         rt: &(impl Threads + Sync),
         alloc: Global,
         ask: &Rehash,
-    ) -> Result<Value, Refusal>
-        ensures { Tells result self.old self.new (rehash_at (rehash_ask ask.now) self.old) }
+    ) -> Result<Answer, Refusal>
+        ensures { DoesOrBreaksOff result self.old self.new (rehash_at (rehash_ask ask.now) self.old) }
     {
         if ask.range >= self.ranges.len() as u64 {
             return Err(Refusal::OtherRange);
         }
         let hashed = self.ranges[ask.range as usize].rehash(rt, alloc, ask.node)?;
-        Ok(rehash_answer(alloc, hashed)?)
+        Ok(Answer::Rehash(hashed))
     }
 
     /// Whether both nodes of a sync are up and keep the range.
@@ -291,21 +301,21 @@ impl Cluster {
 
     /// Makes a node take what another has of a range. Returns the answer with what came of it.
     #[tactic(auto, unfolding(crate::specs::Acts::sync_at))]
-    pub(crate) fn sync(&mut self, alloc: Global, ask: &SyncFrom) -> Result<Value, Refusal>
-        ensures { Tells result self.old self.new (sync_at (sync_ask ask.now) self.old) }
+    pub(crate) fn sync(&mut self, alloc: Global, ask: &SyncFrom) -> Result<Answer, Refusal>
+        ensures { DoesOrBreaksOff result self.old self.new (sync_at (sync_ask ask.now) self.old) }
     {
         if ask.range >= self.ranges.len() as u64 {
             return Err(Refusal::OtherRange);
         }
         let done = self.ranges[ask.range as usize].sync(alloc, ask.node, ask.from)?;
-        Ok(sync_answer(alloc, &done)?)
+        Ok(Answer::Sync(done))
     }
 
     /// Returns the answer with the digest of a node of the tree of a range.
     #[tactic(auto, unfolding(crate::specs::Acts::node_act))]
-    pub(crate) fn node(&self, alloc: Global, ask: &ShowNode) -> Result<Value, Refusal>
+    pub(crate) fn node(&self, ask: &ShowNode) -> Result<Answer, Refusal>
         requires { IsTrue (is_tree_node self.now.format ask.now.depth ask.now.index) }
-        ensures { Tells result self.now self.now (node_act (node_ask ask.now) self.now) }
+        ensures { DoesOrBreaksOff result self.now self.now (node_act (node_ask ask.now) self.now) }
     {
         self.check_nodes(ask.node, &[])?;
         let Some(replica) = self.replica_at(ask.node, ask.range) else {
@@ -314,7 +324,7 @@ impl Cluster {
         let Some(node) = tree_node(self.format, ask.depth, ask.index) else {
             unreachable!()
         };
-        Ok(node_answer(alloc, replica.digest_at(node))?)
+        Ok(Answer::Node(replica.digest_at(node)))
     }
 
     /// The replica at a node of the range of that number, if the ring has such a range.

@@ -1,15 +1,15 @@
 //! From a line to the command that it is.
 ghost use Rattle.std.specs.Prelude.{◌≡◌, IfOk, option_map, option_and_then};
-ghost use Rattle.outage_script.specs.Commands.{ring_of, put_of, get_of, rehash_of, sync_of, node_of, other_named, sole_node_of, slot_of, plain_slot, numbered_slot, sample_of, command_of};
+ghost use Rattle.outage_script.specs.Commands.{ring_of, put_of, get_of, rehash_of, sync_of, node_of, named, other_forms, sole_node_of, slot_of, plain_slot, numbered_slot, sample_of, command_of};
 ghost use Rattle.outage_script.specs.Reading.{value_of};
 ghost use Rattle.outage_script.specs.Orders.{ask_of, ring_ask, put_ask, get_ask, rehash_ask, sync_ask, node_ask, slot_ask, sample_ask};
-ghost use Rattle.serde_json.specs.View.{view};
+ghost use Rattle.outage_script.specs.Trees.{seen};
 
-use crate::json::{
-    count_of, has_members, list_at, member_at, number_at, number_or, optional_list_at,
-    short_number_at, sole_member, text_at,
+use crate::tree::{
+    has_only, list_at, list_or_none, maybe_number_at, member_at, number_at, number_or,
+    short_number_at, sole_member, text_at, tree_in,
 };
-use serde_json::Value;
+use json::{Scratch, Value};
 use std::alloc::{AllocError, Global};
 use vclock::bytes::Bytes;
 
@@ -143,22 +143,24 @@ pub(crate) enum Command {
 }
 
 /// The command that a line is, if it is one.
-#[tactic(auto, unfolding(crate::specs::Reading::value_of))]
-pub(crate) fn command_in(alloc: Global, line: &[u8]) -> Result<Option<Command>, AllocError>
+pub(crate) fn command_in(
+    alloc: Global,
+    line: &[u8],
+    scratch: &mut Scratch,
+) -> Result<Option<Command>, AllocError>
     ensures { IfOk result (λ o. option_map ask_of o
         ≡ option_and_then command_of (value_of line.now)) }
 {
-    match Value::from_slice(alloc, line) {
-        Ok(value) => named_in(alloc, &value),
-        Err(e) if e.is_memory() => Err(AllocError),
-        Err(_) => Ok(None),
+    match tree_in(alloc, line, scratch)? {
+        Some(tree) => named_in(alloc, &tree),
+        None => Ok(None),
     }
 }
 
 /// The command that the one member of an object names.
 #[tactic(auto, unfolding(crate::specs::Commands::command_of))]
-fn named_in(alloc: Global, value: &Value) -> Result<Option<Command>, AllocError>
-    ensures { IfOk result (λ o. option_map ask_of o ≡ command_of (view value.now)) }
+fn named_in(alloc: Global, value: &Value<'_>) -> Result<Option<Command>, AllocError>
+    ensures { IfOk result (λ o. option_map ask_of o ≡ command_of (seen value.now)) }
 {
     let Some((name, inner)) = sole_member(value) else {
         return Ok(None);
@@ -177,8 +179,8 @@ fn named_in(alloc: Global, value: &Value) -> Result<Option<Command>, AllocError>
 }
 
 /// The command of that name, of those that touch no key.
-fn other_in(name: &str, members: &Value) -> Option<Command>
-    ensures { option_map ask_of result ≡ other_named (name.now, view members.now) }
+fn other_in(name: &str, members: &Value<'_>) -> Option<Command>
+    ensures { option_map ask_of result ≡ named other_forms (name.now, seen members.now) }
 {
     if name == "down" {
         sole_node_in(members).map(Command::Down)
@@ -203,11 +205,10 @@ fn other_in(name: &str, members: &Value) -> Option<Command>
 
 /// The ring of these members.
 #[tactic(auto, unfolding(crate::specs::Commands::ring_of))]
-fn ring_in(alloc: Global, members: &Value) -> Result<Option<NewRing>, AllocError>
-    ensures { IfOk result (λ o. option_map ring_ask o ≡ ring_of (view members.now)) }
+fn ring_in(alloc: Global, members: &Value<'_>) -> Result<Option<NewRing>, AllocError>
+    ensures { IfOk result (λ o. option_map ring_ask o ≡ ring_of (seen members.now)) }
 {
-    let optional = count_of(members, "limit") + count_of(members, "format");
-    if !has_members(members, 3 + optional) {
+    if !has_only(members, &["bits", "copies", "nodes", "limit", "format"]) {
         return Ok(None);
     }
     let Some(bits) = number_at(members, "bits") else {
@@ -234,12 +235,12 @@ fn ring_in(alloc: Global, members: &Value) -> Result<Option<NewRing>, AllocError
 
 /// The put of these members.
 #[tactic(auto, unfolding(crate::specs::Commands::put_of))]
-fn put_in(alloc: Global, members: &Value) -> Result<Option<Put>, AllocError>
-    ensures { IfOk result (λ o. option_map put_ask o ≡ put_of (view members.now)) }
+fn put_in(alloc: Global, members: &Value<'_>) -> Result<Option<Put>, AllocError>
+    ensures { IfOk result (λ o. option_map put_ask o ≡ put_of (seen members.now)) }
 {
-    let Some(lose) = optional_list_at(alloc, members, "lose", 4)? else {
+    if !has_only(members, &["node", "key", "context", "value", "lose"]) {
         return Ok(None);
-    };
+    }
     let Some(node) = number_at(members, "node") else {
         return Ok(None);
     };
@@ -252,7 +253,8 @@ fn put_in(alloc: Global, members: &Value) -> Result<Option<Put>, AllocError>
     let Some(value) = member_at(alloc, members, "value")? else {
         return Ok(None);
     };
-    Ok(Some(Put {
+    let lose = list_or_none(alloc, members, "lose")?;
+    Ok(lose.map(|lose| Put {
         node,
         key,
         context,
@@ -263,10 +265,10 @@ fn put_in(alloc: Global, members: &Value) -> Result<Option<Put>, AllocError>
 
 /// The get of these members.
 #[tactic(auto, unfolding(crate::specs::Commands::get_of))]
-fn get_in(alloc: Global, members: &Value) -> Result<Option<Get>, AllocError>
-    ensures { IfOk result (λ o. option_map get_ask o ≡ get_of (view members.now)) }
+fn get_in(alloc: Global, members: &Value<'_>) -> Result<Option<Get>, AllocError>
+    ensures { IfOk result (λ o. option_map get_ask o ≡ get_of (seen members.now)) }
 {
-    if !has_members(members, 2) {
+    if !has_only(members, &["node", "key"]) {
         return Ok(None);
     }
     let Some(node) = number_at(members, "node") else {
@@ -278,10 +280,10 @@ fn get_in(alloc: Global, members: &Value) -> Result<Option<Get>, AllocError>
 
 /// The rehash of these members.
 #[tactic(auto, unfolding(crate::specs::Commands::rehash_of))]
-fn rehash_in(members: &Value) -> Option<Rehash>
-    ensures { option_map rehash_ask result ≡ rehash_of (view members.now) }
+fn rehash_in(members: &Value<'_>) -> Option<Rehash>
+    ensures { option_map rehash_ask result ≡ rehash_of (seen members.now) }
 {
-    if !has_members(members, 2) {
+    if !has_only(members, &["node", "range"]) {
         return None;
     }
     Some(Rehash {
@@ -292,10 +294,10 @@ fn rehash_in(members: &Value) -> Option<Rehash>
 
 /// The sync of these members.
 #[tactic(auto, unfolding(crate::specs::Commands::sync_of))]
-fn sync_in(members: &Value) -> Option<SyncFrom>
-    ensures { option_map sync_ask result ≡ sync_of (view members.now) }
+fn sync_in(members: &Value<'_>) -> Option<SyncFrom>
+    ensures { option_map sync_ask result ≡ sync_of (seen members.now) }
 {
-    if !has_members(members, 3) {
+    if !has_only(members, &["from", "node", "range"]) {
         return None;
     }
     Some(SyncFrom {
@@ -307,10 +309,10 @@ fn sync_in(members: &Value) -> Option<SyncFrom>
 
 /// The node of these members.
 #[tactic(auto, unfolding(crate::specs::Commands::node_of))]
-fn node_in(members: &Value) -> Option<ShowNode>
-    ensures { option_map node_ask result ≡ node_of (view members.now) }
+fn node_in(members: &Value<'_>) -> Option<ShowNode>
+    ensures { option_map node_ask result ≡ node_of (seen members.now) }
 {
-    if !has_members(members, 4) {
+    if !has_only(members, &["node", "range", "depth", "index"]) {
         return None;
     }
     Some(ShowNode {
@@ -323,10 +325,10 @@ fn node_in(members: &Value) -> Option<ShowNode>
 
 /// The node of a command that has no other member.
 #[tactic(auto, unfolding(crate::specs::Commands::sole_node_of))]
-fn sole_node_in(members: &Value) -> Option<u64>
-    ensures { result ≡ sole_node_of (view members.now) }
+fn sole_node_in(members: &Value<'_>) -> Option<u64>
+    ensures { result ≡ sole_node_of (seen members.now) }
 {
-    if !has_members(members, 1) {
+    if !has_only(members, &["node"]) {
         return None;
     }
     number_at(members, "node")
@@ -334,17 +336,17 @@ fn sole_node_in(members: &Value) -> Option<u64>
 
 /// What these members do with the slots: there is a number with `target` and `adjust`, and no number with the others.
 #[tactic(auto, unfolding(crate::specs::Commands::slot_of))]
-fn slot_in(members: &Value) -> Option<SlotCommand>
-    ensures { option_map slot_ask result ≡ slot_of (view members.now) }
+fn slot_in(members: &Value<'_>) -> Option<SlotCommand>
+    ensures { option_map slot_ask result ≡ slot_of (seen members.now) }
 {
-    if has_members(members, 1) {
-        return plain_slot(text_at(members, "do")?);
-    }
-    if !has_members(members, 2) {
+    if !has_only(members, &["do", "n"]) {
         return None;
     }
-    let n = number_at(members, "n")?;
-    numbered_slot(text_at(members, "do")?, n)
+    let word = text_at(members, "do")?;
+    match maybe_number_at(members, "n")? {
+        Some(n) => numbered_slot(word, n),
+        None => plain_slot(word),
+    }
 }
 
 /// What is done with the slots by that word alone.
@@ -371,10 +373,10 @@ fn numbered_slot(word: &str, n: u64) -> Option<SlotCommand>
 
 /// The sample of these members.
 #[tactic(auto, unfolding(crate::specs::Commands::sample_of))]
-fn sample_in(members: &Value) -> Option<Sample>
-    ensures { option_map sample_ask result ≡ sample_of (view members.now) }
+fn sample_in(members: &Value<'_>) -> Option<Sample>
+    ensures { option_map sample_ask result ≡ sample_of (seen members.now) }
 {
-    if !has_members(members, 2) {
+    if !has_only(members, &["at", "micros"]) {
         return None;
     }
     Some(Sample {

@@ -1,8 +1,9 @@
 //! Why a line is no command, for the one who wrote it.
-ghost use Rattle.std.specs.Prelude.{◌≡◌, IfOk, is_some};
+ghost use Rattle.std.specs.Prelude.{◌≡◌, IfOk, is_some, option_map};
 ghost use Rattle.outage_script.specs.Faults.{IsFaultOf, is_command};
+ghost use Rattle.outage_script.specs.Reading.{sole_member};
+ghost use Rattle.serde_json.specs.View.{view};
 
-use crate::json::sole_member;
 use serde_json::{Error, Value};
 use std::alloc::{AllocError, Global};
 use strsim::levenshtein;
@@ -60,6 +61,19 @@ pub(crate) fn fault_of(alloc: Global, line: &[u8]) -> Result<LineFault, AllocErr
     let name = beginning_of(alloc, name)?;
     let nearest = nearest_to(alloc, name.as_str())?;
     Ok(LineFault::Unknown { name, nearest })
+}
+
+/// The name and the value of the one member of an object.
+#[tactic(auto, using(crate::proofs::ReadLemmas::one_member, crate::proofs::ReadLemmas::other_members))]
+fn sole_member(value: &Value) -> Option<(&str, &Value)>
+    ensures { option_map (λ m. (m.0.now, view m.1.now)) result ≡ sole_member (view value.now) }
+{
+    let map = value.as_object()?;
+    if map.len() != 1 {
+        return None;
+    }
+    let (name, inner) = map.first_key_value()?;
+    Some((name.as_str(), inner))
 }
 
 /// What the command of that name wants as its members, if there is one.

@@ -19,13 +19,14 @@ mod cluster;
 mod command;
 mod fault;
 mod handoff;
-mod json;
 mod memory;
+mod part;
 mod replica;
 mod replicas;
 mod run;
 mod session;
 mod slots;
+mod tree;
 mod world;
 mod write;
 

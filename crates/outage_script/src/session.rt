@@ -1,5 +1,5 @@
 // A run in progress: the world, and what has come of the line that is not whole yet.
-ghost use Rattle.std.specs.Prelude.{Some, Option, ◌≡◌, ◌≤◌, ◌+◌, ◌^◌, ◌<◌, ◌∷◌, ◌++◌, [], ℕ, List, IsTrue, length, vec_len, false, IfOk, IfNone, option_map, string_bytes};
+ghost use Rattle.std.specs.Prelude.{Some, Option, ◌≡◌, ◌≤◌, ◌+◌, ◌^◌, ◌<◌, ◌∷◌, ◌++◌, [], ℕ, List, IsTrue, length, vec_len, false, IfOk, IfNone, option_map};
 ghost use Rattle.std.specs.List.{list_all};
 ghost use Rattle.std.specs.Io.KnownBytes.{Appends};
 ghost use Rattle.serde_json.specs.View.{view};
@@ -10,11 +10,12 @@ ghost use Rattle.outage_script.specs.Script.{step, IsTurn, bad_line};
 ghost use Rattle.outage_script.specs.State.{start};
 
 use crate::ScriptEnd;
-use crate::answer::{answer_line, bad_line_answer};
+use crate::answer::{Answer, answer_line};
 use crate::command::command_in;
 use crate::fault::{LineFault, fault_of};
 use crate::world::{AtEnd, World};
 use crate::write::write_whole;
+use json::Scratch;
 use memchr::memchr;
 use std::alloc::{AllocError, Global};
 use std::io::Write;
@@ -24,11 +25,12 @@ use std::thread::Threads;
 /// How many bytes a line has at the most.
 const LINE_LIMIT: usize = 1_048_576;
 
-/// A run in progress: the world, the line that is not whole yet, its number, and whether the run ended since it is too
-/// long.
+/// A run in progress: the world, the line that is not whole yet, the room in which a line is read, the line's number, and
+/// whether the run ended since it is too long.
 pub(crate) struct Session<L: Ledger> {
     world: World<L>,
     line: Vec<u8>,
+    scratch: Scratch,
     number: u64,
     too_long: bool,
     ghost short: { vec_len line ≤ 1048576 },
@@ -45,6 +47,7 @@ impl<L: Ledger> Session<L> {
         Ok(Session {
             world: World::start(blank, alloc)?,
             line: Vec::new(alloc),
+            scratch: Scratch::new(alloc),
             number: 1,
             too_long: false,
         })
@@ -55,6 +58,7 @@ impl<L: Ledger> Session<L> {
         let Session {
             world,
             line: _line,
+            scratch: _scratch,
             number: _number,
             too_long: _too_long,
         } = self;
@@ -177,7 +181,13 @@ impl<L: Ledger> Session<L> {
             (W.contents writer.old) (W.contents writer.new) }
         ensures cleared { IfNone result (self.new.line.items ≡ []) }
     {
-        let text = match turn(rt, alloc, &mut self.world, self.line.as_slice()) {
+        let text = match turn(
+            rt,
+            alloc,
+            &mut self.world,
+            &mut self.scratch,
+            self.line.as_slice(),
+        ) {
             Ok(Some(text)) => text,
             Ok(None) => {
                 // All of the line is kept.
@@ -186,7 +196,7 @@ impl<L: Ledger> Session<L> {
             }
             Err(_) => return Some(ScriptEnd::NoMemory),
         };
-        if !write_whole(writer, text.as_bytes()) {
+        if !write_whole(writer, text.as_slice()) {
             return Some(ScriptEnd::Device);
         }
         self.line.clear();
@@ -204,7 +214,7 @@ fn refuse<W: Write>(alloc: Global, number: u64, writer: &mut W) -> ScriptEnd
     let Ok(text) = bad_line(alloc, number) else {
         return ScriptEnd::NoMemory;
     };
-    if write_whole(writer, text.as_bytes()) {
+    if write_whole(writer, text.as_slice()) {
         ScriptEnd::BadLine(number)
     } else {
         ScriptEnd::Device
@@ -212,32 +222,32 @@ fn refuse<W: Write>(alloc: Global, number: u64, writer: &mut W) -> ScriptEnd
 }
 
 /// The text that answers a bad line.
-#[tactic(auto, unfolding(crate::specs::Script::bad_line), using(crate::proofs::AnswerLemmas::bad_line_plain))]
-fn bad_line(alloc: Global, number: u64) -> Result<String, AllocError>
-    ensures { IfOk result (λ s. string_bytes s ≡ bad_line number) }
+#[tactic(auto, unfolding(crate::specs::Script::bad_line))]
+fn bad_line(alloc: Global, number: u64) -> Result<Vec<u8>, AllocError>
+    ensures { IfOk result (λ text. text.items ≡ bad_line number) }
 {
-    let answer = bad_line_answer(alloc, number)?;
-    answer_line(alloc, &answer)
+    answer_line(alloc, &Answer::BadLine(number))
 }
 
 /// What is written for a line, or `None` if it is bad, and the world after it.
-#[tactic(auto, unfolding(crate::specs::Script::step), using(crate::proofs::AnswerLemmas::reply_plain))]
+#[tactic(auto, unfolding(crate::specs::Script::step))]
 fn turn<L: Ledger, T: Threads + Sync>(
     rt: &T,
     alloc: Global,
     world: &mut World<L>,
+    scratch: &mut Scratch,
     line: &[u8],
-) -> Result<Option<String>, AllocError>
-    ensures { IfOk result (λ o. IsTurn (option_map string_bytes o) world.new
+) -> Result<Option<Vec<u8>>, AllocError>
+    ensures { IfOk result (λ o. IsTurn (option_map (λ text. text.items) o) world.new
         (step world.old line.now)) }
 {
     if line.len() > LINE_LIMIT {
         return Ok(None);
     }
     if is_blank(line) {
-        return Ok(Some(String::new(alloc)));
+        return Ok(Some(Vec::new(alloc)));
     }
-    let Some(command) = command_in(alloc, line)? else {
+    let Some(command) = command_in(alloc, line, scratch)? else {
         return Ok(None);
     };
     if !world.suits(&command) {

@@ -1,18 +1,16 @@
 // The slots of a script.
 ghost use Rattle.std.specs.Prelude.{◌≡◌, ◌≤◌, None, IsTrue};
 ghost use Rattle.vclock.specs.Answer.{Answers};
-ghost use Rattle.vclock.specs.Outcome.{Does};
+ghost use Rattle.vclock.specs.Outcome.{Does, DoesOrBreaksOff};
 ghost use Rattle.admission.specs.Admission.{lend};
-ghost use Rattle.outage_script.specs.Answers.{Tells};
 ghost use Rattle.outage_script.specs.Orders.{sample_ask, slot_ask};
 ghost use Rattle.outage_script.specs.Slots.{given_back, is_target, sample_act, slot_act};
 ghost use Rattle.outage_script.specs.State.{first_slots};
 
-use crate::answer::{adjust_answer, sample_answer, slot_answer};
+use crate::answer::{Answer, SlotCounts};
 use crate::command::{Sample, SlotCommand};
 use admission::controller::Controller;
 use admission::slot::Slot;
-use serde_json::Value;
 use std::alloc::Global;
 use std::marker::Model;
 use std::sync::ledger::{Blank, Ledger};
@@ -116,9 +114,9 @@ impl<L: Ledger> Slots<L> {
 
     /// Does what a command says with the slots.
     #[tactic(auto, unfolding(crate::specs::Slots::slot_act))]
-    pub(crate) fn act(&mut self, alloc: Global, command: SlotCommand) -> Result<Value, Refusal>
+    pub(crate) fn act(&mut self, command: SlotCommand) -> Result<Answer, Refusal>
         requires { IsTrue (is_target self.old (slot_ask command)) }
-        ensures { Tells result self.old self.new (slot_act (slot_ask command) self.old) }
+        ensures { DoesOrBreaksOff result self.old self.new (slot_act (slot_ask command) self.old) }
     {
         match command {
             SlotCommand::Lend => self.lend()?,
@@ -126,18 +124,18 @@ impl<L: Ledger> Slots<L> {
             SlotCommand::Target(n) => self.controller.set_target(n as u32),
             SlotCommand::Adjust(now) => {
                 let percentile = self.controller.adjust(now)?;
-                return Ok(adjust_answer(alloc, percentile, &self.controller)?);
+                return Ok(Answer::Adjusted(SlotCounts::of(&self.controller), percentile));
             }
         }
-        Ok(slot_answer(alloc, &self.controller)?)
+        Ok(Answer::Slots(SlotCounts::of(&self.controller)))
     }
 
     /// Takes a sample, and returns how many are kept.
     #[tactic(auto, unfolding(crate::specs::Slots::sample_act))]
-    pub(crate) fn sample(&mut self, alloc: Global, sample: Sample) -> Result<Value, Refusal>
-        ensures { Tells result self.old self.new (sample_act (sample_ask sample) self.old) }
+    pub(crate) fn sample(&mut self, sample: Sample) -> Result<Answer, Refusal>
+        ensures { DoesOrBreaksOff result self.old self.new (sample_act (sample_ask sample) self.old) }
     {
         let kept = self.controller.sample(sample.moment, sample.micros)?;
-        Ok(sample_answer(alloc, kept)?)
+        Ok(Answer::Sample(kept))
     }
 }

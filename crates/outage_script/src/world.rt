@@ -1,18 +1,17 @@
 // The world that a script changes: a cluster, and the slots for background work.
 ghost use Rattle.std.specs.Prelude.{◌≡◌, ◌≢◌, IsTrue, IfOk, IfErr, OnOk};
-ghost use Rattle.serde_json.specs.View.{view};
 ghost use Rattle.outage_script.specs.Acts.{act, deliver_act, rehash_act, ring_act, ring_config, suits, sync_act};
-ghost use Rattle.outage_script.specs.Answers.{Tells, refusal_answer, replied};
+ghost use Rattle.outage_script.specs.Answers.{replied};
 ghost use Rattle.outage_script.specs.Orders.{ask_of, rehash_ask, ring_ask, sync_ask};
 ghost use Rattle.outage_script.specs.State.{left, start};
+ghost use Rattle.vclock.specs.Outcome.{DoesOrBreaksOff};
 
-use crate::answer::{refusal_answer, ring_answer};
+use crate::answer::Answer;
 use crate::cluster::{Cluster, tree_node};
 use crate::command::{Command, NewRing, Rehash, SyncFrom};
 use crate::slots::Slots;
 use key_ring::ring::Ring;
 use range_state::config::RangeConfig;
-use serde_json::Value;
 use std::alloc::{AllocError, Global};
 use std::marker::Model;
 use std::mem::forget;
@@ -82,37 +81,50 @@ impl<L: Ledger> World<L> {
 
     /// The answer of a command, and the world after it. If memory runs out the script ends, and what a part of the
     /// command did does not matter.
-    #[tactic(auto, unfolding(crate::specs::Acts::act))]
     pub(crate) fn act(
         &mut self,
         rt: &(impl Threads + Sync),
         alloc: Global,
         command: Command,
-    ) -> Result<Value, AllocError>
+    ) -> Result<Answer, AllocError>
         requires { IsTrue (suits self.old (ask_of command)) }
-        ensures reply { IfOk result (λ v. view v ≡ replied (act (ask_of command) self.old)) }
+        ensures reply { IfOk result (λ answer. answer ≡ replied (act (ask_of command) self.old)) }
         ensures after { OnOk result (self.new ≡ left (act (ask_of command) self.old) self.old) }
     {
-        let answer = match command {
+        let answer = self.perform(rt, alloc, command);
+        answered(answer)
+    }
+
+    /// Does what a command says.
+    #[tactic(auto, unfolding(crate::specs::Acts::act))]
+    fn perform(
+        &mut self,
+        rt: &(impl Threads + Sync),
+        alloc: Global,
+        command: Command,
+    ) -> Result<Answer, Refusal>
+        requires { IsTrue (suits self.old (ask_of command)) }
+        ensures { DoesOrBreaksOff result self.old self.new (act (ask_of command) self.old) }
+    {
+        match command {
             Command::Ring(ring) => self.renew(alloc, &ring),
             Command::Put(put) => self.cluster.put(alloc, put),
             Command::Get(get) => self.cluster.get(alloc, &get),
             Command::Row(get) => self.cluster.row(alloc, get),
-            Command::Down(node) => self.cluster.take_down(alloc, node),
-            Command::Up(node) => self.cluster.bring_up(alloc, node),
+            Command::Down(node) => self.cluster.take_down(node),
+            Command::Up(node) => self.cluster.bring_up(node),
             Command::Deliver(node) => self.deliver(alloc, node),
             Command::Rehash(ask) => self.rehash(rt, alloc, &ask),
             Command::Sync(ask) => self.sync(alloc, &ask),
-            Command::Node(ask) => self.cluster.node(alloc, &ask),
-            Command::Slot(command) => self.slots.act(alloc, command),
-            Command::Sample(sample) => self.slots.sample(alloc, sample),
-        };
-        answered(alloc, answer)
+            Command::Node(ask) => self.cluster.node(&ask),
+            Command::Slot(command) => self.slots.act(command),
+            Command::Sample(sample) => self.slots.sample(sample),
+        }
     }
 
     /// Makes everything anew.
-    fn renew(&mut self, alloc: Global, ask: &NewRing) -> Result<Value, Refusal>
-        ensures { Tells result self.old self.new (ring_act (ring_ask ask.now) (ring_config (ring_ask ask.now))) }
+    fn renew(&mut self, alloc: Global, ask: &NewRing) -> Result<Answer, Refusal>
+        ensures { DoesOrBreaksOff result self.old self.new (ring_act (ring_ask ask.now) (ring_config (ring_ask ask.now))) }
     {
         let Some(config) = RangeConfig::new(ask.format, ask.bits, 0, ask.limit) else {
             return Err(Refusal::BadRing);
@@ -121,13 +133,13 @@ impl<L: Ledger> World<L> {
         let (nodes, ranges) = (ring.nodes().len() as u64, u64::from(ring.ranges()));
         self.cluster = Cluster::new(alloc, ring, config)?;
         self.slots.renew();
-        Ok(ring_answer(alloc, nodes, ranges)?)
+        Ok(Answer::Ring { nodes, ranges })
     }
 
     /// Delivers the hints that a node keeps, with a slot that is given back.
     #[tactic(auto, unfolding(crate::specs::Acts::deliver_act))]
-    fn deliver(&mut self, alloc: Global, node: u64) -> Result<Value, Refusal>
-        ensures { Tells result self.old self.new (deliver_act node self.old) }
+    fn deliver(&mut self, alloc: Global, node: u64) -> Result<Answer, Refusal>
+        ensures { DoesOrBreaksOff result self.old self.new (deliver_act node self.old) }
     {
         self.cluster.check_carrier(node)?;
         self.slots.lend()?;
@@ -143,8 +155,8 @@ impl<L: Ledger> World<L> {
         rt: &(impl Threads + Sync),
         alloc: Global,
         ask: &Rehash,
-    ) -> Result<Value, Refusal>
-        ensures { Tells result self.old self.new (rehash_act (rehash_ask ask.now) self.old) }
+    ) -> Result<Answer, Refusal>
+        ensures { DoesOrBreaksOff result self.old self.new (rehash_act (rehash_ask ask.now) self.old) }
     {
         self.cluster.check_range(ask.node, ask.range)?;
         self.slots.lend()?;
@@ -155,8 +167,8 @@ impl<L: Ledger> World<L> {
 
     /// Makes a node take what another has of a range, with a slot that is given back.
     #[tactic(auto, unfolding(crate::specs::Acts::sync_act))]
-    fn sync(&mut self, alloc: Global, ask: &SyncFrom) -> Result<Value, Refusal>
-        ensures { Tells result self.old self.new (sync_act (sync_ask ask.now) self.old) }
+    fn sync(&mut self, alloc: Global, ask: &SyncFrom) -> Result<Answer, Refusal>
+        ensures { DoesOrBreaksOff result self.old self.new (sync_act (sync_ask ask.now) self.old) }
     {
         self.cluster.check_sync(ask)?;
         self.slots.lend()?;
@@ -167,14 +179,14 @@ impl<L: Ledger> World<L> {
 }
 
 /// The answer of a command, or that of its refusal. Want of memory has no answer.
-fn answered(alloc: Global, answer: Result<Value, Refusal>) -> Result<Value, AllocError>
+fn answered(answer: Result<Answer, Refusal>) -> Result<Answer, AllocError>
     ensures ok { IfOk answer (λ a. result ≡ Ok a) }
     ensures refused { IfErr answer
-        (λ e. IfOk result (λ v. (e ≢ Refusal.NoMemory) × (view v ≡ refusal_answer e))) }
+        (λ e. IfOk result (λ a. (e ≢ Refusal.NoMemory) × (a ≡ Answer.Refused e))) }
 {
     match answer {
         Ok(answer) => Ok(answer),
         Err(Refusal::NoMemory) => Err(AllocError),
-        Err(refusal) => refusal_answer(alloc, &refusal),
+        Err(refusal) => Ok(Answer::Refused(refusal)),
     }
 }

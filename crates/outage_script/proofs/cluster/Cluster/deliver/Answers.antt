@@ -3,7 +3,6 @@ use Rattle.std.proofs.lemmas.List.Quantifiers.{position-Some}
 use Rattle.std.specs.Prelude.{◌==◌, position, slice_get}
 use Rattle.outage_script.specs.Handoff.{round_of}
 use Rattle.outage_script.specs.Offers.{round_at}
-use Rattle.outage_script.proofs.AnswerSteps.{if_ok_then}
 use Rattle.outage_script.proofs.ListSteps.{front, got}
 use Rattle.outage_script.proofs.DeliveryLaws.{delivered_at, has_place}
 use Rattle.outage_script.proofs.cluster.Cluster.deliver.Goals as goal
@@ -26,4 +25,4 @@ returns c =
     let is : round_of s hs ≡ r = search rules in
     let many_ranges : c.self.inside.ranges.len ≡ length c.deliver_all.new.ranges = search rules in
     let ranges : take c.self.inside.ranges.len (c.deliver_all.new.ranges ++ drop (length c.deliver_all.new.ranges) c.self.inside.ranges.items) ≡ c.deliver_all.new.ranges = front _ _ _ many_ranges in
-    if_ok_then c.deliver_answer.result _ _ c.deliver_answer.ensures (λ v told. rw (delivered_at s c.args.node i hs r p e is) (rw (told, c.pending.ensures.count, ← c.self.view_is, ranges) refl))
+    rw (delivered_at s c.args.node i hs r p e is) (rw (c.pending.ensures.count, ← c.self.view_is, ranges) refl)

@@ -68,4 +68,3 @@ returns c =
     let told_after : after ≡ (hinted receipt owners (record s { replicas = slice_set s.replicas i new }) (carrier_of s r)).1 = rw (← c.self.view_is) c.in_ok-hinted.ensures.kept in
     let same : hinted receipt owners (record s { replicas = slice_set s.replicas i new }) (carrier_of s r) ≡ hinted receipt owners (with_replicas s p.key new) (carrier_of s (range_at s.ring.bits p.key)) = ap (λ j. hinted receipt owners (record s { replicas = slice_set s.replicas j new }) (carrier_of s r)) index ∙ ap (λ j. hinted receipt owners (with_replicas s p.key new) (carrier_of s j)) place in
     put_result p s receipt c.in_ok-sent.sent.copied c.in_ok-hinted.hinted owners new after c.in_ok-context.ensures.0 made own (told_count ∙ ap (λ d. d.0) same) (told_after ∙ ap (λ d. d.1) same)
-    ∙ ap (λ d. gives d after) (sym c.in_ok-put_answer.ensures)

@@ -2,7 +2,6 @@ use Rattle.std.proofs.Common.{rules, ◌≡◌, inl, inr, refl, sym, ap, ◌∙�
 use Rattle.std.proofs.lemmas.Result.{err_from_is_err_and}
 use Rattle.vclock.specs.Outcome.{DoesOrNoMemory, gives}
 use Rattle.vclock.specs.declared.refusal.Refusal.TheVariants.{OtherRange}
-use Rattle.range_state.specs.State.{put}
 use Rattle.outage_script.specs.Acts.{after_copy, put_at, takes}
 use Rattle.outage_script.specs.Homes.{AreOf, IsHome}
 use Rattle.outage_script.specs.Orders.{put_ask}

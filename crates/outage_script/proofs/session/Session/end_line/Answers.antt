@@ -1,4 +1,4 @@
-use Rattle.std.proofs.Common.{◌≡◌, ◌≤◌, length, [], string_bytes, sym, ◌∙◌, arith}
+use Rattle.std.proofs.Common.{◌≡◌, ◌≤◌, length, [], sym, ◌∙◌, arith}
 use Rattle.outage_script.specs.Script.{line_limit}
 use Rattle.outage_script.specs.Moves.{place_of}
 use Rattle.outage_script.proofs.Known.{appends_nothing}
@@ -19,11 +19,11 @@ pub returns-then-not-write_whole-clause-feeds : goal.returns-then-not-write_whol
 returns-then-not-write_whole-clause-feeds g c =
     let said = c.write_whole.ensures.written in
     let turn = rw (c.in-Ok-Some.field-0-is, c.as_slice.ensures.value) at c.in-Ok-Some.ensures in
-    (said.0, said.1, line_cut (place_of c.args.self.now.number c.args.self.now.world c.args.self.now.line.items c.args.self.now.too_long) (string_bytes c.in-Ok-Some.text) c.turn.new.world _ c.args.self.now.inside turn (said.2.0, sym c.as_bytes.ensures.value ∙ said.2.1) (place_of c.args.self.now.number c.turn.new.world c.args.self.now.line.items c.args.self.now.too_long))
+    (said.0, said.1, line_cut (place_of c.args.self.now.number c.args.self.now.world c.args.self.now.line.items c.args.self.now.too_long) (c.in-Ok-Some.text.items) c.turn.new.world _ c.args.self.now.inside turn (said.2.0, sym c.as_slice-2.ensures.value ∙ said.2.1) (place_of c.args.self.now.number c.turn.new.world c.args.self.now.line.items c.args.self.now.too_long))
 
 pub returns-clause-feeds : goal.returns-clause-feeds
 returns-clause-feeds g c =
     let said = c.write_whole.ensures.written in
     let turn = rw (c.in-Ok-Some.field-0-is, c.as_slice.ensures.value) at c.in-Ok-Some.ensures in
-    let whole : said.0 ≡ string_bytes c.in-Ok-Some.text = said.3 c.if-not-write_whole.false ∙ c.as_bytes.ensures.value in
-    (said.0, said.1, rw (c.clear.ensures.items, whole) (line_done (place_of c.args.self.now.number c.args.self.now.world c.args.self.now.line.items c.args.self.now.too_long) (string_bytes c.in-Ok-Some.text) c.turn.new.world c.args.self.now.inside turn))
+    let whole : said.0 ≡ c.in-Ok-Some.text.items = said.3 c.if-not-write_whole.false ∙ c.as_slice-2.ensures.value in
+    (said.0, said.1, rw (c.clear.ensures.items, whole) (line_done (place_of c.args.self.now.number c.args.self.now.world c.args.self.now.line.items c.args.self.now.too_long) (c.in-Ok-Some.text.items) c.turn.new.world c.args.self.now.inside turn))
