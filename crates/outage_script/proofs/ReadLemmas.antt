@@ -37,16 +37,6 @@ pub tree_value : (line text : List ℕ) (start rest : List Token) (j : json.Json
 tree_value line text start rest j good same from e none =
     tree_read line j good (ap (json.value max_depth) (sym (from ∙ ap tokens same)) ∙ e ∙ ap (λ r. Some (j, r)) none)
 
--- a line with more after a tree has no value
-pub more_read : (line : List ℕ) (j : json.Json) (t : Token) (ts : List Token) → IsUtf8 line → json.value max_depth (tokens line) ≡ Some (j, t ∷ ts) → value_of line ≡ None
-unfolding value_of
-more_read line j t ts text e = rw (is_utf8-from_IsUtf8 line text, e) refl
-
--- nor has a line that begins with no tree
-pub no_tree : (line : List ℕ) → IsUtf8 line → json.value max_depth (tokens line) ≡ None → value_of line ≡ None
-unfolding value_of
-no_tree line text e = rw (is_utf8-from_IsUtf8 line text, e) refl
-
 -- the first of one entry is the sole member
 pub one_member : (es : List Entry) (k : String Global) (v : Value) → length es ≡ 1 → slice_get es 0 ≡ Some (k, v) → sole (members_view es) ≡ Some (string_bytes k, view v)
 one_member [] k v one first = cc
