@@ -1,5 +1,5 @@
 //! A controller of slots.
-ghost use Rattle.std.specs.Prelude.{◌≡◌, ◌+◌, ◌-◌, ◌≤◌, min, length, IfOk, [], None, Some, MatchOption};
+ghost use Rattle.std.specs.Prelude.{◌≡◌, ◌+◌, ◌-◌, ◌≤◌, length, IfOk, [], None, Some, MatchOption};
 ghost use Rattle.vclock.specs.Answer.{Answers};
 ghost use Rattle.vclock.specs.Outcome.{DoesAtOnce, ChangesAtOnce};
 ghost use Rattle.admission.specs.Admission.{IsAdmission, fresh, free_of, allowance_of, lend, sample, adjust, window_of, percentile, IsPercentile, target_after};

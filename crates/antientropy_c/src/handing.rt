@@ -3,11 +3,11 @@ ghost use Rattle.std.specs.Prelude.{◌≡◌, Ok};
 ghost use Rattle.antientropy_c.specs.Hands.{HandsOut};
 
 use crate::numbers::SMALL;
-use vclock::bytes::Bytes;
+use hash_tree::text::Text;
 use vclock::refusal::Refusal;
 
 /// Hands out the bytes of a result, or nothing, and returns the number of what came of it.
-pub(crate) fn hand_out(told: &Result<Bytes, Refusal>, out: &mut [u8], need: &mut u64) -> u32
+pub(crate) fn hand_out(told: &Result<Text, Refusal>, out: &mut [u8], need: &mut u64) -> u32
     ensures { HandsOut told.now result (need.old, out.old) (need.new, out.new) }
 {
     match told {

@@ -14,10 +14,10 @@ use crate::numbers::{EMPTY, HELD, code};
 use crate::publication::Publication;
 use crate::published::Published;
 use crate::replica::Replica;
+use hash_tree::text::Text;
 use range_state::state::RangeState;
 use snapshot::snapshot::Snapshot;
 use std::alloc::Global;
-use vclock::bytes::Bytes;
 use vclock::refusal::Refusal;
 use walk_messages::decoding::decode;
 use walk_messages::encoding::encode;
@@ -103,11 +103,11 @@ pub extern "C" fn antientropy_offer(
 }
 
 /// The message of the offer of a snapshot.
-fn offer(alloc: Global, snapshot: &Snapshot, number: u32) -> Result<Bytes, Refusal>
+fn offer(alloc: Global, snapshot: &Snapshot, number: u32) -> Result<Text, Refusal>
     ensures { Answers result None (λ bytes. bytes ≡ message_text (messages.Offer (offer_of number snapshot.now))) }
 {
     let bytes = encode(alloc, &Message::Offer(snapshot.offer(number)))?;
-    Ok(Bytes::from(bytes))
+    Ok(Text::from(bytes))
 }
 
 /// The message that answers an ask, if it is for the offer with this number.
@@ -137,7 +137,7 @@ pub extern "C" fn antientropy_serve(
 
 /// Does the same of a snapshot.
 #[tactic(auto, using(crate::proofs::CallLaws::reads))]
-fn serve(alloc: Global, snapshot: &Snapshot, number: u32, bytes: &[u8]) -> Result<Bytes, Refusal>
+fn serve(alloc: Global, snapshot: &Snapshot, number: u32, bytes: &[u8]) -> Result<Text, Refusal>
     ensures { Reads bytes.now (Serves snapshot.now number result) }
 {
     let decoded = decode(alloc, bytes);
@@ -150,7 +150,7 @@ fn serve_decoded(
     snapshot: &Snapshot,
     number: u32,
     decoded: Result<Message, Refusal>,
-) -> Result<Bytes, Refusal>
+) -> Result<Text, Refusal>
     ensures { Serves snapshot.now number result decoded }
 {
     match decoded {
@@ -161,7 +161,7 @@ fn serve_decoded(
 }
 
 /// The message that answers an ask. Refused, in order: Gone, BadMessage, NoMemory.
-fn serve_ask(alloc: Global, snapshot: &Snapshot, number: u32, ask: Ask) -> Result<Bytes, Refusal>
+fn serve_ask(alloc: Global, snapshot: &Snapshot, number: u32, ask: Ask) -> Result<Text, Refusal>
     ensures { ServesAsk snapshot.now number ask result }
 {
     if ask.offer != number {
@@ -171,8 +171,8 @@ fn serve_ask(alloc: Global, snapshot: &Snapshot, number: u32, ask: Ask) -> Resul
     let answer = Answer {
         offer: ask.offer,
         node: ask.node,
-        text: Bytes::from(text),
+        text: Text::from(text),
     };
     let bytes = encode(alloc, &Message::Answer(answer))?;
-    Ok(Bytes::from(bytes))
+    Ok(Text::from(bytes))
 }

@@ -10,6 +10,7 @@ ghost use Rattle.antientropy_c.specs.Shows.{row_shown};
 use crate::handing::hand_out;
 use crate::numbers::EMPTY;
 use crate::replica::Replica;
+use hash_tree::text::Text;
 use range_state::state::RangeState;
 use row_bytes::row::Row;
 use row_bytes::writing::write_row;
@@ -40,20 +41,20 @@ pub extern "C" fn antientropy_get(
 }
 
 /// The same of a replica.
-fn row(alloc: Global, state: &RangeState, key: &[u8]) -> Result<Bytes, Refusal>
+fn row(alloc: Global, state: &RangeState, key: &[u8]) -> Result<Text, Refusal>
     ensures { Answers result (key_fault key.now) (λ bytes. bytes ≡ row_shown state.now key.now) }
 {
     check_key(key)?;
     let versions = state.get(alloc, key)?;
     if versions.as_slice().is_empty() {
-        return Ok(Bytes::from(Vec::new(alloc)));
+        return Ok(Text::from(Vec::new(alloc)));
     }
     let row = Row {
         key: Bytes::copy_of(alloc, key)?,
         versions,
     };
     let text = write_row(alloc, state.config().format(), &row)?;
-    Ok(Bytes::from(text))
+    Ok(Text::from(text))
 }
 
 /// How many versions are held for a key. Refused: EMPTY.

@@ -14,11 +14,11 @@ use crate::handing::hand_out;
 use crate::numbers::{EMPTY, code};
 use crate::replica::Replica;
 use hash_tree::hashed::hash;
+use hash_tree::text::Text;
 use range_state::event::AnswerTaken;
 use range_state::state::RangeState;
 use std::alloc::Global;
 use sync_session::state::SessionState;
-use vclock::bytes::Bytes;
 use vclock::refusal::Refusal;
 use walk_messages::decoding::decode;
 use walk_messages::encoding::encode;
@@ -108,18 +108,18 @@ pub extern "C" fn antientropy_ask(
 }
 
 /// Does the same of a replica.
-fn ask(alloc: Global, state: &RangeState, session: u64, number: u32) -> Result<Bytes, Refusal>
+fn ask(alloc: Global, state: &RangeState, session: u64, number: u32) -> Result<Text, Refusal>
     ensures { Asks state.now session number result }
 {
     let Some(node) = state.outstanding(session)? else {
-        return Ok(Bytes::from(Vec::new(alloc)));
+        return Ok(Text::from(Vec::new(alloc)));
     };
     let ask = Ask {
         offer: number,
         node,
     };
     let bytes = encode(alloc, &Message::Ask(ask))?;
-    Ok(Bytes::from(bytes))
+    Ok(Text::from(bytes))
 }
 
 /// What came of an answer that a session took.

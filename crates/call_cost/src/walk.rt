@@ -1,12 +1,12 @@
 // A sync by messages, whose bytes go over memory.
 use hash_tree::hashed::hash;
 use hash_tree::node::NodeAt;
+use hash_tree::text::Text;
 use range_state::event::AnswerTaken;
 use range_state::state::RangeState;
 use snapshot::snapshot::Snapshot;
 use std::alloc::Global;
 use sync_session::state::SessionState;
-use vclock::bytes::Bytes;
 use vclock::refusal::Refusal;
 use walk_messages::decoding::decode;
 use walk_messages::encoding::encode;
@@ -84,7 +84,7 @@ fn answer(alloc: Global, snapshot: &Snapshot, ask: Ask) -> Result<Vec<u8>, Refus
     let answer = Answer {
         offer: ask.offer,
         node: ask.node,
-        text: Bytes::from(text),
+        text: Text::from(text),
     };
     encode(alloc, &Message::Answer(answer))
 }

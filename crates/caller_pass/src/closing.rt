@@ -1,5 +1,5 @@
 //! Closing a range.
-ghost use Rattle.std.specs.Prelude.{◌≡◌, ◌<◌, ◌≤◌, ◌↔◌, false, true, Some, None, slice_get, IsTrue, OnOk, IfOk, IfErr, MatchOption, All};
+ghost use Rattle.std.specs.Prelude.{◌≡◌, ◌<◌, ◌↔◌, false, true, Some, None, slice_get, IsTrue, OnOk, IfOk, IfErr, MatchOption, All};
 ghost use Rattle.vclock.specs.Answer.{Answers};
 ghost use Rattle.caller_pass.specs.Locks.{IsLocked};
 ghost use Rattle.caller_pass.specs.Passes.{AreInOrder};

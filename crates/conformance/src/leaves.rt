@@ -2,9 +2,9 @@
 use crate::versions::version;
 use hash_tree::hashed::hash;
 use hash_tree::shared::SharedLeaf;
+use hash_tree::text::Text;
 use std::alloc::Global;
 use std::test::Fail;
-use vclock::bytes::Bytes;
 use vclock::format::Format;
 use vclock::key::check_key;
 use version_set::kind::Kind;
@@ -40,7 +40,7 @@ fn a_leaf_of_many_rows_keeps_their_text(rt: HostRuntime) -> Result<(), Fail> {
     assert_eq!(rt; leaf.text_len(), text.len() as u128);
     assert!(rt; leaf.is_text(text.as_slice()));
     assert!(rt; !leaf.is_text(&[0]));
-    let spelled = hex::encode(alloc, hash(Bytes::from(text)).digest().as_slice())?;
+    let spelled = hex::encode(alloc, hash(Text::from(text)).digest().as_slice())?;
     assert_eq!(rt; spelled.as_str(), DIGEST);
     Ok(())
 }

@@ -1,10 +1,10 @@
 // Messages of a session, written and read, byte by byte.
 
 use hash_tree::node::NodeAt;
+use hash_tree::text::Text;
 use std::alloc::Global;
 use std::process::Abort;
 use std::test::Fail;
-use vclock::bytes::Bytes;
 use vclock::refusal::Refusal;
 use walk_messages::decoding::decode;
 use walk_messages::encoding::encode;
@@ -46,7 +46,7 @@ fn an_answer_carries_its_text(rt: HostRuntime) -> Result<(), Fail> {
     let answer = Message::Answer(Answer {
         offer: 1,
         node: NodeAt::new(2, 0).ok_or("no such node")?,
-        text: Bytes::copy_of(alloc, b"\x00")?,
+        text: Text::copy_of(alloc, b"\x00")?,
     });
     let bytes = b"\x03\x00\x00\x00\x01\x02\x00\x00\x00\x00\x00\x00\x00\x00\x00\x01\x00";
     expect_bytes(&rt, alloc, &answer, bytes)?;

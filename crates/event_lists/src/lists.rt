@@ -10,12 +10,12 @@ use crate::replicas::{Replica, SEAT, is_entry};
 use crate::walks::{Offering, Sent};
 use hash_tree::hashed::{Digest, hash};
 use hash_tree::node::NodeAt;
+use hash_tree::text::Text;
 use range_state::event::AnswerTaken;
 use sha2::{Digest as _, Sha256};
 use std::alloc::Global;
 use std::thread::Threads;
 use sync_session::state::SessionState;
-use vclock::bytes::Bytes;
 use vclock::format::Format;
 use vclock::refusal::Refusal;
 use version_set::kind::Kind;
@@ -384,7 +384,7 @@ impl Trial {
     /// Has a session take a text, and compares what it answers and leaves.
     fn send(&mut self, alloc: Global, id: usize, sent: Sent) -> Result<(), Trouble> {
         let wanted = self.wanted(alloc, id, &sent)?;
-        let text = hash(Bytes::copy_of(alloc, &sent.text)?);
+        let text = hash(Text::copy_of(alloc, &sent.text)?);
         let reply = self
             .own
             .state

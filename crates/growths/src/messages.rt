@@ -1,9 +1,9 @@
 // Messages.
 use growth_checks::lines::show;
 use hash_tree::node::NodeAt;
+use hash_tree::text::Text;
 use std::alloc::Global;
 use std::io;
-use vclock::bytes::Bytes;
 use vclock::refusal::Refusal;
 use walk_messages::decoding::decode;
 use walk_messages::encoding::encode;
@@ -25,7 +25,7 @@ fn encoded(alloc: Global) -> Result<u64, Refusal> {
     let message = Message::Answer(Answer {
         offer: 1,
         node: NodeAt::new(0, 0).ok_or(Refusal::Stale)?,
-        text: Bytes::copy_of(alloc, b"text")?,
+        text: Text::copy_of(alloc, b"text")?,
     });
     Ok(encode(alloc, &message)?.len() as u64)
 }

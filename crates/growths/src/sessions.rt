@@ -4,12 +4,12 @@ use growth_checks::lines::{show, unchanged};
 use growth_checks::sessions::is_same_session;
 use hash_tree::hashed::{Hashed, hash};
 use hash_tree::node::{NodeAt, tree_depth};
+use hash_tree::text::Text;
 use snapshot::snapshot::Snapshot;
 use std::alloc::Global;
 use std::io;
 use std::sync::Arc;
 use sync_session::session::Session;
-use vclock::bytes::Bytes;
 use vclock::refusal::Refusal;
 use walk_messages::message::Ask;
 
@@ -43,7 +43,7 @@ pub(crate) fn first_text(
 ) -> Result<(NodeAt, Hashed), Refusal> {
     let node = *session.outstanding().first().ok_or(Refusal::Stale)?;
     let text = partner.answer(alloc, Ask { offer: 1, node })?;
-    Ok((node, hash(Bytes::from(text))))
+    Ok((node, hash(Text::from(text))))
 }
 
 /// Answers the first node that is outstanding.

@@ -6,6 +6,7 @@ use growth_checks::states::is_between;
 use hash_tree::hashed::{Digest, hash};
 use hash_tree::marks::Marks;
 use hash_tree::node::NodeAt;
+use hash_tree::text::Text;
 use hash_tree::texts::{inner_text, leaf_text, put_inner_text};
 use range_state::state::RangeState;
 use rehash::bulk::hash_all;
@@ -13,7 +14,6 @@ use rehash::job::{Job, run_job};
 use std::alloc::Global;
 use std::io;
 use std::thread::Threads;
-use vclock::bytes::Bytes;
 use vclock::format::Format;
 use vclock::refusal::Refusal;
 
@@ -39,7 +39,7 @@ fn marks(alloc: Global) -> Result<u64, Refusal> {
 }
 
 fn texts(alloc: Global) -> Result<u64, Refusal> {
-    let leaf = Bytes::from(leaf_text(alloc, Format::One, &[])?);
+    let leaf = Text::from(leaf_text(alloc, Format::One, &[])?);
     let digest = hash(leaf).digest();
     Ok(inner_text(alloc, Format::One, &[digest; 16])?.len() as u64)
 }

@@ -1,13 +1,13 @@
 //! The rows of a leaf in chunks: how a row is found, and how one is put.
 ghost use Rattle.std.specs.Prelude.{◌≡◌, ◌+◌, ◌<◌, ◌≤◌, ◌^◌, ⊤, None, length, take, drop, IfOk, OnOk, OnErr};
-ghost use Rattle.std.specs.List.{AllByRecursion, flat_map, insert, sum_by};
+ghost use Rattle.std.specs.List.{AllByRecursion, flat_map, insert};
 ghost use Rattle.std.specs.declared.cmp.Ordering.TheVariants.{Less, Greater};
 ghost use Rattle.vclock.specs.Answer.{Answers};
 ghost use Rattle.version_set.specs.Kind.{value_fault};
 ghost use Rattle.version_set.specs.Version.{offer_fault};
 ghost use Rattle.row_bytes.specs.Rows.{FitsText};
 ghost use Rattle.hash_tree.specs.Leaves.{Bucket, key_cmp, AscendByKey};
-ghost use Rattle.hash_tree.specs.Chunks.{all_rows, rows_of, chunk_text, IsChunk, AreChunks, place_in, IsRowSpot, IsGapSpot, IsSplit, versions_at, offered_at};
+ghost use Rattle.hash_tree.specs.Chunks.{all_rows, rows_of, chunk_text, AreChunks, place_in, IsRowSpot, IsGapSpot, IsSplit, versions_at, offered_at};
 
 use crate::chunk::Chunk;
 use crate::written::MOST_ROWS;

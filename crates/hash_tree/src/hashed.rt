@@ -2,9 +2,9 @@
 ghost use Rattle.std.specs.Prelude.{◌≡◌, ℕ, List};
 ghost use Rattle.sha2.specs.Sha256.{sha256};
 
+use crate::text::Text;
 use sha2::{Digest as _, Sha256};
 use std::marker::Model;
-use vclock::bytes::Bytes;
 
 /// A SHA-256 digest.
 pub type Digest = [u8; 32];
@@ -13,13 +13,13 @@ pub type Digest = [u8; 32];
 /// itself, and under a lock none is hashed.
 ///
 /// ```
-/// let hashed = hash(Bytes::copy_of(alloc, b"abc")?);
+/// let hashed = hash(Text::copy_of(alloc, b"abc")?);
 /// assert_eq!(rt; hashed.text(), b"abc".as_slice());
 /// assert!(rt; is_spelled(alloc, hashed.digest(), ABC)?);
 /// ```
 #[derive(Debug, Drop)]
 pub struct Hashed {
-    text: Bytes,
+    text: Text,
     digest: Digest,
 }
 
@@ -33,7 +33,7 @@ impl Model for Hashed {
 
 impl Hashed {
     /// A text whose digest is known. It takes no memory, and nothing is hashed.
-    pub fn known(text: Bytes, digest: Digest) -> Hashed
+    pub fn known(text: Text, digest: Digest) -> Hashed
         requires { digest ≡ sha256 text }
         ensures { result ≡ text }
     {
@@ -56,7 +56,7 @@ impl Hashed {
 }
 
 /// A text with its digest. It takes no memory.
-pub fn hash(text: Bytes) -> Hashed
+pub fn hash(text: Text) -> Hashed
     ensures { result ≡ text }
 {
     let digest = Sha256::digest(text.as_slice());

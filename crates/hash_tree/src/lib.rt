@@ -3,7 +3,7 @@
 //! - [`shared`]: the rows of one leaf, in order of key, which a range shares with whoever looked at it. They stand in chunks,
 //!   which copies of a leaf share.
 //! - [`node`]: nodes by depth and index.
-//! - [`hashed`]: texts with their digests.
+//! - [`text`], [`hashed`]: texts, and texts with their digests.
 //! - [`texts`], [`comparing`]: the texts of nodes, written, and compared in place.
 //! - [`marks`]: which nodes are clean, and their digests.
 //! - [`laws`]: what the definitions say.
@@ -18,5 +18,6 @@ mod leaf;
 pub mod marks;
 pub mod node;
 pub mod shared;
+pub mod text;
 pub mod texts;
 mod written;

@@ -28,7 +28,7 @@ impl Hint {
         Ok(Hint {
             id: self.id,
             owner: self.owner,
-            key: Bytes::copy_of(alloc, self.key.as_slice())?,
+            key: self.key.try_clone()?,
             version: self.version.try_clone()?,
         })
     }

@@ -3,11 +3,11 @@ ghost use Rattle.ring_node.specs.Links.{IsCounted};
 
 use crate::random::Random;
 use hash_tree::hashed::{Digest, hash};
+use hash_tree::text::Text;
 use hash_tree::texts::inner_text;
 use ring_node::link::{Link, Reached};
 use std::alloc::Global;
 use std::sync::Wait;
-use vclock::bytes::Bytes;
 use vclock::format::Format;
 use vclock::refusal::Refusal;
 use walk_messages::decoding::decode;
@@ -65,7 +65,7 @@ impl Forger {
         let answer = Answer {
             offer: ask.offer,
             node: ask.node,
-            text: Bytes::copy_of(self.alloc, text)?,
+            text: Text::copy_of(self.alloc, text)?,
         };
         encode(self.alloc, &Message::Answer(answer))
     }
@@ -92,7 +92,7 @@ impl Link for Forger {
 
 /// The digest of a text.
 fn digest_of(alloc: Global, text: &[u8]) -> Result<Digest, Refusal> {
-    Ok(hash(Bytes::copy_of(alloc, text)?).digest())
+    Ok(hash(Text::copy_of(alloc, text)?).digest())
 }
 
 /// What comes over a forger's link.

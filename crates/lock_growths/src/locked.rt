@@ -9,6 +9,7 @@ use caller_pass::book::open_passes;
 use caller_pass::locked::LockedRange;
 use caller_pass::pass::Pass;
 use hash_tree::hashed::hash;
+use hash_tree::text::Text;
 use range_journal::journal::Source;
 use range_state::config::RangeConfig;
 use range_state::event::Accepted;
@@ -16,7 +17,6 @@ use range_state::state::RangeState;
 use rehash::job::run_job;
 use std::alloc::Global;
 use std::sync::ledger::{Blank, Ledger};
-use vclock::bytes::Bytes;
 use vclock::refusal::Refusal;
 use version_set::kind::Kind;
 use walk_messages::message::Ask;
@@ -91,7 +91,7 @@ impl<L: Ledger> Locked<L> {
     fn take_answer(&mut self, alloc: Global, partner: &Partner) -> Result<u64, Refusal> {
         let node = self.range.outstanding(0)?.ok_or(Refusal::NotAsked)?;
         let text = partner.snapshot.answer(alloc, Ask { offer: 1, node })?;
-        let hashed = hash(Bytes::from(text));
+        let hashed = hash(Text::from(text));
         let pass = self.passes.get_mut(1).ok_or(Refusal::Stranger)?;
         let taken = self.range.take_answer(alloc, pass, 0, node, hashed)?;
         Ok(taken.receipts)

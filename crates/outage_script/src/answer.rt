@@ -7,11 +7,11 @@ ghost use Rattle.outage_script.specs.Told.{part_data, tokens_of};
 use crate::part::{Part, write_object};
 use admission::controller::Controller;
 use hash_tree::hashed::Digest;
+use hash_tree::text::Text;
 use json::Writer;
 use range_state::state::syncing::Synced;
 use std::alloc::{AllocError, Global};
 use std::sync::ledger::Ledger;
-use vclock::bytes::Bytes;
 use vclock::clock::Clock;
 use vclock::refusal::Refusal;
 use version_set::set::VersionSet;
@@ -43,7 +43,7 @@ pub(crate) enum Answer {
     /// The versions that are held for a key.
     Versions(VersionSet),
     /// The text of the row of a key.
-    Row(Bytes),
+    Row(Text),
     /// How many nodes a rehash found dirty.
     Rehash(u64),
     /// What came of a sync.

@@ -1,6 +1,6 @@
 // The cluster that a script changes: a ring, its nodes and their hints, and the replicas of its ranges.
-ghost use Rattle.std.specs.Prelude.{◌≡◌, ◌<◌, ◌≤◌, ◌^◌, ◌==◌, ⊤, [], length, filter, not, position, replicate, None, is_some, option_map, IsTrue, IfOk, IfSome, OnOk};
-ghost use Rattle.std.specs.List.{list_any, list_all, AllByRecursion};
+ghost use Rattle.std.specs.Prelude.{◌≡◌, ◌<◌, ◌^◌, ◌==◌, ⊤, [], length, position, replicate, None, is_some, option_map, IsTrue, IfOk, IfSome, OnOk};
+ghost use Rattle.std.specs.List.{list_all, AllByRecursion};
 ghost use Rattle.vclock.specs.Answer.{Answers, AnswersAtOnce, AnswersOrNoMemory};
 ghost use Rattle.vclock.specs.Clock.{clock_of};
 ghost use Rattle.vclock.specs.Outcome.{gives, DoesOrBreaksOff};
@@ -17,6 +17,7 @@ use crate::handoff::{deliver_all, keep_all};
 use crate::replica::Replica;
 use crate::replicas::{Replicas, Sent};
 use hash_tree::node::{NodeAt, tree_depth};
+use hash_tree::text::Text;
 use hint_store::store::HintStore;
 use key_ring::ring::Ring;
 use range_state::config::RangeConfig;
@@ -434,13 +435,13 @@ fn row_text(
     format: Format,
     key: Bytes,
     versions: VersionSet,
-) -> Result<Bytes, Refusal>
+) -> Result<Text, Refusal>
     requires key { key_fault key ≡ None }
     requires fit { AllByRecursion (λ v. value_fault format v.kind v.value ≡ None) versions }
     ensures { Answers result None (λ text. text ≡ text_of format key versions) }
 {
     if versions.is_empty() {
-        return Ok(Bytes::from(Vec::new(alloc)));
+        return Ok(Text::from(Vec::new(alloc)));
     }
-    Ok(Bytes::from(write_row(alloc, format, &Row { key, versions })?))
+    Ok(Text::from(write_row(alloc, format, &Row { key, versions })?))
 }

@@ -1,8 +1,7 @@
 // Hinted handoff: hints are kept for replicas that are down, and offered to them later.
-ghost use Rattle.std.specs.Prelude.{◌≡◌, ◌-◌, ◌^◌, ℕ, Bool, length, fold, slice_index_or, slice_set, [], IfOk, IsTrue, OnOk};
+ghost use Rattle.std.specs.Prelude.{◌≡◌, ◌-◌, ◌^◌, ℕ, Bool, length, fold, IfOk, IsTrue, OnOk};
 ghost use Rattle.vclock.specs.Outcome.{DoesOrNoMemory, is_given};
 ghost use Rattle.hint_store.specs.Hints.{AreHints, confirm, keep, next_hint};
-ghost use Rattle.key_ring.specs.Places.{range_at};
 ghost use Rattle.outage_script.specs.Handoff.{asked, asked_in, delivery_by, first_round, kept_all, kept_for, offer_one, offered_to};
 ghost use Rattle.outage_script.specs.Offers.{after_offer, round_at, told_by};
 ghost use Rattle.outage_script.specs.State.{left};

@@ -17,6 +17,7 @@ pub enum ScriptEnd {
 mod answer;
 mod cluster;
 mod command;
+mod digits;
 mod fault;
 mod handoff;
 mod memory;

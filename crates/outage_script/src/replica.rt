@@ -1,6 +1,6 @@
 // A replica of a range.
-ghost use Rattle.std.specs.Prelude.{◌≡◌, ◌≤◌, IsTrue, [], not, ◌&&◌, ◌==◌, ◌≢◌, Some, IfOk, IfErr, OnOk, None};
-ghost use Rattle.std.specs.List.{list_any, AllByRecursion};
+ghost use Rattle.std.specs.Prelude.{◌≡◌, ◌≤◌, IsTrue, [], not, ◌&&◌, ◌≢◌, Some, IfOk, IfErr, OnOk, None};
+ghost use Rattle.std.specs.List.{AllByRecursion};
 ghost use Rattle.vclock.specs.Answer.{Answers, AnswersOrNoMemory};
 ghost use Rattle.vclock.specs.Outcome.{DoesOrNoMemory, DoesOrBreaksOff};
 ghost use Rattle.version_set.specs.Kind.{value_fault};

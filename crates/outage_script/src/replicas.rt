@@ -1,5 +1,5 @@
 // The replicas of a range, in the order of its preference list.
-ghost use Rattle.std.specs.Prelude.{◌≡◌, ◌≢◌, ◌≤◌, ◌<◌, ◌^◌, ◌++◌, ◌∷◌, [], if◌then◌else◌, length, filter, map, option_map, IfOk, IfErr, IfSome, IfNone, OnOk, None};
+ghost use Rattle.std.specs.Prelude.{◌≡◌, ◌≢◌, ◌<◌, ◌^◌, if◌then◌else◌, length, filter, map, option_map, IfOk, IfErr, IfSome, IfNone, OnOk, None};
 ghost use Rattle.std.specs.Result.{result_map_both};
 ghost use Rattle.vclock.specs.Answer.{AnswersOrNoMemory};
 ghost use Rattle.vclock.specs.Outcome.{DoesOrNoMemory, DoesOrBreaksOff};
@@ -169,7 +169,7 @@ impl Replicas {
             return Err(Refusal::OtherRange);
         };
         let owners = self.owners(alloc, down, &put)?;
-        let (kind, value) = payload(alloc, put.value);
+        let (kind, value) = payload(put.value);
         let receipt = self.replicas[place].put(alloc, put.key.as_slice(), context, kind, value)?;
         let copied = send_to(
             alloc,
@@ -221,12 +221,12 @@ fn place_of(replicas: &[Replica], node: u64) -> Option<usize>
 }
 
 /// The kind and the value of a put: a tombstone's value is empty.
-fn payload(alloc: Global, value: Option<Bytes>) -> (Kind, Bytes)
+fn payload(value: Option<Bytes>) -> (Kind, Bytes)
     ensures kind { result.0 ≡ kind_of value }
     ensures bytes { result.1 ≡ value_of value }
 {
     match value {
         Some(value) => (Kind::Live, value),
-        None => (Kind::Tombstone, Bytes::from(Vec::new(alloc))),
+        None => (Kind::Tombstone, Bytes::new()),
     }
 }

@@ -2,7 +2,6 @@
 ghost use Rattle.std.specs.Prelude.{Some, Option, ◌≡◌, ◌≤◌, ◌+◌, ◌^◌, ◌<◌, ◌∷◌, ◌++◌, [], ℕ, List, IsTrue, length, vec_len, false, IfOk, IfNone, option_map};
 ghost use Rattle.std.specs.List.{list_all};
 ghost use Rattle.std.specs.Io.KnownBytes.{Appends};
-ghost use Rattle.serde_json.specs.View.{view};
 ghost use Rattle.outage_script.specs.Ends.{Explains};
 ghost use Rattle.outage_script.specs.Lines.{is_inside, is_space};
 ghost use Rattle.outage_script.specs.Moves.{Ends, Feeds, Finishes, Holds, place_of, to_come};

@@ -10,8 +10,8 @@ ghost use Rattle.outage_script.specs.Commands.{short_number_of};
 ghost use Rattle.outage_script.specs.Reading.{has_only, number_of, bytes_of, pair_of, list_of, nullable, member_of, default_of, maybe_of, sole_member, value_of};
 ghost use Rattle.outage_script.specs.Trees.{is_whole, items_are_whole, members_are_whole, items_data, members_data, seen, whole_of};
 
+use crate::digits::spelled;
 use fast_float::Numeral;
-use hex::FromHexError;
 use json::{Error, Reader, Scratch, Value};
 use serde_json::Value as OwnedValue;
 use std::alloc::{AllocError, Global};
@@ -152,13 +152,9 @@ impl FromValue for Bytes {
 
     /// The bytes that a text spells in hexadecimal digits.
     fn from_value(alloc: Global, value: &Value<'_>) -> Result<Option<Bytes>, AllocError> {
-        let Some(text) = text_in(value) else {
-            return Ok(None);
-        };
-        match hex::decode(alloc, text) {
-            Ok(bytes) => Ok(Some(Bytes::from(bytes))),
-            Err(FromHexError::OutOfMemory) => Err(AllocError),
-            Err(_) => Ok(None),
+        match text_in(value) {
+            Some(text) => spelled(alloc, text),
+            None => Ok(None),
         }
     }
 }

@@ -1,5 +1,5 @@
 // Writing all of some bytes; an error leaves a part of them written.
-ghost use Rattle.std.specs.Prelude.{◌≡◌, List, ℕ, true, IsTrue};
+ghost use Rattle.std.specs.Prelude.{◌≡◌, List, ℕ, true};
 ghost use Rattle.std.specs.Io.KnownBytes.{Appends};
 ghost use Rattle.outage_script.specs.Ends.{Begins};
 

@@ -7,6 +7,7 @@ use caller_pass::pass::Pass;
 use conformance::refusals::is_refused;
 use hash_tree::hashed::{Digest, Hashed, hash};
 use hash_tree::node::NodeAt;
+use hash_tree::text::Text;
 use range_state::config::RangeConfig;
 use range_state::state::RangeState;
 use snapshot::snapshot::Snapshot;
@@ -53,7 +54,7 @@ fn offer(root: Digest) -> Offer {
 
 /// The text `abc`, which no node can have.
 fn abc(alloc: Global) -> Result<Hashed, Refusal> {
-    Ok(hash(Bytes::copy_of(alloc, b"abc")?))
+    Ok(hash(Text::copy_of(alloc, b"abc")?))
 }
 
 /// Answers a node truly, and tells how many versions came, and how the session stands.
@@ -65,7 +66,7 @@ fn answer<L: Ledger>(
     node: NodeAt,
 ) -> Result<(u64, SessionState), Refusal> {
     let text = partner.answer(alloc, Ask { offer: 1, node })?;
-    let taken = range.take_answer(alloc, pass, 0, node, hash(Bytes::from(text)))?;
+    let taken = range.take_answer(alloc, pass, 0, node, hash(Text::from(text)))?;
     Ok((taken.receipts, taken.state))
 }
 

@@ -1,6 +1,7 @@
 // Sessions as events of a range.
 use hash_tree::hashed::{Hashed, hash};
 use hash_tree::node::NodeAt;
+use hash_tree::text::Text;
 use range_state::config::RangeConfig;
 use range_state::event::{AnswerEvent, Event, OpenEvent, Reply};
 use range_state::state::RangeState;
@@ -37,7 +38,7 @@ fn partner(rt: &(impl Threads + Sync), alloc: Global) -> Result<Arc<Snapshot, Gl
 /// The partner's answer at a node, for the first session.
 fn answer(alloc: Global, partner: &Snapshot, depth: u8, index: u16) -> Result<Event, Fail> {
     let node = NodeAt::new(depth, index).ok_or("no such node")?;
-    let text: Hashed = hash(Bytes::from(partner.answer(alloc, Ask { offer: 1, node })?));
+    let text: Hashed = hash(Text::from(partner.answer(alloc, Ask { offer: 1, node })?));
     Ok(Event::TakeAnswer(AnswerEvent {
         seat: 5,
         id: 0,

@@ -5,6 +5,7 @@ use hash_tree::comparing::is_inner_text;
 use hash_tree::hashed::{Digest, Hashed, hash};
 use hash_tree::marks::Marks;
 use hash_tree::node::NodeAt;
+use hash_tree::text::Text;
 use hash_tree::texts::{inner_text, leaf_text};
 use range_journal::journal::Source;
 use range_state::config::RangeConfig;
@@ -51,7 +52,7 @@ fn put(alloc: Global, state: &mut RangeState, context: &[(u64, u64)]) -> Result<
 #[test]
 fn a_text_has_its_digest(rt: HostRuntime) -> Result<(), Fail> {
     let alloc = rt.alloc();
-    let hashed = hash(Bytes::copy_of(alloc, b"abc")?);
+    let hashed = hash(Text::copy_of(alloc, b"abc")?);
     assert_eq!(rt; hashed.text(), b"abc".as_slice());
     assert!(rt; is_spelled(alloc, hashed.digest(), ABC)?);
     Ok(())
@@ -62,7 +63,7 @@ fn nodes_have_texts(rt: HostRuntime) -> Result<(), Fail> {
     let alloc = rt.alloc();
     let leaf = leaf_text(alloc, Format::One, &[])?;
     assert_eq!(rt; leaf.as_slice(), [0].as_slice());
-    let digest = hash(Bytes::from(leaf)).digest();
+    let digest = hash(Text::from(leaf)).digest();
     assert!(rt; is_spelled(alloc, digest, EMPTY_LEAF)?);
     let inner = inner_text(alloc, Format::One, &[digest; 16])?;
     assert_eq!(rt; inner.len(), 513);
@@ -213,7 +214,7 @@ fn many_jobs_are_hashed_in_order(rt: HostRuntime) -> Result<(), Fail> {
 /// A job, and a text that is not the root's.
 fn two_events(alloc: Global) -> Result<Vec<Event>, Fail> {
     let node = NodeAt::new(0, 0).ok_or("no root")?;
-    let hashed = hash(Bytes::copy_of(alloc, b"abc")?);
+    let hashed = hash(Text::copy_of(alloc, b"abc")?);
     let mut events = Vec::with_capacity(alloc, 2)?;
     events.push(Event::TakeJob(0))?;
     events.push(Event::Install(InstallEvent { node, hashed }))?;

@@ -1,5 +1,5 @@
 //! Runs of events.
-ghost use Rattle.std.specs.Prelude.{◌≡◌, None, IfOk, OnOk, OnErr};
+ghost use Rattle.std.specs.Prelude.{◌≡◌, None, OnErr};
 ghost use Rattle.vclock.specs.Answer.{Answers};
 ghost use Rattle.range_state.specs.State.{IsRight};
 ghost use Rattle.range_state.specs.Run.{IsStep, Run, PutStep, AcceptStep, TakeAnswerStep};

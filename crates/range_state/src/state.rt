@@ -1,5 +1,5 @@
 //! The state of a range.
-ghost use Rattle.std.specs.Prelude.{◌≡◌, ◌<◌, ◌≤◌, ◌^◌, ⊤, [], false, if◌then◌else◌, None, Some, unwrap_or, option_map, replicate, MatchOption, true, IsTrue, IfOk, IfErr, OnOk, OnErr};
+ghost use Rattle.std.specs.Prelude.{◌≡◌, ◌<◌, ◌≤◌, ◌^◌, ⊤, [], false, if◌then◌else◌, None, Some, unwrap_or, option_map, replicate, MatchOption, true, IsTrue, IfOk, IfErr};
 ghost use Rattle.std.specs.List.{list_any, AllByRecursion};
 ghost use Rattle.vclock.specs.Answer.{Answers, AnswersAtOnce, AnswersOrNoMemory};
 ghost use Rattle.vclock.specs.Outcome.{Does, DoesOrNoMemory};
@@ -13,7 +13,7 @@ ghost use Rattle.hash_tree.specs.Leaves.{rows_at};
 ghost use Rattle.range_state.specs.Sent.{is_sent};
 ghost use Rattle.range_state.specs.Rows.{rows_of};
 ghost use Rattle.range_state.specs.Fitting.{IsFitting, made_fault, sent_fault};
-ghost use Rattle.range_state.specs.State.{IsRight, fresh, leaf_in, leaf_count, place_fault, ask_fault, stale_fault, full_fault, entry_of, put_entry, put_version, journaled, knows, admit, accept, put};
+ghost use Rattle.range_state.specs.State.{IsRight, fresh, leaf_in, leaf_count, place_fault, ask_fault, stale_fault, full_fault, entry_of, put_version, knows, admit, accept, put};
 
 use crate::config::RangeConfig;
 use crate::event::{Accepted, Receipt};
@@ -308,7 +308,7 @@ impl RangeState {
             key: Bytes::copy_of(alloc, key)?,
             version: version.try_clone()?,
         };
-        let entry_key = Bytes::copy_of(alloc, key)?;
+        let entry_key = receipt.key.try_clone()?;
         let row_version = version.try_clone()?;
         self.leaves[usize::from(leaf)].offer(alloc, key, row_version)?;
         self.journal

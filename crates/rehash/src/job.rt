@@ -7,10 +7,10 @@ use crate::source::Source;
 use hash_tree::hashed::{Digest, Hashed, hash};
 use hash_tree::node::NodeAt;
 use hash_tree::shared::SharedLeaf;
+use hash_tree::text::Text;
 use hash_tree::texts::{INNER_LEN, put_inner_text};
 use std::alloc::Global;
 use std::marker::Model;
-use vclock::bytes::Bytes;
 use vclock::format::Format;
 use vclock::refusal::Refusal;
 
@@ -104,5 +104,5 @@ impl Job {
 pub fn run_job(job: Job) -> Hashed
     ensures { result ≡ job.text }
 {
-    hash(Bytes::from(job.into_text()))
+    hash(Text::from(job.into_text()))
 }

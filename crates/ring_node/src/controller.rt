@@ -1,5 +1,5 @@
 //! A controller of slots that threads share.
-ghost use Rattle.std.specs.Prelude.{◌≡◌, ◌+◌, ◌≤◌, IfOk};
+ghost use Rattle.std.specs.Prelude.{◌≡◌, ◌+◌};
 ghost use Rattle.vclock.specs.Outcome.{DoesAtOnce, ChangesAtOnce};
 ghost use Rattle.admission.specs.Admission.{IsAdmission, lend, sample, adjust};
 ghost use Rattle.ring_node.specs.Moments.{FoundAtSomeMoment, ChangedAtSomeMoment};

@@ -10,11 +10,11 @@ ghost use Rattle.ring_node.specs.Moments.{FoundAtSomeMoment, ChangedAtSomeMoment
 ghost use Rattle.ring_node.specs.Offers.{Offered, AreOffers, publish, latest, kept_under, serve_fault, IsAnswerIn};
 
 use hash_tree::node::tree_depth;
+use hash_tree::text::Text;
 use snapshot::snapshot::Snapshot;
 use std::alloc::Global;
 use std::marker::Model;
 use std::sync::{Arc, Mutex, Wait};
-use vclock::bytes::Bytes;
 use vclock::refusal::Refusal;
 use walk_messages::message::{Answer, Ask, Offer};
 
@@ -185,7 +185,7 @@ impl OfferPool {
         Ok(Answer {
             offer: ask.offer,
             node: ask.node,
-            text: Bytes::from(text),
+            text: Text::from(text),
         })
     }
 

@@ -1,5 +1,5 @@
 //! Workers that take what a partner has and a range lacks.
-ghost use Rattle.std.specs.Prelude.{◌≡◌, ◌⊎◌, ◌+◌, ◌<◌, ◌≤◌, None, IfOk, IfErr, IfSome, OnOk, OnErr, MatchOption, slice_get};
+ghost use Rattle.std.specs.Prelude.{◌≡◌, ◌⊎◌, ◌+◌, ◌<◌, ◌≤◌, None, IfOk, IfErr, IfSome, OnErr, MatchOption, slice_get};
 ghost use Rattle.vclock.specs.Answer.{AnswersAtOnce};
 ghost use Rattle.vclock.specs.Outcome.{Does, through};
 ghost use Rattle.range_journal.specs.declared.journal.Source.{Source};

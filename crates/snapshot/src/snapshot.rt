@@ -13,11 +13,11 @@ ghost use Rattle.snapshot.specs.Snapshots.{IsSnapshot, map_of, answer_fault};
 use hash_tree::hashed::{Digest, Hashed};
 use hash_tree::node::{NodeAt, tree_depth};
 use hash_tree::shared::SharedLeaf;
+use hash_tree::text::Text;
 use hash_tree::texts::inner_text;
 use std::alloc::Global;
 use std::marker::Model;
 use std::sync::Arc;
-use vclock::bytes::Bytes;
 use vclock::format::Format;
 use vclock::refusal::Refusal;
 use walk_messages::message::{Ask, Offer};
@@ -160,7 +160,7 @@ impl Snapshot {
     {
         let at = ask.node;
         let text = self.answer(alloc, ask)?;
-        Ok(Hashed::known(Bytes::from(text), self.digest_at(at)))
+        Ok(Hashed::known(Text::from(text), self.digest_at(at)))
     }
 
     /// The digests of the children of a node that is no leaf, in order.

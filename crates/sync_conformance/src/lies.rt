@@ -4,6 +4,7 @@ ghost use Rattle.std.specs.Prelude.{◌≡◌};
 use crate::partners::{Synced, expect_asked, expect_counts, expect_report, pool_of, sync_over};
 use hash_tree::hashed::hash;
 use hash_tree::node::NodeAt;
+use hash_tree::text::Text;
 use ring_node::deed::Deed;
 use ring_node::link::{Link, Reached};
 use ring_node::memory::MemoryLink;
@@ -17,7 +18,6 @@ use std::sync::ledger::{Blank, Ledger};
 use std::test::Fail;
 use std::thread::Threads;
 use sync_session::state::SessionState;
-use vclock::bytes::Bytes;
 use vclock::refusal::Refusal;
 use walk_messages::decoding::decode;
 use walk_messages::encoding::encode;
@@ -167,7 +167,7 @@ struct Forger {
 impl Forger {
     /// The message of the offer.
     fn offered(&self) -> Result<Vec<u8>, Refusal> {
-        let root = hash(Bytes::copy_of(self.alloc, b"abc")?).digest();
+        let root = hash(Text::copy_of(self.alloc, b"abc")?).digest();
         encode(
             self.alloc,
             &Message::Offer(Offer {
@@ -189,7 +189,7 @@ impl Forger {
             &Message::Answer(Answer {
                 offer: ask.offer,
                 node: ask.node,
-                text: Bytes::copy_of(self.alloc, b"abc")?,
+                text: Text::copy_of(self.alloc, b"abc")?,
             }),
         )
     }

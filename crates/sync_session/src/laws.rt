@@ -1,6 +1,5 @@
 //! What the definitions say of sessions.
-ghost use Rattle.std.specs.Prelude.{◌≡◌, ℕ, List, true, IsTrue};
-ghost use Rattle.std.specs.List.{AllByRecursion};
+ghost use Rattle.std.specs.Prelude.{◌≡◌, ℕ, List, true};
 ghost use Rattle.row_bytes.specs.declared.row.Row.{Row};
 ghost use Rattle.version_set.specs.declared.version.Version.{Version};
 ghost use Rattle.snapshot.specs.RowMaps.{RowMap, IsRowMap};

@@ -1,4 +1,5 @@
 pub mod Answer
+pub mod Bytes
 pub mod Clock
 pub mod Format
 pub mod Keys

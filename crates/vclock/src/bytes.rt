@@ -1,78 +1,106 @@
-//! Bytes that are kept: a key, a value or a text.
-ghost use Rattle.std.specs.Prelude.{◌≡◌, IfOk};
+//! Bytes that are kept: a key or a value.
+ghost use Rattle.std.specs.Prelude.{◌≡◌, None, []};
 ghost use Rattle.vclock.specs.Answer.{Answers};
-ghost use Rattle.std.specs.Prelude.{None};
 
 use crate::refusal::Refusal;
 use smallvec::SmallVec;
 use std::alloc::Global;
+use std::fmt;
 use std::marker::Model;
+use std::sync::Arc;
 
 /// How many bytes are stored inline: most keys fit, so a search among rows touches no other memory.
-const SHORT_LEN: usize = 16;
+const SHORT_LEN: usize = 14;
 
-/// A list of bytes that is owned: a key, a value or a text. Up to 16 bytes are stored inline, and longer ones in one
-/// allocation. A clone may find no memory, so it is a call that returns a `Result`.
+/// How many bytes a shared block has room for itself: it takes 64 bytes of memory with them, and many a value fits.
+const BLOCK_LEN: usize = 32;
+
+/// A list of bytes that never changes: a key or a value. Up to 14 bytes are stored inline. Longer ones lie in a block
+/// that all clones share, in any thread: a value that a row, a journal and a snapshot hold is there once.
 ///
 /// ```
 /// let bytes = Bytes::copy_of(alloc, &[0x78])?;
 /// assert_eq!(rt; bytes.as_slice(), b"x".as_slice());
 /// ```
-#[derive(Debug)]
 pub struct Bytes {
-    bytes: SmallVec<u8, SHORT_LEN>,
+    kept: Kept,
+}
+
+/// Where the bytes lie.
+#[derive(Drop)]
+enum Kept {
+    /// The first so many of these.
+    Short(u8, [u8; SHORT_LEN]),
+    /// In a block of several owners.
+    Shared(Arc<SmallVec<u8, BLOCK_LEN>>),
 }
 
 impl Model for Bytes {
     ghost use Rattle.std.specs.Prelude.{List, ℕ};
+    ghost use Rattle.vclock.specs.Bytes.{kept_bytes, IsKept};
 
     ghost Value = { List ℕ };
 
-    ghost view = { λ b. b.bytes.items };
+    ghost view = { λ b. kept_bytes b.kept };
+
+    ghost invariant = { λ b. IsKept b.kept };
 }
 
 impl Bytes {
+    /// No bytes.
+    pub fn new() -> Bytes
+        ensures { result ≡ [] }
+    {
+        Bytes {
+            kept: Kept::Short(0, [0; SHORT_LEN]),
+        }
+    }
+
     /// The bytes of a slice. Refused: NoMemory.
     pub fn copy_of(alloc: Global, bytes: &[u8]) -> Result<Bytes, Refusal>
         ensures { Answers result None (λ copy. copy ≡ bytes.now) }
     {
-        Ok(Bytes {
-            bytes: SmallVec::from_slice(alloc, bytes)?,
-        })
+        let kept = if bytes.len() <= SHORT_LEN {
+            let mut short = [0; SHORT_LEN];
+            short[..bytes.len()].copy_from_slice(bytes);
+            Kept::Short(bytes.len() as u8, short)
+        } else {
+            Kept::Shared(Arc::new(alloc, SmallVec::from_slice(alloc, bytes)?)?)
+        };
+        Ok(Bytes { kept })
     }
 
-    /// Equal bytes. Refused: NoMemory.
+    /// Equal bytes, which copies none of a block. Refused: NoMemory.
     pub fn try_clone(&self) -> Result<Bytes, Refusal>
         ensures { Answers result None (λ copy. copy ≡ self.now) }
     {
-        // A clone of the small vector would take its bytes one by one.
-        Bytes::copy_of(*self.bytes.allocator(), self.bytes.as_slice())
+        let kept = match &self.kept {
+            Kept::Short(len, bytes) => Kept::Short(*len, *bytes),
+            Kept::Shared(block) => Kept::Shared(Arc::try_clone(block)?),
+        };
+        Ok(Bytes { kept })
     }
 
     /// The bytes in order.
     pub fn as_slice(&self) -> &[u8]
         ensures { result.now ≡ self.now }
     {
-        self.bytes.as_slice()
+        match &self.kept {
+            Kept::Short(len, bytes) => &bytes[..*len as usize],
+            Kept::Shared(block) => block.as_slice(),
+        }
+    }
+}
+
+impl fmt::Debug for Bytes {
+    fn fmt<W: fmt::Write>(&self, f: &mut fmt::Formatter<W>) -> fmt::Result {
+        f.debug_list().entries(self.as_slice()).finish()
     }
 }
 
 impl Drop for Bytes {
     /// Keeps the representation out of the proofs of callers that drop bytes.
     fn drop(self) {
-        let Bytes { bytes: _bytes } = self;
-    }
-}
-
-impl From<Vec<u8>> for Bytes {
-    ghost use Rattle.std.specs.Prelude.{◌≡◌};
-
-    ghost from_gives = { λ bytes kept. kept ≡ bytes.items };
-
-    /// The bytes of a vector. Its allocation is kept unless the bytes fit inline.
-    fn from(bytes: Vec<u8>) -> Bytes {
-        Bytes {
-            bytes: SmallVec::from_vec(bytes),
-        }
+        let Bytes { kept: _kept } = self;
     }
 }

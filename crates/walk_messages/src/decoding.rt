@@ -1,11 +1,11 @@
 //! Reading messages. What their bytes are, this project's profile says.
-ghost use Rattle.std.specs.Prelude.{◌≡◌, ◌∷◌};
+ghost use Rattle.std.specs.Prelude.{◌∷◌};
 ghost use Rattle.walk_messages.specs.Messages.{Decodes};
 
 use crate::fields::{answer_parts_of, ask_of, offer_of};
 use crate::message::{Answer, Message};
+use hash_tree::text::Text;
 use std::alloc::Global;
-use vclock::bytes::Bytes;
 use vclock::refusal::Refusal;
 
 /// The message that has exactly these bytes. Neither the format's number of an offer is judged, nor its range, nor the
@@ -57,6 +57,6 @@ fn decode_answer(alloc: Global, fields: &[u8]) -> Result<Message, Refusal>
     Ok(Message::Answer(Answer {
         offer: head.offer,
         node: head.node,
-        text: Bytes::copy_of(alloc, text)?,
+        text: Text::copy_of(alloc, text)?,
     }))
 }

@@ -7,8 +7,8 @@ ghost use Rattle.walk_messages.specs.Messages.{node_text, message_text};
 
 use crate::message::{Answer, Message, Offer};
 use hash_tree::node::NodeAt;
+use hash_tree::text::Text;
 use std::alloc::{AllocError, Global};
-use vclock::bytes::Bytes;
 use vclock::refusal::Refusal;
 
 /// How many bytes of an offer stand before its root.
@@ -59,7 +59,7 @@ fn put_head(out: &mut Vec<u8>, kind: u8, offer: u32, node: NodeAt) -> Result<(),
 }
 
 /// Appends the length of a text, and the text.
-fn put_text(out: &mut Vec<u8>, text: &Bytes) -> Result<(), AllocError>
+fn put_text(out: &mut Vec<u8>, text: &Text) -> Result<(), AllocError>
     ensures { OnOk result (out.new.items ≡ out.old.items ++ (to_be_bytes w64 (length text.now) ++ text.now)) }
 {
     let text = text.as_slice();

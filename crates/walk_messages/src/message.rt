@@ -1,7 +1,7 @@
 //! Messages. What their bytes are, this project's profile says.
 use hash_tree::hashed::Digest;
 use hash_tree::node::NodeAt;
-use vclock::bytes::Bytes;
+use hash_tree::text::Text;
 
 /// A replica's tree, by the digest of its root: the first message of a sync. A partner whose own root differs opens a
 /// session with it.
@@ -47,7 +47,7 @@ pub struct Ask {
 /// let answer = Message::Answer(Answer {
 ///     offer: 1,
 ///     node: NodeAt::new(2, 0).ok_or("no such node")?,
-///     text: Bytes::copy_of(alloc, b"\x00")?,
+///     text: Text::copy_of(alloc, b"\x00")?,
 /// });
 /// ```
 #[derive(Debug, Drop)]
@@ -57,7 +57,7 @@ pub struct Answer {
     /// The node, of any format's tree.
     pub node: NodeAt,
     /// The text, which may be anything.
-    pub text: Bytes,
+    pub text: Text,
 }
 
 /// A message between two replicas, as bytes on a wire: see `encode` and `decode`.

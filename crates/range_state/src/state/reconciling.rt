@@ -1,7 +1,6 @@
 //! Two replicas of a range that catch up with each other.
 ghost use Rattle.std.specs.Prelude.{◌≡◌, ⊤, [], None, MatchResult, IfOk, OnOk};
 ghost use Rattle.vclock.specs.Answer.{AnswersAtOnce};
-ghost use Rattle.hash_tree.specs.Nodes.{are_clean};
 ghost use Rattle.range_state.specs.State.{rows_now, dirty_fault};
 ghost use Rattle.range_state.specs.Sessions.{standings, crowd_fault};
 ghost use Rattle.range_state.specs.Syncs.{IsOfRange};

@@ -3,9 +3,9 @@ ghost use Rattle.std.specs.Prelude.{◌≡◌, ◌≢◌, ◌⊎◌, ◌+◌, �
 ghost use Rattle.vclock.specs.Answer.{Answers, AnswersOrNoMemory, first_fault};
 ghost use Rattle.hash_tree.specs.Nodes.{tree_depth};
 ghost use Rattle.sync_session.specs.TreeNodes.{node_of, text_of};
-ghost use Rattle.range_state.specs.State.{IsRight, dirty_fault};
+ghost use Rattle.range_state.specs.State.{dirty_fault};
 ghost use Rattle.range_state.specs.Sessions.{standings, crowd_fault, TakesFor};
-ghost use Rattle.range_state.specs.Syncs.{IsOfRange, HasAskedAll, IsSyncedTo, IsPartWay, IsFirstOf};
+ghost use Rattle.range_state.specs.Syncs.{IsOfRange, HasAskedAll, IsSyncedTo, IsPartWay};
 
 use crate::event::AnswerTaken;
 use crate::state::RangeState;

@@ -1,10 +1,10 @@
 //! The tree of a range: jobs of hashing, and their digests.
-ghost use Rattle.std.specs.Prelude.{◌≡◌, ◌+◌, ◌∷◌, ⊤, [], None, IsTrue, IfSome, MatchOption};
+ghost use Rattle.std.specs.Prelude.{◌≡◌, ◌+◌, ◌∷◌, [], None, IsTrue, IfSome, MatchOption};
 ghost use Rattle.sha2.specs.Sha256.{sha256};
 ghost use Rattle.vclock.specs.Answer.{Answers};
 ghost use Rattle.vclock.specs.Outcome.{DoesAtOnce};
 ghost use Rattle.hash_tree.specs.Nodes.{digest_at, is_ready, ready_from};
-ghost use Rattle.range_state.specs.State.{has_node, place_of, text_in, IsJob, GivesJob, AreJobs, is_current, install, installed};
+ghost use Rattle.range_state.specs.State.{has_node, place_of, text_in, GivesJob, AreJobs, is_current, install, installed};
 
 use crate::state::RangeState;
 use hash_tree::comparing::is_inner_text;

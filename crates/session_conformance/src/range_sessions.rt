@@ -2,6 +2,7 @@
 use conformance::refusals::is_refused;
 use hash_tree::hashed::{Digest, Hashed, hash};
 use hash_tree::node::NodeAt;
+use hash_tree::text::Text;
 use range_state::config::RangeConfig;
 use range_state::event::AnswerTaken;
 use range_state::state::RangeState;
@@ -48,7 +49,7 @@ fn offer(root: Digest) -> Offer {
 
 /// The text `abc`, which no node can have.
 fn abc(alloc: Global) -> Result<Hashed, Refusal> {
-    Ok(hash(Bytes::copy_of(alloc, b"abc")?))
+    Ok(hash(Text::copy_of(alloc, b"abc")?))
 }
 
 /// How the session of a number stands.
@@ -67,7 +68,7 @@ fn first(state: &RangeState) -> Result<NodeAt, Fail> {
 /// A partner's text of a node.
 fn text_of(alloc: Global, partner: &Snapshot, node: NodeAt) -> Result<Hashed, Refusal> {
     let text = partner.answer(alloc, Ask { offer: 1, node })?;
-    Ok(hash(Bytes::from(text)))
+    Ok(hash(Text::from(text)))
 }
 
 /// The partner's text of the root with its last byte turned.
@@ -76,7 +77,7 @@ fn forged_root(alloc: Global, partner: &Snapshot) -> Result<Hashed, Fail> {
     let mut text = partner.answer(alloc, Ask { offer: 1, node })?;
     let last = text.pop().ok_or("no text")?;
     text.push(!last)?;
-    Ok(hash(Bytes::from(text)))
+    Ok(hash(Text::from(text)))
 }
 
 /// Answers the first node that the first session awaits truly, at seat 5.

@@ -2,6 +2,7 @@
 use conformance::refusals::is_refused;
 use hash_tree::hashed::{Digest, Hashed, hash};
 use hash_tree::node::NodeAt;
+use hash_tree::text::Text;
 use range_state::config::RangeConfig;
 use range_state::state::RangeState;
 use snapshot::snapshot::Snapshot;
@@ -60,7 +61,7 @@ fn first(session: &Session) -> Result<NodeAt, Fail> {
 /// A partner's text of a node.
 fn text_of(alloc: Global, partner: &Snapshot, node: NodeAt) -> Result<Hashed, Refusal> {
     let text = partner.answer(alloc, Ask { offer: 1, node })?;
-    Ok(hash(Bytes::from(text)))
+    Ok(hash(Text::from(text)))
 }
 
 /// Answers the first outstanding node truly, and tells how many rows came: none for a node with children.
@@ -138,7 +139,7 @@ fn a_cancelled_session_asks_nothing_more(rt: HostRuntime) -> Result<(), Fail> {
 
 /// The text `abc`, which no node can have.
 fn abc(alloc: Global) -> Result<Hashed, Refusal> {
-    Ok(hash(Bytes::copy_of(alloc, b"abc")?))
+    Ok(hash(Text::copy_of(alloc, b"abc")?))
 }
 
 /// A session takes the root's true text once, after another one.
