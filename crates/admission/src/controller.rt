@@ -25,7 +25,6 @@ use vclock::refusal::Refusal;
 /// assert!(rt; matches!(&controller.adjust(60_100), Ok(Some(25_000))));
 /// assert_eq!(rt; controller.target(), 5);
 /// ```
-#[derive(Drop)]
 pub struct Controller<L: Ledger> {
     floor: u32,
     ceiling: u32,
@@ -223,5 +222,23 @@ impl<L: Ledger> Controller<L> {
         } else if p as u64 * 2 <= self.threshold as u64 {
             self.target = self.ceiling.min(self.target + 1);
         }
+    }
+}
+
+impl<L: Ledger> Drop for Controller<L> {
+    /// Keeps the fields out of the proofs of callers that drop a controller.
+    fn drop(self) {
+        let Controller {
+            floor: _floor,
+            ceiling: _ceiling,
+            threshold: _threshold,
+            target: _target,
+            lent: _lent,
+            latest: _latest,
+            samples: _samples,
+            room: _room,
+            book: _book,
+            spare: _spare,
+        } = self;
     }
 }

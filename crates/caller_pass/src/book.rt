@@ -21,7 +21,6 @@ use vclock::refusal::Refusal;
 /// let zero = passes.pop().ok_or("one pass")?;
 /// Ok((LockedRange::new(state, book), one, zero))
 /// ```
-#[derive(Drop)]
 pub struct Book<L: Ledger> {
     count: ledger::Book<L>,
     seats: u16,
@@ -157,5 +156,17 @@ impl<L: Ledger> Book<L> {
         ensures sum { receipts_of self.old.passes ≡ self.old.number }
     {
         self.count.audit(&mut self.share);
+    }
+}
+
+impl<L: Ledger> Drop for Book<L> {
+    /// Keeps the fields out of the proofs of callers that drop a book.
+    fn drop(self) {
+        let Book {
+            count: _count,
+            seats: _seats,
+            kept: _kept,
+            share: _share,
+        } = self;
     }
 }

@@ -8,7 +8,6 @@ use std::collections::HashMap;
 
 /// An index of a pass's receipts by key, of the first few of them: as many as `earlier` has. A place is kept as one
 /// more than it is, so that 0 stands for no receipt.
-#[derive(Drop)]
 pub(crate) struct ByKey {
     /// By key: the last receipt that is of it.
     last: HashMap<Vec<u8>, usize>,
@@ -74,5 +73,15 @@ impl ByKey {
         let earlier = self.last.insert(key, place + 1)?;
         self.earlier.push_reserved(earlier.unwrap_or(0));
         Ok(())
+    }
+}
+
+impl Drop for ByKey {
+    /// Keeps the fields out of the proofs of callers that drop the index.
+    fn drop(self) {
+        let ByKey {
+            last: _last,
+            earlier: _earlier,
+        } = self;
     }
 }

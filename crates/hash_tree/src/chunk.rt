@@ -20,7 +20,7 @@ use version_set::version::Version;
 
 /// Some consecutive rows of a leaf, at least one. Copies of the leaf share them until one is changed. The first key is
 /// kept as well, so that a search among chunks looks at no row.
-#[derive(Debug, Drop)]
+#[derive(Debug)]
 pub(crate) struct Chunk {
     first: Bytes,
     held: Arc<WrittenRows, Global>,
@@ -158,5 +158,15 @@ impl Chunk {
         };
         *back = Arc::make_mut(&mut self.held)?.split(alloc, at)?;
         Ok(Chunk { first, held })
+    }
+}
+
+impl Drop for Chunk {
+    /// Keeps the fields out of the proofs of callers that drop a chunk.
+    fn drop(self) {
+        let Chunk {
+            first: _first,
+            held: _held,
+        } = self;
     }
 }

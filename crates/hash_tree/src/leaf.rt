@@ -25,7 +25,7 @@ use version_set::set::VersionSet;
 use version_set::version::Version;
 
 /// Rows in ascending order of key, each key once, in chunks: what is put into a leaf moves the rows of one chunk only.
-#[derive(Debug, Drop)]
+#[derive(Debug)]
 pub(crate) struct Leaf {
     format: Format,
     chunks: Vec<Chunk>,
@@ -218,5 +218,15 @@ fn reserve(out: &mut Vec<u8>, len: u128) -> Result<(), AllocError>
     match usize::try_from(len) {
         Ok(len) => out.reserve(len),
         Err(_) => Err(AllocError),
+    }
+}
+
+impl Drop for Leaf {
+    /// Keeps the fields out of the proofs of callers that drop a leaf.
+    fn drop(self) {
+        let Leaf {
+            format: _format,
+            chunks: _chunks,
+        } = self;
     }
 }

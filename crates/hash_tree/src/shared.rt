@@ -32,7 +32,7 @@ use version_set::version::Version;
 /// assert_eq!(rt; leaf.text_len(), text.len() as u128);
 /// assert!(rt; leaf.is_text(text.as_slice()));
 /// ```
-#[derive(Debug, Drop)]
+#[derive(Debug)]
 pub struct SharedLeaf {
     format: Format,
     leaf: Option<Arc<Leaf, Global>>,
@@ -208,4 +208,14 @@ fn offer_to(
     copy.offer(alloc, key, version)?;
     *shared = Arc::new(alloc, copy)?;
     Ok(())
+}
+
+impl Drop for SharedLeaf {
+    /// Keeps the fields out of the proofs of callers that drop a leaf.
+    fn drop(self) {
+        let SharedLeaf {
+            format: _format,
+            leaf: _leaf,
+        } = self;
+    }
 }

@@ -29,7 +29,7 @@ const SPARE_BYTES: usize = 32;
 
 /// Some consecutive rows of a leaf. Beside the rows stand their texts, one after another, and how long each is: a row's
 /// parts are scattered over the heap, and the text of the leaf is written again and again.
-#[derive(Debug, Drop)]
+#[derive(Debug)]
 pub(crate) struct WrittenRows {
     format: Format,
     rows: Vec<Row>,
@@ -294,4 +294,16 @@ fn replace(text: &mut Vec<u8>, start: usize, end: usize, mut bytes: Vec<u8>)
     bytes.extend_from_slice(&text[end..]).unwrap();
     text.truncate(start);
     text.extend_from_slice(&bytes).unwrap();
+}
+
+impl Drop for WrittenRows {
+    /// Keeps the fields out of the proofs of callers that drop rows.
+    fn drop(self) {
+        let WrittenRows {
+            format: _format,
+            rows: _rows,
+            lens: _lens,
+            text: _text,
+        } = self;
+    }
 }

@@ -41,7 +41,7 @@ struct Waiting {
 /// let hint = store.next(alloc, 2, 0)?.ok_or("no hint for 2")?;
 /// assert_eq!(rt; (hint.id, hint.owner), (1, 2));
 /// ```
-#[derive(Debug, Drop)]
+#[derive(Debug)]
 pub struct HintStore {
     hints: Vec<Kept>,
     pending: Vec<Waiting>,
@@ -298,5 +298,15 @@ fn lesser(one: Option<u32>, other: Option<u32>) -> Option<u32>
         (Some(a), Some(b)) => Some(a.min(b)),
         (Some(a), None) => Some(a),
         (None, b) => b,
+    }
+}
+
+impl Drop for HintStore {
+    /// Keeps the fields out of the proofs of callers that drop a store.
+    fn drop(self) {
+        let HintStore {
+            hints: _hints,
+            pending: _pending,
+        } = self;
     }
 }

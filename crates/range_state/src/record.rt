@@ -10,7 +10,6 @@ use sync_session::session::Session;
 /// let record = state.records().get(id).ok_or("no record")?;
 /// Ok(record.session().state())
 /// ```
-#[derive(Drop)]
 pub struct Record {
     pub(crate) partner: u16,
     pub(crate) session: Session,
@@ -29,5 +28,15 @@ impl Record {
         ensures { result.now ≡ self.now.session }
     {
         &self.session
+    }
+}
+
+impl Drop for Record {
+    /// Keeps the fields out of the proofs of callers that drop a record.
+    fn drop(self) {
+        let Record {
+            partner: _partner,
+            session: _session,
+        } = self;
     }
 }

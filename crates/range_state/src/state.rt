@@ -59,7 +59,6 @@ mod tree;
 /// }
 /// state.rehash(rt, alloc)?;
 /// ```
-#[derive(Drop)]
 pub struct RangeState {
     config: RangeConfig,
     journal: Journal,
@@ -382,5 +381,18 @@ fn has_seen(version: &Version, clock: &Clock) -> bool
     match clock.compare(&version.clock) {
         ClockOrder::Before | ClockOrder::Equal => true,
         ClockOrder::After | ClockOrder::Apart => false,
+    }
+}
+
+impl Drop for RangeState {
+    /// Keeps the fields out of the proofs of callers that drop a range.
+    fn drop(self) {
+        let RangeState {
+            config: _config,
+            journal: _journal,
+            leaves: _leaves,
+            marks: _marks,
+            records: _records,
+        } = self;
     }
 }

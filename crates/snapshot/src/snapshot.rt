@@ -31,7 +31,7 @@ use walk_messages::message::{Ask, Offer};
 /// assert_eq!(rt; text_at(alloc, &snapshot, 2, 0)?.as_slice(), [0].as_slice());
 /// assert_eq!(rt; text_at(alloc, &snapshot, 1, 0)?.len(), 513);
 /// ```
-#[derive(Debug, Drop)]
+#[derive(Debug)]
 pub struct Snapshot {
     format: Format,
     bits: u8,
@@ -183,4 +183,17 @@ fn text_of(alloc: Global, leaf: &SharedLeaf) -> Result<Vec<u8>, Refusal>
     let mut text = Vec::new(alloc);
     leaf.put_text(&mut text)?;
     Ok(text)
+}
+
+impl Drop for Snapshot {
+    /// Keeps the fields out of the proofs of callers that drop a snapshot.
+    fn drop(self) {
+        let Snapshot {
+            format: _format,
+            bits: _bits,
+            range: _range,
+            leaves: _leaves,
+            digests: _digests,
+        } = self;
+    }
 }

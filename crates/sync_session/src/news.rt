@@ -20,7 +20,7 @@ use vclock::refusal::Refusal;
 
 /// What a leaf's text has beside the own rows. A row that the own snapshot has, byte by byte, is counted and not read, so
 /// most of a text costs no more than comparing it.
-#[derive(Debug, Drop)]
+#[derive(Debug)]
 pub struct News {
     /// The rows that the own snapshot does not have as they are, in ascending order of key.
     pub rows: Vec<Row>,
@@ -152,5 +152,15 @@ fn front_row<'a>(
         Ok(Some((row, after)))
     } else {
         Ok(None)
+    }
+}
+
+impl Drop for News {
+    /// Keeps the fields out of the proofs of callers that drop news.
+    fn drop(self) {
+        let News {
+            rows: _rows,
+            known: _known,
+        } = self;
     }
 }

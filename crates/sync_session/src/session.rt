@@ -42,7 +42,6 @@ pub enum Answered {
 ///     Answered::Leaf(rows) => Ok(Some(rows.len())),
 /// }
 /// ```
-#[derive(Drop)]
 pub struct Session {
     own: Arc<Snapshot, Global>,
     root: Digest,
@@ -290,5 +289,19 @@ fn state_by(outstanding: &[NodeAt]) -> SessionState
         SessionState::Finished
     } else {
         SessionState::Open
+    }
+}
+
+impl Drop for Session {
+    /// Keeps the fields out of the proofs of callers that drop a session.
+    fn drop(self) {
+        let Session {
+            own: _own,
+            root: _root,
+            asked: _asked,
+            outstanding: _outstanding,
+            taken: _taken,
+            state: _state,
+        } = self;
     }
 }

@@ -7,7 +7,7 @@ use hash_tree::node::NodeAt;
 use std::marker::Model;
 
 /// A text that a session took, and the node that it is the text of.
-#[derive(Debug, Drop)]
+#[derive(Debug)]
 pub struct Taken {
     node: NodeAt,
     text: Hashed,
@@ -42,5 +42,15 @@ impl Taken {
         ensures { result.now ≡ self.now.text }
     {
         &self.text
+    }
+}
+
+impl Drop for Taken {
+    /// Keeps the fields out of the proofs of callers that drop what was taken.
+    fn drop(self) {
+        let Taken {
+            node: _node,
+            text: _text,
+        } = self;
     }
 }

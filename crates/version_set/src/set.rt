@@ -40,7 +40,7 @@ pub enum Offered {
 ///     "[(1, 1)] Live [120]\n[(1, 1)] Tombstone []\n"
 /// );
 /// ```
-#[derive(Debug, Drop)]
+#[derive(Debug)]
 pub struct VersionSet {
     versions: Vec<Version>,
 }
@@ -265,4 +265,13 @@ fn insert(versions: &mut Vec<Version>, version: Version)
         }
     }
     versions.insert(i, version).unwrap();
+}
+
+impl Drop for VersionSet {
+    /// Keeps the fields out of the proofs of callers that drop a set.
+    fn drop(self) {
+        let VersionSet {
+            versions: _versions,
+        } = self;
+    }
 }
