@@ -32,7 +32,6 @@ pub(crate) struct Work {
 }
 
 /// A range and its plain program, with the nodes that are clean, by depth and then by index.
-#[derive(Drop)]
 pub(crate) struct Replica {
     pub(crate) state: RangeState,
     pub(crate) plain: PlainRange,
@@ -45,7 +44,6 @@ pub(crate) struct Replica {
 }
 
 /// A partner's rows at one moment, and the tree over them.
-#[derive(Drop)]
 pub(crate) struct Offered {
     pub(crate) snapshot: Arc<Snapshot, Global>,
     pub(crate) tree: Tree,
@@ -409,4 +407,28 @@ pub(crate) fn is_entry(entry: &Entry, number: usize, plain: &PlainEntry) -> bool
         && entry.source == plain.source
         && entry.key.as_slice() == key_bytes(plain.key)
         && plain.version.is(&entry.version)
+}
+
+impl Drop for Replica {
+    /// Keeps the fields out of the proofs of callers that drop a replica.
+    fn drop(self) {
+        let Replica {
+            state: _state,
+            plain: _plain,
+            offered: _offered,
+            walks: _walks,
+            clean: _clean,
+            work: _work,
+        } = self;
+    }
+}
+
+impl Drop for Offered {
+    /// Keeps the fields out of the proofs of callers that drop an offer.
+    fn drop(self) {
+        let Offered {
+            snapshot: _snapshot,
+            tree: _tree,
+        } = self;
+    }
 }

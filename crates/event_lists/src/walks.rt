@@ -32,7 +32,6 @@ pub(crate) struct Offering {
 }
 
 /// What a session compares: the own tree when it was opened, and what a partner offered.
-#[derive(Drop)]
 pub(crate) struct Walk {
     format: Format,
     pub(crate) own: Tree,
@@ -180,5 +179,21 @@ fn state_by(outstanding: &[NodeAt]) -> SessionState {
         SessionState::Finished
     } else {
         SessionState::Open
+    }
+}
+
+impl Drop for Walk {
+    /// Keeps the fields out of the proofs of callers that drop a walk.
+    fn drop(self) {
+        let Walk {
+            format: _format,
+            own: _own,
+            partner: _partner,
+            asked: _asked,
+            outstanding: _outstanding,
+            taken: _taken,
+            state: _state,
+            last: _last,
+        } = self;
     }
 }

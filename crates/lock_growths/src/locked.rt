@@ -25,7 +25,6 @@ use walk_messages::message::Ask;
 const TURNS: u64 = 300;
 
 /// A locked range with the passes of its two seats. The first one writes and reads, and the second one syncs.
-#[derive(Drop)]
 pub(crate) struct Locked<L: Ledger> {
     range: LockedRange<L>,
     passes: Vec<Pass<L>>,
@@ -45,7 +44,8 @@ impl<L: Ledger> Locked<L> {
 
     /// Closes it.
     pub(crate) fn close(self, alloc: Global) -> Result<Closing<L>, Refusal> {
-        close_locked(alloc, self.range, self.passes)
+        let Locked { range, passes } = self;
+        close_locked(alloc, range, passes)
     }
 
     /// Makes a call, and returns a number that tells its result.
@@ -152,5 +152,15 @@ impl<L: Ledger> Locked<L> {
     fn migrate(&mut self, alloc: Global) -> Result<u64, Refusal> {
         self.range.migrate(alloc)?;
         Ok(u64::from(self.range.config().format().number()))
+    }
+}
+
+impl<L: Ledger> Drop for Locked<L> {
+    /// Keeps the fields out of the proofs of callers that drop what is locked.
+    fn drop(self) {
+        let Locked {
+            range: _range,
+            passes: _passes,
+        } = self;
     }
 }

@@ -67,7 +67,6 @@ impl Gate for Counter {
 
 /// A shared range with the passes of its two seats, and what its workers need. The first pass writes and reads, and the
 /// second one is the workers'.
-#[derive(Drop)]
 pub(crate) struct Shared<L: Ledger, C: Ledger> {
     range: SharedRange<L>,
     passes: Vec<Pass<L>>,
@@ -99,7 +98,14 @@ impl<L: Ledger, C: Ledger> Shared<L, C> {
 
     /// Closes it.
     pub(crate) fn close(self, alloc: Global) -> Result<Closing<L>, Refusal> {
-        close_shared(alloc, self.range, self.passes)
+        let Shared {
+            range,
+            passes,
+            slots: _,
+            hints: _,
+            counter: _,
+        } = self;
+        close_shared(alloc, range, passes)
     }
 
     /// How many nodes its workers hashed.
@@ -277,4 +283,17 @@ fn digits(report: &SyncReport) -> u64 {
         number = number.saturating_mul(10).saturating_add(count);
     }
     number
+}
+
+impl<L: Ledger, C: Ledger> Drop for Shared<L, C> {
+    /// Keeps the fields out of the proofs of callers that drop what is shared.
+    fn drop(self) {
+        let Shared {
+            range: _range,
+            passes: _passes,
+            slots: _slots,
+            hints: _hints,
+            counter: _counter,
+        } = self;
+    }
 }

@@ -8,7 +8,6 @@ use std::sync::ledger::Ledger;
 use vclock::refusal::Refusal;
 
 /// What a pass was told.
-#[derive(Drop)]
 pub(crate) struct Told {
     seat: u16,
     seen: u64,
@@ -74,4 +73,16 @@ fn is_same_reading(reading: &Reading, other: &Reading) -> bool {
     reading.front == other.front
         && reading.key.as_slice() == other.key.as_slice()
         && reading.versions.same(&other.versions)
+}
+
+impl Drop for Told {
+    /// Keeps the fields out of the proofs of callers that drop what was told.
+    fn drop(self) {
+        let Told {
+            seat: _seat,
+            seen: _seen,
+            receipts: _receipts,
+            readings: _readings,
+        } = self;
+    }
 }

@@ -39,7 +39,6 @@ use version_set::set::VersionSet;
 const JOURNAL_LIMIT: u64 = 1_000_000;
 
 /// A ring: its nodes, the hints that they keep, and the replicas of its ranges.
-#[derive(Drop)]
 pub(crate) struct Cluster {
     ring: Ring,
     format: Format,
@@ -444,4 +443,17 @@ fn row_text(
         return Ok(Text::from(Vec::new(alloc)));
     }
     Ok(Text::from(write_row(alloc, format, &Row { key, versions })?))
+}
+
+impl Drop for Cluster {
+    /// Keeps the fields out of the proofs of callers that drop a cluster.
+    fn drop(self) {
+        let Cluster {
+            ring: _ring,
+            format: _format,
+            down: _down,
+            carriers: _carriers,
+            ranges: _ranges,
+        } = self;
+    }
 }

@@ -38,7 +38,6 @@ use version_set::version::Version;
 const SEAT: u16 = 0;
 
 /// A node that keeps a range. It has no state as long as it was sent nothing, for a ring may have thousands of replicas.
-#[derive(Drop)]
 pub(crate) struct Replica {
     node: u16,
     config: RangeConfig,
@@ -254,4 +253,15 @@ fn is_sent_to(node: u64, lose: &[u64], other: u16) -> bool
 {
     let other = u64::from(other);
     other != node && !lose.contains(&other)
+}
+
+impl Drop for Replica {
+    /// Keeps the fields out of the proofs of callers that drop a replica.
+    fn drop(self) {
+        let Replica {
+            node: _node,
+            config: _config,
+            state: _state,
+        } = self;
+    }
 }

@@ -31,7 +31,6 @@ use version_set::kind::Kind;
 use version_set::version::Version;
 
 /// The replicas of a range.
-#[derive(Drop)]
 pub(crate) struct Replicas {
     config: RangeConfig,
     replicas: Vec<Replica>,
@@ -228,5 +227,15 @@ fn payload(value: Option<Bytes>) -> (Kind, Bytes)
     match value {
         Some(value) => (Kind::Live, value),
         None => (Kind::Tombstone, Bytes::new()),
+    }
+}
+
+impl Drop for Replicas {
+    /// Keeps the fields out of the proofs of callers that drop replicas.
+    fn drop(self) {
+        let Replicas {
+            config: _config,
+            replicas: _replicas,
+        } = self;
     }
 }
