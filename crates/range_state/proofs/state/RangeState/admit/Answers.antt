@@ -58,7 +58,7 @@ pub invariant_of-self-2 : goal.invariant_of-self-2
 invariant_of-self-2 c =
     let s : State = record { config = c.self.inside.config; entries = c.self.inside.journal.entries; marks = c.self.inside.marks.digests; records = c.self.inside.records.items } in
     let e : Entry = record { number = length c.reserve.new.self.entries; seat = c.args.seat; source = c.args.source; key = c.in_ok-entry_key.entry_key; version = c.args.version } in
-    let key : c.args.key.now ≡ c.in_ok-entry_key.entry_key = sym c.in_ok-entry_key.ensures.1 in
+    let key : c.args.key.now ≡ c.in_ok-entry_key.entry_key = sym c.in_ok-copy_of.ensures.1 ∙ sym c.in_ok-entry_key.ensures.1 in
     let back : c.args.self.now ≡ s = sym c.self.view_is in
     let leaf : c.from.result ≡ leaf_in s.config e.key = c.from.ensures ∙ c.requires.fits.leaf_is ∙ (λ i. leaf_in (back i).config (key i)) in
     let here : place_fault s.config e.key e.version.kind e.version.value ≡ None = sym (λ i. place_fault (back i).config (key i) c.args.version.kind c.args.version.value) ∙ c.requires.fits.here in
