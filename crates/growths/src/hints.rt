@@ -1,5 +1,5 @@
 // Hints.
-use crate::versions::{LONG, version};
+use crate::versions::wide_version;
 use growth_checks::lines::{show, unchanged};
 use hint_store::hint::{Hint, Kept};
 use hint_store::store::HintStore;
@@ -22,8 +22,7 @@ pub(crate) fn show_all<R: Print + AllocGlobal>(rt: &R) -> io::Result<()> {
 
 /// Keeps a hint for an owner.
 fn keep_for(alloc: Global, store: &mut HintStore, owner: u16) -> Result<u32, Refusal> {
-    let mut version = version(alloc, u64::from(owner))?;
-    version.value = Bytes::copy_of(alloc, LONG)?;
+    let version = wide_version(alloc, u64::from(owner))?;
     store.keep(owner, Bytes::copy_of(alloc, b"a")?, version)
 }
 

@@ -9,9 +9,6 @@ use version_set::kind::Kind;
 use version_set::set::VersionSet;
 use version_set::version::Version;
 
-/// A value that isn't kept in place, so that each copy of it takes memory.
-pub(crate) const LONG: &[u8] = b"more than sixteen bytes";
-
 /// Shows the calls on versions and sets of them.
 pub(crate) fn show_all<R: Print + AllocGlobal>(rt: &R) -> io::Result<()> {
     let alloc = rt.alloc();
@@ -30,6 +27,15 @@ pub(crate) fn version(alloc: Global, node: u64) -> Result<Version, Refusal> {
     })
 }
 
+/// A version that two nodes have counted, so that a clone of it takes memory.
+pub(crate) fn wide_version(alloc: Global, node: u64) -> Result<Version, Refusal> {
+    Ok(Version {
+        clock: Clock::from_pairs(alloc, &[(node, 1), (9, 1)])?,
+        kind: Kind::Live,
+        value: Bytes::copy_of(alloc, b"x")?,
+    })
+}
+
 /// The set of the versions of the nodes before this one.
 fn set_before(alloc: Global, node: u64) -> Result<VersionSet, Refusal> {
     let mut set = VersionSet::empty(alloc);
@@ -40,9 +46,7 @@ fn set_before(alloc: Global, node: u64) -> Result<VersionSet, Refusal> {
 }
 
 fn clone_of_version(alloc: Global) -> Result<u64, Refusal> {
-    let mut version = version(alloc, 7)?;
-    version.value = Bytes::copy_of(alloc, LONG)?;
-    Ok(version.try_clone()?.clock.get(7))
+    Ok(wide_version(alloc, 7)?.try_clone()?.clock.get(7))
 }
 
 /// Offers versions until the set has had to grow.

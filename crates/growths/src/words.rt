@@ -1,15 +1,16 @@
-// Clocks and bytes.
+// Clocks, bytes and texts.
 use growth_checks::lines::{show, unchanged};
+use hash_tree::text::Text;
 use std::alloc::Global;
 use std::io;
 use vclock::bytes::Bytes;
 use vclock::clock::Clock;
 use vclock::refusal::{Clocks, Refusal};
 
-/// Too many bytes to stand in a `Bytes` itself, so that a copy of them takes memory.
+/// Too many bytes to stand in a `Bytes` itself, so that to copy them takes memory.
 const LONG: &[u8] = b"more than sixteen bytes";
 
-/// Shows the calls on clocks and bytes.
+/// Shows the calls on clocks, bytes and texts.
 pub(crate) fn show_all<R: Print + AllocGlobal>(rt: &R) -> io::Result<()> {
     let alloc = rt.alloc();
     show(rt, "Clock::from_pairs", from_pairs(alloc))?;
@@ -18,7 +19,8 @@ pub(crate) fn show_all<R: Print + AllocGlobal>(rt: &R) -> io::Result<()> {
     show(rt, "Clock::try_clone", clone_of_clock(alloc))?;
     show(rt, "Clocks::push", push(alloc))?;
     show(rt, "Bytes::copy_of", copy_of(alloc))?;
-    show(rt, "Bytes::try_clone", clone_of_bytes(alloc))
+    show(rt, "Bytes::try_clone", clone_of_bytes(alloc))?;
+    show(rt, "Text::copy_of", copy_of_text(alloc))
 }
 
 fn clock(alloc: Global) -> Result<Clock, Refusal> {
@@ -65,6 +67,10 @@ fn count_to(clocks: &Clocks, next: u64) -> bool {
 
 fn copy_of(alloc: Global) -> Result<u64, Refusal> {
     Ok(Bytes::copy_of(alloc, LONG)?.as_slice().len() as u64)
+}
+
+fn copy_of_text(alloc: Global) -> Result<u64, Refusal> {
+    Ok(Text::copy_of(alloc, LONG)?.as_slice().len() as u64)
 }
 
 fn clone_of_bytes(alloc: Global) -> Result<u64, Refusal> {

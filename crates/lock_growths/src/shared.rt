@@ -28,6 +28,7 @@ use std::sync::Wait;
 use std::sync::atomic::{AtomicU64, Ordering};
 use std::sync::ledger::{Blank, Ledger};
 use vclock::bytes::Bytes;
+use vclock::clock::Clock;
 use vclock::refusal::Refusal;
 use version_set::kind::Kind;
 
@@ -36,9 +37,6 @@ const TURNS: u64 = 300;
 
 /// The node of the range.
 const OWNER: u16 = 1;
-
-/// A value that isn't kept in place, so that each copy of it takes memory.
-const LONG: [u8; 100] = [b'x'; 100];
 
 /// A true offer, then three answers that are bad, and true ones.
 const DEEDS: [Deed; 7] = [
@@ -246,7 +244,8 @@ impl<L: Ledger, C: Ledger> Shared<L, C> {
     /// Keeps a version for the range's node, and returns the hint's id.
     fn keep<R: Wait>(&mut self, rt: &R, alloc: Global, key: u8) -> Result<u64, Refusal> {
         let mut version = version(alloc, 6)?;
-        version.value = Bytes::copy_of(alloc, &LONG)?;
+        // A clone of a clock of two pairs takes memory.
+        version.clock = Clock::from_pairs(alloc, &[(6, 1), (7, 1)])?;
         let key = Bytes::copy_of(alloc, &[key])?;
         let id = self.hints.keep(rt, OWNER, key, version)?;
         Ok(u64::from(id))
