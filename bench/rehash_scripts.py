@@ -7,7 +7,8 @@ rehash after each of these. `sync`: the puts are copied to node 2, then both are
 follow, after each of which both are rehashed; in WITH node 2 gets no copies of these, and takes each in a sync before
 its rehash. N is made smaller where a journal, of 1000000 entries, would not take all that.
 
-Prints N, how many rehashes or syncs WITHOUT lacks, of how many nodes each is, and the bytes of their texts in all.
+Prints N, how many rehashes or syncs WITHOUT lacks, of how many nodes each is, the bytes of their texts in all, and with
+how many lines both begin before the first of these, or before the further puts.
 """
 import hashlib, itertools, random, sys
 
@@ -71,6 +72,7 @@ if missed:
         script.write('{"ring":{"bits":0,"copies":2,"nodes":[1,2]}}\n')
 for i in range(n):
     put(i)
+head = n + (1 if missed else 0)
 if kind == "full":
     rehash(with_them)
     for _ in range(ROUNDS):
@@ -83,6 +85,7 @@ if kind == "full":
 elif missed:
     rehash(without, with_them)
     rehash(without, with_them, node=2)
+    head += 2
     for _ in range(SYNCS[missed]):
         keys = [next(further) for _ in range(missed)]
         for i in keys:
@@ -92,9 +95,10 @@ elif missed:
         rehash(without, with_them, node=2)
 else:
     rehash(without, with_them)
+    head += 1
     for _ in range(SINGLE_PUTS):
         put(next(further))
         rehash(with_them)
 without.close()
 with_them.close()
-print(n, rehashes, nodes, hashed)
+print(n, rehashes, nodes, hashed, head)

@@ -1,5 +1,5 @@
 -- The order of keys, and rows that ascend by it.
-use Rattle.std.proofs.Common.{◌≡◌, ℕ, zero, suc, ◌<◌, Bool, true, false, cond, List, [], ◌∷◌, length, filter, get_or, refl, ap, ◌∙◌, arith}
+use Rattle.std.proofs.Common.{◌≡◌, ℕ, zero, suc, ◌<◌, List, [], ◌∷◌, length, get_or, refl, ap, ◌∙◌, arith}
 use Rattle.std.specs.List.{AllByRecursion}
 use Rattle.std.specs.declared.cmp.Ordering.{Ordering}
 use Rattle.std.specs.declared.cmp.Ordering.TheVariants.{Less, Equal, Greater}
@@ -7,8 +7,8 @@ use Rattle.std.specs.Ordering.{ordering_reverse}
 use Rattle.std.specs.FinMap.{slice_cmp-IsAntisymmetric, nat_cmp-IsAntisymmetric}
 use Rattle.std.proofs.lemmas.Cmp.{nat_list_cmp_total}
 use Rattle.version_set.specs.declared.version.Version.{Version}
-use Rattle.version_set.specs.Version.{place_by, offered}
-use Rattle.version_set.proofs.ListLaws.{all-filter}
+use Rattle.version_set.specs.Order.{place_by}
+use Rattle.version_set.specs.Version.{offered}
 use Rattle.row_bytes.specs.declared.row.Row.{Row}
 use Rattle.hash_tree.specs.Leaves.{key_cmp, AscendByKey, with_offer}
 
@@ -46,13 +46,6 @@ ascend_pair [] i j d a less within = absurd (omega arith)
 ascend_pair (r ∷ rows) i zero d a less within = absurd (omega arith)
 ascend_pair (r ∷ rows) zero (suc j) d a less within = all_get (λ (x : Row). key_cmp r.key x.key ≡ Less) rows j d a.0 (omega arith)
 ascend_pair (r ∷ rows) (suc i) (suc j) d a less within = ascend_pair rows i j d a.1 (omega arith) (omega arith)
-
-pub AscendByKey-filter : (p : Row → Bool) (rows : List Row) → AscendByKey rows → AscendByKey (filter p rows)
-AscendByKey-filter p [] a = tt
-AscendByKey-filter p (r ∷ rows) a = elim (p r) as (λ b. AscendByKey (cond b (r ∷ filter p rows) (filter p rows))) [
-  | true ↦ (all-filter (λ (x : Row). key_cmp r.key x.key ≡ Less) p rows a.0, AscendByKey-filter p rows a.1)
-  | false ↦ AscendByKey-filter p rows a.1
-]
 
 -- rows with keys over x keep them at an offer of such a key
 all_offered : (x k : List ℕ) (v : Version) (rows : List Row) → key_cmp x k ≡ Less → AllByRecursion (λ (y : Row). key_cmp x y.key ≡ Less) rows → AllByRecursion (λ (y : Row). key_cmp x y.key ≡ Less) (with_offer k v rows)

@@ -1,13 +1,16 @@
 -- The row of a key, or the place for one, is that of its chunk among all rows.
-use Rattle.std.proofs.Common.{◌≡◌, ℕ, zero, suc, ◌+◌, ◌-◌, ◌<◌, ◌≤◌, Bool, true, false, List, [], ◌∷◌, ◌++◌, length, get_or, set, take, drop, refl, sym, ap, subst, ◌∙◌, arith}
-use Rattle.std.specs.List.{AllByRecursion, insert}
+use Rattle.std.proofs.Common.{◌≡◌, ℕ, zero, suc, ◌+◌, ◌-◌, ◌<◌, ◌≤◌, Bool, true, false, not, cond, None, Some, List, [], ◌∷◌, ◌++◌, length, get_or, set, take, drop, refl, sym, ap, subst, ◌∙◌, arith}
+use Rattle.std.specs.Prelude.{nat_lt}
+use Rattle.std.specs.List.{AllByRecursion, insert, list_any}
 use Rattle.std.specs.List.Sorted.{IsPartitionedBy, IsPartitionPoint}
 use Rattle.std.specs.Ordering.{is_le}
 use Rattle.std.specs.declared.cmp.Ordering.TheVariants.{Less, Equal, Greater}
 use Rattle.std.proofs.lemmas.List.{length-append, set-append_left, set-append_right, get_or_append_left, get_or-append-add}
 use Rattle.std.proofs.lemmas.List.Edits.{insert-append_left, insert-append_right}
+use Rattle.vclock.specs.declared.refusal.Refusal.TheVariants.{Crowded}
 use Rattle.version_set.specs.declared.version.Version.{Version}
-use Rattle.version_set.specs.Version.{place_by, offered}
+use Rattle.version_set.specs.Order.{place_by}
+use Rattle.version_set.specs.Version.{offered, offer_fault, is_below}
 use Rattle.version_set.proofs.ListLaws.{all-append}
 use Rattle.row_bytes.specs.declared.row.Row.{Row}
 use Rattle.hash_tree.specs.Leaves.{key_cmp, Bucket, AscendByKey, IsAt, IsBetween, with_offer, versions_in}
@@ -235,3 +238,10 @@ pub at_holds : (k : List ℕ) (rows : List Row) (i : ℕ) → IsAt k rows i → 
 at_holds k rows i at =
     let d : Row = record { key = []; versions = [] } in
     versions_at-get rows i d at.within ∙ sym (at.holds d)
+
+-- any version can be offered to no versions
+pub nothing_crowds : (v : Version) (S : List Version) → S ≡ [] → offer_fault v S ≡ None
+nothing_crowds v S none = ap (offer_fault v) none ∙ few v
+  where
+    few : (v : Version) → offer_fault v [] ≡ None
+    few v = elim (not (list_any (is_below v) (v ∷ []))) as (λ b. cond (nat_lt 64 (length (cond b (v ∷ []) []))) (Some Crowded) None ≡ None) [ true ↦ refl | false ↦ refl ]

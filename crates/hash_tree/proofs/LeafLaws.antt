@@ -5,7 +5,8 @@ use Rattle.std.specs.Prelude.{nat_eq}
 use Rattle.std.specs.List.{AllByRecursion, Contains}
 use Rattle.std.specs.declared.cmp.Ordering.TheVariants.{Less, Equal, Greater}
 use Rattle.version_set.specs.declared.version.Version.{Version}
-use Rattle.version_set.specs.Version.{place_by, offered}
+use Rattle.version_set.specs.Order.{place_by}
+use Rattle.version_set.specs.Version.{offered}
 use Rattle.version_set.proofs.ListLaws.{all-filter}
 use Rattle.vclock.specs.declared.format.Format.{Format}
 use Rattle.row_bytes.specs.declared.row.Row.{Row}

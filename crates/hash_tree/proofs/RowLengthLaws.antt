@@ -10,9 +10,10 @@ use Rattle.vclock.specs.Keys.{key_fault}
 use Rattle.vclock.specs.declared.format.Format.{Format}
 use Rattle.version_set.specs.Kind.{value_fault}
 use Rattle.version_set.specs.declared.version.Version.{Version}
-use Rattle.version_set.specs.Version.{version_cmp, place_by, is_below, covered, maximal, with_version, offered, version_text}
-use Rattle.version_set.proofs.SetLaws.{version_total, covered-maximal, all-with_version}
-use Rattle.version_set.proofs.ListLaws.{all-filter}
+use Rattle.version_set.specs.Order.{place_by}
+use Rattle.version_set.specs.Version.{version_cmp, is_below, covered, maximal, with_version, offered, version_text}
+use Rattle.version_set.proofs.SetLaws.{version_total, covered-maximal}
+use Rattle.version_set.proofs.ListLaws.{all-filter, all-inserted}
 use Rattle.row_bytes.specs.declared.row.Row.{Row}
 use Rattle.row_bytes.specs.Rows.{row_text, FitsText}
 use Rattle.row_bytes.proofs.TextLengthLaws.{row_text_len}
@@ -50,7 +51,7 @@ some-offered v S = some_in v (offered v S) (covered-offered v S)
 pub all-offered : (P : Version → Type 0) (v : Version) (S : List Version) → P v → AllByRecursion P S → AllByRecursion P (offered v S)
 all-offered P v S h all = elim (covered v S) as (λ b. AllByRecursion P (cond b S (maximal (with_version v S)))) [
   | true ↦ all
-  | false ↦ all-filter P _ (with_version v S) (all-with_version P v S h all)
+  | false ↦ all-filter P _ (with_version v S) (all-inserted version_cmp P v S h all)
 ]
 
 -- a row has a text after an offer to its set

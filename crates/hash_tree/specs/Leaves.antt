@@ -6,7 +6,8 @@ use Rattle.std.specs.declared.cmp.Ordering.TheVariants.{Less}
 use Rattle.std.specs.Ordering.{nat_cmp}
 use Rattle.std.specs.Cmp.Lexicographic.{slice_cmp}
 use Rattle.version_set.specs.declared.version.Version.{Version}
-use Rattle.version_set.specs.Version.{place_by, offered}
+use Rattle.version_set.specs.Order.{Pairwise, place_by}
+use Rattle.version_set.specs.Version.{offered}
 use Rattle.vclock.specs.declared.format.Format.{Format}
 use Rattle.row_bytes.specs.declared.row.Row.{Row}
 use Rattle.row_bytes.specs.Rows.{FitsText}
@@ -17,8 +18,7 @@ key_cmp = slice_cmp nat_cmp
 
 -- each row's key is less than the keys of the rows after it
 abbrev pub AscendByKey : List Row → Type 0
-AscendByKey [] = Unit {0}
-AscendByKey (r ∷ rows) = AllByRecursion (λ (x : Row). key_cmp r.key x.key ≡ Less) rows × AscendByKey rows
+AscendByKey rows = Pairwise (λ (r x : Row). key_cmp r.key x.key ≡ Less) rows
 
 -- the rows of a leaf, and the format that they are of
 pub record Bucket : Type 0 where

@@ -1,5 +1,5 @@
 //! Consecutive rows of a leaf, which several leaves may share.
-ghost use Rattle.std.specs.Prelude.{◌≡◌, ◌<◌, ◌≤◌, [], ◌∷◌, ⊤, None, length, take, drop, slice_index_or, IfOk, OnOk, OnErr};
+ghost use Rattle.std.specs.Prelude.{◌≡◌, ◌<◌, ◌≤◌, [], ◌∷◌, ⊤, None, Some, if◌then◌else◌, length, take, drop, slice_index_or, IfOk, OnOk, OnErr};
 ghost use Rattle.std.specs.List.{flat_map, insert};
 ghost use Rattle.vclock.specs.Answer.{Answers};
 ghost use Rattle.version_set.specs.Kind.{value_fault};
@@ -101,8 +101,18 @@ impl Chunk {
         })
     }
 
+    /// Whether an offer of the version to the set of the row at a place is refused as Crowded.
+    fn crowds(&self, at: usize, version: &Version) -> bool
+        requires { at < length self.now.rows }
+        ensures { offer_fault version.now (versions_at self.now.rows at)
+            ≡ (if result then Some Refusal.Crowded else None) }
+    {
+        self.held.rows()[at].versions.crowds(version)
+    }
+
     /// Offers a version to the set of the row at a place. If the rows have other owners, a copy of them is changed.
-    /// Refused: NoMemory. The chunk is then as it was.
+    ///
+    /// Refused, in order: Crowded (the set would have over 64 versions), NoMemory. The chunk is then as it was.
     pub(crate) fn offer(
         &mut self,
         alloc: Global,
@@ -111,11 +121,13 @@ impl Chunk {
     ) -> Result<(), Refusal>
         requires at { at < length self.old.rows }
         requires value { value_fault self.old.format version.kind version.value ≡ None }
-        requires room { offer_fault version (versions_at self.old.rows at) ≡ None }
-        ensures answers { Answers result None (λ _. ⊤) }
+        ensures answers { Answers result (offer_fault version (versions_at self.old.rows at)) (λ _. ⊤) }
         ensures ok { OnOk result (self.new ≡ record self.old { rows = offered_at self.old.rows at version }) }
         ensures err { OnErr result (self.new ≡ self.old) }
     {
+        if self.crowds(at, &version) {
+            return Err(Refusal::Crowded);
+        }
         Arc::make_mut(&mut self.held)?.offer(alloc, at, version)
     }
 

@@ -67,7 +67,9 @@ pub(crate) fn share_chunks(alloc: Global, chunks: &[Chunk]) -> Result<Vec<Chunk>
     Ok(copy)
 }
 
-/// Offers a version to the set of a row. Refused: NoMemory. The chunks are then as they were.
+/// Offers a version to the set of a row.
+///
+/// Refused, in order: Crowded (the set would have over 64 versions), NoMemory. The chunks are then as they were.
 pub(crate) fn offer_at(
     alloc: Global,
     chunks: &mut Vec<Chunk>,
@@ -76,8 +78,8 @@ pub(crate) fn offer_at(
 ) -> Result<(), Refusal>
     requires spot { IsRowSpot chunks.old.items (place_in chunks.old.items spot.chunk spot.at) spot.chunk spot.at }
     requires value { AllByRecursion (λ (c : Bucket). value_fault c.format version.kind version.value ≡ None) chunks.old.items }
-    requires room { offer_fault version (versions_at (all_rows chunks.old.items) (place_in chunks.old.items spot.chunk spot.at)) ≡ None }
-    ensures answers { Answers result None (λ _. ⊤) }
+    ensures answers { Answers result (offer_fault version
+        (versions_at (all_rows chunks.old.items) (place_in chunks.old.items spot.chunk spot.at))) (λ _. ⊤) }
     ensures ok { OnOk result (all_rows chunks.new.items
         ≡ offered_at (all_rows chunks.old.items) (place_in chunks.old.items spot.chunk spot.at) version) }
     ensures chunks { (format : Format) → AreChunks format chunks.old.items → AreChunks format chunks.new.items }

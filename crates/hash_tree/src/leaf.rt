@@ -1,5 +1,5 @@
 //! The rows of one leaf.
-ghost use Rattle.std.specs.Prelude.{◌≡◌, ◌↔◌, ◌++◌, ◌+◌, ◌<◌, ◌≤◌, [], ⊤, None, IsTrue, length, unwrap_or, option_map, MatchOption, OnOk, OnErr};
+ghost use Rattle.std.specs.Prelude.{◌≡◌, ◌↔◌, ◌++◌, ◌+◌, ◌<◌, ◌≤◌, [], ⊤, None, Some, IsTrue, if◌then◌else◌, length, unwrap_or, option_map, MatchOption, OnOk, OnErr};
 ghost use Rattle.std.specs.List.{flat_map};
 ghost use Rattle.std.specs.Vec.{vec_capacity};
 ghost use Rattle.vclock.specs.Answer.{Answers};
@@ -139,7 +139,20 @@ impl Leaf {
         }
     }
 
-    /// Offers a version to the set of a key. The key has a row from then on. Refused: NoMemory. The leaf is then as it was.
+    /// Whether an offer of the version to the set of a key is refused as Crowded.
+    pub(crate) fn crowds(&self, key: &[u8], version: &Version) -> bool
+        ensures { offer_fault version.now (versions_in key.now self.now.rows)
+            ≡ (if result then Some Refusal.Crowded else None) }
+    {
+        match self.find(key) {
+            Some(set) => set.crowds(version),
+            None => false,
+        }
+    }
+
+    /// Offers a version to the set of a key. The key has a row from then on.
+    ///
+    /// Refused, in order: Crowded (the set would have over 64 versions), NoMemory. The leaf is then as it was.
     pub(crate) fn offer(
         &mut self,
         alloc: Global,
@@ -148,8 +161,7 @@ impl Leaf {
     ) -> Result<(), Refusal>
         requires key { key_fault key.now ≡ None }
         requires value { value_fault self.old.format version.kind version.value ≡ None }
-        requires room { offer_fault version (versions_in key.now self.old.rows) ≡ None }
-        ensures answers { Answers result None (λ _. ⊤) }
+        ensures answers { Answers result (offer_fault version (versions_in key.now self.old.rows)) (λ _. ⊤) }
         ensures ok { OnOk result (self.new ≡ record self.old { rows = with_offer key.now version self.old.rows }) }
         ensures err { OnErr result (self.new ≡ self.old) }
     {
@@ -157,7 +169,9 @@ impl Leaf {
     }
 }
 
-/// Offers a version to the set of a key among the rows of chunks. Refused: NoMemory. The rows are then as they were.
+/// Offers a version to the set of a key among the rows of chunks.
+///
+/// Refused, in order: Crowded (the set would have over 64 versions), NoMemory. The rows are then as they were.
 fn offer_to_key(
     alloc: Global,
     format: Format,
@@ -168,9 +182,8 @@ fn offer_to_key(
     requires rows { AscendByKey (all_rows chunks.old.items) }
     requires key { key_fault key.now ≡ None }
     requires value { value_fault format version.kind version.value ≡ None }
-    requires room { offer_fault version (versions_in key.now (all_rows chunks.old.items)) ≡ None }
     requires chunks { AreChunks format chunks.old.items }
-    ensures answers { Answers result None (λ _. ⊤) }
+    ensures answers { Answers result (offer_fault version (versions_in key.now (all_rows chunks.old.items))) (λ _. ⊤) }
     ensures ok { OnOk result (all_rows chunks.new.items ≡ with_offer key.now version (all_rows chunks.old.items)) }
     ensures chunks { AreChunks format chunks.new.items }
     ensures err { OnErr result (all_rows chunks.new.items ≡ all_rows chunks.old.items) }

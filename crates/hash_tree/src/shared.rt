@@ -1,5 +1,5 @@
 //! Leaves that have several owners: a range, and the jobs that look at it.
-ghost use Rattle.std.specs.Prelude.{◌≡◌, ◌↔◌, ◌++◌, ◌+◌, ◌<◌, [], ⊤, None, Some, IsTrue, if◌then◌else◌, length, unwrap_or, option_map, MatchOption, OnOk, OnErr};
+ghost use Rattle.std.specs.Prelude.{◌≡◌, ◌↔◌, ◌++◌, ◌+◌, ◌<◌, [], ⊤, None, IsTrue, length, unwrap_or, option_map, MatchOption, OnOk, OnErr};
 ghost use Rattle.std.specs.List.{flat_map};
 ghost use Rattle.std.specs.Vec.{vec_capacity};
 ghost use Rattle.std.specs.Arc.{arc_value};
@@ -149,17 +149,6 @@ impl SharedLeaf {
         }
     }
 
-    /// Whether an offer of the version to the set of a key is refused as Crowded.
-    fn crowds(&self, key: &[u8], version: &Version) -> bool
-        ensures { offer_fault version.now (versions_in key.now self.now.rows)
-            ≡ (if result then Some Refusal.Crowded else None) }
-    {
-        match self.find(key) {
-            Some(set) => set.crowds(version),
-            None => false,
-        }
-    }
-
     /// Offers a version to the set of a key. If the leaf has other owners, a copy of it is changed.
     ///
     /// Refused, in order: Crowded (the set would have over 64 versions), NoMemory. The leaf is then as it was.
@@ -170,9 +159,6 @@ impl SharedLeaf {
         ensures ok { OnOk result (self.new ≡ record self.old { rows = with_offer key.now version self.old.rows }) }
         ensures err { OnErr result (self.new ≡ self.old) }
     {
-        if self.crowds(key, &version) {
-            return Err(Refusal::Crowded);
-        }
         match &mut self.leaf {
             Some(leaf) => offer_to(alloc, leaf, key, version),
             None => {
@@ -186,7 +172,8 @@ impl SharedLeaf {
 }
 
 /// Offers a version to the set of a key of a leaf. If it has other owners, a copy is changed and takes its place.
-/// Refused: NoMemory. The leaf is then as it was.
+///
+/// Refused, in order: Crowded (the set would have over 64 versions), NoMemory. The leaf is then as it was.
 fn offer_to(
     alloc: Global,
     shared: &mut Arc<Leaf, Global>,
@@ -195,14 +182,16 @@ fn offer_to(
 ) -> Result<(), Refusal>
     requires key { key_fault key.now ≡ None }
     requires value { value_fault (arc_value shared.old).format version.kind version.value ≡ None }
-    requires room { offer_fault version (versions_in key.now (arc_value shared.old).rows) ≡ None }
-    ensures answers { Answers result None (λ _. ⊤) }
+    ensures answers { Answers result (offer_fault version (versions_in key.now (arc_value shared.old).rows)) (λ _. ⊤) }
     ensures ok { OnOk result (arc_value shared.new ≡ record (arc_value shared.old)
         { rows = with_offer key.now version (arc_value shared.old).rows }) }
     ensures err { OnErr result (arc_value shared.new ≡ arc_value shared.old) }
 {
     if let Some(leaf) = Arc::get_mut(shared) {
         return leaf.offer(alloc, key, version);
+    }
+    if shared.crowds(key, &version) {
+        return Err(Refusal::Crowded);
     }
     let mut copy = shared.try_clone(alloc)?;
     copy.offer(alloc, key, version)?;

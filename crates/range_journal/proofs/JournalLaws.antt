@@ -4,8 +4,9 @@ use Rattle.std.proofs.lemmas.List.{take_more}
 use Rattle.std.specs.Prelude.{nat_eq}
 use Rattle.std.specs.Cmp.Lexicographic.{pointwise}
 use Rattle.version_set.specs.declared.version.Version.{Version}
-use Rattle.version_set.specs.Version.{covered, is_same, is_below, maximal, with_version, offered, offer_fault, Ascends, set_from}
-use Rattle.version_set.proofs.SetLaws.{offered-maximal, Ascends-with_version, covered-maximal, any-set_from, version_total, is_same-exact}
+use Rattle.version_set.specs.Version.{covered, is_same, is_below, maximal, with_version, offered, offer_fault, Ascends, set_from, version_cmp}
+use Rattle.version_set.proofs.ListLaws.{ascends-inserted}
+use Rattle.version_set.proofs.SetLaws.{offered-maximal, covered-maximal, any-set_from, version_total, is_same-exact}
 use Rattle.range_journal.specs.declared.journal.Entry.{Entry}
 use Rattle.range_journal.specs.Log.{Log, AreNumberedFrom}
 use Rattle.vclock.specs.Outcome.{gives, refuses}
@@ -25,7 +26,7 @@ set_from-push S (w ∷ vs) v = set_from-push (with_version w S) vs v
 
 pub Ascends-set_from : (S vs : List Version) → Ascends S → Ascends (set_from S vs)
 Ascends-set_from S [] a = a
-Ascends-set_from S (v ∷ vs) a = Ascends-set_from (with_version v S) vs (Ascends-with_version v S a)
+Ascends-set_from S (v ∷ vs) a = Ascends-set_from (with_version v S) vs (ascends-inserted version_cmp version_total v S a)
 
 pub versions_of-push : (es : List Entry) (e : Entry) (key : List ℕ) → versions_of (es ++ e ∷ []) key ≡ cond (pointwise nat_eq e.key key) (versions_of es key ++ e.version ∷ []) (versions_of es key)
 versions_of-push [] e key = refl

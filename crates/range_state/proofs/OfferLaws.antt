@@ -6,7 +6,7 @@ use Rattle.std.proofs.lemmas.Bool.{ltb-true, leb-true, and_parts}
 use Rattle.std.proofs.lemmas.List.{length-map}
 use Rattle.std.proofs.lemmas.List.FromFn.{fill_by_all}
 use Rattle.vclock.specs.declared.format.Format.{Format}
-use Rattle.version_set.specs.Version.{place_by}
+use Rattle.version_set.specs.Order.{place_by}
 use Rattle.version_set.specs.declared.version.Version.{Version}
 use Rattle.range_journal.specs.declared.journal.Entry.{Entry}
 use Rattle.range_journal.specs.Journal.{held}

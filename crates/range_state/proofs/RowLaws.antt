@@ -2,51 +2,32 @@
 use Rattle.std.proofs.Common.{◌≡◌, ℕ, Bool, true, false, cond, List, [], ◌∷◌, ◌++◌, map, refl, ap, sym, subst, ◌∙◌, ◌||◌, ◌⊎◌, ◌↔◌, inl, inr, arith, Any, Contains}
 use Rattle.std.proofs.lemmas.Bool.{or_parts}
 use Rattle.std.proofs.lemmas.Bool.Decides.{nat_tests}
+use Rattle.std.proofs.lemmas.Cmp.{nat_list_cmp_total}
 use Rattle.std.specs.Prelude.{nat_eq}
 use Rattle.std.specs.List.{list_any, AllByRecursion}
 use Rattle.std.specs.declared.cmp.Ordering.TheVariants.{Less, Equal, Greater}
 use Rattle.std.specs.Cmp.Lexicographic.{pointwise, texts_ties}
 use Rattle.version_set.specs.declared.version.Version.{Version}
-use Rattle.version_set.specs.Version.{place_by, offered, maximal, set_from}
+use Rattle.version_set.specs.Order.{place_by, Pairwise}
+use Rattle.version_set.specs.Version.{offered, maximal, set_from}
+use Rattle.version_set.proofs.ListLaws.{less_all, ascends-inserted}
 use Rattle.range_journal.specs.declared.journal.Entry.{Entry}
 use Rattle.range_journal.specs.Journal.{held, versions_of}
 use Rattle.range_journal.proofs.JournalLaws.{held-push, contains_cons, contains_later, any_cons, any_later}
 use Rattle.row_bytes.specs.declared.row.Row.{Row}
 use Rattle.hash_tree.specs.Leaves.{key_cmp, AscendByKey, rows_at, with_offer, versions_in}
-use Rattle.hash_tree.proofs.KeyLaws.{key_exact, turned, less_trans}
+use Rattle.hash_tree.proofs.KeyLaws.{key_exact, turned}
 use Rattle.hash_tree.proofs.LeafLaws.{rows_at-with_offer, versions_in-rows_at}
 use Rattle.range_state.specs.Rows.{with_key, keys_from, rows_of}
 
 -- ---- keys in order
 
 abbrev pub KeysAscend : List (List ℕ) → Type 0
-KeysAscend [] = Unit {0}
-KeysAscend (x ∷ ks) = AllByRecursion (λ y. key_cmp x y ≡ Less) ks × KeysAscend ks
-
-less_all : (k x : List ℕ) (ks : List (List ℕ)) → key_cmp k x ≡ Less → AllByRecursion (λ y. key_cmp x y ≡ Less) ks → AllByRecursion (λ y. key_cmp k y ≡ Less) ks
-less_all k x [] h all = tt
-less_all k x (y ∷ ks) h all = (less_trans k x y h all.0, less_all k x ks h all.1)
-
-greater_all : (x k : List ℕ) (ks : List (List ℕ)) → key_cmp x k ≡ Less → AllByRecursion (λ y. key_cmp x y ≡ Less) ks → AllByRecursion (λ y. key_cmp x y ≡ Less) (with_key k ks)
-greater_all x k [] h all = (h, tt)
-greater_all x k (y ∷ ks) h all = elim (key_cmp k y) as (λ o. AllByRecursion (λ z. key_cmp x z ≡ Less) (place_by o (k ∷ y ∷ ks) (y ∷ ks) (y ∷ with_key k ks))) [
-  | Less ↦ (h, all)
-  | Equal ↦ all
-  | Greater ↦ (all.0, greater_all x k ks h all.1)
-]
-
-KeysAscend-with_key : (k : List ℕ) (ks : List (List ℕ)) → KeysAscend ks → KeysAscend (with_key k ks)
-KeysAscend-with_key k [] a = (tt, tt)
-KeysAscend-with_key k (x ∷ ks) a =
-    elim (key_cmp k x) as (λ o. key_cmp k x ≡ o → KeysAscend (place_by o (k ∷ x ∷ ks) (x ∷ ks) (x ∷ with_key k ks))) [
-      | Less ↦ λ o. ((o, less_all k x ks o a.0), a)
-      | Equal ↦ λ o. a
-      | Greater ↦ λ o. (greater_all x k ks (turned k x Greater o) a.0, KeysAscend-with_key k ks a.1)
-    ] refl
+KeysAscend ks = Pairwise (λ x y. key_cmp x y ≡ Less) ks
 
 KeysAscend-keys_from : (ks : List (List ℕ)) (es : List Entry) → KeysAscend ks → KeysAscend (keys_from ks es)
 KeysAscend-keys_from ks [] a = a
-KeysAscend-keys_from ks (e ∷ es) a = KeysAscend-keys_from (with_key e.key ks) es (KeysAscend-with_key e.key ks a)
+KeysAscend-keys_from ks (e ∷ es) a = KeysAscend-keys_from (with_key e.key ks) es (ascends-inserted key_cmp nat_list_cmp_total e.key ks a)
 
 keys_from-push : (ks : List (List ℕ)) (es : List Entry) (e : Entry) → keys_from ks (es ++ e ∷ []) ≡ with_key e.key (keys_from ks es)
 keys_from-push ks [] e = refl
@@ -101,7 +82,7 @@ map_offer k v f g [] h a none =
 map_offer k v f g (x ∷ ks) h a none =
     elim (key_cmp k x) as (λ o. key_cmp k x ≡ o → map (row_by g) (place_by o (k ∷ x ∷ ks) (x ∷ ks) (x ∷ with_key k ks)) ≡ place_by o (record { key = k; versions = offered v [] } ∷ row_by f x ∷ map (row_by f) ks) (record { key = x; versions = offered v (f x) } ∷ map (row_by f) ks) (row_by f x ∷ with_offer k v (map (row_by f) ks))) [
       | Less ↦ λ o.
-          let all : AllByRecursion (λ y. key_cmp k y ≡ Less) (x ∷ ks) = (o, less_all k x ks o a.0) in
+          let all : AllByRecursion (λ y. key_cmp k y ≡ Less) (x ∷ ks) = (o, less_all key_cmp nat_list_cmp_total k x ks o a.0) in
           let here : g k ≡ offered v [] = h k ∙ rw (itself k, none (less_absent k (x ∷ ks) all)) refl in
           rw (here, map_same k v f g (x ∷ ks) h all) refl
       | Equal ↦ λ o.
@@ -138,7 +119,7 @@ versions_in-map : (f : List ℕ → List Version) (k : List ℕ) (ks : List (Lis
 versions_in-map f k [] a none = sym (none refl)
 versions_in-map f k (x ∷ ks) a none =
     elim (key_cmp k x) as (λ o. key_cmp k x ≡ o → place_by o [] (f x) (versions_in k (map (row_by f) ks)) ≡ f k) [
-      | Less ↦ λ o. sym (none (less_absent k (x ∷ ks) (o, less_all k x ks o a.0)))
+      | Less ↦ λ o. sym (none (less_absent k (x ∷ ks) (o, less_all key_cmp nat_list_cmp_total k x ks o a.0)))
       | Equal ↦ λ o. ap f (sym (key_exact k x o))
       | Greater ↦ λ o.
           let apart : pointwise nat_eq x k ≡ false = rw (texts_ties x k, turned k x Greater o) refl in

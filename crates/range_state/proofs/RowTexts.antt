@@ -9,7 +9,8 @@ use Rattle.vclock.specs.Keys.{key_fault}
 use Rattle.vclock.specs.declared.format.Format.{Format}
 use Rattle.vclock.specs.declared.refusal.Refusal.TheVariants.{Crowded}
 use Rattle.version_set.specs.Kind.{value_fault}
-use Rattle.version_set.specs.Version.{place_by, covered, maximal, with_version, offered, offer_fault, IsVersionSet}
+use Rattle.version_set.specs.Order.{place_by}
+use Rattle.version_set.specs.Version.{covered, maximal, with_version, offered, offer_fault, IsVersionSet}
 use Rattle.version_set.specs.declared.version.Version.{Version}
 use Rattle.version_set.proofs.SetLaws.{grown, length-grown, maximal-with_version}
 use Rattle.row_bytes.specs.Rows.{IsRow}

@@ -18,9 +18,9 @@ use Rattle.vclock.specs.declared.refusal.Refusal.TheVariants.{NoMemory, OtherRan
 use Rattle.version_set.specs.Kind.{value_fault}
 use Rattle.version_set.specs.declared.kind.Kind.{Kind}
 use Rattle.version_set.specs.declared.version.Version.{Version}
-use Rattle.version_set.specs.Version.{covered, offer_fault, offered, is_below, is_same, with_version, set_from}
-use Rattle.version_set.proofs.SetLaws.{covered-maximal, is_same-exact, all-with_version}
-use Rattle.version_set.proofs.ListLaws.{all-filter, all-push}
+use Rattle.version_set.specs.Version.{covered, offer_fault, offered, is_below, is_same, with_version, set_from, version_cmp}
+use Rattle.version_set.proofs.SetLaws.{covered-maximal, is_same-exact}
+use Rattle.version_set.proofs.ListLaws.{all-filter, all-push, all-inserted}
 use Rattle.range_journal.specs.declared.journal.Entry.{Entry}
 use Rattle.range_journal.specs.Log.{Log}
 use Rattle.range_journal.specs.declared.journal.Source.TheVariants.{Partner}
@@ -80,7 +80,7 @@ all-versions_of P (e ∷ es) key all = elim (pointwise nat_eq e.key key) as (λ 
 
 all-set_from : (P : Version → Type 0) (S vs : List Version) → AllByRecursion P S → AllByRecursion P vs → AllByRecursion P (set_from S vs)
 all-set_from P S [] set all = set
-all-set_from P S (v ∷ vs) set all = all-set_from P (with_version v S) vs (all-with_version P v S all.0 set) all.1
+all-set_from P S (v ∷ vs) set all = all-set_from P (with_version v S) vs (all-inserted version_cmp P v S all.0 set) all.1
 
 -- what holds of each version of the entries holds of those that are held
 all-held : (P : Version → Type 0) (es : List Entry) (key : List ℕ) → AllByRecursion (λ e. P e.version) es → AllByRecursion P (held es key)

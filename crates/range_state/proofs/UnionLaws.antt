@@ -11,15 +11,17 @@ use Rattle.std.specs.Ordering.{ordering_reverse}
 use Rattle.std.specs.declared.cmp.Ordering.TheVariants.{Less, Equal, Greater}
 use Rattle.vclock.specs.declared.refusal.Refusal.{Refusal}
 use Rattle.version_set.specs.declared.version.Version.{Version}
-use Rattle.version_set.specs.Version.{covered, offered, maximal, is_same, version_cmp, with_version, set_from, place_by, Ascends}
-use Rattle.version_set.proofs.SetLaws.{version_total, version_exact, less_all, offered-maximal, maximal-maximal, covered-maximal, any-set_from, Ascends-with_version, Ascends-filter}
+use Rattle.version_set.specs.Order.{place_by}
+use Rattle.version_set.specs.Version.{covered, offered, maximal, is_same, version_cmp, with_version, set_from, Ascends}
+use Rattle.version_set.proofs.SetLaws.{version_total, version_exact, offered-maximal, maximal-maximal, covered-maximal, any-set_from}
+use Rattle.version_set.proofs.ListLaws.{less_all, ascends-inserted, Pairwise-filter}
 use Rattle.range_journal.specs.declared.journal.Entry.{Entry}
 use Rattle.range_journal.specs.declared.journal.Source.TheVariants.{Partner}
 use Rattle.range_journal.specs.Journal.{held, accepted, versions_of}
 use Rattle.range_journal.proofs.JournalLaws.{Ascends-set_from, held-push}
 use Rattle.row_bytes.specs.declared.row.Row.{Row}
 use Rattle.hash_tree.specs.Leaves.{key_cmp, AscendByKey, rows_at, versions_in}
-use Rattle.hash_tree.proofs.KeyLaws.{key_exact, turned, less_rows, AscendByKey-filter}
+use Rattle.hash_tree.proofs.KeyLaws.{key_exact, turned, less_rows}
 use Rattle.hash_tree.proofs.LeafLaws.{versions_in-rows_at}
 use Rattle.snapshot.specs.RowMaps.{RowMap, leaf_in}
 use Rattle.sync_session.specs.TreeNodes.{Node}
@@ -66,7 +68,7 @@ same_sets [] (w ∷ T) a b h = absurd (let clash : false ≡ true = h (λ x. tru
 same_sets (v ∷ S) [] a b h = absurd (let clash : true ≡ false = h (λ x. true) in cc)
 same_sets (v ∷ S) (w ∷ T) a b h =
     elim (version_cmp v w) as (λ o. version_cmp v w ≡ o → v ∷ S ≡ w ∷ T) [
-      | Less ↦ λ o. absurd (both_ways (list_any (is_same v) (w ∷ T)) (no_same v (w ∷ T) (o, less_all v w T o b.0)) (sym (h (is_same v)) ∙ has_first v S))
+      | Less ↦ λ o. absurd (both_ways (list_any (is_same v) (w ∷ T)) (no_same v (w ∷ T) (o, less_all version_cmp version_total v w T o b.0)) (sym (h (is_same v)) ∙ has_first v S))
       | Equal ↦ λ o.
           let same : v ≡ w = version_exact v w o in
           let above = subst (λ (x : Version). AllByRecursion (λ y. version_cmp x y ≡ Less) T) (sym same) b.0 in
@@ -79,7 +81,7 @@ same_sets (v ∷ S) (w ∷ T) a b h =
           λ i. same i ∷ same_sets S T a.1 b.1 tails i
       | Greater ↦ λ o.
           let less : version_cmp w v ≡ Less = version_total.antisymm w v ∙ ap ordering_reverse o in
-          absurd (both_ways (list_any (is_same w) (v ∷ S)) (no_same w (v ∷ S) (less, less_all w v S less a.0)) (h (is_same w) ∙ has_first w T))
+          absurd (both_ways (list_any (is_same w) (v ∷ S)) (no_same w (v ∷ S) (less, less_all version_cmp version_total w v S less a.0)) (h (is_same w) ∙ has_first w T))
     ] refl
 
 -- ---- unions
@@ -102,7 +104,7 @@ union_swap S T = ap maximal (same_listed (S ++ T) (T ++ S) (λ p. list_any-appen
 
 offered_to_maximal : (U vs : List Version) → Ascends U → offered_all (maximal U) vs ≡ maximal (set_from U vs)
 offered_to_maximal U [] a = refl
-offered_to_maximal U (v ∷ vs) a = ap (λ (S : List Version). offered_all S vs) (offered-maximal v U a) ∙ offered_to_maximal (with_version v U) vs (Ascends-with_version v U a)
+offered_to_maximal U (v ∷ vs) a = ap (λ (S : List Version). offered_all S vs) (offered-maximal v U a) ∙ offered_to_maximal (with_version v U) vs (ascends-inserted version_cmp version_total v U a)
 
 -- Offering the members of one set to another, one by one, gives the maximal versions of both.
 pub offers_unite : (S T : List Version) → Ascends S → maximal S ≡ S → offered_all S T ≡ union_of S T
@@ -116,7 +118,7 @@ pub union_alike : (S T U : List Version) → ((p : Version → Bool) → list_an
 union_alike S T U h = ap maximal (same_listed (S ++ T) (S ++ U) h)
 
 pub held-Ascends : (es : List Entry) (key : List ℕ) → Ascends (held es key)
-held-Ascends es key = Ascends-filter _ (accepted es key) (Ascends-set_from [] (versions_of es key) tt)
+held-Ascends es key = Pairwise-filter (λ v w. version_cmp v w ≡ Less) _ (accepted es key) (Ascends-set_from [] (versions_of es key) tt)
 
 pub held_own : (es : List Entry) (key : List ℕ) → maximal (held es key) ≡ held es key
 held_own es key = maximal-maximal (accepted es key)
@@ -248,7 +250,7 @@ leaf_any : (p : Version → Bool) (leaf : List ℕ → ℕ) (i : ℕ) (key : Lis
 leaf_any p leaf i key rows a = elim (cases_Bool (nat_eq i (leaf key))) [
   | inl here ↦
       ap (λ (n : ℕ). list_any p (offers_for key (offers_of (rows_at leaf n rows)))) (eqb-true i (leaf key) here)
-      ∙ ap (list_any p) (for_rows key (rows_at leaf (leaf key) rows) (AscendByKey-filter _ rows a) ∙ versions_in-rows_at leaf key rows a)
+      ∙ ap (list_any p) (for_rows key (rows_at leaf (leaf key) rows) (Pairwise-filter (λ (r x : Row). key_cmp r.key x.key ≡ Less) _ rows a) ∙ versions_in-rows_at leaf key rows a)
       ∙ sym (ap (λ b. b && list_any p (versions_in key rows)) here)
   | inr away ↦
       ap (list_any p) (none_of key (rows_at leaf i rows) (other_leaf leaf i key rows away))

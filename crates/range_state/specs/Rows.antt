@@ -1,6 +1,6 @@
 -- The rows of a journal: the paper of 2007, section 4.4, key by key.
 use Rattle.std.specs.Prelude.{List, [], ◌∷◌, ℕ, map}
-use Rattle.version_set.specs.Version.{place_by}
+use Rattle.version_set.specs.Order.{inserted}
 use Rattle.range_journal.specs.declared.journal.Entry.{Entry}
 use Rattle.range_journal.specs.Journal.{held}
 use Rattle.row_bytes.specs.declared.row.Row.{Row}
@@ -8,8 +8,7 @@ use Rattle.hash_tree.specs.Leaves.{key_cmp}
 
 -- the keys with one more, in ascending order, each once
 abbrev pub with_key : List ℕ → List (List ℕ) → List (List ℕ)
-with_key k [] = k ∷ []
-with_key k (x ∷ ks) = place_by (key_cmp k x) (k ∷ x ∷ ks) (x ∷ ks) (x ∷ with_key k ks)
+with_key k ks = inserted key_cmp k ks
 
 -- these keys, and those that have an entry
 abbrev pub keys_from : List (List ℕ) → List Entry → List (List ℕ)

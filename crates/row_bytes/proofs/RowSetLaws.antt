@@ -13,7 +13,8 @@ use Rattle.version_set.specs.declared.kind.Kind.{Kind}
 use Rattle.version_set.specs.declared.kind.Kind.TheVariants.{Live, Tombstone}
 use Rattle.version_set.specs.declared.version.Version.{Version}
 use Rattle.version_set.specs.Version.{is_below, maximal, version_cmp, version_text, text_cmp, Ascends, IsVersionSet, HasText}
-use Rattle.version_set.proofs.SetLaws.{less_all, is_below-itself}
+use Rattle.version_set.proofs.ListLaws.{less_all}
+use Rattle.version_set.proofs.SetLaws.{is_below-itself, version_total}
 use Rattle.version_set.proofs.TextOrderLaws.{text_cmp-is, live_cmp-is}
 use Rattle.row_bytes.specs.declared.row.Row.{Row}
 use Rattle.row_bytes.specs.Rows.{is_before, is_apart, IsVersion, AreAscending, AreApart, IsRow, FitsText}
@@ -45,7 +46,7 @@ ascends_after format v [] hv each up = (tt, tt)
 ascends_after format v (w ∷ vs) hv each up =
     let rest = ascends_after format w vs each.0 each.1 up.1 in
     let less : version_cmp v w ≡ Less = sym (cmp-is format v w hv each.0) ∙ less_of (text_cmp format v w) up.0 in
-    ((less, less_all v w vs less rest.0), rest)
+    ((less, less_all version_cmp version_total v w vs less rest.0), rest)
 
 -- versions whose texts ascend are in the order of a set
 ascends : (format : Format) (last : List ℕ) (vs : List Version) → AllByRecursion (IsVersion format) vs → AreAscending format last vs → Ascends vs

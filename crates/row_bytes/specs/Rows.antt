@@ -8,6 +8,7 @@ use Rattle.vclock.specs.Clock.{IsClock}
 use Rattle.vclock.specs.Keys.{key_fault}
 use Rattle.vclock.specs.declared.format.Format.{Format}
 use Rattle.version_set.specs.Kind.{value_fault}
+use Rattle.version_set.specs.Order.{Pairwise}
 use Rattle.version_set.specs.Version.{is_below, version_text}
 use Rattle.version_set.specs.declared.version.Version.{Version}
 use Rattle.row_bytes.specs.declared.row.Row.{Row}
@@ -41,8 +42,7 @@ is_apart u v = not (is_below u v) && not (is_below v u)
 
 -- no version is below one before it, or above it
 abbrev pub AreApart : List Version → Type 0
-AreApart [] = Unit {0}
-AreApart (v ∷ vs) = AllByRecursion (λ u. IsTrue (is_apart v u)) vs × AreApart vs
+AreApart vs = Pairwise (λ v u. IsTrue (is_apart v u)) vs
 
 -- a row of a format: what has a text
 pub record IsRow (format : Format) (r : Row) : Type 0 where

@@ -2,10 +2,9 @@
 use Rattle.std.proofs.Common.{◌≡◌, ℕ, zero, suc, ◌+◌, ◌<◌, ◌≤◌, ◌^◌, false, List, [], ◌∷◌, ◌++◌, refl, ap, ◌∙◌, arith, inl, inr}
 use Rattle.std.specs.Prelude.{nat_eq}
 use Rattle.std.specs.List.{AllByRecursion, flat_map, range_with_len}
-use Rattle.std.specs.declared.cmp.Ordering.TheVariants.{Less, Equal, Greater}
+use Rattle.std.specs.declared.cmp.Ordering.TheVariants.{Less}
 use Rattle.std.proofs.lemmas.Bool.{cases_eq, ne_eqb, eq-eqb}
 use Rattle.std.proofs.lemmas.List.Folds.{flat_map-map}
-use Rattle.version_set.specs.Version.{place_by}
 use Rattle.row_bytes.specs.declared.row.Row.{Row}
 use Rattle.key_ring.specs.Places.{leaf_bits, leaf_at}
 use Rattle.hash_tree.specs.Leaves.{Bucket, key_cmp, AscendByKey, rows_at}
@@ -14,7 +13,7 @@ use Rattle.snapshot.specs.RowMaps.{RowMap, leaf_in}
 use Rattle.snapshot.specs.Snapshots.{with_row, in_order, leaves_of, map_of}
 use Rattle.vclock.specs.declared.format.Format.{Format}
 use Rattle.vclock.specs.declared.format.Format.TheVariants.{One, Two}
-use Rattle.version_set.proofs.ListLaws.{all-append, all-filter}
+use Rattle.version_set.proofs.ListLaws.{all-append, all-filter, all-inserted}
 
 -- the row's key is less than that of the other
 abbrev IsBefore : Row → Row → Type 0
@@ -22,19 +21,11 @@ IsBefore r x = key_cmp r.key x.key ≡ Less
 
 -- ---- one more row
 
--- what holds of a row and of rows holds of the rows with it
-all-with_row : (P : Row → Type 0) (r : Row) (rows : List Row) → P r → AllByRecursion P rows → AllByRecursion P (with_row r rows)
-all-with_row P r [] h all = (h, tt)
-all-with_row P r (x ∷ rows) h all = elim (key_cmp r.key x.key) as (λ o. AllByRecursion P (place_by o (r ∷ x ∷ rows) (r ∷ rows) (x ∷ with_row r rows))) [
-  | Less ↦ (h, all)
-  | Equal ↦ (h, all.1)
-  | Greater ↦ (all.0, all-with_row P r rows h all.1)
-]
-
+-- what holds of rows holds of them in order
 all-in_order : (P : Row → Type 0) (rows : List Row) → AllByRecursion P rows → AllByRecursion P (in_order rows)
 unfolding in_order
 all-in_order P [] all = tt
-all-in_order P (r ∷ rows) all = all-with_row P r (in_order rows) all.0 (all-in_order P rows all.1)
+all-in_order P (r ∷ rows) all = all-inserted (λ (r x : Row). key_cmp r.key x.key) P r (in_order rows) all.0 (all-in_order P rows all.1)
 
 -- a row before all others stands first
 first : (r : Row) (rows : List Row) → AllByRecursion (IsBefore r) rows → with_row r rows ≡ r ∷ rows

@@ -4,7 +4,7 @@ use Rattle.std.specs.List.{flat_map, range_with_len}
 use Rattle.vclock.specs.declared.format.Format.{Format}
 use Rattle.vclock.specs.declared.refusal.Refusal.{Refusal}
 use Rattle.vclock.specs.declared.refusal.Refusal.TheVariants.{BadMessage}
-use Rattle.version_set.specs.Version.{place_by}
+use Rattle.version_set.specs.Order.{inserted}
 use Rattle.key_ring.specs.Places.{leaf_bits}
 use Rattle.row_bytes.specs.declared.row.Row.{Row}
 use Rattle.hash_tree.specs.Leaves.{Bucket, key_cmp, rows_at}
@@ -15,8 +15,7 @@ use Rattle.snapshot.specs.RowMaps.{RowMap, IsRowMap, leaf_in}
 
 -- ascending rows with one more
 abbrev pub with_row : Row → List Row → List Row
-with_row r [] = r ∷ []
-with_row r (x ∷ rows) = place_by (key_cmp r.key x.key) (r ∷ x ∷ rows) (r ∷ rows) (x ∷ with_row r rows)
+with_row r rows = inserted (λ (r x : Row). key_cmp r.key x.key) r rows
 
 -- rows in ascending order of key
 unfoldable pub in_order : List Row → List Row

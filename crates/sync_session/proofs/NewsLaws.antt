@@ -3,6 +3,7 @@ use Rattle.std.proofs.Common.{◌≡◌, inl, inr, ℕ, zero, suc, ◌+◌, ◌<
 use Rattle.std.specs.Prelude.{nat_eq}
 use Rattle.std.specs.Int.{w16, to_be_bytes}
 use Rattle.std.specs.List.{flat_map, sum_by, AllByRecursion, Contains}
+use Rattle.std.specs.declared.cmp.Ordering.TheVariants.{Less}
 use Rattle.std.proofs.lemmas.Bool.{eqb-true, eq-eqb}
 use Rattle.std.proofs.lemmas.List.{append-nil, length-append}
 use Rattle.std.proofs.lemmas.List.Concat.{flat_map-append}
@@ -12,16 +13,16 @@ use Rattle.std.proofs.lemmas.Option.{slice_get-get_or}
 use Rattle.vclock.specs.declared.format.Format.{Format}
 use Rattle.version_set.specs.declared.version.Version.{Version}
 use Rattle.version_set.specs.Version.{version_text}
-use Rattle.version_set.proofs.ListLaws.{all-push}
+use Rattle.version_set.proofs.ListLaws.{all-push, Pairwise-filter}
 use Rattle.key_ring.specs.Places.{range_at}
 use Rattle.row_bytes.specs.declared.row.Row.{Row}
 use Rattle.row_bytes.specs.Rows.{is_before, row_text, IsRow, KeysAscend, AreRows, BeginsWithKey}
 use Rattle.row_bytes.specs.Reading.{key_of, last_key}
 use Rattle.row_bytes.proofs.RowLaws.{one_row}
 use Rattle.row_bytes.proofs.TextLengthLaws.{row_text_len, row_short}
-use Rattle.hash_tree.specs.Leaves.{Bucket, AscendByKey, rows_at, versions_in}
+use Rattle.hash_tree.specs.Leaves.{Bucket, AscendByKey, rows_at, versions_in, key_cmp}
 use Rattle.hash_tree.specs.Texts.{leaf_byte, leaf_text}
-use Rattle.hash_tree.proofs.KeyLaws.{all_get, AscendByKey-filter}
+use Rattle.hash_tree.proofs.KeyLaws.{all_get}
 use Rattle.hash_tree.proofs.KeySpots.{ascend_middle}
 use Rattle.hash_tree.proofs.LeafLaws.{held_by_row}
 use Rattle.snapshot.specs.RowMaps.{RowMap, IsRowMap, leaf_in}
@@ -182,7 +183,7 @@ way_own m n text body last rest others known r after is way has begins next =
 
 -- the rows of a leaf ascend
 pub leaf_ascends : (m : RowMap) (leaf : ℕ) → IsRowMap m → AscendByKey (rows_at (leaf_in m) leaf m.rows)
-leaf_ascends m leaf is = AscendByKey-filter _ m.rows is.ascending
+leaf_ascends m leaf is = Pairwise-filter (λ (r x : Row). key_cmp r.key x.key ≡ Less) _ m.rows is.ascending
 
 run_short : (format : Format) (rows : List Row) → sum_by (λ (r : Row). length r.versions) rows ≤ length (flat_map (row_text format) rows)
 run_short format [] = omega arith

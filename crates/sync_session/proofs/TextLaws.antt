@@ -11,14 +11,13 @@ use Rattle.sha2.proofs.Facts256.{length-sha256}
 use Rattle.vclock.specs.declared.format.Format.{Format}
 use Rattle.vclock.specs.declared.format.Format.TheVariants.{One, Two}
 use Rattle.vclock.specs.Keys.{key_fault}
-use Rattle.version_set.proofs.ListLaws.{all-filter}
+use Rattle.version_set.proofs.ListLaws.{all-filter, Pairwise-filter}
 use Rattle.key_ring.specs.Places.{leaf_at}
 use Rattle.row_bytes.specs.declared.row.Row.{Row}
 use Rattle.row_bytes.specs.Rows.{IsRow, KeysAscend, AreRows}
 use Rattle.hash_tree.specs.Leaves.{key_cmp, AscendByKey, rows_at}
 use Rattle.hash_tree.specs.Nodes.{tree_depth, ancestor_of}
 use Rattle.hash_tree.specs.Texts.{inner_text, per_child, node_text}
-use Rattle.hash_tree.proofs.KeyLaws.{AscendByKey-filter}
 use Rattle.hash_tree.proofs.TextLaws.{length-per_child, per_child-at}
 use Rattle.snapshot.specs.RowMaps.{RowMap, IsRowMap, leaf_in}
 use Rattle.sync_session.specs.Walks.{child_digest}
@@ -112,4 +111,4 @@ after_nothing format (r ∷ rows) all = (some r.key all.0.key, after_nothing for
 pub leaf_are : (m : RowMap) → IsRowMap m → (index : ℕ) → AreRows m.format (leaf_rows m index)
 leaf_are m is index =
     let each = all-filter (IsRow m.format) _ m.rows is.each in
-    record { each = each; ascending = keys_ascend [] (leaf_rows m index) (after_nothing m.format (leaf_rows m index) each) (AscendByKey-filter _ m.rows is.ascending) }
+    record { each = each; ascending = keys_ascend [] (leaf_rows m index) (after_nothing m.format (leaf_rows m index) each) (Pairwise-filter (λ (r x : Row). key_cmp r.key x.key ≡ Less) _ m.rows is.ascending) }

@@ -2,6 +2,7 @@
 use Rattle.std.specs.Prelude.{◌≡◌, ℕ, zero, suc, ◌+◌, ◌/◌, ◌^◌, ◌<◌, ◌≤◌, Bool, true, ◌&&◌, not, bytes_eq, map, if◌then◌else◌, List, [], ◌∷◌, ◌++◌}
 use Rattle.std.specs.List.{filter, AllByRecursion}
 use Rattle.vclock.specs.declared.format.Format.{Format}
+use Rattle.version_set.specs.Order.{Pairwise}
 use Rattle.hash_tree.specs.Nodes.{tree_depth}
 use Rattle.snapshot.specs.RowMaps.{RowMap}
 use Rattle.sync_session.specs.TreeNodes.{Node, is_node, has_node, place_of, text_of, digest_of}
@@ -69,5 +70,4 @@ IsInTurn w = (rest : List Node) × (w.asked ≡ nodes_of w.taken ++ rest)
 
 -- nodes by depth, and then by index
 abbrev pub Ascends : List Node → Type 0
-Ascends [] = Unit {0}
-Ascends (n ∷ nodes) = AllByRecursion (λ m. place_of n < place_of m) nodes × Ascends nodes
+Ascends nodes = Pairwise (λ n m. place_of n < place_of m) nodes

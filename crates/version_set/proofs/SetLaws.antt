@@ -4,7 +4,7 @@ use Rattle.std.proofs.lemmas.Bool.{and_parts, and_from, or_parts, or_cases, or_l
 use Rattle.std.specs.List.{list_any, AllByRecursion}
 use Rattle.std.specs.declared.cmp.Ordering.{Ordering}
 use Rattle.std.specs.declared.cmp.Ordering.TheVariants.{Less, Equal, Greater}
-use Rattle.std.specs.Ordering.{is_eq, ordering_reverse, ordering_then, nat_cmp}
+use Rattle.std.specs.Ordering.{is_eq, ordering_then, nat_cmp}
 use Rattle.std.specs.FinMap.{slice_cmp-IsAntisymmetric, nat_cmp-IsAntisymmetric}
 use Rattle.std.specs.Cmp.{IsTotalOrder}
 use Rattle.std.proofs.lemmas.Cmp.{then_total, on_total, lists_total, nat_cmp_total, nat_list_cmp_total, tied_itself}
@@ -15,8 +15,9 @@ use Rattle.version_set.specs.Kind.{kind_byte}
 use Rattle.version_set.specs.declared.kind.Kind.{Kind}
 use Rattle.version_set.specs.declared.kind.Kind.TheVariants.{Live, Tombstone}
 use Rattle.version_set.specs.declared.version.Version.{Version}
-use Rattle.version_set.specs.Version.{NoneIsBelow, is_below, covered, maximal, with_version, IsBelow, IsCovered, is_same, version_cmp, pair_cmp, place_by, Ascends, offered, IsVersionSet, set_from}
-use Rattle.version_set.proofs.ListLaws.{all-filter}
+use Rattle.version_set.specs.Order.{place_by}
+use Rattle.version_set.specs.Version.{NoneIsBelow, is_below, covered, maximal, with_version, IsBelow, IsCovered, is_same, version_cmp, pair_cmp, Ascends, offered, IsVersionSet, set_from}
+use Rattle.version_set.proofs.ListLaws.{all-filter, all-inserted, less_all, Pairwise-filter, ascends-inserted}
 
 -- the order of texts is total
 pub version_total : IsTotalOrder version_cmp
@@ -173,19 +174,11 @@ with_version-first : (v : Version) (S : List Version) → AllByRecursion (λ w. 
 with_version-first v [] h = refl
 with_version-first v (w ∷ S) h = rw h.0 refl
 
-pub Ascends-filter : (p : Version → Bool) (S : List Version) → Ascends S → Ascends (filter p S)
-Ascends-filter p [] h = tt
-Ascends-filter p (v ∷ S) h = elim (p v) as (λ b. Ascends (cond b (v ∷ filter p S) (filter p S))) [ true ↦ (all-filter _ p S h.0, Ascends-filter p S h.1) | false ↦ Ascends-filter p S h.1 ]
-
-pub less_all : (v w : Version) (S : List Version) → version_cmp v w ≡ Less → AllByRecursion (λ x. version_cmp w x ≡ Less) S → AllByRecursion (λ x. version_cmp v x ≡ Less) S
-less_all v w [] h all = tt
-less_all v w (x ∷ S) h all = (version_total.trans v w x h all.0, less_all v w S h all.1)
-
 pub filter-with_version : (p : Version → Bool) (v : Version) (S : List Version) → Ascends S → list_any (is_same v) S ≡ false → filter p (with_version v S) ≡ cond (p v) (with_version v (filter p S)) (filter p S)
 filter-with_version p v [] a h = refl
 filter-with_version p v (w ∷ S) a h =
     elim (version_cmp v w) as (λ o. version_cmp v w ≡ o → filter p (place_by o (v ∷ w ∷ S) (w ∷ S) (w ∷ with_version v S)) ≡ cond (p v) (with_version v (filter p (w ∷ S))) (filter p (w ∷ S))) [
-      | Less ↦ λ o. ap (λ t. cond (p v) t (filter p (w ∷ S))) (sym (with_version-first v (filter p (w ∷ S)) (all-filter _ p (w ∷ S) (o, less_all v w S o a.0))))
+      | Less ↦ λ o. ap (λ t. cond (p v) t (filter p (w ∷ S))) (sym (with_version-first v (filter p (w ∷ S)) (all-filter _ p (w ∷ S) (o, less_all version_cmp version_total v w S o a.0))))
       | Equal ↦ λ o. absurd (both_ways (is_same v w) (or_parts _ _ h).0 (ap is_eq o))
       | Greater ↦ λ o.
           let rest = filter-with_version p v S a.1 (or_parts _ _ h).1 in
@@ -193,23 +186,6 @@ filter-with_version p v (w ∷ S) a h =
             | true ↦ ap (λ t. w ∷ t) rest ∙ elim (p v) as (λ c. w ∷ cond c (with_version v (filter p S)) (filter p S) ≡ cond c (with_version v (w ∷ filter p S)) (w ∷ filter p S)) [ true ↦ rw o refl | false ↦ refl ]
             | false ↦ rest
           ]
-    ] refl
-
-greater_all : (w v : Version) (S : List Version) → version_cmp w v ≡ Less → AllByRecursion (λ x. version_cmp w x ≡ Less) S → AllByRecursion (λ x. version_cmp w x ≡ Less) (with_version v S)
-greater_all w v [] h all = (h, tt)
-greater_all w v (x ∷ S) h all = elim (version_cmp v x) as (λ o. AllByRecursion (λ y. version_cmp w y ≡ Less) (place_by o (v ∷ x ∷ S) (x ∷ S) (x ∷ with_version v S))) [
-  | Less ↦ (h, all)
-  | Equal ↦ all
-  | Greater ↦ (all.0, greater_all w v S h all.1)
-]
-
-pub Ascends-with_version : (v : Version) (S : List Version) → Ascends S → Ascends (with_version v S)
-Ascends-with_version v [] a = (tt, tt)
-Ascends-with_version v (w ∷ S) a =
-    elim (version_cmp v w) as (λ o. version_cmp v w ≡ o → Ascends (place_by o (v ∷ w ∷ S) (w ∷ S) (w ∷ with_version v S))) [
-      | Less ↦ λ o. ((o, less_all v w S o a.0), a)
-      | Equal ↦ λ o. a
-      | Greater ↦ λ o. (greater_all w v S (version_total.antisymm w v ∙ ap ordering_reverse o) a.0, Ascends-with_version v S a.1)
     ] refl
 
 pub length-with_version : (v : Version) (S : List Version) → length (with_version v S) ≤ length S + 1
@@ -273,7 +249,7 @@ with_version-member : (v : Version) (S : List Version) → Ascends S → list_an
 with_version-member v [] a e = absurd (both_ways _ refl e)
 with_version-member v (w ∷ S) a e =
     elim (version_cmp v w) as (λ o. version_cmp v w ≡ o → place_by o (v ∷ w ∷ S) (w ∷ S) (w ∷ with_version v S) ≡ w ∷ S) [
-      | Less ↦ λ o. absurd (both_ways _ (no_same_above v (w ∷ S) (o, less_all v w S o a.0)) e)
+      | Less ↦ λ o. absurd (both_ways _ (no_same_above v (w ∷ S) (o, less_all version_cmp version_total v w S o a.0)) e)
       | Equal ↦ λ o. refl
       | Greater ↦ λ o. ap (λ t. w ∷ t) (with_version-member v S a.1 (rw o at e))
     ] refl
@@ -347,7 +323,7 @@ offered-maximal v S a =
     new_one : (v : Version) (S : List Version) → Ascends S → covered v S ≡ false → maximal (with_version v (maximal S)) ≡ maximal (with_version v S)
     new_one v S a f =
         let own = maximal-maximal S in
-        let up = Ascends-filter (λ x. not (list_any (is_below x) S)) S a in
+        let up = Pairwise-filter (λ v w. version_cmp v w ≡ Less) (λ x. not (list_any (is_below x) S)) S a in
         let parts = no_part (is_same v) (is_below v) S f in
         let stays : not (list_any (is_below v) (with_version v S)) ≡ true = ap not (any-with_version (is_below v) v S parts.0 ∙ or_from _ _ (is_below-itself v) parts.1) in
         maximal-with_version v (maximal S) up own (covered-maximal v S ∙ f)
@@ -355,10 +331,6 @@ offered-maximal v S a =
         ∙ filter_alike (λ x. not (list_any (is_below x) S) && not (is_below x v)) (λ x. not (list_any (is_below x) (with_version v S))) S (λ x i. sym (ap not (any-with_version (is_below x) v S parts.0) ∙ not_or (is_below x v) (list_any (is_below x) S))))
         ∙ sym (filter-with_version (λ x. not (list_any (is_below x) (with_version v S))) v S a parts.0
         ∙ ap (λ b. cond b (with_version v (filter (λ x. not (list_any (is_below x) (with_version v S))) S)) (filter (λ x. not (list_any (is_below x) (with_version v S))) S)) stays)
-
-pub all-with_version : (P : Version → Type 0) (v : Version) (S : List Version) → P v → AllByRecursion P S → AllByRecursion P (with_version v S)
-all-with_version P v [] h all = (h, tt)
-all-with_version P v (w ∷ S) h all = elim (version_cmp v w) as (λ o. AllByRecursion P (place_by o (v ∷ w ∷ S) (w ∷ S) (w ∷ with_version v S))) [ Less ↦ (h, all) | Equal ↦ all | Greater ↦ (all.0, all-with_version P v S h all.1) ]
 
 -- the test of clocks says what their counters say
 pub is_below-is : (v w : Version) → IsClock v.clock → IsClock w.clock → (is_below v w ≡ true) ↔ IsBelow v w
@@ -395,10 +367,10 @@ pub grown : (v : Version) (S : List Version) → IsClock v.clock → IsVersionSe
 grown v S clock set f room =
     let is = maximal-with_version v S set.ascending set.own_maximum f in
     record {
-      ascending = Ascends-with_version v _ (Ascends-filter _ S set.ascending);
+      ascending = ascends-inserted version_cmp version_total v _ (Pairwise-filter (λ v w. version_cmp v w ≡ Less) _ S set.ascending);
       own_maximum = subst (λ T. maximal T ≡ T) is (maximal-maximal (with_version v S));
       short = omega (arith, length-with_version v (filter (λ w. not (is_below w v)) S));
-      valid = all-with_version (λ w. IsClock w.clock) v _ clock (all-filter _ _ S set.valid);
+      valid = all-inserted version_cmp (λ w. IsClock w.clock) v _ clock (all-filter _ _ S set.valid);
     }
 
 -- where no member is the version, the set grows by one

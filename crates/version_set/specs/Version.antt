@@ -3,7 +3,7 @@ use Rattle.std.specs.Prelude.{◌≡◌, ◌≢◌, ◌⊎◌, Any, ℕ, ◌<◌
 use Rattle.std.specs.List.{list_any, AllByRecursion, flat_map}
 use Rattle.std.specs.Int.{to_be_bytes, w16, w32, w64}
 use Rattle.std.specs.declared.cmp.Ordering.{Ordering}
-use Rattle.std.specs.declared.cmp.Ordering.TheVariants.{Less, Equal, Greater}
+use Rattle.std.specs.declared.cmp.Ordering.TheVariants.{Less}
 use Rattle.std.specs.Ordering.{nat_cmp, ordering_then, is_eq}
 use Rattle.std.specs.Cmp.Lexicographic.{slice_cmp}
 use Rattle.vclock.specs.Clock.{at_most, IsAtMost, IsClock}
@@ -12,6 +12,7 @@ use Rattle.vclock.specs.declared.refusal.Refusal.TheVariants.{Crowded}
 use Rattle.vclock.specs.declared.format.Format.{Format}
 use Rattle.vclock.specs.declared.format.Format.TheVariants.{One, Two}
 use Rattle.version_set.specs.Kind.{kind_byte}
+use Rattle.version_set.specs.Order.{Pairwise, inserted}
 use Rattle.version_set.specs.declared.kind.Kind.TheVariants.{Live}
 use Rattle.version_set.specs.declared.version.Version.{Version}
 
@@ -47,16 +48,9 @@ covered v S = list_any (λ w. is_same v w || is_below v w) S
 abbrev pub maximal : List Version → List Version
 maximal S = filter (λ v. not (list_any (is_below v) S)) S
 
--- what stands where two versions compare so
-abbrev pub place_by : {A : Type 0} → Ordering → A → A → A → A
-place_by Less before here after = before
-place_by Equal before here after = here
-place_by Greater before here after = after
-
 -- the set with a version in its place
 abbrev pub with_version : Version → List Version → List Version
-with_version v [] = v ∷ []
-with_version v (w ∷ S) = place_by (version_cmp v w) (v ∷ w ∷ S) (w ∷ S) (w ∷ with_version v S)
+with_version v S = inserted version_cmp v S
 
 -- the set after a version was offered: as it was where the version is covered, else the maximal members of the set with it
 abbrev pub offered : Version → List Version → List Version
@@ -64,8 +58,7 @@ offered v S = if covered v S then S else maximal (with_version v S)
 
 -- each version is less than those after it
 abbrev pub AscendsBy : (Version → Version → Ordering) → List Version → Type 0
-AscendsBy cmp [] = Unit {0}
-AscendsBy cmp (v ∷ S) = AllByRecursion (λ w. cmp v w ≡ Less) S × AscendsBy cmp S
+AscendsBy cmp S = Pairwise (λ v w. cmp v w ≡ Less) S
 
 abbrev pub Ascends : List Version → Type 0
 Ascends S = AscendsBy version_cmp S

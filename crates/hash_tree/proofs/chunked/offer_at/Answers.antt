@@ -1,5 +1,9 @@
 use Rattle.std.proofs.Common.{◌≡◌, List, length, set, subst, sym, ap, ◌∙◌, arith}
+use Rattle.std.specs.Prelude.{⊤}
 use Rattle.std.proofs.lemmas.List.{set-get_or}
+use Rattle.vclock.specs.Answer.{Answers}
+use Rattle.version_set.specs.declared.version.Version.{Version}
+use Rattle.version_set.specs.Version.{offer_fault}
 use Rattle.row_bytes.specs.declared.row.Row.{Row}
 use Rattle.hash_tree.specs.Leaves.{Bucket}
 use Rattle.hash_tree.specs.Chunks.{place_in, AreChunks, versions_at, offered_at}
@@ -13,13 +17,13 @@ offer-requires-clause-at c =
     let spot = c.requires.spot in
     omega (arith, spot.within, ap (λ (rs : List Row). length rs) (rows_read chunks r.chunk c.index_mut.result.now spot.chunk c.index_mut.ensures.value))
 
-pub offer-requires-clause-room : goal.offer-requires-clause-room
-offer-requires-clause-room c =
+pub returns-clause-answers : goal.returns-clause-answers
+returns-clause-answers c =
     let chunks = c.args.chunks.now.items in
     let r = c.args.spot in
     let spot = c.requires.spot in
     let versions = ap (λ (rs : List Row). versions_at rs r.at) (rows_read chunks r.chunk c.index_mut.result.now spot.chunk c.index_mut.ensures.value) ∙ versions-in_chunk chunks r.chunk r.at (place_in chunks r.chunk r.at) spot.chunk spot.within spot.before in
-    rw versions c.requires.room
+    subst (λ (S : List Version). Answers c.offer.result (offer_fault c.args.version S) (λ _. ⊤)) versions c.offer.ensures.answers
 
 pub returns-clause-ok : goal.returns-clause-ok
 returns-clause-ok c =

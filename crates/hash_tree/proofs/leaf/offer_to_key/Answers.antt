@@ -1,11 +1,15 @@
-use Rattle.std.proofs.Common.{rules, ◌≡◌, ◌<◌, ◌∙◌, [], List, length, sym, ap, subst}
+use Rattle.std.proofs.Common.{rules, ◌≡◌, ◌<◌, ◌∙◌, Option, None, [], List, length, sym, ap, subst}
+use Rattle.std.specs.Prelude.{⊤}
 use Rattle.std.specs.List.{insert}
-use Rattle.version_set.specs.Version.{offered}
+use Rattle.vclock.specs.Answer.{Answers}
+use Rattle.vclock.specs.declared.refusal.Refusal.{Refusal}
+use Rattle.version_set.specs.declared.version.Version.{Version}
+use Rattle.version_set.specs.Version.{offered, offer_fault}
 use Rattle.row_bytes.specs.declared.row.Row.{Row}
-use Rattle.hash_tree.specs.Leaves.{Bucket, AscendByKey, IsAt, IsBetween}
+use Rattle.hash_tree.specs.Leaves.{Bucket, AscendByKey, IsAt, IsBetween, versions_in}
 use Rattle.hash_tree.specs.Chunks.{all_rows, place_in, offered_at}
 use Rattle.hash_tree.proofs.ChunkPlaces.{rows_read, on_ok_map, values_fit}
-use Rattle.hash_tree.proofs.KeySpots.{IsChunkOf, chunk_ascends, at_there, between_there, row_spot, gap_spot, at_offers, at_holds}
+use Rattle.hash_tree.proofs.KeySpots.{IsChunkOf, chunk_ascends, at_there, between_there, row_spot, gap_spot, at_offers, at_holds, nothing_crowds}
 use Rattle.hash_tree.proofs.leaf.offer_to_key.Goals as goal
 
 pub find_place-requires : goal.find_place-requires
@@ -27,18 +31,6 @@ offer_at-requires-clause-spot c =
     let place = subst (λ (rs : List Row). IsAt k rs c.in-Ok.at) rows c.in-Ok.ensures in
     row_spot k chunks i c.in-Ok.at of place
 
-pub offer_at-requires-clause-room : goal.offer_at-requires-clause-room
-offer_at-requires-clause-room c =
-    let chunks = c.args.chunks.now.items in
-    let k = c.args.key.now in
-    let i = c.chunk_of-chunk.result in
-    let number = c.chunk_of-chunk.ensures in
-    let of = subst (λ (cs : List Bucket). IsChunkOf k cs i) c.deref.ensures.value (record { within = number.within; before = number.before; after = number.after }) in
-    let rows = c.rows.ensures ∙ rows_read chunks i c.index.result.now of.within c.index.ensures in
-    let place = subst (λ (rs : List Row). IsAt k rs c.in-Ok.at) rows c.in-Ok.ensures in
-    let whole = at_there k chunks i c.in-Ok.at of place in
-    rw (at_holds k (all_rows chunks) (place_in chunks i c.in-Ok.at) whole) c.requires.room
-
 pub offer_at-requires-clause-value : goal.offer_at-requires-clause-value
 offer_at-requires-clause-value c = values_fit c.args.format c.args.chunks.now.items c.args.version c.requires.chunks.each c.requires.value
 
@@ -52,6 +44,18 @@ insert_at-requires-clause-spot c =
     let rows = c.rows.ensures ∙ rows_read chunks i c.index.result.now of.within c.index.ensures in
     let place = subst (λ (rs : List Row). IsBetween k rs c.in-Err.at) rows c.in-Err.ensures in
     gap_spot k chunks i c.in-Err.at of place
+
+pub returns-in-Ok-clause-answers : goal.returns-in-Ok-clause-answers
+returns-in-Ok-clause-answers c =
+    let chunks = c.args.chunks.now.items in
+    let k = c.args.key.now in
+    let i = c.chunk_of-chunk.result in
+    let number = c.chunk_of-chunk.ensures in
+    let of = subst (λ (cs : List Bucket). IsChunkOf k cs i) c.deref.ensures.value (record { within = number.within; before = number.before; after = number.after }) in
+    let rows = c.rows.ensures ∙ rows_read chunks i c.index.result.now of.within c.index.ensures in
+    let place = subst (λ (rs : List Row). IsAt k rs c.in-Ok.at) rows c.in-Ok.ensures in
+    let whole = at_there k chunks i c.in-Ok.at of place in
+    subst (λ (S : List Version). Answers c.offer_at.result (offer_fault c.args.version S) (λ _. ⊤)) (at_holds k (all_rows chunks) (place_in chunks i c.in-Ok.at) whole) c.offer_at.ensures.answers
 
 pub returns-in-Ok-clause-ok : goal.returns-in-Ok-clause-ok
 returns-in-Ok-clause-ok c =
@@ -81,3 +85,28 @@ returns-in_ok-row-in-Err-clause-ok c =
     let at = place_in chunks i c.in-Err.at in
     let row : c.in_ok-row-in-Err.row ≡ record { key = k; versions = offered c.args.version [] } = search rules in
     on_ok_map c.insert_at.result (λ (now : all_rows c.insert_at.new.chunks.items ≡ insert (all_rows chunks) at c.in_ok-row-in-Err.row). now ∙ ap (insert (all_rows chunks) at) row ∙ sym (whole.offers c.args.version)) c.insert_at.ensures.ok
+
+pub returns-in_ok-row-in-Err-clause-answers : goal.returns-in_ok-row-in-Err-clause-answers
+returns-in_ok-row-in-Err-clause-answers c =
+    let chunks = c.args.chunks.now.items in
+    let k = c.args.key.now in
+    let i = c.chunk_of-chunk.result in
+    let number = c.chunk_of-chunk.ensures in
+    let of = subst (λ (cs : List Bucket). IsChunkOf k cs i) c.deref.ensures.value (record { within = number.within; before = number.before; after = number.after }) in
+    let rows = c.rows.ensures ∙ rows_read chunks i c.index.result.now of.within c.index.ensures in
+    let place = subst (λ (rs : List Row). IsBetween k rs c.in-Err.at) rows c.in-Err.ensures in
+    let whole = between_there k chunks i c.in-Err.at of place in
+    subst (λ (cause : Option Refusal). Answers c.insert_at.result cause (λ _. ⊤)) (sym (nothing_crowds c.args.version (versions_in k (all_rows chunks)) whole.holds)) c.insert_at.ensures.answers
+
+pub returns-in_err-row-in-Err-clause-answers : goal.returns-in_err-row-in-Err-clause-answers
+returns-in_err-row-in-Err-clause-answers c =
+    let chunks = c.args.chunks.now.items in
+    let k = c.args.key.now in
+    let i = c.chunk_of-chunk.result in
+    let number = c.chunk_of-chunk.ensures in
+    let of = subst (λ (cs : List Bucket). IsChunkOf k cs i) c.deref.ensures.value (record { within = number.within; before = number.before; after = number.after }) in
+    let rows = c.rows.ensures ∙ rows_read chunks i c.index.result.now of.within c.index.ensures in
+    let place = subst (λ (rs : List Row). IsBetween k rs c.in-Err.at) rows c.in-Err.ensures in
+    let whole = between_there k chunks i c.in-Err.at of place in
+    let refused : Answers c.from_residual-in_err-row-in-Err.result None (λ (_ : Unit {0}). ⊤) = search rules in
+    subst (λ (cause : Option Refusal). Answers c.from_residual-in_err-row-in-Err.result cause (λ _. ⊤)) (sym (nothing_crowds c.args.version (versions_in k (all_rows chunks)) whole.holds)) refused
