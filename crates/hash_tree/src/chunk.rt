@@ -107,7 +107,7 @@ impl Chunk {
         ensures { offer_fault version.now (versions_at self.now.rows at)
             ≡ (if result then Some Refusal.Crowded else None) }
     {
-        self.held.rows()[at].versions.crowds(version)
+        self.rows()[at].versions.crowds(version)
     }
 
     /// Offers a version to the set of the row at a place. If the rows have other owners, a copy of them is changed.
