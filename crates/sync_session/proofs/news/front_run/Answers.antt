@@ -1,4 +1,4 @@
-use Rattle.std.proofs.Common.{◌++◌, ◌∙◌, List, Some, sym, ap, arith}
+use Rattle.std.proofs.Common.{◌++◌, ◌∙◌, List, Some, ap, arith}
 use Rattle.std.proofs.lemmas.Bool.Decides.{Decides-eqb}
 use Rattle.std.proofs.lemmas.Slice.Eq.{strip_prefix_is}
 use Rattle.hash_tree.proofs.Strips.{to_strips}

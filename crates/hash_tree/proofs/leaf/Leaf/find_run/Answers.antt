@@ -1,7 +1,7 @@
 use Rattle.std.proofs.Common.{◌≡◌, ◌<◌, ◌+◌, ◌++◌, ◌∙◌, List, [], length, take, drop, get_or, None, subst, sym, ap, append_assoc}
 use Rattle.std.proofs.lemmas.List.{take-append-drop, drop_more}
 use Rattle.row_bytes.specs.declared.row.Row.{Row}
-use Rattle.hash_tree.specs.Chunks.{all_rows, rows_of}
+use Rattle.hash_tree.specs.Chunks.{all_rows}
 use Rattle.hash_tree.specs.Leaves.{Bucket, AscendByKey, FindsRun, IsRun, versions_in}
 use Rattle.hash_tree.proofs.ChunkPlaces.{rows_read, three_parts}
 use Rattle.hash_tree.proofs.KeySpots.{IsChunkOf, chunk_ascends, versions_there}
