@@ -1,16 +1,5 @@
 pub mod Known
-pub mod OutcomeSteps
-pub mod ReadLemmas
-pub mod TreeLemmas
 pub mod AnswerLemmas
-pub mod ReplicaLaws
 pub mod LineLemmas
 pub mod FeedLemmas
 pub mod RunLemmas
-pub mod NodeLaws
-pub mod SyncLaws
-pub mod ListSteps
-pub mod AnswerSteps
-pub mod HandoffLaws
-pub mod OfferLaws
-pub mod DeliveryLaws

@@ -1,8 +1,7 @@
--- What the commands answer, and its text.
+-- The text of what a command answers.
 use Rattle.std.specs.Prelude.{ℕ, List, [], ◌∷◌, ◌++◌, codes, Option, Some, None}
 use Rattle.serde_json.specs.Data.{Data, Items, no_items, item, Members, no_members, member, null, boolean, number, unsigned, string, array, object}
 use Rattle.serde_json.specs.Written.{compact_text}
-use Rattle.vclock.specs.Outcome.{Outcome, gives, refuses}
 use Rattle.hex.specs.Hex.{encode_lower}
 use Rattle.vclock.specs.Clock.{Pairs}
 use Rattle.version_set.specs.declared.kind.Kind.{Kind}
@@ -11,8 +10,8 @@ use Rattle.version_set.specs.declared.version.Version.{Version}
 use Rattle.vclock.specs.Refusal.{number_of, name_of}
 use Rattle.vclock.specs.declared.refusal.Refusal.{Refusal}
 use Rattle.vclock.specs.declared.refusal.Refusal.TheVariants as Refusals
-use Rattle.outage_script.specs.declared.answer.Answer.{Answer}
-use Rattle.outage_script.specs.declared.answer.Answer.TheVariants.{Ring, Put, Versions, Row, Rehash, Sync, Node, Up, Deliver, Slots, Adjusted, Sample, Refused, BadLine}
+use Rattle.script_cluster.specs.declared.answer.Answer.{Answer}
+use Rattle.script_cluster.specs.declared.answer.Answer.TheVariants.{Ring, Put, Versions, Row, Rehash, Sync, Node, Up, Deliver, Slots, Adjusted, Sample, Refused, BadLine}
 
 -- an item for each of a list
 abbrev pub items_of : {A : Type 0} → (A → Data) → List A → Items
@@ -96,8 +95,3 @@ answer_data (BadLine line) = object_of ((codes "cause", string (name_of Refusals
 -- the text of an answer, with its line feed
 abbrev pub answer_line : Answer → List ℕ
 answer_line answer = compact_text (answer_data answer) ++ 10 ∷ []
-
--- what is answered: what the command tells, or why it is refused
-abbrev pub replied : {S : Type 0} → Outcome Answer S → Answer
-replied (gives answer s) = answer
-replied (refuses refusal) = Refused refusal

@@ -4,7 +4,7 @@ use Rattle.std.specs.Io.KnownBytes.{Appends}
 use Rattle.outage_script.specs.declared.ScriptEnd.{ScriptEnd}
 use Rattle.outage_script.specs.declared.ScriptEnd.TheVariants.{Done, BadLine, Device, NoMemory}
 use Rattle.outage_script.specs.Lines.{lines_of}
-use Rattle.outage_script.specs.State.{State}
+use Rattle.script_cluster.specs.State.{State}
 use Rattle.outage_script.specs.Script.{Outcome, outcome_of, preceded, script_outcome, line_limit}
 use Rattle.outage_script.specs.Ends.{Begins, IsBadAt}
 

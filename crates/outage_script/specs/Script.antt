@@ -2,17 +2,15 @@
 use Rattle.std.specs.Prelude.{◌≡◌, ℕ, ◌+◌, List, [], ◌∷◌, ◌++◌, length, nat_lt, if◌then◌else◌, Option, Some, None, option_map, option_and_then}
 use Rattle.std.specs.List.{list_all}
 use Rattle.outage_script.specs.Lines.{lines_of, is_space}
-use Rattle.outage_script.specs.State.{State, start, left}
-use Rattle.outage_script.specs.Asks.{Ask}
-use Rattle.outage_script.specs.Acts.{act, suits}
-use Rattle.outage_script.specs.Answers.{answer_line, replied}
-use Rattle.outage_script.specs.declared.answer.Answer.TheVariants.{BadLine}
-use Rattle.outage_script.specs.Reading.{value_of}
-use Rattle.outage_script.specs.Commands.{command_of}
-
--- how many bytes a line has at the most, without its line feed
-abbrev pub line_limit : ℕ
-line_limit = 1048576
+use Rattle.script_cluster.specs.State.{State, start, left}
+use Rattle.script_commands.specs.Asks.{Ask}
+use Rattle.script_cluster.specs.Acts.{act, suits}
+use Rattle.script_cluster.specs.Replies.{replied}
+use Rattle.outage_script.specs.Answers.{answer_line}
+use Rattle.script_cluster.specs.declared.answer.Answer.TheVariants.{BadLine}
+use Rattle.script_commands.specs.Reading.{value_of}
+use Rattle.script_commands.specs.Commands.{command_of}
+use Rattle.script_commands.specs.Faults.{line_limit}
 
 -- a line's answer and the state after it; none where it is a bad line
 abbrev pub Turn : Type 0

@@ -1,7 +1,7 @@
-//! The answers of the commands, and their text as JSON.
+//! The text of an answer, as JSON.
 ghost use Rattle.std.specs.Prelude.{◌≡◌, [], ◌++◌, ◌∷◌, IfOk, OnOk};
 ghost use Rattle.outage_script.specs.Answers.{answer_data, answer_line, digest_data, maybe_number, object_of, refusal_data, sync_data};
-ghost use Rattle.outage_script.specs.Slots.{counts};
+ghost use Rattle.script_cluster.specs.Slots.{counts};
 ghost use Rattle.outage_script.specs.Told.{part_data, tokens_of};
 
 use crate::part::{Part, write_object};
@@ -18,92 +18,6 @@ use version_set::set::VersionSet;
 
 /// For how many bytes a line has room at first.
 const LINE_ROOM: usize = 128;
-
-/// What a command answers.
-#[derive(Drop)]
-pub(crate) enum Answer {
-    /// A new ring.
-    Ring {
-        /// How many nodes it has.
-        nodes: u64,
-        /// How many ranges it has.
-        ranges: u64,
-    },
-    /// A put.
-    Put {
-        /// The clock of the new version.
-        clock: Clock,
-        /// How many replicas took a copy or knew it.
-        copied: u64,
-        /// How many hints are kept.
-        hinted: u64,
-        /// The number of the entry.
-        number: u64,
-    },
-    /// The versions that are held for a key.
-    Versions(VersionSet),
-    /// The text of the row of a key.
-    Row(Text),
-    /// How many nodes a rehash found dirty.
-    Rehash(u64),
-    /// What came of a sync.
-    Sync(Synced),
-    /// The digest of a tree's node, or `None` if it is dirty.
-    Node(Option<Digest>),
-    /// A node that is taken down or up.
-    Up {
-        /// The node.
-        node: u64,
-        /// Whether it is up now.
-        up: bool,
-    },
-    /// A delivery of hints.
-    Deliver {
-        /// How many their owners took.
-        delivered: u64,
-        /// How many their owners knew.
-        known: u64,
-        /// How many are pending after it.
-        pending: u32,
-    },
-    /// The slots.
-    Slots(SlotCounts),
-    /// The slots, and the percentile by which their target was adjusted, or `None` if there was no sample.
-    Adjusted(SlotCounts, Option<u32>),
-    /// How many samples are kept.
-    Sample(u32),
-    /// Why a command is refused.
-    Refused(Refusal),
-    /// The line of that number is no command.
-    BadLine(u64),
-}
-
-/// How many slots there are.
-#[derive(Clone, Copy)]
-pub(crate) struct SlotCounts {
-    /// How many are lent or could be.
-    pub(crate) allowance: u64,
-    /// How many could be lent.
-    pub(crate) free: u64,
-    /// How many are lent.
-    pub(crate) lent: u64,
-    /// How many there may be.
-    pub(crate) target: u64,
-}
-
-impl SlotCounts {
-    /// The slots of a controller.
-    pub(crate) fn of<L: Ledger>(slots: &Controller<L>) -> SlotCounts
-        ensures { result ≡ counts slots.now }
-    {
-        SlotCounts {
-            allowance: u64::from(slots.allowance()),
-            free: u64::from(slots.free()),
-            lent: u64::from(slots.lent()),
-            target: u64::from(slots.target()),
-        }
-    }
-}
 
 /// The text of an answer, with its line feed.
 pub(crate) fn answer_line(alloc: Global, answer: &Answer) -> Result<Vec<u8>, AllocError>

@@ -15,22 +15,12 @@ pub enum ScriptEnd {
 }
 
 mod answer;
-mod cluster;
-mod command;
-mod digits;
-mod fault;
-mod handoff;
 mod memory;
 mod part;
-mod replica;
-mod replicas;
 mod run;
 mod session;
-mod slots;
-mod tree;
-mod world;
 mod write;
 
-pub use fault::LineFault;
 pub use memory::{line_law, run_bytes};
 pub use run::{run_last_script, run_script};
+pub use script_commands::fault::LineFault;

@@ -3,12 +3,12 @@ ghost use Rattle.std.specs.Prelude.{false, ◌≡◌, ◌⊎◌, ◌+◌, [], ve
 ghost use Rattle.std.specs.Io.KnownBytes.{Keeps};
 ghost use Rattle.outage_script.specs.Ends.{Explains, Runs};
 ghost use Rattle.outage_script.specs.Moves.{Holds, place_of};
-ghost use Rattle.outage_script.specs.State.{start};
+ghost use Rattle.script_cluster.specs.State.{start};
 
 use crate::ScriptEnd;
-use crate::fault::LineFault;
 use crate::session::Session;
-use crate::world::AtEnd;
+use script_cluster::world::AtEnd;
+use script_commands::fault::LineFault;
 use std::alloc::{AllocError, Global};
 use std::io::{Read, Write};
 use std::marker::Brand;

@@ -1,0 +1,9 @@
+pub mod OutcomeSteps
+pub mod ReplicaLaws
+pub mod NodeLaws
+pub mod SyncLaws
+pub mod ListSteps
+pub mod AnswerSteps
+pub mod HandoffLaws
+pub mod OfferLaws
+pub mod DeliveryLaws
