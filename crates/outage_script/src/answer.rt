@@ -1,20 +1,16 @@
 //! The text of an answer, as JSON.
 ghost use Rattle.std.specs.Prelude.{◌≡◌, [], ◌++◌, ◌∷◌, IfOk, OnOk};
 ghost use Rattle.outage_script.specs.Answers.{answer_data, answer_line, digest_data, maybe_number, object_of, refusal_data, sync_data};
-ghost use Rattle.script_cluster.specs.Slots.{counts};
 ghost use Rattle.outage_script.specs.Told.{part_data, tokens_of};
 
 use crate::part::{Part, write_object};
-use admission::controller::Controller;
 use hash_tree::hashed::Digest;
-use hash_tree::text::Text;
 use json::Writer;
 use range_state::state::syncing::Synced;
+use script_cluster::answer::{Answer, SlotCounts};
 use std::alloc::{AllocError, Global};
-use std::sync::ledger::Ledger;
 use vclock::clock::Clock;
 use vclock::refusal::Refusal;
-use version_set::set::VersionSet;
 
 /// For how many bytes a line has room at first.
 const LINE_ROOM: usize = 128;
