@@ -5,7 +5,8 @@ use Rattle.outage_script.specs.declared.ScriptEnd.{ScriptEnd}
 use Rattle.outage_script.specs.declared.ScriptEnd.TheVariants.{Done, BadLine, Device, NoMemory}
 use Rattle.outage_script.specs.Lines.{lines_of}
 use Rattle.script_cluster.specs.State.{State}
-use Rattle.outage_script.specs.Script.{Outcome, outcome_of, preceded, script_outcome, line_limit}
+use Rattle.script_commands.specs.Faults.{line_limit}
+use Rattle.outage_script.specs.Script.{Outcome, outcome_of, preceded, script_outcome}
 use Rattle.outage_script.specs.Ends.{Begins, IsBadAt}
 
 -- where a run is: the number of the line that it reads, the state, what has come of that line, and whether the run ended
