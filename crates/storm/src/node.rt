@@ -24,7 +24,6 @@ use vclock::refusal::Refusal;
 const LIMIT: u64 = 1_000_000;
 
 /// A node: its replica of the one range, the offers of its snapshots, what it has done, and the number of the other node.
-#[derive(Drop)]
 pub(crate) struct Node<'a, L: Ledger> {
     pub(crate) range: SharedRange<L>,
     pub(crate) pool: OfferPool,
@@ -79,6 +78,45 @@ impl<'a, L: Ledger> Node<'a, L> {
         };
         Ok((node, Passes { writer, syncer }))
     }
+
+    /// Closes the range: whether its passes were told what its journal has. Refused: NoMemory.
+    pub(crate) fn close(self, alloc: Global, passes: Passes<L>) -> Result<bool, Refusal> {
+        let passes = listed(alloc, passes)?;
+        let Node {
+            range,
+            pool: _pool,
+            tally: _tally,
+            partner: _partner,
+        } = self;
+        match range.close(alloc, passes) {
+            Ok(_) => Ok(true),
+            Err(refused) => match refused.refusal {
+                Refusal::Unsettled { .. } => Ok(false),
+                other => Err(other),
+            },
+        }
+    }
+}
+
+impl<'a, L: Ledger> Drop for Node<'a, L> {
+    /// Keeps the fields out of the proofs of callers that drop a node.
+    fn drop(self) {
+        let Node {
+            range: _range,
+            pool: _pool,
+            tally: _tally,
+            partner: _partner,
+        } = self;
+    }
+}
+
+/// The passes of a node as a list.
+fn listed<L: Ledger>(alloc: Global, passes: Passes<L>) -> Result<Vec<Pass<L>>, Refusal> {
+    let mut list = Vec::with_capacity(alloc, 2)?;
+    let Passes { writer, syncer } = passes;
+    list.push_reserved(writer);
+    list.push_reserved(syncer);
+    Ok(list)
 }
 
 /// Runs the threads of a node until all have ended, and hands its passes back.

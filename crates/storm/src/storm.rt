@@ -10,7 +10,7 @@ use ring_node::channel::channel_link;
 use ring_node::controller::SharedController;
 use ring_node::gate::Gate;
 use ring_node::memory::MemoryLink;
-use ring_node::range::SharedRange;
+use ring_node::offers::OfferPool;
 use std::alloc::Global;
 use std::marker::Brand;
 use std::sync::Wait;
@@ -141,29 +141,17 @@ fn end_storm<S: Ledger, T: Ledger, C: Ledger, R: Wait, G: Gate>(
     one: Node<'_, S>,
     two: Node<'_, T>,
     plan: &Plan<'_, C, G>,
-    passes: Passes<S>,
-    others: Passes<T>,
+    mut passes: Passes<S>,
+    mut others: Passes<T>,
 ) -> Result<StormEnd, Refusal>
     requires { plan.now.puts ≤ MOST_PUTS }
     ensures { IfOk result (λ end. end.puts ≡ 2 * plan.now.puts) }
 {
-    let Passes { writer, mut syncer } = passes;
-    let Passes {
-        writer: other_writer,
-        syncer: mut other_syncer,
-    } = others;
-    rehash(rt, alloc, &one, plan)?;
-    rehash(rt, alloc, &two, plan)?;
-    let mut to_two = MemoryLink::new(alloc, &two.pool);
-    let mut to_one = MemoryLink::new(alloc, &one.pool);
-    last(sync(rt, alloc, &one, plan, &mut to_two, &mut syncer))?;
-    last(sync(rt, alloc, &two, plan, &mut to_one, &mut other_syncer))?;
-    rehash(rt, alloc, &one, plan)?;
-    rehash(rt, alloc, &two, plan)?;
-    let root = one.range.snapshot(rt, alloc)?.root();
-    let equal = root == two.range.snapshot(rt, alloc)?.root();
-    let settled = close(alloc, one.range, writer, syncer)?;
-    let other_settled = close(alloc, two.range, other_writer, other_syncer)?;
+    let (syncer, other) = (&mut passes.syncer, &mut others.syncer);
+    bring_together(rt, alloc, &one, &two, plan, syncer, other)?;
+    let equal = have_one_root(rt, alloc, &one, &two)?;
+    let settled = one.close(alloc, passes)?;
+    let other_settled = two.close(alloc, others)?;
     Ok(StormEnd {
         puts: 2 * plan.puts,
         equal,
@@ -171,29 +159,47 @@ fn end_storm<S: Ledger, T: Ledger, C: Ledger, R: Wait, G: Gate>(
     })
 }
 
-/// A link over memory is lost for want of memory alone.
-fn last(sync: Result<(), Refusal>) -> Result<(), Refusal> {
-    match sync {
+/// Rehashes both nodes, syncs them both ways, and rehashes them.
+fn bring_together<S: Ledger, T: Ledger, C: Ledger, R: Wait, G: Gate>(
+    rt: &R,
+    alloc: Global,
+    one: &Node<'_, S>,
+    two: &Node<'_, T>,
+    plan: &Plan<'_, C, G>,
+    syncer: &mut Pass<S>,
+    other: &mut Pass<T>,
+) -> Result<(), Refusal> {
+    rehash(rt, alloc, one, plan)?;
+    rehash(rt, alloc, two, plan)?;
+    sync_with(rt, alloc, one, &two.pool, plan, syncer)?;
+    sync_with(rt, alloc, two, &one.pool, plan, other)?;
+    rehash(rt, alloc, one, plan)?;
+    rehash(rt, alloc, two, plan)
+}
+
+/// Syncs a node with what a pool offers. A link over memory is lost for want of memory alone.
+fn sync_with<L: Ledger, C: Ledger, R: Wait, G: Gate>(
+    rt: &R,
+    alloc: Global,
+    node: &Node<'_, L>,
+    pool: &OfferPool,
+    plan: &Plan<'_, C, G>,
+    syncer: &mut Pass<L>,
+) -> Result<(), Refusal> {
+    let mut link = MemoryLink::new(alloc, pool);
+    match sync(rt, alloc, node, plan, &mut link, syncer) {
         Err(Refusal::LinkLost) => Err(Refusal::NoMemory),
         other => other,
     }
 }
 
-/// Closes a range: whether its passes were told what its journal has. Refused: NoMemory.
-fn close<L: Ledger>(
+/// Whether the roots of both trees are equal.
+fn have_one_root<S: Ledger, T: Ledger, R: Wait>(
+    rt: &R,
     alloc: Global,
-    range: SharedRange<L>,
-    writer: Pass<L>,
-    syncer: Pass<L>,
+    one: &Node<'_, S>,
+    two: &Node<'_, T>,
 ) -> Result<bool, Refusal> {
-    let mut passes = Vec::with_capacity(alloc, 2)?;
-    passes.push_reserved(writer);
-    passes.push_reserved(syncer);
-    match range.close(alloc, passes) {
-        Ok(_) => Ok(true),
-        Err(refused) => match refused.refusal {
-            Refusal::Unsettled { .. } => Ok(false),
-            other => Err(other),
-        },
-    }
+    let root = one.range.snapshot(rt, alloc)?.root();
+    Ok(root == two.range.snapshot(rt, alloc)?.root())
 }
