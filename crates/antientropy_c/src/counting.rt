@@ -1,5 +1,5 @@
 //! What a replica has, in numbers.
-ghost use Rattle.std.specs.Prelude.{◌≡◌, ◌<◌, length};
+ghost use Rattle.std.specs.Prelude.{◌≡◌, ◌<◌};
 ghost use Rattle.hash_tree.specs.Nodes.{node_count, nodes_above, place_at, dirty_count};
 ghost use Rattle.range_state.specs.Records.{is_open, open_count};
 ghost use Rattle.antientropy_c.specs.Calls.{Calls};

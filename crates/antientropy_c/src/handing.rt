@@ -1,5 +1,5 @@
 //! Bytes that are handed to C.
-ghost use Rattle.std.specs.Prelude.{◌≡◌, Ok};
+ghost use Rattle.std.specs.Prelude.{Ok};
 ghost use Rattle.antientropy_c.specs.Hands.{HandsOut};
 
 use crate::numbers::SMALL;

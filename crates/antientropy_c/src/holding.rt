@@ -1,5 +1,5 @@
 //! Replicas that are made, taken over and freed.
-ghost use Rattle.std.specs.Prelude.{◌≡◌, true, false, Result};
+ghost use Rattle.std.specs.Prelude.{◌≡◌, false, Result};
 ghost use Rattle.vclock.specs.Answer.{Answers};
 ghost use Rattle.vclock.specs.Outcome.{Does};
 ghost use Rattle.vclock.specs.declared.refusal.Refusal.{Refusal};

@@ -1,8 +1,8 @@
 //! Clocks as C has them.
-ghost use Rattle.std.specs.Prelude.{◌≡◌, map, IfOk};
+ghost use Rattle.std.specs.Prelude.{◌≡◌, IfOk};
 ghost use Rattle.vclock.specs.Answer.{AnswersOrNoMemory};
 ghost use Rattle.vclock.specs.Clock.{pairs_fault, clock_of};
-ghost use Rattle.antientropy_c.specs.Pairs.{pair_of, pairs_of};
+ghost use Rattle.antientropy_c.specs.Pairs.{pairs_of};
 
 use std::alloc::{AllocError, Global};
 use vclock::clock::Clock;

@@ -1,9 +1,7 @@
 -- How a pool of offers replies to an ask.
 use Rattle.std.proofs.lemmas.Bool.Decides.{nat_tests}
-use Rattle.std.proofs.Common.{arith, ◌≡◌, ◌<◌, inl, inr, ℕ, Bool, true, false, cond, List, Option, Some, None, Ok, Err, refl, sym, ◌∙◌}
-use Rattle.std.specs.Prelude.{nat_le}
+use Rattle.std.proofs.Common.{arith, ◌≡◌, ◌<◌, inl, inr, ℕ, List, Option, Some, None, Ok, Err, refl}
 use Rattle.vclock.specs.Answer.{Answers}
-use Rattle.vclock.specs.declared.refusal.Refusal.{Refusal}
 use Rattle.vclock.specs.declared.refusal.Refusal.TheVariants as refusals
 use Rattle.hash_tree.specs.declared.node.NodeAt.{NodeAt}
 use Rattle.hash_tree.specs.Nodes.{tree_depth}
@@ -12,8 +10,8 @@ use Rattle.walk_messages.specs.declared.message.Answer.{Answer}
 use Rattle.walk_messages.specs.declared.message.Ask.{Ask}
 use Rattle.walk_messages.specs.declared.message.Message.TheVariants as messages
 use Rattle.ring_node.specs.Moments.{FoundAtSomeMoment}
-use Rattle.ring_node.specs.Offers.{Offered, Offers, AreOffers, kept_under, text_fault, serve_fault, IsAnswerIn}
-use Rattle.ring_node.specs.Replies.{RepliesAsk, IsEncoded, IsReplyIn, IsGoneIn}
+use Rattle.ring_node.specs.Offers.{Offered, AreOffers, kept_under, text_fault, serve_fault, IsAnswerIn}
+use Rattle.ring_node.specs.Replies.{RepliesAsk, IsEncoded, IsGoneIn}
 use Rattle.ring_node.specs.declared.serving.Reply.{Reply}
 use Rattle.ring_node.specs.declared.serving.Reply.TheVariants.{Bytes, Gone, Refused}
 use Rattle.ring_node.proofs.CauseLaws.{where_fails}

@@ -1,5 +1,5 @@
 -- What a pass gains by a partner's text, and why a sync worker is refused.
-use Rattle.std.proofs.Common.{◌≡◌, ◌⊎◌, inl, inr, ℕ, ◌+◌, ◌-◌, ◌<◌, ◌≤◌, Bool, true, false, cond, List, [], ◌∷◌, ◌++◌, length, Option, Some, None, Result, Ok, Err, refl, sym, ap, subst, ◌∙◌, max, arith, append_assoc, length-append, slice_get}
+use Rattle.std.proofs.Common.{◌≡◌, inl, inr, ℕ, ◌+◌, ◌-◌, ◌<◌, ◌≤◌, Bool, true, false, cond, List, [], ◌∷◌, ◌++◌, length, Option, Some, None, Result, Ok, Err, refl, sym, ap, subst, ◌∙◌, max, arith, append_assoc, length-append, slice_get}
 use Rattle.std.specs.Prelude.{IfOk, IfErr, OnErr, nat_eq}
 use Rattle.std.specs.List.{AllByRecursion}
 use Rattle.std.proofs.lemmas.Bool.{eqb-true}
@@ -13,12 +13,11 @@ use Rattle.range_journal.specs.declared.journal.Source.{Source}
 use Rattle.range_journal.specs.declared.journal.Source.TheVariants.{Partner}
 use Rattle.walk_messages.specs.declared.message.Offer.{Offer}
 use Rattle.sync_session.specs.Walks.{TakenText}
-use Rattle.range_state.specs.Config.{Config}
 use Rattle.range_state.specs.declared.«record».Record.{Record}
 use Rattle.range_state.specs.declared.event.AnswerTaken.{AnswerTaken}
 use Rattle.range_state.specs.declared.event.AnswerCounted.{AnswerCounted}
 use Rattle.range_state.specs.State.{State, knows, journaled, entry_of, accept_step, dirty_fault}
-use Rattle.range_state.specs.Sessions.{foreign_fault, crowd_fault, standings, opened, open_session, offers_of, taken_in, walked_to, Refuses, TakesInner, TakesLeaf, TakesFor, TakesAnswer}
+use Rattle.range_state.specs.Sessions.{foreign_fault, crowd_fault, standings, open_session, offers_of, taken_in, Refuses, TakesInner, TakesLeaf, TakesFor}
 use Rattle.caller_pass.specs.Passes.{PassView, with_receipts, seen_after}
 use Rattle.caller_pass.specs.Locks.{Locked, moved, IsToldOf, TellsAnswer}
 use Rattle.caller_pass.proofs.PassLaws.{seen_rises}

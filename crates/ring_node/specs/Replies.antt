@@ -1,5 +1,5 @@
 -- What a pool of offers replies to the messages of a link.
-use Rattle.std.specs.Prelude.{◌≡◌, List, ℕ, Option, Some, None, MatchOption}
+use Rattle.std.specs.Prelude.{◌≡◌, List, ℕ, None, MatchOption}
 use Rattle.walk_messages.specs.Messages.{message_text}
 use Rattle.walk_messages.specs.declared.message.Answer.{Answer}
 use Rattle.walk_messages.specs.declared.message.Ask.{Ask}

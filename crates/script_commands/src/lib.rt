@@ -1,4 +1,4 @@
-//! The commands of a script: a line of JSON is read as one, and a line that is none is told why.
+//! The commands of a script, which are read from lines of JSON, and why a line is no command.
 #![tactic(auto)]
 
 pub mod command;

@@ -1,5 +1,5 @@
 //! Vector clocks.
-ghost use Rattle.std.specs.Prelude.{◌≡◌, ◌≢◌, ℕ, ◌+◌, ◌<◌, ◌≤◌, ◌^◌, ◌==◌, ◌↔◌, IsTrue, IfOk, OnOk, OnErr, length, false, None, replicate, max};
+ghost use Rattle.std.specs.Prelude.{◌≡◌, ◌≢◌, ℕ, ◌+◌, ◌<◌, ◌≤◌, ◌==◌, ◌↔◌, IsTrue, IfOk, OnOk, OnErr, length, false, None, replicate, max};
 ghost use Rattle.vclock.specs.Clock.{counter, at_most, IsAtMost, IsClock, Pairs, Rises, order_of, with_counter, raised, raise_fault, pairs_fault, has_node, has_repeat, is_bad_pair, clock_of, merged, merge_fault};
 ghost use Rattle.std.specs.List.{list_any, filter};
 ghost use Rattle.vclock.specs.Answer.{Answers};
