@@ -1,5 +1,5 @@
 -- What passes keep.
-use Rattle.std.proofs.Common.{◌≡◌, ℕ, zero, suc, ◌+◌, ◌<◌, ◌≤◌, true, false, cond, List, [], ◌∷◌, ◌++◌, length, get_or, max, refl, sym, subst, arith}
+use Rattle.std.proofs.Common.{◌≡◌, ℕ, zero, suc, ◌+◌, ◌<◌, ◌≤◌, true, false, cond, List, [], ◌∷◌, ◌++◌, length, get_or, max, sym, subst, arith}
 use Rattle.std.specs.Prelude.{nat_eq}
 use Rattle.std.specs.List.{AllByRecursion}
 use Rattle.std.proofs.lemmas.List.{length-append}
@@ -7,10 +7,7 @@ use Rattle.std.proofs.lemmas.List.Elements.{All-from_recursion}
 use Rattle.version_set.proofs.ListLaws.{all-push}
 use Rattle.range_journal.specs.declared.journal.Entry.{Entry}
 use Rattle.caller_pass.specs.declared.reading.Reading.{Reading}
-use Rattle.caller_pass.specs.Passes.{PassView, IsPass, AreInOrder, seen_after, with_receipts, with_reading, new_pass}
-
-pub pass_fresh : (n seat : ℕ) → seat < n → IsPass n (new_pass seat)
-pass_fresh n seat below = record { seated = below; counted = refl; in_order = tt; seen = tt }
+use Rattle.caller_pass.specs.Passes.{PassView, IsPass, AreInOrder, seen_after, with_receipts, with_reading}
 
 -- what has been seen never falls
 pub seen_rises : (seen journal k : ℕ) → seen ≤ seen_after seen journal k

@@ -91,9 +91,6 @@ lens_before {X} f (x ∷ xs) (suc i) =
 abbrev pub Keeps : Format → List Row → List ℕ → List ℕ → Type 0
 Keeps format rows lens text = AllByRecursion (FitsText format) rows × (lens ≡ map (λ (r : Row). length (row_text format r)) rows) × (text ≡ flat_map (row_text format) rows)
 
-pub keeps_none : (format : Format) → Keeps format [] [] []
-keeps_none format = (tt, refl, refl)
-
 -- where the text of the row at a place begins
 pub start_is : (format : Format) (rows : List Row) (lens text : List ℕ) (i : ℕ) → Keeps format rows lens text → sum_by (λ (n : ℕ). n) (take i lens) ≡ length (flat_map (row_text format) (take i rows))
 start_is format rows lens text i h = ap (λ (ls : List ℕ). sum_by (λ (n : ℕ). n) (take i ls)) h.1 ∙ lens_before (row_text format) rows i

@@ -9,8 +9,8 @@ use Rattle.memchr.specs.Find.{Nowhere, NoneBefore, Passes, is_byte}
 use Rattle.outage_script.specs.declared.ScriptEnd.{ScriptEnd}
 use Rattle.outage_script.specs.Lines.{is_inside}
 use Rattle.outage_script.specs.Moves.{Place, Feeds}
-use Rattle.outage_script.proofs.Known.{appends_both, appends_nothing}
-use Rattle.outage_script.proofs.LineLemmas.{Inside, moves_none, moves_both, stops_later, stops_early}
+use Rattle.outage_script.proofs.Known.{appends_both}
+use Rattle.outage_script.proofs.LineLemmas.{Inside, moves_both, stops_later, stops_early}
 
 -- ---- where the next line feed is
 
@@ -63,10 +63,6 @@ pub record Fed (old : Place) (piece rest : List ℕ) (new : Place) (before after
   pub whole : piece ≡ front ++ rest
   pub number : new.number + length rest ≤ old.number + length piece
   pub feeds : Feeds old front new None before after
-
--- nothing was taken yet
-pub fed_none : (p : Place) (piece : List ℕ) (before : Option (List ℕ)) → Fed p piece piece p before before
-fed_none p piece before = record { front = []; whole = refl; number = omega arith; feeds = ([], appends_nothing before, moves_none p) }
 
 -- two parts of a piece are one
 pub feeds_both : (a b c : Place) (x y : List ℕ) (end : Option ScriptEnd) (before mid after : Option (List ℕ)) → Feeds a x b None before mid → Feeds b y c end mid after → Feeds a (x ++ y) c end before after

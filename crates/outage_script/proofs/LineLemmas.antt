@@ -136,10 +136,6 @@ line_long p bytes end some h e right = record {
 
 -- ---- piece after piece
 
--- no bytes, and nothing written
-pub moves_none : (p : Place) → Moves p [] p []
-moves_none p = record { goes = λ rest. refl }
-
 -- what was written before what was written
 pub preceded_both : (x y : List ℕ) (o : Outcome) → preceded x (preceded y o) ≡ preceded (x ++ y) o
 preceded_both x y o = rw (append_assoc x y o.text) refl

@@ -8,8 +8,8 @@ use Rattle.outage_script.specs.Script.{script_outcome, preceded}
 use Rattle.script_cluster.specs.State.{start}
 use Rattle.outage_script.specs.Ends.{Begins, IsRight, IsAnswer, Runs}
 use Rattle.outage_script.specs.Moves.{Place, place_of, to_come, Moves, Ends, Spoils, Holds, Feeds, Finishes}
-use Rattle.outage_script.proofs.Known.{appends_both, appends_none, appends_nothing}
-use Rattle.outage_script.proofs.LineLemmas.{ends_later, stops_later, moves_both, moves_none}
+use Rattle.outage_script.proofs.Known.{appends_both, appends_none}
+use Rattle.outage_script.proofs.LineLemmas.{ends_later, stops_later, moves_both}
 
 -- a run begins with the whole script to come
 starts : (bytes : List ℕ) → to_come (place_of 1 start [] false) bytes ≡ script_outcome bytes
@@ -37,15 +37,6 @@ consumes_none None b c x p q = tt
 consumes_none (Some a) None c x p q = absurd p
 consumes_none (Some a) (Some b) None x p q = absurd q
 consumes_none (Some a) (Some b) (Some c) x p q = p ∙ ap (λ t. x ++ t) (sym q)
-
--- nothing is read to begin with
-consumes_start : (a : Option (List ℕ)) → Consumes a a []
-consumes_start None = tt
-consumes_start (Some a) = refl
-
--- a run begins with nothing read and nothing written
-pub progress_start : (found before : Option (List ℕ)) → Progress found found before before (place_of 1 start [] false)
-progress_start found before = record { bytes = []; written = []; reads = consumes_start found; writes = appends_nothing before; moves = moves_none (place_of 1 start [] false) }
 
 -- a piece was read and taken
 progress_next : (found left left' before after after' : Option (List ℕ)) (p q : Place) (piece : List ℕ) → Progress found left before after p → Consumes left left' piece → Feeds p piece q None after after' → Progress found left' before after' q

@@ -69,9 +69,6 @@ crowded-append s seat (x ∷ xs) ys =
 
 -- ---- batches
 
-pub prepared_none : (s : State) (seat leaf : ℕ) (b : Batch) → IsBatch s leaf b → IsPrepared s seat leaf [] b b
-prepared_none s seat leaf b is = record { batch = is; entries = refl; count = omega arith }
-
 pub prepared_more : (s : State) (seat leaf : ℕ) (xs ys : Offers) (a b c : Batch) → IsPrepared s seat leaf xs a b → IsPrepared s seat leaf ys b c → IsPrepared s seat leaf (xs ++ ys) a c
 prepared_more s seat leaf xs ys a b c one two = record {
   batch = two.batch;
@@ -90,9 +87,6 @@ next_crowded s seat leaf xs ys a b is none =
 pub record IsGoing (s : State) (seat leaf : ℕ) (offers : Offers) (a b : Batch) : Type 0 where
   pub prepared : IsPrepared s seat leaf offers a b
   pub none : crowded_in (ahead s a) seat offers ≡ None
-
-pub going_none : (s : State) (seat leaf : ℕ) (b : Batch) → IsBatch s leaf b → IsGoing s seat leaf [] b b
-going_none s seat leaf b is = record { prepared = prepared_none s seat leaf b is; none = refl }
 
 pub going_more : (s : State) (seat leaf : ℕ) (xs ys all : Offers) (a b c : Batch) → IsGoing s seat leaf xs a b → all ≡ xs ++ ys → crowded_in (ahead s b) seat ys ≡ None → IsPrepared s seat leaf ys b c → IsGoing s seat leaf all a c
 going_more s seat leaf xs ys all a b c going is none next = subst (λ (os : Offers). IsGoing s seat leaf os a c) (sym is) (record {

@@ -2,15 +2,14 @@
 use Rattle.std.proofs.Common.{◌≡◌, ℕ, Bool, true, false, cond, List, Option, Some, None, refl, sym, ap, ◌∙◌}
 use Rattle.vclock.specs.Answer.{first_fault}
 use Rattle.vclock.specs.Clock.{raised, raise_fault, Pairs, IsClock}
-use Rattle.vclock.specs.Outcome.{Outcome, gives, refuses, ◌>>=◌, ◌>>◌}
+use Rattle.vclock.specs.Outcome.{Outcome, refuses, ◌>>◌}
 use Rattle.vclock.specs.declared.refusal.Refusal.{Refusal}
 use Rattle.version_set.specs.Version.{covered, offer_fault}
 use Rattle.version_set.specs.declared.kind.Kind.{Kind}
 use Rattle.version_set.specs.declared.version.Version.{Version}
 use Rattle.range_journal.specs.declared.journal.Source.{Source}
 use Rattle.range_journal.specs.Journal.{held}
-use Rattle.range_state.specs.declared.event.Accepted.TheVariants.{Taken, Known}
-use Rattle.range_state.specs.State.{State, leaf_in, place_fault, stale_fault, put_version, put_entry, entry_of, knows, admit, put, accept}
+use Rattle.range_state.specs.State.{State, leaf_in, place_fault, stale_fault, put_version, put_entry, knows, admit, put, accept}
 use Rattle.range_state.specs.Fitting.{IsFitting, made_fault, sent_fault}
 use Rattle.range_state.proofs.StateLaws.{knows_held, news}
 
@@ -29,10 +28,6 @@ put_by_fault s seat at key context kind value =
     let entry = admit s (put_entry s seat at key context kind value) in
     (λ i. place >> (raise >> twice stale crowd entry i)) ∙ (λ i. twice place raise (first_fault stale crowd >> entry) i) ∙ twice (first_fault place raise) (first_fault stale crowd) entry
 
-pub put_made : (s : State) (seat at : ℕ) (key : List ℕ) (context : Pairs) (kind : Kind) (value : List ℕ) → made_fault s at key context kind value ≡ None
-    → put s seat at key context kind value ≡ admit s (put_entry s seat at key context kind value)
-put_made s seat at key context kind value none = rw (put_by_fault, none) refl
-
 pub put_refused : (s : State) (seat at : ℕ) (key : List ℕ) (context : Pairs) (kind : Kind) (value : List ℕ) (e : Refusal) → made_fault s at key context kind value ≡ Some e
     → put s seat at key context kind value ≡ refuses e
 put_refused s seat at key context kind value e some = rw (put_by_fault, some) refl
@@ -50,19 +45,6 @@ refused_by None None b known rest e fits h = absurd (cc)
 
 pub sent_refused : (s : State) (seat : ℕ) (source : Source) (key : List ℕ) (v : Version) (e : Refusal) → sent_fault s key v ≡ Some e → accept s seat source key v ≡ refuses e
 sent_refused s seat source key v e h = refused_by (place_fault s.config key v.kind v.value) (offer_fault v (held s.entries key)) (knows s key v) _ _ e (known_fits s key v) h
-
-none_first : (a b : Option Refusal) → first_fault a b ≡ None → a ≡ None
-none_first None b h = refl
-none_first (Some e) b h = absurd (cc)
-
-pub sent_known : (s : State) (seat : ℕ) (source : Source) (key : List ℕ) (v : Version) → sent_fault s key v ≡ None → knows s key v ≡ true → accept s seat source key v ≡ gives Known s
-sent_known s seat source key v none known =
-    let here = none_first (place_fault s.config key v.kind v.value) (offer_fault v (held s.entries key)) none in
-    rw (here, known) refl
-
-pub sent_news : (s : State) (leaf seat : ℕ) (source : Source) (key : List ℕ) (v : Version) → IsFitting s leaf key v
-    → accept s seat source key v ≡ (admit s (entry_of s seat source key v) >>= λ p. gives (Taken p.0) p.1)
-sent_news s leaf seat source key v is = rw (is.here, is.news, is.fits) refl
 
 -- a version that has its place and is known
 pub known_sent : (s : State) (key : List ℕ) (v : Version) → place_fault s.config key v.kind v.value ≡ None → covered v (held s.entries key) ≡ true → (sent_fault s key v ≡ None) × (knows s key v ≡ true)

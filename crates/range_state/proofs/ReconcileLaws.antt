@@ -1,16 +1,15 @@
 -- Two replicas that catch up with each other: how their sessions begin and end.
 use Rattle.std.proofs.Common.{◌≡◌, ℕ, ◌<◌, true, false, Option, Some, None, List, [], ◌∷◌, ◌++◌, length, refl, sym, ap, ◌∙◌, arith, slice_get}
 use Rattle.std.specs.Prelude.{Result, Ok, Err}
-use Rattle.vclock.specs.Answer.{first_fault}
 use Rattle.vclock.specs.Outcome.{gives, DoesAtOnce}
 use Rattle.vclock.specs.declared.refusal.Refusal.{Refusal}
 use Rattle.hash_tree.specs.Nodes.{are_clean, dirty_count}
 use Rattle.snapshot.specs.RowMaps.{RowMap}
 use Rattle.range_state.specs.declared.«record».Record.{Record}
 use Rattle.range_state.specs.declared.state.syncing.Synced.{Synced}
-use Rattle.range_state.specs.State.{State, rows_now}
+use Rattle.range_state.specs.State.{State}
 use Rattle.range_state.specs.Sessions.{cancel_record, cancel_session}
-use Rattle.range_state.specs.Syncs.{IsOfRange, HasAskedAll, IsSyncedTo, IsPartWay}
+use Rattle.range_state.specs.Syncs.{HasAskedAll, IsSyncedTo, IsPartWay}
 use Rattle.range_state.specs.Reconciles.{HasGivenUp, HasBrokenOff}
 use Rattle.range_state.proofs.SyncStepLaws.{got_last}
 
@@ -24,15 +23,6 @@ pub some_dirty : (ds : List (Option (List ℕ))) → 0 < dirty_count ds → are_
 some_dirty [] h = absurd (omega arith)
 some_dirty (None ∷ ds) h = refl
 some_dirty (Some d ∷ ds) h = some_dirty ds h
-
--- the range of one is that of the other
-pub of_range_back : (a b : State) → IsOfRange a.config (rows_now b) → IsOfRange b.config (rows_now a)
-of_range_back a b same = record { format = sym same.format; bits = sym same.bits; range = sym same.range }
-
--- a cause that is none has no part that is one
-pub no_first : (x y : Option Refusal) → first_fault x y ≡ None → (x ≡ None) × (y ≡ None)
-no_first None y e = (refl, e)
-no_first (Some f) y e = absurd (let clash : Some f ≡ None = e in cc)
 
 -- ---- the newest session is cancelled
 

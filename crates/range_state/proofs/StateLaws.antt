@@ -1,6 +1,6 @@
 -- What a step keeps, and why it is refused.
-use Rattle.std.proofs.Common.{◌≡◌, ◌≢◌, ℕ, zero, suc, ◌<◌, ◌≤◌, ◌%◌, ◌^◌, Bool, true, false, cond, set, List, [], ◌∷◌, ◌++◌, length, get_or, take, refl, ap, sym, subst, ◌∙◌, ◌⊎◌, arith, inl, inr, Option, Some, None, Bor, Decides, length-set, replicate}
-use Rattle.std.specs.Prelude.{nat_eq, map, IfSome, IsTrue}
+use Rattle.std.proofs.Common.{◌≡◌, ◌≢◌, ℕ, zero, suc, ◌<◌, ◌≤◌, ◌%◌, ◌^◌, Bool, true, false, cond, set, List, [], ◌∷◌, ◌++◌, length, get_or, take, refl, ap, sym, subst, ◌∙◌, ◌⊎◌, arith, inl, inr, Option, Some, None, Decides, length-set, replicate}
+use Rattle.std.specs.Prelude.{nat_eq, map, IsTrue}
 use Rattle.std.specs.Cmp.Lexicographic.{pointwise}
 use Rattle.std.proofs.lemmas.Bool.{cases_eq, cases_Bool, cases_lt, lt-ltb, or_parts, both_ways, eqb-true}
 use Rattle.std.proofs.lemmas.Bool.Decides.{nat_tests}
@@ -24,11 +24,9 @@ use Rattle.version_set.proofs.ListLaws.{all-filter, all-push, all-inserted}
 use Rattle.range_journal.specs.declared.journal.Entry.{Entry}
 use Rattle.range_journal.specs.Log.{Log}
 use Rattle.range_journal.specs.declared.journal.Source.TheVariants.{Partner}
-use Rattle.range_journal.specs.declared.journal.Source.{Source}
 use Rattle.range_journal.specs.Journal.{accepted, held, versions_of, AreNews, NeverCrowded}
 use Rattle.range_journal.proofs.JournalLaws.{AreNews-push, covered-held, held-push, Reserved}
-use Rattle.vclock.specs.Outcome.{gives, refuses, is_given}
-use Rattle.vclock.proofs.OutcomeLaws.{bind_err}
+use Rattle.vclock.specs.Outcome.{refuses, is_given}
 use Rattle.row_bytes.specs.Rows.{IsRow}
 use Rattle.row_bytes.proofs.LimitLaws.{no_fault, no_fault_else}
 use Rattle.row_bytes.specs.declared.row.Row.{Row}
@@ -39,10 +37,9 @@ use Rattle.hash_tree.specs.Texts.{AreTrue, IsTreeFor}
 use Rattle.hash_tree.proofs.TreeLaws.{true_kept, true_fresh, tree_fresh, tree_dirtied}
 use Rattle.range_state.specs.Config.{Config, is_config}
 use Rattle.range_state.specs.Rows.{rows_of}
-use Rattle.range_state.specs.State.{State, all_dirty, fresh, tree_of, bucket_of, leaf_in, leaf_count, place_fault, journaled, full_fault, knows, entry_of, admit, accept, stale_fault, IsOwn, IsRight, IsFromPartner, AreLeaves}
+use Rattle.range_state.specs.State.{State, all_dirty, fresh, tree_of, bucket_of, leaf_in, leaf_count, place_fault, journaled, full_fault, knows, admit, stale_fault, IsOwn, IsRight, IsFromPartner, AreLeaves}
 use Rattle.range_state.specs.declared.«record».Record.{Record}
 use Rattle.range_state.proofs.RecordLaws.{all_kept}
-use Rattle.range_state.specs.declared.event.Accepted.TheVariants.{Taken}
 use Rattle.range_state.proofs.RowLaws.{leaf_holds, leaf-push, rows_of-push, rows_of-ascend, versions_in-rows_of}
 use Rattle.range_state.proofs.RowTexts.{offered_short, rows_offered, no_row}
 
@@ -175,11 +172,6 @@ own c e h =
       value = first_none (value_fault c.format e.version.kind e.version.value) _ later;
       here = eqb-true (range_at c.bits e.key) c.range (no_fault_else _ OtherRange (later_none (value_fault c.format e.version.kind e.version.value) _ later));
     }
-
--- what was found is such a list, and what holds of the list holds of it
-pub IfSome-all : (P : Version → Type 0) (r : Option (Bor (List Version))) (S : List Version) → IfSome r (λ set. set.now ≡ S) → AllByRecursion P S → IfSome r (λ set. AllByRecursion P set.now)
-IfSome-all P (Some set) S is all = subst (AllByRecursion P) (sym is) all
-IfSome-all P None S is all = tt
 
 -- where a reserve was not refused, the journal is not full
 pub room_left : (s : State) (log new : Log) → log.entries ≡ s.entries → log.limit ≡ s.config.limit → Reserved log new 1 → full_fault s ≡ None
@@ -355,8 +347,3 @@ pub news : (s : State) (key : List ℕ) (v : Version) → Rises 0 v.clock → st
 news s key v r h = sym (knows_held s key v) ∙ unseen v (held s.entries key) r (no_fault _ (StaleContext _) h)
 
 -- ---- why a version that is not known is refused
-
-pub accept_refused : (s : State) (seat : ℕ) (source : Source) (key : List ℕ) (v : Version) (e : Refusal) → place_fault s.config key v.kind v.value ≡ None → knows s key v ≡ false → offer_fault v (held s.entries key) ≡ None
-    → ((e ≡ NoMemory) × IsTrue (is_given (admit s (entry_of s seat source key v)))) ⊎ (admit s (entry_of s seat source key v) ≡ refuses e) → ((e ≡ NoMemory) × IsTrue (is_given (accept s seat source key v))) ⊎ (accept s seat source key v ≡ refuses e)
-accept_refused s seat source key v e here news fits h =
-    rw (here, news, fits) (bind_err (admit s (entry_of s seat source key v)) (λ p. gives (Taken p.0) p.1) e (λ p. refl) h)

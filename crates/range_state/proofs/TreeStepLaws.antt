@@ -1,10 +1,9 @@
 -- What the calls on a tree answer and keep.
-use Rattle.std.proofs.Common.{◌≡◌, ℕ, suc, ◌+◌, ◌-◌, ◌<◌, ◌≤◌, ◌^◌, Bool, true, List, [], ◌∷◌, ◌++◌, map, set, take, length, replicate, get_or, Option, Some, None, refl, ap, sym, subst, ◌∙◌, ◌↔◌, arith, inl, inr, take_all, append-nil, ◌&&◌}
+use Rattle.std.proofs.Common.{◌≡◌, ℕ, suc, ◌+◌, ◌-◌, ◌<◌, ◌^◌, Bool, true, List, [], ◌∷◌, map, set, length, replicate, get_or, Option, Some, None, refl, ap, sym, subst, ◌∙◌, ◌↔◌, arith, inl, inr, ◌&&◌}
 use Rattle.std.specs.Prelude.{nat_eq, IsTrue, IfSome, MatchOption}
-use Rattle.std.specs.List.{AllByRecursion}
 use Rattle.std.specs.Cmp.Lexicographic.{pointwise, bytes_decides}
 use Rattle.std.proofs.lemmas.Bool.{cases_Bool, cases_lt, and_parts, leb-true, le-leb, both_ways}
-use Rattle.std.proofs.lemmas.List.{take_at, length-map, append_assoc, get_or_past, get_or-replicate, length-replicate}
+use Rattle.std.proofs.lemmas.List.{get_or_past, get_or-replicate, length-replicate}
 use Rattle.sha2.specs.Sha256.{sha256}
 use Rattle.vclock.specs.declared.format.Format.{Format}
 use Rattle.vclock.specs.declared.format.Format.TheVariants.{One, Two}
@@ -16,10 +15,9 @@ use Rattle.hash_tree.proofs.PlaceLaws.{depth_within}
 use Rattle.hash_tree.proofs.TextLaws.{leaf_node}
 use Rattle.hash_tree.proofs.TreeLaws.{true_set, children_text, leaf_children}
 use Rattle.hash_tree.proofs.ReadyLaws.{ready_is}
-use Rattle.rehash.specs.Jobs.{NodeText}
 use Rattle.key_ring.specs.Places.{leaf_bits}
 use Rattle.range_state.specs.Rows.{rows_of}
-use Rattle.range_state.specs.State.{State, IsRight, AreLeaves, IsJob, AreJobs, all_dirty, bucket_of, leaf_in, has_node, place_of, text_in, is_current}
+use Rattle.range_state.specs.State.{State, IsRight, AreLeaves, all_dirty, bucket_of, leaf_in, has_node, place_of, text_in, is_current}
 
 -- ---- nodes that are for a job
 
@@ -146,35 +144,3 @@ all_dirty-at format place = elim (cases_lt place (node_count format)) [
   where
     none : Option (List ℕ)
     none = None
-
--- ---- many jobs
-
-abbrev job_place : NodeText → ℕ
-job_place job = place_of job.node
-
--- one more job
-pub jobs_more : (s : State) (jobs : List NodeText) (job : NodeText) (from : ℕ) → map (λ (j : NodeText). place_of j.node) jobs ++ ready_from s.marks from ≡ ready_from s.marks 0 → ready_from s.marks from ≡ place_of job.node ∷ ready_from s.marks (place_of job.node + 1)
-    → map (λ (j : NodeText). place_of j.node) (jobs ++ job ∷ []) ++ ready_from s.marks (place_of job.node + 1) ≡ ready_from s.marks 0
-jobs_more s jobs job from before next =
-    ap (λ (t : List ℕ). t ++ ready_from s.marks (place_of job.node + 1)) (map-push jobs) ∙ append_assoc (map job_place jobs) (place_of job.node ∷ []) (ready_from s.marks (place_of job.node + 1))
-    ∙ ap (λ (t : List ℕ). map job_place jobs ++ t) (sym next) ∙ before
-  where
-    map-push : (js : List NodeText) → map job_place (js ++ job ∷ []) ≡ map job_place js ++ place_of job.node ∷ []
-    map-push [] = refl
-    map-push (j ∷ js) = ap (λ (t : List ℕ). place_of j.node ∷ t) (map-push js)
-
--- no node is left for a job
-pub jobs_all : (s : State) (jobs : List NodeText) (from most : ℕ) → map (λ (j : NodeText). place_of j.node) jobs ++ ready_from s.marks from ≡ ready_from s.marks 0 → length jobs ≤ most → AllByRecursion (IsJob s) jobs → ready_from s.marks from ≡ [] → AreJobs s most jobs
-jobs_all s jobs from most all few each none =
-    let whole : map job_place jobs ≡ ready_from s.marks 0 = sym (append-nil (map job_place jobs)) ∙ ap (λ (t : List ℕ). map job_place jobs ++ t) (sym none) ∙ all in
-    record {
-      nodes = whole ∙ sym (take_all most (ready_from s.marks 0) (omega (arith, few, ap length whole, length-map jobs job_place)));
-      each = each;
-    }
-
--- there are as many jobs as were asked for
-pub jobs_enough : (s : State) (jobs : List NodeText) (from most : ℕ) → map (λ (j : NodeText). place_of j.node) jobs ++ ready_from s.marks from ≡ ready_from s.marks 0 → length jobs ≡ most → AllByRecursion (IsJob s) jobs → AreJobs s most jobs
-jobs_enough s jobs from most all count each = record {
-  nodes = sym (ap (take most) (sym all) ∙ take_at (map job_place jobs) (ready_from s.marks from) most (length-map jobs job_place ∙ count));
-  each = each;
-}

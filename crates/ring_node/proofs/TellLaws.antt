@@ -1,7 +1,7 @@
 -- What a pass is told by a call that a lock let through.
 use Rattle.std.proofs.Common.{◌≡◌, inl, inr, ℕ, ◌+◌, ◌≤◌, Bool, true, false, cond, List, [], ◌∷◌, length, Option, Some, None, Result, Ok, Err, refl, sym, ap, subst, ◌∙◌, length-append}
 use Rattle.std.specs.Prelude.{IfOk, IfErr, OnOk, OnErr, IsTrue, nat_lt}
-use Rattle.std.proofs.lemmas.Bool.{ltb-true, ltb-false}
+use Rattle.std.proofs.lemmas.Bool.{ltb-false}
 use Rattle.vclock.specs.Clock.{raised, raise_fault, Pairs}
 use Rattle.vclock.specs.Keys.{key_fault}
 use Rattle.vclock.specs.Outcome.{Outcome, gives, refuses, is_given, Does, DoesOrNoMemory, ◌>>=◌, ◌>>◌}
@@ -19,8 +19,8 @@ use Rattle.range_state.specs.declared.event.Accepted.{Accepted}
 use Rattle.range_state.specs.declared.event.Accepted.TheVariants.{Taken, Known}
 use Rattle.range_state.specs.State.{State, place_fault, ask_fault, full_fault, stale_fault, put_entry, put_version, entry_of, journaled, knows, admit, accept, put}
 use Rattle.range_state.proofs.StateLaws.{first_none, later_none}
-use Rattle.caller_pass.specs.Passes.{PassView, with_receipts, with_reading}
-use Rattle.caller_pass.specs.Locks.{Locked, told, put_in, accept_in, after_sent, first_missing, missing_fault, behind_fault, get_in}
+use Rattle.caller_pass.specs.Passes.{PassView, with_receipts}
+use Rattle.caller_pass.specs.Locks.{Locked, told, put_in, accept_in, after_sent, missing_fault}
 use Rattle.ring_node.specs.Passes.{IsReceiptOf, IsToldOf, IsSent, IsPutRefusal, IsSentRefusal, IsRead, IsBehind}
 use Rattle.ring_node.proofs.OutcomeLaws.{given, refused, first_cause}
 use Rattle.ring_node.proofs.CauseLaws.{of_key, of_value, of_range, place_cause, clock_cause, crowd_cause, where_holds, where_fails}
@@ -246,42 +246,3 @@ fine : (p : PassView) (journal : ℕ) (missing : Option ℕ) (short : Bool) → 
 fine p journal missing true is none = absurd (cc)
 fine p journal (Some number) false is none = absurd (cc)
 fine p journal None false is none = record { seen = ltb-false journal p.seen is; covers = refl }
-
--- a read that was let through
-read_told : (l : Locked) (p q : PassView) (key : List ℕ) (versions : List Version) → get_in l p key ≡ gives versions q → IsRead p key q versions
-read_told l p q key versions is =
-    let through = passed (behind_fault l.state.entries p key) _ versions q is in
-    let f = fine p (length l.state.entries) (first_missing p.receipts key (held l.state.entries key)) (nat_lt (length l.state.entries) p.seen) refl through.0 in
-    let same : versions ≡ held l.state.entries key = let h = through.1 in cc in
-    let pass : q ≡ with_reading p (record { front = length l.state.entries; key = key; versions = held l.state.entries key }) = let h = through.1 in cc in
-    record {
-      journal = length l.state.entries;
-      seen = f.seen;
-      covers = ap (λ vs. first_missing p.receipts key vs) same ∙ f.covers;
-      pass = pass ∙ ap (λ vs. with_reading p (record { front = length l.state.entries; key = key; versions = vs })) (sym same);
-    }
-
--- why the pass is behind
-behind_by : (p : PassView) (key : List ℕ) (journal : ℕ) (versions : List Version) (e : Refusal) (short : Bool) (missing : Option ℕ) → nat_lt journal p.seen ≡ short → first_missing p.receipts key versions ≡ missing
-    → cond short (Some (Behind p.seen journal None)) (missing_fault p.seen journal missing) ≡ Some e → IsBehind p key e
-behind_by p key journal versions e true missing is what why = subst (IsBehind p key) (let same : Behind p.seen journal None ≡ e = cc in same) (refl, ltb-true journal p.seen is)
-behind_by p key journal versions e false None is what why = absurd (cc)
-behind_by p key journal versions e false (Some number) is what why =
-    subst (IsBehind p key) (let same : Behind p.seen journal (Some number) ≡ e = cc in same) (refl, (ltb-false journal p.seen is, (versions, what)))
-
-pub read_tells : (l : Locked) (p q : PassView) (key : List ℕ) (r : Result (List Version) Refusal) → Does r p q (get_in l p key) → ReadTells p q key r
-read_tells l p q key (Ok versions) does = record { reading = read_told l p q key versions does; behind = tt; same = tt }
-read_tells l p q key (Err e) does =
-    record {
-      reading = tt;
-      behind =
-          elim does.1 as (λ _. IsBehind p key e) [
-            | inl short ↦ subst (IsBehind p key) (sym short.0) tt
-            | inr is ↦
-                elim (first_cause (behind_fault l.state.entries p key) _ e is) as (λ _. IsBehind p key e) [
-                  | inl why ↦ behind_by p key (length l.state.entries) (held l.state.entries key) e (nat_lt (length l.state.entries) p.seen) (first_missing p.receipts key (held l.state.entries key)) refl refl why
-                  | inr fine_rest ↦ absurd (let h = fine_rest.1 in cc)
-                ]
-          ];
-      same = does.0;
-    }

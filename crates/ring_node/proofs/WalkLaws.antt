@@ -1,32 +1,28 @@
 -- What a pass gains by a partner's text, and why a sync worker is refused.
-use Rattle.std.proofs.Common.{◌≡◌, inl, inr, ℕ, ◌+◌, ◌-◌, ◌<◌, ◌≤◌, Bool, true, false, cond, List, [], ◌∷◌, ◌++◌, length, Option, Some, None, Result, Ok, Err, refl, sym, ap, subst, ◌∙◌, max, arith, append_assoc, length-append, slice_get}
+use Rattle.std.proofs.Common.{◌≡◌, inl, inr, ℕ, ◌+◌, ◌-◌, ◌<◌, ◌≤◌, true, false, cond, List, [], ◌∷◌, ◌++◌, length, Option, Some, None, Result, Ok, Err, refl, sym, ap, subst, ◌∙◌, max, arith, append_assoc, length-append, slice_get}
 use Rattle.std.specs.Prelude.{IfOk, IfErr, OnErr, nat_eq}
 use Rattle.std.specs.List.{AllByRecursion}
 use Rattle.std.proofs.lemmas.Bool.{eqb-true}
 use Rattle.std.proofs.lemmas.List.{append-nil, append_cancel_left}
-use Rattle.vclock.specs.Outcome.{Outcome, gives, refuses, Does, through}
 use Rattle.vclock.specs.declared.refusal.Refusal.{Refusal}
-use Rattle.vclock.specs.declared.refusal.Refusal.TheVariants.{Crowded, JournalFull, OtherRange, Dirty, UnknownSession, NotAsked, WrongDigest, NotCanonical, OtherFormat, SessionsFull, LinkLost, NoMemory}
+use Rattle.vclock.specs.declared.refusal.Refusal.TheVariants.{Crowded, JournalFull, UnknownSession, NotAsked, WrongDigest, NotCanonical, LinkLost, NoMemory}
 use Rattle.version_set.specs.declared.version.Version.{Version}
 use Rattle.range_journal.specs.declared.journal.Entry.{Entry}
 use Rattle.range_journal.specs.declared.journal.Source.{Source}
 use Rattle.range_journal.specs.declared.journal.Source.TheVariants.{Partner}
-use Rattle.walk_messages.specs.declared.message.Offer.{Offer}
 use Rattle.sync_session.specs.Walks.{TakenText}
 use Rattle.range_state.specs.declared.«record».Record.{Record}
 use Rattle.range_state.specs.declared.event.AnswerTaken.{AnswerTaken}
 use Rattle.range_state.specs.declared.event.AnswerCounted.{AnswerCounted}
-use Rattle.range_state.specs.State.{State, knows, journaled, entry_of, accept_step, dirty_fault}
-use Rattle.range_state.specs.Sessions.{foreign_fault, crowd_fault, standings, open_session, offers_of, taken_in, Refuses, TakesInner, TakesLeaf, TakesFor}
+use Rattle.range_state.specs.State.{State, knows, journaled, entry_of, accept_step}
+use Rattle.range_state.specs.Sessions.{offers_of, taken_in, Refuses, TakesInner, TakesLeaf, TakesFor}
 use Rattle.caller_pass.specs.Passes.{PassView, with_receipts, seen_after}
-use Rattle.caller_pass.specs.Locks.{Locked, moved, IsToldOf, TellsAnswer}
+use Rattle.caller_pass.specs.Locks.{Locked, IsToldOf, TellsAnswer}
 use Rattle.caller_pass.proofs.PassLaws.{seen_rises}
 use Rattle.ring_node.specs.Gains.{IsGain, Gains, GainsSome}
 use Rattle.ring_node.specs.Links.{IsLostExactly}
 use Rattle.ring_node.specs.Walks.{IsOpenRefusal, IsTakeRefusal}
-use Rattle.ring_node.proofs.CauseLaws.{where_holds, where_fails}
 use Rattle.ring_node.proofs.GainLaws.{still, both, some_same}
-use Rattle.ring_node.proofs.OutcomeLaws.{first_cause}
 
 -- ---- the entries that a text brings
 
@@ -141,39 +137,6 @@ pub record TextTells (p q : PassView) (r : Result AnswerCounted Refusal) : Type 
 pub text_tells : (l m : Locked) (p q : PassView) (id : ℕ) (t : TakenText) (r : Result AnswerCounted Refusal) → TellsAnswer l p id t r m q → TextTells p q r
 text_tells l m p q id t (Ok a) is = let all = gains_told l m p q id t a is in record { gains = all; same = tt; some = (a.receipts, all); refusal = tt }
 text_tells l m p q id t (Err e) is = record { gains = tt; same = is.2; some = some_same p q Partner is.2; refusal = refused_for l.state p.seat id t e m.state (slice_get l.state.records id) is.0 }
-
--- ---- why a session is not opened
-
-foreign_tests : (a b : Bool) (e : Refusal) → cond a (cond b None (Some OtherRange)) (Some OtherFormat) ≡ Some e → IsOpenRefusal e
-foreign_tests true true e is = absurd (let no = is in cc)
-foreign_tests true false e is = let same : e ≡ OtherRange = cc in subst IsOpenRefusal (sym same) tt
-foreign_tests false b e is = let same : e ≡ OtherFormat = cc in subst IsOpenRefusal (sym same) tt
-
-part_refused : {T R S : Type 0} (whole : R → S) (o : Outcome T R) (e : Refusal) → through whole o ≡ refuses e → o ≡ refuses e
-part_refused whole (gives x s) e is = absurd (cc)
-part_refused whole (refuses f) e is = cc
-
-open_cause : (s : State) (partner : ℕ) (offer : Offer) (e : Refusal) → open_session s partner offer ≡ refuses e → IsOpenRefusal e
-open_cause s partner offer e is =
-    elim (first_cause (foreign_fault s.config offer) _ e is) [
-      | inl foreign ↦ foreign_tests _ _ e foreign
-      | inr here ↦
-          elim (first_cause (crowd_fault (standings s.records)) _ e here.1) [
-            | inl crowd ↦ subst IsOpenRefusal (sym (where_holds _ SessionsFull e crowd)) tt
-            | inr room ↦
-                elim (first_cause (dirty_fault s) _ e room.1) [
-                  | inl dirty ↦ subst IsOpenRefusal (sym (where_fails _ Dirty e dirty)) tt
-                  | inr clean ↦ absurd (let h = clean.1 in cc)
-                ]
-          ]
-    ]
-
-pub open_refused : (l m : Locked) (partner : ℕ) (offer : Offer) (r : Result ℕ Refusal) → Does r l m (through (moved l) (open_session l.state partner offer)) → IfErr r IsOpenRefusal
-open_refused l m partner offer (Ok id) is = tt
-open_refused l m partner offer (Err e) is = elim is.1 [
-  | inl short ↦ subst IsOpenRefusal (sym short.0) tt
-  | inr why ↦ open_cause l.state partner offer e (part_refused (moved l) (open_session l.state partner offer) e why)
-]
 
 -- ---- which refusals do not say that the link failed
 

@@ -100,16 +100,6 @@ kind_back zero h = refl
 kind_back (suc zero) h = refl
 kind_back (suc (suc n)) h = absurd (omega arith)
 
--- the kind of a kind's byte
-kind_again_of : (kind : Kind) → kind_of (kind_byte kind) ≡ kind
-kind_again_of Live = refl
-kind_again_of Tombstone = refl
-
--- a kind's byte is 0 or 1
-kind_low : (kind : Kind) → kind_byte kind ≤ 1
-kind_low Live = omega arith
-kind_low Tombstone = omega arith
-
 -- a kind that was read is spelled so
 kind_takes : (format : Format) (bytes : List ℕ) (x : Kind × List ℕ) → IsBytes bytes → kind_at format bytes ≡ Ok x → Takes bytes (kind_text format x.0) x.1 × HasKind format x.0
 unfolding kind_at

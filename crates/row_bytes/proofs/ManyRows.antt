@@ -186,10 +186,6 @@ rows_read format text rows h spelled = ap (λ (t : List ℕ). rows_at format (le
 pub no_rows_here : (format : Format) (text : List ℕ) (left : ℕ) → rows_at format (length text) [] [] text ≡ Err left → (rows : List Row) → AreRows format rows → text ≡ flat_map (row_text format) rows → ⊥
 no_rows_here format text left e rows h spelled = let a = rows_read format text rows h spelled in cc
 
--- two lists of rows with one text are one
-pub one_list : (format : Format) (rs ss : List Row) → AreRows format rs → AreRows format ss → flat_map (row_text format) rs ≡ flat_map (row_text format) ss → rs ≡ ss
-one_list format rs ss p q e = ok_is rs ss (sym (rows_again format rs p) ∙ rows_read format (flat_map (row_text format) rs) ss q e)
-
 -- an error as a result of rows
 abbrev failed : ℕ → Result (List Row) ℕ
 failed left = Err left

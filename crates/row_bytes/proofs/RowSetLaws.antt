@@ -167,7 +167,3 @@ set_row format r set fits =
 -- a row has what its type does not give
 pub row_fits : (format : Format) (r : Row) → IsRow format r → FitsText format r
 row_fits format r h = record { key = h.key; some = h.some; each = each_also (IsVersion format) (λ v. value_fault format v.kind v.value ≡ None) (λ v f. f.value) r.versions h.each }
-
--- rows have what their types do not give
-pub rows_fit : (format : Format) (rows : List Row) → AllByRecursion (IsRow format) rows → AllByRecursion (FitsText format) rows
-rows_fit format rows h = each_also (IsRow format) (FitsText format) (row_fits format) rows h

@@ -2,11 +2,6 @@
 use Rattle.std.proofs.Common.{Result, Ok, Err}
 use Rattle.std.specs.Prelude.{OnOk}
 
--- what holds whatever was answered
-pub on_ok_always : {T E : Type 0} (r : Result T E) (Q : Type 0) → Q → OnOk r Q
-on_ok_always (Ok x) Q q = q
-on_ok_always (Err e) Q q = tt {0}
-
 -- what follows from what holds where it was answered
 pub on_ok_then : {T E : Type 0} (r : Result T E) (P Q : Type 0) → OnOk r P → (P → Q) → OnOk r Q
 on_ok_then (Ok x) P Q p f = f p

@@ -5,5 +5,4 @@ pub mod SyncLaws
 pub mod ListSteps
 pub mod AnswerSteps
 pub mod HandoffLaws
-pub mod OfferLaws
 pub mod DeliveryLaws

@@ -130,12 +130,6 @@ homed n reps i r new call (Ok x) its is did = at_its n reps i r call its is ∙ 
 homed n reps i r new call (Err e) its is (same, inl m) = (unchanged reps i r new is same, inl m)
 homed n reps i r new call (Err e) its is (same, inr cause) = (unchanged reps i r new is same, inr (at_its n reps i r call its is ∙ turned_down n reps r e (call r.range) cause))
 
--- the same of a call that may break off
-pub homed_off : {T : Type 0} (n : ℕ) (reps : List Replica) (i : ℕ) (r new : Replica) (call : State → Outcome T State) (result : Result T Refusal) → IsHome n reps i → r ≡ get_or reps i r → DoesOrBreaksOff result r new (in_replica r (call r.range)) → DoesOrBreaksOff result reps (set reps i new) (at_home n call reps)
-homed_off n reps i r new call (Ok x) its is did = at_its n reps i r call its is ∙ given n reps i r new x (call r.range) its is did
-homed_off n reps i r new call (Err e) its is (inl m) = inl m
-homed_off n reps i r new call (Err e) its is (inr (same, cause)) = inr (unchanged reps i r new is same, at_its n reps i r call its is ∙ turned_down n reps r e (call r.range) cause)
-
 -- ---- what is told
 
 -- a refusal is told by its name, and want of memory is not told

@@ -1,6 +1,6 @@
 -- Replicas: which of them is a node's, and what a loop over them does.
 use mir.Val.{bool_byte}
-use Rattle.std.proofs.Common.{◌≡◌, ℕ, zero, suc, ◌+◌, ◌<◌, ◌≤◌, Bool, true, false, cond, set, List, [], ◌∷◌, ◌++◌, length, map, filter, take, drop, get_or, refl, ap, sym, subst, ◌∙◌, arith, Some, None, add-one, drop-cons}
+use Rattle.std.proofs.Common.{◌≡◌, ℕ, zero, suc, ◌+◌, ◌<◌, ◌≤◌, Bool, true, false, cond, set, List, [], ◌∷◌, ◌++◌, length, map, filter, take, drop, get_or, refl, ap, sym, subst, ◌∙◌, arith, Some, add-one, drop-cons}
 use Rattle.std.specs.Prelude.{nat_eq, slice_get, option_map, IsTrue, ◌%◌}
 use Rattle.std.specs.List.{list_all, range_with_len}
 use Rattle.std.proofs.lemmas.List.{length-map, map_push}
@@ -78,19 +78,6 @@ not_here reps i n r lt is other so =
     passes : (f : Replica → Replica) → take i reps ++ at_node n f (r ∷ drop (suc i) reps) ≡ take (suc i) reps ++ at_node n f (drop (suc i) reps)
     passes f = ap (λ (t : List Replica). take i reps ++ t) (rw other refl) ∙ ap (λ (x : Replica). take i reps ++ (x ∷ at_node n f (drop (suc i) reps))) is ∙ kept reps i f lt
 
--- it is nowhere
-pub nowhere : (reps : List Replica) (i n : ℕ) → length reps ≤ i → NotYet n reps i → replica_at n reps ≡ None
-nowhere reps i n past so = sym so.is ∙ past_end reps i past
-  where
-    past_end : (xs : List Replica) (j : ℕ) → length xs ≤ j → replica_at n (drop j xs) ≡ None
-    past_end [] j le = drop_none j
-      where
-        drop_none : (j : ℕ) → replica_at n (drop j []) ≡ None
-        drop_none zero = refl
-        drop_none (suc j) = refl
-    past_end (x ∷ xs) zero le = absurd (omega arith)
-    past_end (x ∷ xs) (suc j) le = past_end xs j (omega arith)
-
 -- ---- replicas of one range
 
 -- one that is of the same range as before is put in its place
@@ -150,12 +137,6 @@ changed_length f [] (suc i) = refl
 changed_length f (x ∷ xs) zero = refl
 changed_length f (x ∷ xs) (suc i) = ap suc (changed_length f xs i)
 
-pub changed_all : {X : Type 0} (f : X → X) (xs : List X) (i : ℕ) → length xs ≤ i → changed f i xs ≡ map f xs
-changed_all f [] zero h = refl
-changed_all f [] (suc i) h = refl
-changed_all f (x ∷ xs) zero h = absurd (omega arith)
-changed_all f (x ∷ xs) (suc i) h = ap (λ t. f x ∷ t) (changed_all f xs i (omega arith))
-
 -- ---- a loop that counts
 
 one_more : {X : Type 0} (b : Bool) (x : X) (ys zs : List X) (n : ℕ) → length ys ≡ length zs + n → length (cond b (x ∷ ys) ys) ≡ length (cond b (x ∷ zs) zs) + n
@@ -173,16 +154,6 @@ counted_suc p (x ∷ xs) (suc i) d h = one_more (p x) x _ _ _ (counted_suc p xs 
 
 pub counted_more : {X : Type 0} (p : X → Bool) (xs : List X) (i : ℕ) (d : X) → i < length xs → length (filter p (take (i + 1) xs)) ≡ length (filter p (take i xs)) + cond (p (get_or xs i d)) 1 0
 counted_more p xs i d h = rw (add-one) (counted_suc p xs i d h)
-
-pub counted_all : {X : Type 0} (p : X → Bool) (xs : List X) (i : ℕ) → length xs ≤ i → length (filter p (take i xs)) ≡ length (filter p xs)
-counted_all p [] zero h = refl
-counted_all p [] (suc i) h = refl
-counted_all p (x ∷ xs) zero h = absurd (omega arith)
-counted_all p (x ∷ xs) (suc i) h = rest (p x) (counted_all p xs i (omega arith))
-  where
-    rest : (b : Bool) → length (filter p (take i xs)) ≡ length (filter p xs) → length (cond b (x ∷ filter p (take i xs)) (filter p (take i xs))) ≡ length (cond b (x ∷ filter p xs) (filter p xs))
-    rest true e = ap suc e
-    rest false e = e
 
 -- ---- the nodes of a preference list
 

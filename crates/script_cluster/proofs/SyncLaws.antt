@@ -20,11 +20,6 @@ use Rattle.range_state.proofs.SyncStepLaws.{config_stays, taken_beside, fault_be
 use Rattle.script_cluster.specs.State.{Replica, keeping, range_in, replica_of, without_records}
 use Rattle.script_cluster.specs.Syncs.{IsCounted, after_sync, synced_with, walk_fault}
 
--- what holds of a result where it is not refused
-pub on_ok : {T E : Type 0} (r : Result T E) {P Q : Type 0} → (P → Q) → OnOk r P → OnOk r Q
-on_ok (Ok x) f p = f p
-on_ok (Err e) f p = tt
-
 -- a replica that has a state is seen as that
 pub seen : (n : ℕ) (c : Config) (o : Option range.State) (s : range.State) (r : Replica) → replica_of n (range_in c o) ≡ r → o ≡ Some s → replica_of n s ≡ r
 seen n c o s r view is = ap (λ (x : Option range.State). replica_of n (range_in c x)) (sym is) ∙ view

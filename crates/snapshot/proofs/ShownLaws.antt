@@ -5,9 +5,6 @@ use Rattle.std.proofs.lemmas.List.FromFn.{get_or-map-range_with_len, length-map-
 use Rattle.vclock.specs.declared.format.Format.{Format}
 use Rattle.vclock.specs.declared.format.Format.TheVariants.{One, Two}
 use Rattle.key_ring.specs.Places.{leaf_bits}
-use Rattle.row_bytes.specs.Rows.{FitsText}
-use Rattle.row_bytes.specs.declared.row.Row.{Row}
-use Rattle.row_bytes.proofs.RowSetLaws.{rows_fit}
 use Rattle.hash_tree.specs.Leaves.{Bucket, rows_at}
 use Rattle.hash_tree.specs.Nodes.{tree_depth, place_at, children_of}
 use Rattle.hash_tree.specs.Texts.{leaf_text, inner_text, node_text, AreTrue}
@@ -17,9 +14,6 @@ use Rattle.hash_tree.proofs.TreeLaws.{children_text}
 use Rattle.snapshot.specs.RowMaps.{RowMap, leaf_in, text_at, digest_at}
 use Rattle.snapshot.specs.Snapshots.{leaves_of, IsSnapshot}
 use Rattle.snapshot.proofs.OrderLaws.{bucket_at}
-use Rattle.std.specs.Prelude.{nat_eq}
-use Rattle.std.specs.List.{AllByRecursion}
-use Rattle.version_set.proofs.ListLaws.{all-filter}
 
 -- ---- leaves
 
@@ -32,10 +26,6 @@ leaf_count m leaves digests is = ap (λ (xs : List Bucket). length xs) is.leaves
 pub leaf_shown : (m : RowMap) (leaves : List Bucket) (digests : List (List ℕ)) (i : ℕ) (d : Bucket) → IsSnapshot m leaves digests → i < 2 ^ leaf_bits m.format → get_or leaves i d ≡ bucket_at m i
 unfolding leaves_of
 leaf_shown m leaves digests i d is within = ap (λ (xs : List Bucket). get_or xs i d) is.leaves_are ∙ get_or-map-range_with_len (bucket_at m) 0 (2 ^ leaf_bits m.format) i i d within (omega arith)
-
--- the rows of a leaf have a text
-pub leaf_fits : (m : RowMap) (leaves : List Bucket) (digests : List (List ℕ)) (i : ℕ) → IsSnapshot m leaves digests → AllByRecursion (FitsText m.format) (rows_at (leaf_in m) i m.rows)
-leaf_fits m leaves digests i is = all-filter (FitsText m.format) (λ (r : Row). nat_eq (leaf_in m r.key) i) m.rows (rows_fit m.format m.rows is.rows.each)
 
 -- a node of the leaves' depth is a leaf
 pub leaf_within : (f : Format) (depth index : ℕ) → depth ≡ tree_depth f → index < 16 ^ depth → index < 2 ^ leaf_bits f

@@ -13,10 +13,6 @@ use Rattle.std.proofs.Math.Nat.{le-max_left, le-max_right}
 use Rattle.std.proofs.lemmas.List.{take_more, take-append-drop}
 use Rattle.std.proofs.lemmas.List.Folds.{list_any-append}
 
--- the counter in what is left, one pair on
-pub counter-drop : (ps : Pairs) (i n : ℕ) (d : ℕ × ℕ) → i < length ps → counter (drop i ps) n ≡ cond (eqb (get_or ps i d).0 n) (get_or ps i d).1 (counter (drop (i + 1) ps) n)
-counter-drop ps i n d h = rw (add-one, drop-cons ps i d) refl
-
 pub Rises-lower : (low m : ℕ) (ps : Pairs) → low ≤ m → Rises m ps → Rises low ps
 Rises-lower low m [] h r = tt
 Rises-lower low m ((n, c) ∷ ps) h r = (omega arith, r.1, r.2, r.3, r.4)

@@ -64,9 +64,6 @@ any_at p (y ∷ ys) x i t = elim i [
   | inr j ↦ or_right (p y) (list_any p ys) (any_at p ys x j t)
 ]
 
-none_at : {X : Type 0} (p : X → Bool) (xs : List X) (x : X) → IsIn x xs → list_any p xs ≡ false → p x ≡ false
-none_at p xs x i e = elim (cases_Bool (p x)) [ inl t ↦ absurd (both_ways _ e (any_at p xs x i t)) | inr f ↦ f ]
-
 in_filter : {X : Type 0} (p : X → Bool) (xs : List X) (x : X) → IsIn x xs → p x ≡ true → IsIn x (filter p xs)
 unfolding IsIn
 in_filter p [] x i t = absurd i
