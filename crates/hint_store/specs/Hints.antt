@@ -104,7 +104,10 @@ confirmed hints id d = map (answered id d) hints
 abbrev pub confirm : List Kept → ℕ → Delivery → Outcome (Unit {0}) (List Kept)
 confirm hints id d = if list_any (is_answered id d) hints then gives tt (confirmed hints id d) else refuses UnknownHint
 
--- the delivery of a hint, if it was delivered: it has the hint's own owner, key and version
+-- the delivery of a hint to its owner, who knew the version or not
+abbrev pub delivery_by : Hint → Bool → Delivery
+delivery_by h known = record { owner = h.owner; key = h.key; version = h.version; known = known }
+
+-- the delivery of a hint, if it was delivered
 abbrev pub delivery_of : Kept → Option Delivery
-delivery_of k =
-    option_map (λ known. record { owner = k.hint.owner; key = k.hint.key; version = k.hint.version; known = known }) (answer_of k.fate)
+delivery_of k = option_map (λ known. delivery_by k.hint known) (answer_of k.fate)

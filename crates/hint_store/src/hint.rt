@@ -1,6 +1,7 @@
 //! Hints, and what became of them.
 ghost use Rattle.std.specs.Prelude.{◌≡◌, None};
 ghost use Rattle.vclock.specs.Answer.{Answers};
+ghost use Rattle.hint_store.specs.Hints.{delivery_by};
 
 use std::alloc::Global;
 use vclock::bytes::Bytes;
@@ -31,6 +32,24 @@ impl Hint {
             key: self.key.try_clone()?,
             version: self.version.try_clone()?,
         })
+    }
+
+    /// The delivery of the hint to its owner, which knew the version or journaled it. It takes no memory.
+    pub fn into_delivery(self, known: bool) -> Delivery
+        ensures { result ≡ delivery_by self known }
+    {
+        let Hint {
+            id: _,
+            owner,
+            key,
+            version,
+        } = self;
+        Delivery {
+            owner,
+            key,
+            version,
+            known,
+        }
     }
 }
 

@@ -29,6 +29,10 @@ pub record AreOffers (o : Offers) : Type 0 where
   pub few : length o.kept ≤ MOST_KEPT
   pub right : AllByRecursion (λ (p : Offered). IsRowMap p.rows) o.kept
 
+-- nothing was published yet
+abbrev pub unpublished : Offers
+unpublished = record { last = 0; kept = [] }
+
 -- the offer of some rows
 abbrev pub offer_of : Offered → Offer
 offer_of p = record { offer = p.number; format = number_of p.rows.format; range = p.rows.range; root = root_of p.rows }

@@ -1,5 +1,5 @@
 //! Links over channels, and the servers at their other ends.
-ghost use Rattle.std.specs.Prelude.{◌≡◌, IfErr};
+ghost use Rattle.std.specs.Prelude.{◌≡◌, IfOk, IfErr};
 ghost use Rattle.ring_node.specs.Links.{IsCounted};
 
 use crate::link::{Link, Reached, lose};
@@ -54,7 +54,8 @@ pub struct ChannelServer {
 
 /// A link that hasn't failed, and its server. Refused: NoMemory.
 pub fn channel_link(alloc: Global) -> Result<(ChannelLink, ChannelServer), Refusal>
-    ensures { IfErr result (λ e. e ≡ Refusal.NoMemory) }
+    ensures fresh { IfOk result (λ ends. ends.0.failures ≡ 0) }
+    ensures refusal { IfErr result (λ e. e ≡ Refusal.NoMemory) }
 {
     let (to_server, requests) = bounded(alloc, CAPACITY)?;
     let (to_link, replies) = bounded(alloc, CAPACITY)?;

@@ -1,7 +1,9 @@
 //! Deliveries of hints.
 ghost use Rattle.std.specs.Prelude.{◌≡◌, ◌≢◌, ◌⊎◌, ◌+◌, ◌<◌, ◌≤◌, Err, IfOk, IfErr, OnErr};
+ghost use Rattle.std.specs.Option.{option_map};
 ghost use Rattle.range_journal.specs.declared.journal.Source.{Source};
-ghost use Rattle.ring_node.specs.Answered.{count_of};
+ghost use Rattle.hint_store.specs.Hints.{delivery_by};
+ghost use Rattle.ring_node.specs.Answered.{count_of, was_known};
 ghost use Rattle.ring_node.specs.Gains.{Gains, GainsSome};
 
 use crate::hints::SharedHints;
@@ -155,23 +157,20 @@ fn send<R: Wait, L: Ledger>(
 
 /// Confirms a hint that its owner has taken or known.
 fn confirm<R: Wait>(rt: &R, hints: &SharedHints, hint: Hint, answered: Answered) {
-    let known = match answered {
-        Answered::Taken => false,
-        Answered::Known => true,
-        Answered::Refused => return,
-    };
-    let Hint {
-        id,
-        owner,
-        key,
-        version,
-    } = hint;
-    let delivery = Delivery {
-        owner,
-        key,
-        version,
-        known,
-    };
-    // UnknownHint: somebody else confirmed the hint meanwhile. Its owner has the version all the same.
-    let _ = hints.confirm(rt, id, delivery);
+    let id = hint.id;
+    if let Some(delivery) = delivery_of(hint, answered) {
+        // UnknownHint: somebody else confirmed the hint meanwhile. Its owner has the version all the same.
+        let _ = hints.confirm(rt, id, delivery);
+    }
+}
+
+/// The delivery of a hint to its owner, unless the owner refused it.
+fn delivery_of(hint: Hint, answered: Answered) -> Option<Delivery>
+    ensures { result ≡ option_map (delivery_by hint) (was_known answered) }
+{
+    match answered {
+        Answered::Taken => Some(hint.into_delivery(false)),
+        Answered::Known => Some(hint.into_delivery(true)),
+        Answered::Refused => None,
+    }
 }

@@ -1,4 +1,6 @@
 //! Links to a pool of offers in the same memory.
+ghost use Rattle.std.specs.Prelude.{◌≡◌};
+
 use crate::link::{Link, Reached};
 use crate::offers::OfferPool;
 use std::alloc::Global;
@@ -20,7 +22,9 @@ pub struct MemoryLink<'a> {
 
 impl<'a> MemoryLink<'a> {
     /// A link to a pool, which hasn't failed. It takes no memory.
-    pub fn new(alloc: Global, pool: &'a OfferPool) -> MemoryLink<'a> {
+    pub fn new(alloc: Global, pool: &'a OfferPool) -> MemoryLink<'a>
+        ensures { result.failures ≡ 0 }
+    {
         MemoryLink {
             alloc,
             pool,

@@ -7,7 +7,7 @@ ghost use Rattle.vclock.specs.Format.{number_of};
 ghost use Rattle.vclock.specs.Outcome.{Does};
 ghost use Rattle.snapshot.specs.RowMaps.{root_of};
 ghost use Rattle.ring_node.specs.Moments.{FoundAtSomeMoment, ChangedAtSomeMoment};
-ghost use Rattle.ring_node.specs.Offers.{Offered, AreOffers, publish, latest, kept_under, serve_fault, IsAnswerIn};
+ghost use Rattle.ring_node.specs.Offers.{Offered, AreOffers, unpublished, publish, latest, kept_under, serve_fault, IsAnswerIn};
 
 use hash_tree::node::tree_depth;
 use hash_tree::text::Text;
@@ -55,6 +55,16 @@ impl Model for Offers {
 }
 
 impl Offers {
+    /// Nothing that was published. It takes no memory.
+    fn new(alloc: Global) -> Offers
+        ensures { result ≡ unpublished }
+    {
+        Offers {
+            last: 0,
+            kept: Vec::new(alloc),
+        }
+    }
+
     /// Keeps a snapshot, and returns its offer. If no more can be kept, the oldest goes to `oldest`.
     ///
     /// Refused, in order: SessionsFull, NoMemory. Nothing is then kept.
@@ -133,10 +143,7 @@ impl OfferPool {
     /// A pool without offers. It takes no memory.
     pub fn new(alloc: Global) -> OfferPool {
         OfferPool {
-            offers: Mutex::new(Offers {
-                last: 0,
-                kept: Vec::new(alloc),
-            }),
+            offers: Mutex::new(Offers::new(alloc)),
         }
     }
 

@@ -33,7 +33,10 @@ pub struct ScriptedLink<K: Link> {
 
 impl<K: Link> ScriptedLink<K> {
     /// A link that follows the deeds, and hasn't failed. It takes no memory.
-    pub fn new(alloc: Global, link: K, deeds: Vec<Deed>) -> ScriptedLink<K> {
+    pub fn new(alloc: Global, link: K, deeds: Vec<Deed>) -> ScriptedLink<K>
+        ensures fresh { (result.next ≡ 0) × (result.failures ≡ 0) }
+        ensures given { (result.link ≡ link) × (result.deeds ≡ deeds) }
+    {
         ScriptedLink {
             alloc,
             link,

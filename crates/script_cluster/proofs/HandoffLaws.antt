@@ -5,7 +5,7 @@ use Rattle.std.specs.Option.{option_map}
 use Rattle.std.specs.List.{list_any}
 use Rattle.std.proofs.lemmas.Bool.{and_parts}
 use Rattle.std.proofs.lemmas.Bool.Decides.{nat_tests}
-use Rattle.hint_store.specs.Hints.{AreNumberedFrom, is_answered, is_due, is_open, is_pending, next_hint, answered, confirm, confirmed}
+use Rattle.hint_store.specs.Hints.{AreNumberedFrom, is_answered, is_due, is_open, is_pending, next_hint, answered, confirm, confirmed, delivery_by}
 use Rattle.hint_store.specs.declared.hint.Delivery.{Delivery}
 use Rattle.hint_store.specs.declared.hint.Fate.{Fate}
 use Rattle.hint_store.specs.declared.hint.Fate.TheVariants.{Pending}
@@ -14,7 +14,7 @@ use Rattle.hint_store.specs.declared.hint.Kept.{Kept}
 use Rattle.hint_store.proofs.HintLaws.{answered_from, open_pending}
 use Rattle.range_state.specs.declared.event.Accepted.{Accepted}
 use Rattle.vclock.specs.Outcome.{Outcome, gives, refuses, is_given}
-use Rattle.script_cluster.specs.Handoff.{Round, asked_in, delivery_by, is_offered, offer_one, offered_to, was_known}
+use Rattle.script_cluster.specs.Handoff.{Round, asked_in, is_offered, offer_one, offered_to, was_known}
 use Rattle.script_cluster.specs.Offers.{after_offer, pending_of, round_at}
 use Rattle.script_cluster.specs.State.{Replica}
 

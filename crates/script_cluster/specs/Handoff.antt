@@ -10,8 +10,7 @@ use Rattle.range_journal.specs.declared.journal.Source.TheVariants as Sources
 use Rattle.range_state.specs.State as range
 use Rattle.range_state.specs.declared.event.Accepted.{Accepted}
 use Rattle.range_state.specs.declared.event.Accepted.TheVariants.{Taken, Known}
-use Rattle.hint_store.specs.Hints.{is_pending, pending_count, keep, confirmed}
-use Rattle.hint_store.specs.declared.hint.Delivery.{Delivery}
+use Rattle.hint_store.specs.Hints.{is_pending, pending_count, keep, confirmed, delivery_by}
 use Rattle.hint_store.specs.declared.hint.Hint.{Hint}
 use Rattle.hint_store.specs.declared.hint.Kept.{Kept}
 use Rattle.script_cluster.specs.declared.answer.Answer.{Answer}
@@ -63,10 +62,6 @@ pub record Round : Type 0 where
 abbrev pub was_known : Accepted → Bool
 was_known Known = true
 was_known (Taken e) = false
-
--- what an owner makes of a hint
-abbrev pub delivery_by : Hint → Bool → Delivery
-delivery_by h known = record { owner = h.owner; key = h.key; version = h.version; known = known }
 
 -- the delivery after an owner took a hint or knew it, and these are the replicas of the range
 abbrev pub round_after : ℕ → Round → Hint → Bool → List Replica → Round

@@ -1,13 +1,13 @@
 // Hinted handoff: hints are kept for replicas that are down, and offered to them later.
 ghost use Rattle.std.specs.Prelude.{◌≡◌, ◌-◌, ◌^◌, ℕ, Bool, length, fold, IfOk, IsTrue, OnOk};
 ghost use Rattle.vclock.specs.Outcome.{DoesOrNoMemory, is_given};
-ghost use Rattle.hint_store.specs.Hints.{AreHints, confirm, keep, next_hint};
-ghost use Rattle.script_cluster.specs.Handoff.{asked, asked_in, delivery_by, first_round, kept_all, kept_for, offer_one, offered_to};
+ghost use Rattle.hint_store.specs.Hints.{AreHints, confirm, delivery_by, keep, next_hint};
+ghost use Rattle.script_cluster.specs.Handoff.{asked, asked_in, first_round, kept_all, kept_for, offer_one, offered_to};
 ghost use Rattle.script_cluster.specs.Offers.{after_offer, round_at, told_by};
 ghost use Rattle.script_cluster.specs.State.{left};
 
 use crate::replicas::Replicas;
-use hint_store::hint::{Delivery, Hint};
+use hint_store::hint::Hint;
 use hint_store::store::HintStore;
 use key_ring::ring::Ring;
 use range_state::event::{Accepted, Receipt};
@@ -123,13 +123,7 @@ fn offer(
     let Some(known) = ask_owner(alloc, &mut ranges[range], &hint)? else {
         return Ok(None);
     };
-    let delivery = Delivery {
-        owner: hint.owner,
-        key: hint.key,
-        version: hint.version,
-        known,
-    };
-    hints.confirm(hint.id, delivery).unwrap();
+    hints.confirm(hint.id, hint.into_delivery(known)).unwrap();
     Ok(Some(known))
 }
 
