@@ -171,7 +171,7 @@ due_entry hints index o after p k d a at h t =
     let w : HasEntry index o (get_or hints k d).hint.id = subst (λ x. HasEntry index x (get_or hints k d).hint.id) due.same_owner (entry_of hints index k d a h due.pending) in
     (w, stands_after index o after p (get_or hints k d).hint.id w at (omega (arith, w.same_id, due.over)))
 
--- where no entry of the owner stands at the place, no hint is due
+-- if no entry of the owner stands at the place, no hint is due
 no_due : (hints : List Kept) (index : List Waiting) (o after p : ℕ) → AreWaiting hints index → IsPartitionPoint (λ v. is_up_to o after v ≡ true) (λ v. is_up_to o after v ≡ false) index p
     → ((w : Waiting) → p < length index → get_or index p w ≡ w → o < w.owner) → find (is_due (o ∷ []) after) hints ≡ None
 no_due hints index o after p a at other = find_none (is_due (o ∷ []) after) hints (λ k d h. false_from_ne_true (is_due (o ∷ []) after (get_or hints k d)) (λ t.
@@ -188,7 +188,7 @@ no_due hints index o after p a at other = find_none (is_due (o ∷ []) after) hi
       ]
     ]))
 
--- where an entry of the owner stands at the place, its hint is the first that is due
+-- if an entry of the owner stands at the place, its hint is the first that is due
 one_due : (hints : List Kept) (index : List Waiting) (o after p : ℕ) (w : Waiting) → AreNumberedFrom 1 hints → AreWaiting hints index → IsPartitionPoint (λ v. is_up_to o after v ≡ true) (λ v. is_up_to o after v ≡ false) index p
     → p < length index → get_or index p w ≡ w → w.owner ≡ o → after < w.id → ids (find (is_due (o ∷ []) after) hints) ≡ Some w.id
 one_due hints index o after p w numbered a at here is same over =

@@ -21,13 +21,13 @@ pub record AreWaiting (hints : List Kept) (index : List Waiting) : Type 0 where
   pub ascending : AllPairs IsBefore index
   pub all : (p : ℕ → ℕ → Bool) → count_by (λ w. p w.owner w.id) index ≡ count_by (waits_by p) hints
 
--- the lesser of two numbers, where there is one
+-- the lesser of two numbers, if there is one
 abbrev pub lesser : Option ℕ → Option ℕ → Option ℕ
 lesser None b = b
 lesser (Some a) None = Some a
 lesser (Some a) (Some b) = Some (min a b)
 
--- the number of an entry, where there is one and it is of that owner
+-- the number of an entry, if there is one and it is of that owner
 abbrev pub id_of : ℕ → Option Waiting → Option ℕ
 id_of owner None = None
 id_of owner (Some w) = if nat_eq w.owner owner then Some w.id else None

@@ -159,9 +159,9 @@ impl HintStore {
         self.copy_of(alloc, least)
     }
 
-    /// Takes down that the owner of a hint answered: the hint is pending no more, and has its fate. The delivery's owner,
-    /// key and version must be the hint's. A binary search, and a move of at most 10,000 small entries. It takes no
-    /// memory.
+    /// Records that the owner of a hint took it or knew it: the hint is pending no more, and has its fate. The delivery's
+    /// owner, key and version must be the hint's. A binary search, and a move of at most 10,000 small entries. It takes
+    /// no memory.
     ///
     /// Refused: UnknownHint (no pending hint has this id with this owner, key and version). The store is then as it was.
     pub fn confirm(&mut self, id: u32, delivery: Delivery) -> Result<(), Refusal>

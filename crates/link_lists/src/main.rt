@@ -22,7 +22,7 @@ use std::thread::Threads;
 use tally::Tally;
 use trial::run_list;
 
-/// How many lists there are where no word says so.
+/// How many lists there are if no word says so.
 const LISTS: u64 = 10_000;
 
 fn main(rt: HostRuntime) -> ExitCode {

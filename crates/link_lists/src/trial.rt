@@ -93,7 +93,7 @@ impl Trial {
         check_all(&ended, partner, tally)
     }
 
-    /// A partner with an offer or two. Where it offers 17 times, the offers before are dropped.
+    /// A partner with an offer or two. If it offers 17 times, the offers before are dropped.
     fn partner<R: Threads + Wait + Sync>(
         &mut self,
         rt: &R,

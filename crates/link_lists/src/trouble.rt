@@ -40,7 +40,7 @@ impl<T: Drop> From<AllocFailed<T>> for Trouble {
     }
 }
 
-/// Ends the list where something isn't as it must be.
+/// Ends the list if something isn't as it must be.
 pub(crate) fn expect(holds: bool, what: &'static str) -> Result<(), Trouble> {
     if holds {
         Ok(())

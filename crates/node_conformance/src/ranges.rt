@@ -16,7 +16,7 @@ use std::test::Fail;
 use vclock::refusal::Refusal;
 use version_set::kind::Kind;
 
-/// Takes in a copy of `a`, and gives its number, or none where it is known.
+/// Takes in a copy of `a`, and returns its number, or `None` if it is known.
 fn copy_of_a<L: Ledger, R: Wait>(
     rt: &R,
     alloc: Global,

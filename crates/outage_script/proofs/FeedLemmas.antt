@@ -19,7 +19,7 @@ not_true : (b : Bool) → (b ≡ true → ⊥) → b ≡ false
 not_true true h = absurd (h refl)
 not_true false h = refl
 
--- where no byte is a line feed, all are inside
+-- if no byte is a line feed, all are inside
 inside_each : (bytes : List ℕ) → ((k : ℕ) → k < length bytes → (get_or bytes k 0 == 10) ≡ true → ⊥) → Inside bytes
 inside_each [] none = refl
 inside_each (b ∷ bytes) none = rw (not_true (b == 10) (none 0 (omega arith)), inside_each bytes (λ k within. none (suc k) (omega arith))) refl

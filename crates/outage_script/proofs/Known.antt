@@ -10,7 +10,7 @@ appends_both (Some a) None c x y p q = absurd p
 appends_both (Some a) (Some b) None x y p q = absurd q
 appends_both (Some a) (Some b) (Some c) x y p q = q ∙ ap (λ t. t ++ y) p ∙ append_assoc a x y
 
--- nothing is appended where known bytes stay
+-- nothing is appended if known bytes stay
 pub appends_none : (a b c : Option (List ℕ)) (x : List ℕ) → Appends a b x → Keeps b c → Appends a c x
 appends_none None b c x p q = tt
 appends_none (Some a) None c x p q = absurd p

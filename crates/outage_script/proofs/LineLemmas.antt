@@ -52,7 +52,7 @@ pub record FirstLine (line rest : List ℕ) : Type 0 where
   pub lines : List (List ℕ)
   pub is : lines_of (line ++ rest) ≡ (line ++ more) ∷ lines
 
--- what has come of a line begins the first line, where its first byte has come
+-- what has come of a line begins the first line, if its first byte has come
 pub first_line : (b : ℕ) (line rest : List ℕ) → Inside (b ∷ line) → FirstLine (b ∷ line) rest
 unfolding lines_of
 first_line b [] rest h = by_lines (lines_of rest) refl
@@ -109,7 +109,7 @@ too_long : (s : State) (line : List ℕ) → line_limit < length line → step s
 unfolding step
 too_long s line h = rw (lt-ltb line_limit (length line) h) refl
 
--- the first line, where something has come of it
+-- the first line, if something has come of it
 pub first_of : (line rest : List ℕ) → 0 < length line → Inside line → FirstLine line rest
 first_of [] rest some h = absurd (omega arith)
 first_of (b ∷ line) rest some h = first_line b line rest h

@@ -31,7 +31,7 @@ consumes_both (Some a) None c x y p q = absurd p
 consumes_both (Some a) (Some b) None x y p q = absurd q
 consumes_both (Some a) (Some b) (Some c) x y p q = p ∙ (ap (λ t. x ++ t) q ∙ sym (append_assoc x y c))
 
--- nothing is read where known bytes stay
+-- nothing is read if known bytes stay
 consumes_none : (a b c : Option (List ℕ)) (x : List ℕ) → Consumes a b x → Keeps b c → Consumes a c x
 consumes_none None b c x p q = tt
 consumes_none (Some a) None c x p q = absurd p
@@ -71,11 +71,11 @@ right_of NoMemory bytes left w e f = (e, f)
 all_begins : (whole w : List ℕ) → whole ≡ w → Begins whole w
 all_begins whole w e = ([], e ∙ sym (append-nil w))
 
--- where no input is left, the bytes that were read are the whole of it
+-- if no input is left, the bytes that were read are the whole of it
 no_more : (bytes left : List ℕ) → left ≡ [] → bytes ++ left ≡ bytes
 no_more bytes left e = ap (λ t. bytes ++ t) e ∙ append-nil bytes
 
--- what is right is right too where the device fails after it
+-- what is right is right too if the device fails after it
 device_of : (end : ScriptEnd) (bytes left w : List ℕ) → IsRight end bytes left w → IsRight Device bytes left w
 device_of Done bytes left w e = (all_begins (script_outcome bytes).text w e.1.text, rw (no_more bytes left e.0) (all_begins (script_outcome bytes).text w e.1.text))
 device_of (BadLine n) bytes left w e = (all_begins (script_outcome bytes).text w e.0.text, all_begins (script_outcome (bytes ++ left)).text w e.1.text)

@@ -46,7 +46,7 @@ members_of (m ∷ more) = member m.0 m.1 (members_of more)
 abbrev pub object_of : List (List ℕ × Data) → Data
 object_of ms = object (members_of ms)
 
--- a value, or null where there is none
+-- a value, or null if there is none
 abbrev pub value_data : Kind → List ℕ → Data
 value_data Live value = bytes_data value
 value_data Tombstone value = null
@@ -59,7 +59,7 @@ abbrev pub digest_data : Option (List ℕ) → Data
 digest_data (Some digest) = bytes_data digest
 digest_data None = null
 
--- a number, or null where there is none
+-- a number, or null if there is none
 abbrev pub maybe_number : Option ℕ → Data
 maybe_number (Some n) = number_data n
 maybe_number None = null

@@ -21,14 +21,14 @@ pub record IsBadAt (n : ℕ) (written : List ℕ) (script : Outcome) : Type 0 wh
   pub text : script.text ≡ written
   pub bad : script.bad ≡ Some n
 
--- what was written is right, where these bytes were read and these are left: for what was read, and for the whole input
+-- what was written is right, if these bytes were read and these are left: for what was read, and for the whole input
 abbrev pub IsRight : ScriptEnd → List ℕ → List ℕ → List ℕ → Type 0
 IsRight Done bytes left written = (left ≡ []) × IsDone written (script_outcome bytes)
 IsRight (BadLine n) bytes left written = IsBadAt n written (script_outcome bytes) × IsBadAt n written (script_outcome (bytes ++ left))
 IsRight Device bytes left written = Begins (script_outcome bytes).text written × Begins (script_outcome (bytes ++ left)).text written
 IsRight NoMemory bytes left written = Begins (script_outcome bytes).text written × Begins (script_outcome (bytes ++ left)).text written
 
--- a run that found and left these in the reader and the writer: it claims nothing where the reader does not tell its bytes
+-- a run that found and left these in the reader and the writer: it claims nothing if the reader does not tell its bytes
 abbrev pub Runs : ScriptEnd → Option (List ℕ) → Option (List ℕ) → Option (List ℕ) → Option (List ℕ) → Type 0
 Runs end None left before after = ⊤
 Runs end (Some input) None before after = ⊥

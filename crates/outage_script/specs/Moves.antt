@@ -20,7 +20,7 @@ pub record Place : Type 0 where
 abbrev pub place_of : ℕ → State → List ℕ → Bool → Place
 place_of number state line long = record { number = number; state = state; line = line; long = long }
 
--- the outcome that is still to come, where these bytes are still to come
+-- the outcome that is still to come, if these bytes are still to come
 unfoldable pub to_come : Place → List ℕ → Outcome
 to_come p rest = outcome_of p.number p.state (lines_of (p.line ++ rest))
 

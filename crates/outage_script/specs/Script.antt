@@ -12,7 +12,7 @@ use Rattle.script_commands.specs.Reading.{value_of}
 use Rattle.script_commands.specs.Commands.{command_of}
 use Rattle.script_commands.specs.Faults.{line_limit}
 
--- a line's answer and the state after it; none where it is a bad line
+-- a line's answer and the state after it; None if it is a bad line
 abbrev pub Turn : Type 0
 Turn = Option (List ℕ × State)
 

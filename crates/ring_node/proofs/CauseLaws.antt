@@ -16,12 +16,12 @@ use Rattle.range_state.specs.Config.{Config}
 use Rattle.range_state.specs.State.{place_fault}
 use Rattle.ring_node.specs.Passes.{IsOddValue}
 
--- a cause that stands where a test holds
+-- a cause that stands if a test holds
 pub where_holds : (b : Bool) (x e : Refusal) → cond b (Some x) None ≡ Some e → e ≡ x
 where_holds true x e is = cc
 where_holds false x e is = absurd (cc)
 
--- a cause that stands where a test fails
+-- a cause that stands if a test fails
 pub where_fails : (b : Bool) (x e : Refusal) → cond b None (Some x) ≡ Some e → e ≡ x
 where_fails true x e is = absurd (cc)
 where_fails false x e is = cc

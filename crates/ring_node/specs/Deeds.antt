@@ -4,11 +4,11 @@ use Rattle.std.specs.Int.{w32, to_be_bytes}
 use Rattle.ring_node.specs.declared.deed.Deed.{Deed}
 use Rattle.ring_node.specs.declared.deed.Deed.TheVariants.{Change, Cut, Renumber}
 
--- a byte is raised by one, the last one to 0; nothing is done where there is no such byte
+-- a byte is raised by one, the last one to 0; nothing is done if there is no such byte
 abbrev pub changed : List ℕ → ℕ → List ℕ
 changed bytes at = if nat_lt at (length bytes) then slice_set bytes at ((slice_index_or bytes at 0 + 1) % 256) else bytes
 
--- the number of the offer is another one; nothing is done where there is none
+-- the number of the offer is another one; nothing is done if there is none
 abbrev pub renumbered : List ℕ → ℕ → List ℕ
 renumbered bytes number = if nat_lt (length bytes) 5 then bytes else take 1 bytes ++ to_be_bytes w32 number ++ drop 5 bytes
 

@@ -41,7 +41,7 @@ offer_of p = record { offer = p.number; format = number_of p.rows.format; range 
 abbrev pub number_fault : Offers → Option Refusal
 number_fault o = if nat_lt o.last (2 ^ 32 - 1) then None else Some SessionsFull
 
--- what is kept without the oldest, where no more can be kept
+-- what is kept without the oldest, if no more can be kept
 abbrev pub with_room : List Offered → List Offered
 with_room kept = if nat_lt (length kept) MOST_KEPT then kept else drop 1 kept
 
@@ -59,7 +59,7 @@ latest o = option_map offer_of (slice_get o.kept (length o.kept - 1))
 abbrev pub kept_under : Offers → ℕ → Option Offered
 kept_under o number = find (λ (p : Offered). p.number == number) o.kept
 
--- why the text of a node is not answered: the offer is not kept, or its tree has no such node
+-- why the text of a node is refused: the offer is not kept, or its tree has no such node
 abbrev pub text_fault : Option Offered → NodeAt → Option Refusal
 text_fault None node = Some Gone
 text_fault (Some p) node = answer_fault p.rows node

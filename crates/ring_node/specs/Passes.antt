@@ -26,7 +26,7 @@ pub record IsReceiptOf (seat : ℕ) (source : Source) (key : List ℕ) (version 
 abbrev pub IsToldOf : PassView → PassView → Entry → Type 0
 IsToldOf p q e = q ≡ with_receipts p (e.number + 1) (e ∷ [])
 
--- the pass was told of the entry of a version that was taken, and of nothing where the version is known
+-- the pass was told of the entry of a version that was taken, and of nothing if the version is known
 abbrev pub IsSent : PassView → Source → List ℕ → Version → PassView → Accepted → Type 0
 IsSent p source key version q (Taken e) = IsReceiptOf p.seat source key version e × IsToldOf p q e
 IsSent p source key version q Known = q ≡ p

@@ -10,7 +10,7 @@ use Rattle.ring_node.specs.Offers.{Offers, AreOffers, latest, kept_under, IsAnsw
 use Rattle.ring_node.specs.declared.serving.Reply.{Reply}
 use Rattle.ring_node.specs.declared.serving.Reply.TheVariants.{Bytes, Gone, Refused}
 
--- the message of the newest offer, or Gone where there is none
+-- the message of the newest offer, or Gone if there is none
 abbrev pub RepliesOffer : Reply → Type 0
 RepliesOffer (Bytes bytes) = FoundAtSomeMoment AreOffers (λ o. MatchOption (latest o) ⊥ (λ offer. bytes.items ≡ message_text (messages.Offer offer)))
 RepliesOffer Gone = FoundAtSomeMoment AreOffers (λ o. latest o ≡ None)
@@ -36,7 +36,7 @@ pub record IsGoneIn (o : Offers) (asked : List ℕ) : Type 0 where
   pub asks : message_text (messages.Ask ask) ≡ asked
   pub gone : kept_under o ask.offer ≡ None
 
--- the message that answers an ask, or Gone where the offer is not kept
+-- the message that answers an ask, or Gone if the offer is not kept
 abbrev pub RepliesAsk : List ℕ → Reply → Type 0
 RepliesAsk asked (Bytes bytes) = FoundAtSomeMoment AreOffers (λ o. IsReplyIn o asked bytes.items)
 RepliesAsk asked Gone = FoundAtSomeMoment AreOffers (λ o. IsGoneIn o asked)

@@ -72,7 +72,7 @@ impl SharedHints {
 
     /// Records that the owner of a hint took it or knew it, as [`HintStore::confirm`]. It takes no memory.
     ///
-    /// Refused: UnknownHint (no pending hint has this id with this owner, key and version). Nothing is then taken down.
+    /// Refused: UnknownHint (no pending hint has this id with this owner, key and version). Nothing is then recorded.
     pub fn confirm<R: Wait>(&self, rt: &R, id: u32, delivery: Delivery) -> Result<(), Refusal>
         ensures { ChangedAtSomeMoment AreHints
             (λ before after. DoesAtOnce result before after (confirm before id delivery)) }

@@ -30,15 +30,15 @@ member false later e = cc
 pub has_place : (s : Cluster) (n : ℕ) → nodes_fault s n [] ≡ None → position (λ m. m == n) s.ring.nodes ≡ None → ⊥
 has_place s n fine none = placed (λ m. m == n) s.ring.nodes (member (is_member s n) (cond (is_down s n) (Some Down) None) fine) none
 
--- what a delivery is where the node is at i
+-- what a delivery is if the node is at i
 pub delivered_at : (s : Cluster) (n i : ℕ) (hs : List Kept) (r : Round) → position (λ m. m == n) s.ring.nodes ≡ Some i → slice_get s.hints i ≡ Some hs → round_of s hs ≡ r → deliver_at s n (hints_of s n) ≡ gives (Answers.Deliver r.taken r.known (pending_count r.hints)) (record s { replicas = r.replicas; hints = slice_set s.hints i r.hints })
 delivered_at s n i hs r p e is = rw (p, e, is, p) refl
 
--- what the hints of a put do where the carrier is at i
+-- what the hints of a put do if the carrier is at i
 pub hinted_some : (e : Entry) (owners : List ℕ) (s : Cluster) (o : Option ℕ) (n i : ℕ) (hs : List Kept) → o ≡ Some n → position (λ m. m == n) s.ring.nodes ≡ Some i → slice_get s.hints i ≡ Some hs → hinted e owners s o ≡ (length (kept_all e owners hs) - length hs, record s { hints = slice_set s.hints i (kept_all e owners hs) })
 hinted_some e owners s o n i hs is p at = rw (is, p, at, p) refl
 
--- and where it has no place
+-- and if it has no place
 pub hinted_none : (e : Entry) (owners : List ℕ) (s : Cluster) (o : Option ℕ) (n : ℕ) → o ≡ Some n → position (λ m. m == n) s.ring.nodes ≡ None → hinted e owners s o ≡ (0, s)
 hinted_none e owners s o n is p = rw (is, p) refl
 

@@ -22,7 +22,7 @@ drop_none : {X : Type 0} (i : ℕ) (none : List X) → none ≡ [] → drop i no
 drop_none zero none e = refl
 drop_none (suc i) none e = rw e refl
 
--- ---- what is due is what is offered, behind a number
+-- ---- what is due is what is offered, after a number
 
 due_behind : (p l a : Bool) → l ≡ false → (p && l && a) ≡ false
 due_behind true true a e = cc
@@ -41,7 +41,7 @@ none_parts false k rest e = (refl, e)
 skipped : (up : List ℕ) (bits : ℕ) (r : Round) (k : Kept) → is_offered up k ≡ false → offer_one up bits r k ≡ r
 skipped up bits r k e = rw e refl
 
--- where none is due, none of those behind the number is offered
+-- if none is due, none of those after the number is offered
 pub skips : (up : List ℕ) (bits : ℕ) (ks : List Kept) (n after : ℕ) (r : Round) → AreNumberedFrom n ks → find (is_due up after) ks ≡ None → fold (offer_one up bits) r (drop (after + 1 - n) ks) ≡ r
 skips up bits [] n after r numbered none = ap (fold (offer_one up bits) r) (drop_none (after + 1 - n) [] refl)
 skips up bits (k ∷ ks) n after r numbered none =
@@ -61,7 +61,7 @@ skips up bits (k ∷ ks) n after r numbered none =
 
 -- ---- the next hint
 
--- the hint that a search finds: those before it, behind the number, are skipped
+-- the hint that a search finds: those between the number and it are skipped
 pub record Found (up : List ℕ) (bits : ℕ) (ks : List Kept) (n after : ℕ) (r : Round) (k : Kept) : Type 0 where
   pub low : n ≤ k.hint.id
   pub ahead : after < k.hint.id
@@ -152,7 +152,7 @@ finds up bits (k ∷ ks) n after r x numbered found = here (λ off. finds up bit
 other : (id : ℕ) (d : Delivery) (k : Kept) → nat_eq k.hint.id id ≡ false → answered id d k ≡ k
 other id d k e = rw e refl
 
--- behind the hint that was confirmed nothing changed
+-- after the hint that was confirmed, nothing changed
 pub confirmed_rest : (ks : List Kept) (n id : ℕ) (d : Delivery) → AreNumberedFrom n ks → drop (id + 1 - n) (confirmed ks id d) ≡ drop (id + 1 - n) ks
 confirmed_rest [] n id d numbered = refl
 confirmed_rest (k ∷ ks) n id d numbered = here (confirmed_rest ks (n + 1) id d numbered.1) (nat_lt id n) refl
@@ -208,7 +208,7 @@ next_is up bits after hs r hint numbered e =
       rest = ap (λ (n : ℕ). fold (offer_one up bits) r (drop n hs)) (sym (one_less after)) ∙ g.rest ∙ ap (λ (n : ℕ). fold (offer_one up bits) (offer_one up bits r (pending_of hint)) (drop n hs)) (one_less hint.id) ∙ ap (λ (x : Round). fold (offer_one up bits) x (drop hint.id hs)) (offered_here up bits r (pending_of hint) g.offered);
     }
 
--- where there is no next hint, nothing more is done
+-- if there is no next hint, nothing more is done
 pub last_is : (up : List ℕ) (bits after : ℕ) (hs : List Kept) (r : Round) → AreNumberedFrom 1 hs → next_hint up after hs ≡ None → fold (offer_one up bits) r (drop after hs) ≡ r
 last_is up bits after hs r numbered e = ap (λ (n : ℕ). fold (offer_one up bits) r (drop n hs)) (sym (one_less after)) ∙ skips up bits hs 1 after r numbered (no_hint (find (is_due up after) hs) e)
   where
@@ -216,7 +216,7 @@ last_is up bits after hs r numbered e = ap (λ (n : ℕ). fold (offer_one up bit
     no_hint None e = refl
     no_hint (Some k) e = cc
 
--- ---- behind the hint that was offered nothing changed
+-- ---- after the hint that was offered, nothing changed
 
 home_rest : (bits : ℕ) (r : Round) (hint : Hint) (o : Outcome Accepted (List Replica)) → AreNumberedFrom 1 r.hints → drop hint.id (offered_to bits r hint o).hints ≡ drop hint.id r.hints
 home_rest bits r hint (refuses e) numbered = refl

@@ -93,12 +93,12 @@ sync_config s new partner other (Err e) ok late = elim late [
   | inr part ↦ part.config ∙ leaves_config s 0 other 0 part.leaves
 ]
 
--- a replica after a sync, where it was not refused
+-- a replica after a sync, if it was not refused
 pub sync_ok : (n : ℕ) (s new : range.State) (other : RowMap) (r : Result Synced Refusal) → IfOk r (λ a. IsSyncedTo s 0 other new a) → OnOk r (replica_of n new ≡ synced_with other (replica_of n s))
 sync_ok n s new other (Ok a) is = synced_replica n s new other a is
 sync_ok n s new other (Err e) is = tt
 
--- what is answered
+-- what is returned
 pub sync_answers : (n : ℕ) (s new : range.State) (other : RowMap) (fault : Option Refusal) (r : Result Synced Refusal) → Answers r fault (λ _. ⊤) → IfOk r (λ a. IsSyncedTo s 0 other new a) → AnswersOrNoMemory r fault (IsCounted (replica_of n s) other)
 sync_answers n s new other fault (Ok a) answers is = (answers.0, counted n s new other a is)
 sync_answers n s new other fault (Err e) answers is = elim answers [ inl memory ↦ inl memory.1 | inr cause ↦ inr cause ]

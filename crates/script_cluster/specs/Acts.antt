@@ -152,7 +152,7 @@ key_act show g s = do
 abbrev pub held_at : GetAsk → range.State → Answer
 held_at g h = Answers.Versions (held h.entries g.key)
 
--- a row's text in a format, or none where nothing is held
+-- a row's text in a format, or nothing if nothing is held
 abbrev pub text_of : Format → List ℕ → List Version → List ℕ
 text_of format key [] = []
 text_of format key (v ∷ vs) = row_text format (record { key = key; versions = v ∷ vs })

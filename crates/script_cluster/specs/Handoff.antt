@@ -21,7 +21,7 @@ use Rattle.script_cluster.specs.State.{Cluster, Replica, at_home, left, is_down,
 abbrev pub owners_of : (ℕ → Bool) → List Replica → List ℕ
 owners_of gets_hint reps = filter gets_hint (map (λ r. r.node) reps)
 
--- who keeps the hints of a range: the first node that is up behind its replicas in its preference list
+-- who keeps the hints of a range: the first node after its replicas in its preference list that is up
 abbrev pub carrier_of : Cluster → ℕ → Option ℕ
 carrier_of s r = find (λ n. not (is_down s n)) (drop s.ring.copies (preference_list s.ring.nodes r))
 
@@ -33,7 +33,7 @@ kept_for e hs owner = left (keep hs owner e.key e.version) hs
 abbrev pub kept_all : Entry → List ℕ → List Kept → List Kept
 kept_all e owners hs = fold (kept_for e) hs owners
 
--- what a put's hints do, where the node with these hints carries them: how many are kept, and the cluster with them
+-- what a put's hints do, if the node with these hints carries them: how many are kept, and the cluster with them
 abbrev pub hinted_at : Entry → List ℕ → Cluster → ℕ → Option (List Kept) → ℕ × Cluster
 hinted_at e owners s carrier None = (0, s)
 hinted_at e owners s carrier (Some hs) = (length (kept_all e owners hs) - length hs, with_hints s carrier (kept_all e owners hs))

@@ -1,4 +1,4 @@
--- What a sync leaves and answers: the paper of 2007, section 4.7.
+-- What a sync returns and leaves: the paper of 2007, section 4.7.
 use Rattle.std.specs.Prelude.{◌≡◌, ◌+◌, ◌-◌, ◌++◌, [], ◌∷◌, length, Option, Some, None}
 use Rattle.vclock.specs.Answer.{first_fault}
 use Rattle.vclock.specs.declared.refusal.Refusal.{Refusal}

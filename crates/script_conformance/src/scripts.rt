@@ -16,7 +16,7 @@ const PUT_ANSWER: &str = r#"{"clock":[[1,1]],"copied":0,"hinted":0,"number":0}"#
 /// A get of `a`.
 const GET: &str = r#"{"get":{"node":1,"key":"61"}}"#;
 
-/// What is written where the first line is bad.
+/// What is written if the first line is bad.
 const BAD_FIRST: &str = "{\"cause\":\"BadLine\",\"line\":1,\"refused\":29}\n";
 
 /// Runs a script, which is to write the output and to end so.

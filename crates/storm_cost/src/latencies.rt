@@ -47,7 +47,7 @@ impl Latencies {
     }
 
     /// Notes that a writer ended a put at a moment, after which both have done so many puts, and returns whether it was
-    /// the first writer: one whose put was not noted yet. Where both have such a put it may be either: then both ended
+    /// the first writer: one whose put was not noted yet. If both have such a put it may be either: then both ended
     /// theirs about now.
     pub(crate) fn note(&mut self, ended: Instant, puts_of_one: u64) -> bool {
         let is_one = puts_of_one > self.one.puts;
@@ -70,7 +70,7 @@ impl Latencies {
         self.took.sort_unstable();
     }
 
-    /// The least time within which so many of a hundred puts were done, in nanoseconds, once the times are sorted. 0 where
+    /// The least time within which so many of a hundred puts were done, in nanoseconds, once the times are sorted. 0 if
     /// there is none.
     pub(crate) fn percentile(&self, percent: usize) -> u64 {
         let rank = self.took.len().saturating_mul(percent).div_ceil(100);

@@ -15,7 +15,7 @@ const AFTER_A_PUT: u32 = 3;
 const MOST_LOOKS: u64 = 60_000;
 
 /// A gate that notes how long each put of a storm takes, with the making of its key and value: from when its writer has
-/// passed the gate to when it comes to it again. Where the workers are to run when the writers have ended, it holds them
+/// passed the gate to when it comes to it again. If the workers are to run when the writers have ended, it holds them
 /// until then, for a minute at the most.
 #[derive(Drop)]
 pub(crate) struct Watch<'a, R: Clock> {
