@@ -5,7 +5,7 @@ Both put N new keys at node 1. `full`: then ten rounds, each a put of a further 
 has a rehash before the first round and after each. `one`: then a rehash, and 2000 puts of further keys; WITH has a
 rehash after each of these. `sync`: the puts are copied to node 2, then both are rehashed, and 500 puts of further keys
 follow, after each of which both are rehashed; in WITH node 2 gets no copies of these, and takes each in a sync before
-its rehash. N is made smaller where a journal, of 1000000 entries, would not take all that.
+its rehash. N is made smaller if a journal, of 1000000 entries, would not take all that.
 
 Prints N, how many rehashes or syncs WITHOUT lacks, of how many nodes each is, the bytes of their texts in all, and with
 how many lines both begin before the first of these, or before the further puts.
