@@ -1,0 +1,23 @@
+// Ranges of format 1 with all keys.
+use crate::entries::{key, version};
+use range_journal::journal::Source;
+use range_state::config::RangeConfig;
+use range_state::state::RangeState;
+use std::alloc::Global;
+use vclock::refusal::Refusal;
+
+/// How many entries a journal has at the most.
+pub(crate) const MOST_ENTRIES: u64 = 1_000_000;
+
+/// A range that has accepted nothing. Refused: NoMemory.
+pub(crate) fn new_range(alloc: Global) -> Result<RangeState, Refusal> {
+    let config = RangeConfig::new(1, 0, 0, MOST_ENTRIES).ok_or(Refusal::BadRing)?;
+    RangeState::new(alloc, config)
+}
+
+/// Has a range accept a copy of a number's key. Refused as [`RangeState::accept`].
+pub(crate) fn accept(alloc: Global, range: &mut RangeState, number: u64) -> Result<(), Refusal> {
+    let (key, version) = (key(alloc, number)?, version(alloc, number)?);
+    let _taken = range.accept(alloc, 0, Source::Copy, key.as_bytes(), version)?;
+    Ok(())
+}

@@ -1,0 +1,93 @@
+// What is to be done.
+ghost use Rattle.std.specs.Prelude.{◌≤◌};
+
+use crate::ranges::MOST_ENTRIES;
+
+/// How many threads there are at the most.
+const MOST_THREADS: u16 = 8;
+
+/// Which ranges the threads write.
+#[derive(Clone, Copy, Debug, PartialEq, Eq)]
+pub(crate) enum Sharing {
+    /// All write one range.
+    One,
+    /// Each writes a range of its own.
+    Each,
+}
+
+/// How many keys are written, by how many threads, and into which ranges.
+#[derive(Clone, Copy)]
+pub(crate) struct ThreadPlan {
+    pub(crate) keys: u64,
+    pub(crate) threads: u16,
+    pub(crate) sharing: Sharing,
+    ghost some: { 1 ≤ threads },
+    ghost few: { threads ≤ 8 },
+}
+
+/// The numbers of the keys of a thread: from one on, and below another.
+#[derive(Clone, Copy, Debug)]
+pub(crate) struct Part {
+    pub(crate) from: u64,
+    pub(crate) to: u64,
+}
+
+impl Sharing {
+    /// Which ranges a word means.
+    fn of_word(word: &str) -> Option<Sharing> {
+        match word {
+            "one" => Some(Sharing::One),
+            "each" => Some(Sharing::Each),
+            _ => None,
+        }
+    }
+}
+
+impl ThreadPlan {
+    /// The plan of these words, if they are one's: how many keys, how many threads, and `one` or `each`.
+    pub(crate) fn of_words(words: &[String]) -> Option<ThreadPlan> {
+        let [keys, threads, sharing] = words else {
+            return None;
+        };
+        ThreadPlan::new(
+            keys.parse::<u64>().ok()?,
+            threads.parse::<u16>().ok()?,
+            Sharing::of_word(sharing)?,
+        )
+    }
+
+    /// A plan, if it has 1 to 1,000,000 keys, as many as a journal has entries, and 1 to 8 threads.
+    fn new(keys: u64, threads: u16, sharing: Sharing) -> Option<ThreadPlan> {
+        if 1 <= keys && keys <= MOST_ENTRIES && 1 <= threads && threads <= MOST_THREADS {
+            Some(ThreadPlan {
+                keys,
+                threads,
+                sharing,
+            })
+        } else {
+            None
+        }
+    }
+
+    /// How many ranges the threads write.
+    pub(crate) fn ranges(&self) -> u16 {
+        match self.sharing {
+            Sharing::One => 1,
+            Sharing::Each => self.threads,
+        }
+    }
+
+    /// The part of a thread, which is known by its number, from 0. Past the last thread it is of no key.
+    pub(crate) fn part(&self, number: u16) -> Part {
+        Part {
+            from: self.of_first(number),
+            to: self.of_first(number.saturating_add(1)),
+        }
+    }
+
+    /// How many keys the first threads have together, so many of them.
+    fn of_first(&self, threads: u16) -> u64 {
+        let threads = u64::from(threads.min(self.threads));
+        threads.saturating_mul(self.keys) / u64::from(self.threads)
+    }
+}
