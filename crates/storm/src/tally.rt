@@ -1,4 +1,6 @@
 //! What the threads of a storm have done so far.
+ghost use Rattle.std.specs.Prelude.{◌≡◌};
+
 use ring_node::rehasher::RehashReport;
 use ring_node::syncer::SyncReport;
 use std::sync::{Mutex, Wait};
@@ -19,6 +21,23 @@ pub struct Tally {
     pub syncs: u64,
     /// How many versions the sessions journaled.
     pub taken: u64,
+}
+
+impl Tally {
+    /// The tally of a node that has done nothing.
+    fn nothing() -> Tally
+        ensures work { (result.puts ≡ 0) × (result.installed ≡ 0) × (result.stale ≡ 0) }
+        ensures syncs { (result.published ≡ 0) × (result.syncs ≡ 0) × (result.taken ≡ 0) }
+    {
+        Tally {
+            puts: 0,
+            installed: 0,
+            stale: 0,
+            published: 0,
+            syncs: 0,
+            taken: 0,
+        }
+    }
 }
 
 /// A tally that threads share.
@@ -50,14 +69,7 @@ impl SharedTally {
     /// A tally of nothing.
     fn new() -> SharedTally {
         SharedTally {
-            tally: Mutex::new(Tally {
-                puts: 0,
-                installed: 0,
-                stale: 0,
-                published: 0,
-                syncs: 0,
-                taken: 0,
-            }),
+            tally: Mutex::new(Tally::nothing()),
         }
     }
 
