@@ -96,7 +96,7 @@ const ASK: &[u8] = b"\x02\x00\x00\x00\x01\x02\x00\x0c";
 /// The bytes of an answer with a text of one byte.
 const ANSWER: &[u8] = b"\x03\x00\x00\x00\x01\x02\x00\x00\x00\x00\x00\x00\x00\x00\x00\x01\x00";
 
-/// Asserts that no message has the bytes less some at their end, or has them with a byte behind.
+/// Asserts that no message has the bytes less some at their end, or has them with a byte more.
 fn expect_whole(rt: &impl Abort, alloc: Global, bytes: &[u8]) -> Result<(), Refusal> {
     assert!(rt; decode(alloc, bytes).is_ok());
     for length in 0..bytes.len() {

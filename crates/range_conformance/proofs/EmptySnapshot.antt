@@ -25,7 +25,7 @@ abbrev text_of : ℕ → List ℕ
 text_of zero = leaf_text One []
 text_of (suc height) = inner_text One (replicate 16 (sha256 (text_of height)))
 
--- the digests by place, where all nodes of a depth have the same
+-- the digests by place, if all nodes of a depth have the same
 abbrev by_place : List ℕ → List ℕ → List ℕ → List (List ℕ)
 by_place root inner leaf = root ∷ replicate 16 inner ++ replicate 256 leaf
 

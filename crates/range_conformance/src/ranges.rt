@@ -46,7 +46,7 @@ fn a_range_has_a_format_a_place_and_a_limit(rt: HostRuntime) -> Result<(), Fail>
     Ok(())
 }
 
-/// Accepts a copy of `a` that node 2 has counted once, and answers its number, or none where it is known.
+/// Accepts a copy of `a` that node 2 has counted once, and returns its number, or `None` if it is known.
 fn accept_a(alloc: Global, state: &mut RangeState, value: &[u8]) -> Result<Option<u64>, Refusal> {
     let copy = version(alloc, (2, 1), Kind::Live, value)?;
     match state.accept(alloc, 0, Source::Copy, b"a", copy)? {

@@ -212,7 +212,7 @@ fn text_above(alloc: Global, child: &[u8]) -> Result<Vec<u8>, Fail>
     Ok(inner_text(alloc, Format::One, &[digest; 16])?)
 }
 
-/// The digests of all nodes by place, where all nodes of a depth have the same text, in format 1.
+/// The digests of all nodes by place, if all nodes of a depth have the same text, in format 1.
 fn digests_by_place(
     alloc: Global,
     root: &[u8],

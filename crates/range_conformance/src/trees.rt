@@ -153,7 +153,7 @@ fn workers_take_different_jobs(rt: HostRuntime) -> Result<(), Fail> {
     Ok(())
 }
 
-/// How many jobs are taken of a new range, where so many are asked for.
+/// How many jobs are taken of a new range, if so many are asked for.
 fn count_taken(alloc: Global, format: u64, most: usize) -> Result<usize, Fail> {
     let state = range(alloc, format)?;
     Ok(state.take_jobs(alloc, most)?.len())
