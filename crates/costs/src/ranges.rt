@@ -9,10 +9,14 @@ use vclock::refusal::Refusal;
 /// How many entries a journal has at the most.
 pub(crate) const MOST_ENTRIES: u64 = 1_000_000;
 
+/// Which range it is.
+pub(crate) fn config() -> Result<RangeConfig, Refusal> {
+    RangeConfig::new(1, 0, 0, MOST_ENTRIES).ok_or(Refusal::BadRing)
+}
+
 /// A range that has accepted nothing. Refused: NoMemory.
 pub(crate) fn new_range(alloc: Global) -> Result<RangeState, Refusal> {
-    let config = RangeConfig::new(1, 0, 0, MOST_ENTRIES).ok_or(Refusal::BadRing)?;
-    RangeState::new(alloc, config)
+    RangeState::new(alloc, config()?)
 }
 
 /// Has a range accept a copy of a number's key. Refused as [`RangeState::accept`].

@@ -2,12 +2,13 @@
 ghost use Rattle.std.specs.Prelude.{◌≡◌, ◌≤◌};
 
 use crate::fault::Fault;
-use crate::ranges::new_range;
+use crate::ranges::config;
 use crate::threads::calls::{Starts, put_and_get};
 use crate::threads::plan::{Sharing, ThreadPlan};
 use crate::threads::spans::{Span, Spans};
 use caller_pass::book::open_passes;
 use caller_pass::pass::Pass;
+use range_state::state::RangeState;
 use ring_node::range::SharedRange;
 use std::alloc::Global;
 use std::marker::Brand;
@@ -176,7 +177,7 @@ fn open_range<L: Ledger>(
     requires ledger { (blank.name ≡ L.name) × (blank.parts ≡ L.parts) × (L.parts ≡ seats) }
     requires few { (1 ≤ seats) × (seats ≤ 64) }
 {
-    let state = new_range(alloc)?;
+    let state = RangeState::new(alloc, config()?)?;
     let (book, passes) = open_passes::<L>(blank, alloc, seats)?;
     Ok((SharedRange::new(1, state, book), passes))
 }
