@@ -1,7 +1,7 @@
 // Two replicas that are reconciled.
 ghost use Rattle.std.specs.Prelude.{◌≤◌};
 
-use conformance::refusals::is_refused;
+use crate::refusals::is_refused;
 use hash_tree::hashed::Digest;
 use range_state::config::RangeConfig;
 use range_state::state::RangeState;

@@ -1,5 +1,5 @@
 // Sessions: two trees compared, and what is taken of the partner's answers.
-use conformance::refusals::is_refused;
+use crate::refusals::is_refused;
 use hash_tree::hashed::{Digest, Hashed, hash};
 use hash_tree::node::NodeAt;
 use hash_tree::text::Text;

@@ -1,5 +1,5 @@
 // Sessions of ranges with their partners.
-use conformance::refusals::is_refused;
+use crate::refusals::is_refused;
 use hash_tree::hashed::{Digest, Hashed, hash};
 use hash_tree::node::NodeAt;
 use hash_tree::text::Text;

@@ -1,8 +1,8 @@
 // Range states.
 ghost use Rattle.std.specs.Prelude.{◌<◌};
 
-use conformance::refusals::is_refused;
-use conformance::versions::{members, version};
+use crate::refusals::is_refused;
+use crate::versions::{members, version};
 use range_journal::journal::Source;
 use range_state::config::RangeConfig;
 use range_state::event::{AcceptEvent, Accepted, Event, PutEvent, Reply};

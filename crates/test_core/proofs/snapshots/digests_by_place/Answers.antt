@@ -1,6 +1,6 @@
 use Rattle.std.proofs.Common.{◌≡◌, ◌∷◌, ◌++◌, [], replicate, ◌∙◌}
 use Rattle.sha2.specs.Sha256.{sha256}
-use Rattle.range_conformance.proofs.snapshots.digests_by_place.Goals as goal
+use Rattle.test_core.proofs.snapshots.digests_by_place.Goals as goal
 
 pub returns : goal.returns
 returns c =

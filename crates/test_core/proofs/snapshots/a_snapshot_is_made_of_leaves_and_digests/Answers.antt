@@ -2,8 +2,8 @@ use Rattle.std.proofs.Common.{◌∷◌, ◌++◌, List, ℕ, replicate, ap, ◌
 use Rattle.sha2.specs.Sha256.{sha256}
 use Rattle.vclock.specs.declared.format.Format.TheVariants.{One}
 use Rattle.hash_tree.specs.Texts.{inner_text}
-use Rattle.range_conformance.proofs.EmptySnapshot.{empty_snapshot}
-use Rattle.range_conformance.proofs.snapshots.a_snapshot_is_made_of_leaves_and_digests.Goals as goal
+use Rattle.test_core.proofs.EmptySnapshot.{empty_snapshot}
+use Rattle.test_core.proofs.snapshots.a_snapshot_is_made_of_leaves_and_digests.Goals as goal
 
 pub new-requires : goal.new-requires
 new-requires g c =

@@ -3,7 +3,7 @@ ghost use Rattle.std.specs.Prelude.{◌≡◌, ◌∷◌, ◌++◌, [], replicat
 ghost use Rattle.sha2.specs.Sha256.{sha256};
 ghost use Rattle.hash_tree.specs.Texts.{inner_text};
 
-use conformance::refusals::is_refused;
+use crate::refusals::is_refused;
 use hash_tree::hashed::Digest;
 use hash_tree::node::NodeAt;
 use hash_tree::shared::SharedLeaf;

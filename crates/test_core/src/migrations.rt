@@ -1,5 +1,5 @@
 // A range that goes over to format 2.
-use conformance::refusals::is_refused;
+use crate::refusals::is_refused;
 use hash_tree::node::NodeAt;
 use range_state::config::RangeConfig;
 use range_state::event::{Event, Reply};

@@ -1,6 +1,6 @@
 // Trees: node texts, marks, jobs and rehashes. The digests were made by another program from the definition.
-use conformance::refusals::is_refused;
-use conformance::versions::version;
+use crate::refusals::is_refused;
+use crate::versions::version;
 use hash_tree::comparing::is_inner_text;
 use hash_tree::hashed::{Digest, Hashed, hash};
 use hash_tree::marks::Marks;
