@@ -1,13 +1,14 @@
 //! A list of random calls on a range and a partner, with the sessions in which the range compares itself with the partner.
 ghost use Rattle.std.specs.Prelude.{◌<◌, ◌≤◌};
-ghost use Rattle.event_lists.specs.declared.lists.TheConstants.{LAST};
+ghost use Rattle.random_lists.specs.declared.calls.lists.TheConstants.{LAST};
 
-use crate::leaves::Taken;
-use crate::pairs::reconcile_both;
-use crate::plain::{Fault, KEYS, PlainVersion, Trouble, expect};
+use crate::calls::leaves::Taken;
+use crate::calls::pairs::reconcile_both;
+use crate::calls::plain::{Fault, KEYS, PlainVersion};
+use crate::calls::replicas::{Replica, SEAT, is_entry};
+use crate::calls::walks::{Offering, Sent};
 use crate::random::Random;
-use crate::replicas::{Replica, SEAT, is_entry};
-use crate::walks::{Offering, Sent};
+use crate::trouble::{Trouble, expect};
 use hash_tree::hashed::{Digest, hash};
 use hash_tree::node::NodeAt;
 use hash_tree::text::Text;

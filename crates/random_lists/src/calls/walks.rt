@@ -1,7 +1,8 @@
 //! What a session asks and takes, by the definitions.
 
-use crate::plain::{Fault, Trouble};
-use crate::trees::{Tree, child, inner_byte, leaf_depth};
+use crate::calls::plain::Fault;
+use crate::calls::trees::{Tree, child, inner_byte, leaf_depth};
+use crate::trouble::Trouble;
 use hash_tree::hashed::Digest;
 use hash_tree::node::NodeAt;
 use range_state::record::Record;

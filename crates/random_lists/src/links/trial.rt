@@ -1,16 +1,16 @@
 //! A list of deeds, done to the syncs of a range.
 ghost use Rattle.std.specs.Prelude.{◌≡◌};
 
-use crate::checks::check_all;
-use crate::deeds::random_deeds;
-use crate::forger::Forger;
-use crate::own::Own;
-use crate::partner::Partner;
+use crate::links::checks::check_all;
+use crate::links::deeds::random_deeds;
+use crate::links::forger::Forger;
+use crate::links::own::Own;
+use crate::links::partner::Partner;
+use crate::links::rows::{crowd_row, random_row};
+use crate::links::tally::Tally;
+use crate::links::watched::Watched;
 use crate::random::Random;
-use crate::rows::{crowd_row, random_row};
-use crate::tally::Tally;
 use crate::trouble::Trouble;
-use crate::watched::Watched;
 use admission::controller::Controller;
 use admission::slot::Slot;
 use ring_node::controller::SharedController;

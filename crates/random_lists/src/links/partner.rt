@@ -1,6 +1,6 @@
 //! Partners.
 
-use crate::rows::{Given, KEYS, key_bytes};
+use crate::links::rows::{Given, KEYS, key_bytes};
 use crate::trouble::Trouble;
 use hash_tree::hashed::Digest;
 use range_journal::journal::Source;

@@ -1,9 +1,10 @@
 //! Two ranges that are reconciled, beside what the definitions say of them.
 
-use crate::plain::{Fault, KEYS, Trouble, expect};
-use crate::replicas::{Offered, Replica, SEAT};
-use crate::trees::{Tree, differing};
-use crate::walks::{Offering, Sent, Walk};
+use crate::calls::plain::{Fault, KEYS};
+use crate::calls::replicas::{Offered, Replica, SEAT};
+use crate::calls::trees::{Tree, differing};
+use crate::calls::walks::{Offering, Sent, Walk};
+use crate::trouble::{Trouble, expect};
 use hash_tree::node::NodeAt;
 use range_state::state::RangeState;
 use range_state::state::reconciling::{Reconciled, reconcile};

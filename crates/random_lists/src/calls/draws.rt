@@ -1,44 +1,11 @@
-//! Random numbers, and versions drawn by them.
+//! Random versions, and limits of journals.
 ghost use Rattle.std.specs.Prelude.{◌<◌};
 
-use crate::plain::{NODES, PlainVersion};
+use crate::calls::plain::{NODES, PlainVersion};
+use crate::random::Random;
 use version_set::kind::Kind;
 
-/// A generator of random numbers, splitmix64.
-#[derive(Clone, Copy)]
-pub(crate) struct Random {
-    state: u64,
-}
-
 impl Random {
-    /// The generator of a seed.
-    pub(crate) fn new(seed: u64) -> Random {
-        Random { state: seed }
-    }
-
-    /// The next number.
-    fn next(&mut self) -> u64 {
-        self.state = self.state.wrapping_add(0x9e37_79b9_7f4a_7c15);
-        let first = (self.state ^ (self.state >> 30)).wrapping_mul(0xbf58_476d_1ce4_e5b9);
-        let second = (first ^ (first >> 27)).wrapping_mul(0x94d0_49bb_1331_11eb);
-        second ^ (second >> 31)
-    }
-
-    /// A number below a bound.
-    pub(crate) fn below(&mut self, bound: u64) -> u64
-        requires { 0 < bound }
-        ensures { result < bound }
-    {
-        self.next() % bound
-    }
-
-    /// Whether something comes to pass that does so once in so many times.
-    pub(crate) fn once_in(&mut self, times: u64) -> bool
-        requires { 0 < times }
-    {
-        self.below(times) == 0
-    }
-
     /// How many entries a journal may have: once in so many times few, else more than come.
     pub(crate) fn limit(&mut self, times: u64) -> u64
         requires { 0 < times }

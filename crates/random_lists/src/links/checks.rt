@@ -1,9 +1,9 @@
 //! What must hold whatever a link did.
 
-use crate::own::{Ended, Worked};
-use crate::partner::Partner;
-use crate::rows::{Given, is_covered};
-use crate::tally::Tally;
+use crate::links::own::{Ended, Worked};
+use crate::links::partner::Partner;
+use crate::links::rows::{Given, is_covered};
+use crate::links::tally::Tally;
 use crate::trouble::{Trouble, expect};
 use hash_tree::node::{NodeAt, tree_depth};
 use key_ring::places::place;

@@ -1,4 +1,4 @@
-use Rattle.link_lists.proofs.trial.run_list.Given as goal
+use Rattle.random_lists.proofs.links.trial.run_list.Given as goal
 
 abbrev pub ghosts-run-L-Ledger : goal.ghosts-run-L-Ledger
 ghosts-run-L-Ledger g a = record { name = a.range.name; parts = a.range.parts }

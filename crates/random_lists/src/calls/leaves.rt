@@ -1,7 +1,8 @@
 //! What comes of a partner's leaf, by the definitions.
 
-use crate::plain::{Fault, PlainEntry, PlainRange, Trouble};
-use crate::trees::Tree;
+use crate::calls::plain::{Fault, PlainEntry, PlainRange};
+use crate::calls::trees::Tree;
+use crate::trouble::Trouble;
 use range_journal::journal::Source;
 use std::alloc::Global;
 

@@ -1,7 +1,8 @@
 //! The tree over rows, by the definitions.
 ghost use Rattle.std.specs.Prelude.{◌≤◌};
 
-use crate::plain::{KEYS, PlainRange, PlainVersion, Trouble, key_bytes};
+use crate::calls::plain::{KEYS, PlainRange, PlainVersion, key_bytes};
+use crate::trouble::Trouble;
 use hash_tree::hashed::Digest;
 use hash_tree::node::NodeAt;
 use sha2::{Digest as _, Sha256};

@@ -1,10 +1,10 @@
 //! The range that takes what a partner has.
 ghost use Rattle.std.specs.Prelude.{◌≡◌};
 
-use crate::rows::Given;
-use crate::tally::Tally;
+use crate::links::rows::Given;
+use crate::links::tally::Tally;
+use crate::links::watched::Watched;
 use crate::trouble::Trouble;
-use crate::watched::Watched;
 use admission::slot::Slot;
 use caller_pass::book::open_passes;
 use caller_pass::closing::Closed;

@@ -1,9 +1,9 @@
 //! What a range answers and holds, by the definitions: all accepted versions in a list.
 
+use crate::trouble::Trouble;
 use md5::{Digest, Md5};
 use range_journal::journal::Source;
-use std::alloc::{AllocError, AllocFailed, Global};
-use std::fmt;
+use std::alloc::Global;
 use vclock::bytes::Bytes;
 use vclock::clock::Clock;
 use vclock::format::Format;
@@ -19,51 +19,6 @@ pub(crate) const KEYS: u64 = 8;
 
 /// How many versions are held for a key at the most.
 const MOST_VERSIONS: usize = 64;
-
-/// Why a list ends early.
-#[derive(Drop)]
-pub(crate) enum Trouble {
-    /// This differs from what the plain program says.
-    Differs(&'static str),
-    /// A value could not be made.
-    Refused(Refusal),
-}
-
-impl fmt::Display for Trouble {
-    fn fmt<W: fmt::Write>(&self, f: &mut fmt::Formatter<W>) -> fmt::Result {
-        match self {
-            Trouble::Differs(what) => write!(f, "{what} differs"),
-            Trouble::Refused(refusal) => write!(f, "{refusal}"),
-        }
-    }
-}
-
-impl From<Refusal> for Trouble {
-    fn from(refusal: Refusal) -> Trouble {
-        Trouble::Refused(refusal)
-    }
-}
-
-impl From<AllocError> for Trouble {
-    fn from(_error: AllocError) -> Trouble {
-        Trouble::Refused(Refusal::NoMemory)
-    }
-}
-
-impl<T: Drop> From<AllocFailed<T>> for Trouble {
-    fn from(_failed: AllocFailed<T>) -> Trouble {
-        Trouble::Refused(Refusal::NoMemory)
-    }
-}
-
-/// Ends the list where something is not as the plain program says.
-pub(crate) fn expect(holds: bool, what: &'static str) -> Result<(), Trouble> {
-    if holds {
-        Ok(())
-    } else {
-        Err(Trouble::Differs(what))
-    }
-}
 
 /// Why a call is to be refused.
 #[derive(Clone, Copy, PartialEq, Eq)]

@@ -1,9 +1,10 @@
 //! A range beside its plain program: each call is made at both, and what they answer and leave is compared.
 ghost use Rattle.std.specs.Prelude.{◌≤◌};
 
-use crate::plain::{Fault, KEYS, PlainEntry, PlainRange, PlainVersion, Trouble, expect, key_bytes};
-use crate::trees::{Tree, leaf_depth, width};
-use crate::walks::Walk;
+use crate::calls::plain::{Fault, KEYS, PlainEntry, PlainRange, PlainVersion, key_bytes};
+use crate::calls::trees::{Tree, leaf_depth, width};
+use crate::calls::walks::Walk;
+use crate::trouble::{Trouble, expect};
 use hash_tree::hashed::Hashed;
 use hash_tree::node::NodeAt;
 use range_journal::journal::{Entry, Source};

@@ -1,9 +1,10 @@
 //! The sessions of a range, beside their walks.
 
-use crate::plain::{Fault, PlainEntry, Trouble, expect};
-use crate::replicas::Replica;
-use crate::trees::Tree;
-use crate::walks::{Offering, Walk};
+use crate::calls::plain::{Fault, PlainEntry};
+use crate::calls::replicas::Replica;
+use crate::calls::trees::Tree;
+use crate::calls::walks::{Offering, Walk};
+use crate::trouble::{Trouble, expect};
 use hash_tree::hashed::Digest;
 use hash_tree::node::NodeAt;
 use range_journal::journal::Source;
