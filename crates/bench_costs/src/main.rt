@@ -35,8 +35,9 @@ use threads::plan::ThreadPlan;
 
 /// How the program is called.
 const USAGE: &str =
-    "usage: costs snapshots KEYS COUNT|migrate\n       costs reconciles KEYS DIFFER TURNS\n       \
-                     costs calls [KEYS]\n       costs threads KEYS THREADS one|each\n       costs storms PUTS beside|alone";
+    "usage: bench_costs snapshots KEYS COUNT|migrate\n       bench_costs reconciles KEYS DIFFER TURNS\n       \
+                     bench_costs calls [KEYS]\n       bench_costs threads KEYS THREADS one|each\n       \
+                     bench_costs storms PUTS beside|alone";
 
 /// What is measured.
 #[derive(Clone, Copy)]
@@ -57,7 +58,7 @@ fn main(rt: HostRuntime) -> ExitCode {
         Ok(true) => ExitCode::SUCCESS,
         Ok(false) => ExitCode::FAILURE,
         Err(fault) => {
-            let _ = eprintln!(rt; "costs: {fault}");
+            let _ = eprintln!(rt; "bench_costs: {fault}");
             ExitCode::FAILURE
         }
     }
