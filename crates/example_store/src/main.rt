@@ -27,7 +27,7 @@ fn main(rt: HostRuntime) -> ExitCode {
     match run(&rt, rt.alloc()) {
         Ok(()) => ExitCode::SUCCESS,
         Err(fault) => {
-            let _ = eprintln!(rt; "embedding: {fault}");
+            let _ = eprintln!(rt; "example_store: {fault}");
             ExitCode::FAILURE
         }
     }

@@ -1,4 +1,4 @@
-use Rattle.embedding.proofs.day.run_day.Given as goal
+use Rattle.example_store.proofs.day.run_day.Given as goal
 
 abbrev pub ghosts-run_with-A-Ledger : goal.ghosts-run_with-A-Ledger
 ghosts-run_with-A-Ledger g a = record { name = a.first.name; parts = a.first.parts }
