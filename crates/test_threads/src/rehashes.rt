@@ -113,7 +113,7 @@ fn ended(installed: u64, stale: u64) -> RehashReport {
 }
 
 #[test]
-fn a_put_passes_a_worker_that_took_a_job(rt: HostRuntime) -> Result<(), Fail> {
+fn a_write_passes_a_rehash_at_step_1(rt: HostRuntime) -> Result<(), Fail> {
     let blanks = (Blank::new(1), Blank::new(1), Blank::new(1024));
     let passed = put_at_a_gate::<Brand, Brand, Brand, HostRuntime>(&rt, rt.alloc(), blanks, 1)?;
     assert!(rt; !passed.gave_up);
@@ -124,7 +124,7 @@ fn a_put_passes_a_worker_that_took_a_job(rt: HostRuntime) -> Result<(), Fail> {
 }
 
 #[test]
-fn a_put_passes_a_worker_that_hashed(rt: HostRuntime) -> Result<(), Fail> {
+fn a_write_passes_a_rehash_at_step_2(rt: HostRuntime) -> Result<(), Fail> {
     let blanks = (Blank::new(1), Blank::new(1), Blank::new(1024));
     let passed = put_at_a_gate::<Brand, Brand, Brand, HostRuntime>(&rt, rt.alloc(), blanks, 2)?;
     assert!(rt; !passed.gave_up);

@@ -17,14 +17,14 @@ use test_core::versions::version;
 use vclock::refusal::Refusal;
 use version_set::kind::Kind;
 
-/// How often each thread puts its key and sends a copy of the common one: for about a second.
-const ROUNDS: u32 = 1_000;
+/// How often each thread puts its key and sends a copy of the common one.
+const ROUNDS: u32 = 100;
 
 /// How many entries the range accepts: two a round of each thread.
-const ENTRIES: u64 = 16_000;
+const ENTRIES: u64 = 1_600;
 
 /// How many receipts, and how many readings, each pass gets: two a round.
-const TOLD: usize = 2_000;
+const TOLD: usize = 200;
 
 /// Puts a key of the thread's own, takes in a copy of a key that all write, and reads both.
 fn round<L: Ledger, R: Wait>(

@@ -1,4 +1,4 @@
-use Rattle.test_threads.proofs.rehashes.a_put_passes_a_worker_that_hashed.Given as goal
+use Rattle.test_threads.proofs.rehashes.a_write_passes_a_rehash_at_step_1.Given as goal
 
 abbrev pub ghosts-put_at_a_gate-L-Ledger : goal.ghosts-put_at_a_gate-L-Ledger
 ghosts-put_at_a_gate-L-Ledger g a = record { name = a.blanks.0.name; parts = a.blanks.0.parts }
