@@ -1,6 +1,7 @@
 //! Tests of the calls of clocks, rows, trees, messages, ranges and sessions: worked examples and vectors.
 #![tactic(auto)]
 
+pub mod checks;
 #[cfg(test)]
 mod clocks;
 #[cfg(test)]

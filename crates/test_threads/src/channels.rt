@@ -64,6 +64,19 @@ fn a_channel_serves_until_it_is_stopped(rt: HostRuntime) -> Result<(), Fail> {
 }
 
 #[test]
+fn a_server_ends_with_its_link(rt: HostRuntime) -> Result<(), Fail> {
+    let alloc = rt.alloc();
+    let pool = OfferPool::new(alloc);
+    let (link, server) = channel_link(alloc)?;
+    link.stop(&rt);
+    server.run(&rt, &pool);
+    let (link, server) = channel_link(alloc)?;
+    drop(link);
+    server.run(&rt, &pool);
+    Ok(())
+}
+
+#[test]
 fn a_link_without_its_server_fails(rt: HostRuntime) -> Result<(), Fail> {
     let alloc = rt.alloc();
     let (mut link, server) = channel_link(alloc)?;

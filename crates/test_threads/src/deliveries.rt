@@ -2,6 +2,8 @@
 ghost use Rattle.std.specs.Prelude.{◌≡◌};
 
 use crate::fixtures::{counted, last_pass, open_range, open_slots, value};
+use crate::nodes::Node;
+use range_state::config::RangeConfig;
 use ring_node::delivery::{DeliverReport, deliver};
 use ring_node::hints::SharedHints;
 use std::alloc::Global;
@@ -9,6 +11,7 @@ use std::marker::Brand;
 use std::sync::Wait;
 use std::sync::ledger::{Blank, Ledger};
 use std::test::Fail;
+use test_core::checks::expect;
 use test_core::versions::version;
 use vclock::bytes::Bytes;
 use vclock::refusal::Refusal;
@@ -96,4 +99,102 @@ fn a_hint_of_another_node_is_a_strangers(rt: HostRuntime) -> Result<(), Fail> {
     assert!(rt; matches!(&one.report, Err(Refusal::Stranger)));
     assert_eq!(rt; (one.told, one.pending), (0, true));
     Ok(())
+}
+
+/// Keeps the hint of a version of that key, which has a value unless it is a tombstone.
+fn keep<L: Ledger, C: Ledger, R: Wait>(
+    rt: &R,
+    alloc: Global,
+    node: &Node<L, C>,
+    owner: u16,
+    key: &[u8],
+    kind: Kind,
+) -> Result<u32, Refusal> {
+    let value = if kind == Kind::Live {
+        b"x".as_slice()
+    } else {
+        b"".as_slice()
+    };
+    node.keep(rt, alloc, owner, key, version(alloc, (2, 1), kind, value)?)
+}
+
+/// Keeps four hints of node 1 and one of node 2. Of the first four, the owner takes one, knows one, refuses one, since
+/// format 1 has no tombstones, and takes one.
+fn keep_five<L: Ledger, C: Ledger, R: Wait>(
+    rt: &R,
+    alloc: Global,
+    node: &mut Node<L, C>,
+) -> Result<(), Refusal> {
+    node.copy(rt, alloc, b"b", version(alloc, (2, 1), Kind::Live, b"x")?)?;
+    keep(rt, alloc, node, 1, b"a", Kind::Live)?;
+    keep(rt, alloc, node, 1, b"b", Kind::Live)?;
+    keep(rt, alloc, node, 1, b"c", Kind::Tombstone)?;
+    keep(rt, alloc, node, 1, b"d", Kind::Live)?;
+    keep(rt, alloc, node, 2, b"e", Kind::Live)?;
+    Ok(())
+}
+
+/// The third hint is the only one of node 1 that is pending, and the fifth that of node 2.
+fn expect_pending<L: Ledger, C: Ledger, R: Wait>(
+    rt: &R,
+    alloc: Global,
+    node: &Node<L, C>,
+) -> Result<(), Fail> {
+    expect(
+        node.pending(rt, alloc, 1, 0)? == Some(3),
+        "the refused hint is pending",
+    )?;
+    expect(
+        node.pending(rt, alloc, 1, 3)?.is_none(),
+        "the others are delivered",
+    )?;
+    expect(
+        node.pending(rt, alloc, 2, 0)? == Some(5),
+        "another owner's hint is pending",
+    )
+}
+
+/// Delivers five hints, and then what is left of them.
+fn expect_five<L: Ledger, C: Ledger, R: Wait>(
+    rt: &R,
+    alloc: Global,
+    node: &mut Node<L, C>,
+) -> Result<(), Fail> {
+    keep_five(rt, alloc, node)?;
+    let report = node.deliver(rt, alloc, 1)?;
+    expect(
+        (report.delivered, report.known, report.kept) == (2, 1, 1),
+        "the report",
+    )?;
+    expect(
+        node.receipts() == 3,
+        "a receipt of the copy and of each hint taken",
+    )?;
+    expect_pending(rt, alloc, node)?;
+    let report = node.deliver(rt, alloc, 1)?;
+    expect(
+        (report.delivered, report.known, report.kept) == (0, 0, 1),
+        "the next report",
+    )?;
+    expect_pending(rt, alloc, node)
+}
+
+fn deliver_five<L: Ledger, C: Ledger, R: Wait>(
+    rt: &R,
+    alloc: Global,
+    blank: Blank,
+    slots: Blank,
+) -> Result<(), Fail>
+    requires range { (blank.name ≡ L.name) × (blank.parts ≡ L.parts) × (blank.parts ≡ 1) }
+    requires slots { (slots.name ≡ C.name) × (slots.parts ≡ C.parts) × (slots.parts ≡ 1024) }
+{
+    let config = RangeConfig::new(1, 0, 0, 1_000).ok_or("no such range")?;
+    let mut node = Node::<L, C>::open(alloc, blank, slots, config)?;
+    expect_five(rt, alloc, &mut node)
+}
+
+#[test]
+fn each_hint_of_an_owner_is_delivered(rt: HostRuntime) -> Result<(), Fail> {
+    let (range, slots) = (Blank::new(1), Blank::new(1024));
+    deliver_five::<Brand, Brand, HostRuntime>(&rt, rt.alloc(), range, slots)
 }

@@ -22,6 +22,10 @@ mod locked;
 #[cfg(test)]
 mod migrations;
 #[cfg(test)]
+mod nodes;
+#[cfg(test)]
+mod overtakes;
+#[cfg(test)]
 mod partners;
 #[cfg(test)]
 mod passes;
@@ -31,6 +35,8 @@ mod pools;
 mod ranges;
 #[cfg(test)]
 mod rehashes;
+#[cfg(test)]
+mod relay;
 #[cfg(test)]
 mod slots;
 #[cfg(test)]

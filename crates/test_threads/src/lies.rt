@@ -18,6 +18,7 @@ use std::sync::ledger::{Blank, Ledger};
 use std::test::Fail;
 use std::thread::Threads;
 use sync_session::state::SessionState;
+use test_core::checks::expect;
 use vclock::refusal::Refusal;
 use walk_messages::decoding::decode;
 use walk_messages::encoding::encode;
@@ -73,6 +74,28 @@ fn lies_are_counted_and_asked_again(rt: HostRuntime) -> Result<(), Fail> {
     let synced = sync_by::<Brand, Brand, HostRuntime>(&rt, alloc, blanks, &keys, &LIES, 7)?;
     expect_counts(&rt, &synced, 0, 1);
     expect_report(&rt, synced, report(SessionState::Finished, 3, 1, 4))
+}
+
+/// A true offer, then a forged answer, which comes twice, among true ones to three asks.
+const REPEATED: [Deed; 6] = [
+    Deed::Pass,
+    Deed::Change(528),
+    Deed::Repeat,
+    Deed::Pass,
+    Deed::Pass,
+    Deed::Pass,
+];
+
+#[test]
+fn a_repeated_lie_is_a_bad_answer(rt: HostRuntime) -> Result<(), Fail> {
+    let alloc = rt.alloc();
+    let blanks = (Blank::new(1), Blank::new(1024));
+    let keys = [b"a".as_slice()];
+    let synced = sync_by::<Brand, Brand, HostRuntime>(&rt, alloc, blanks, &keys, &REPEATED, 5)?;
+    expect(
+        synced.report? == report(SessionState::Finished, 3, 1, 2),
+        "the report",
+    )
 }
 
 #[test]

@@ -68,6 +68,22 @@ pub fn pool_of<R: Threads + Wait + Sync>(
     Ok(pool)
 }
 
+/// The pool of a partner that has published a snapshot of a range with these versions, each of a key, with the value `x`.
+pub fn pool_in<R: Threads + Wait + Sync>(
+    rt: &R,
+    alloc: Global,
+    config: RangeConfig,
+    versions: &[(&[u8], (u64, u64))],
+) -> Result<OfferPool, Fail> {
+    let mut state = RangeState::new(alloc, config)?;
+    for (key, pair) in versions {
+        fill(rt, alloc, &mut state, &[*key], *pair, b"x")?;
+    }
+    let pool = OfferPool::new(alloc);
+    pool.publish(rt, state.snapshot(alloc)?)?;
+    Ok(pool)
+}
+
 /// Rehashes a range.
 pub fn rehash<L: Ledger, C: Ledger, R: Wait>(
     rt: &R,

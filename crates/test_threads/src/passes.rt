@@ -14,6 +14,7 @@ use std::process::Abort;
 use std::sync::ledger::{Blank, Ledger};
 use std::test::Fail;
 use std::thread::Threads;
+use test_core::checks::expect;
 use test_core::versions::version;
 use vclock::bytes::Bytes;
 use vclock::clock::Clock;
@@ -48,6 +49,29 @@ fn absorb_two<L: Ledger>(rt: &impl Abort, alloc: Global, blank: Blank) -> Result
 #[test]
 fn a_book_absorbs_its_passes(rt: HostRuntime) -> Result<(), Fail> {
     absorb_two::<Brand>(&rt, rt.alloc(), Blank::new(2))
+}
+
+/// Opens two passes, takes both back, and settles.
+fn settle_two<L: Ledger>(alloc: Global, blank: Blank) -> Result<(), Fail>
+    requires name { blank.name ≡ L.name }
+    requires parts { (blank.parts ≡ L.parts) × (L.parts ≡ 2) }
+{
+    let (mut book, mut passes) = open_passes::<L>(blank, alloc, 2)?;
+    let one = passes.pop().ok_or("no pass")?;
+    let zero = passes.pop().ok_or("one pass")?;
+    let Ok(()) = book.absorb(zero) else {
+        return Err(Fail::from("no room"));
+    };
+    let Ok(()) = book.absorb(one) else {
+        return Err(Fail::from("no room"));
+    };
+    book.settle();
+    expect(book.seats() == 2, "two seats")
+}
+
+#[test]
+fn a_book_settles(rt: HostRuntime) -> Result<(), Fail> {
+    settle_two::<Brand>(rt.alloc(), Blank::new(2))
 }
 
 /// Puts `x` under `a` at node 1, with an empty context.

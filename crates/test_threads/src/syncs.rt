@@ -1,7 +1,12 @@
 // Sync workers whose partners answer truly.
+ghost use Rattle.std.specs.Prelude.{◌≡◌};
+
+use crate::nodes::Node;
 use crate::partners::{
-    expect_asked, expect_counts, expect_held, expect_report, pool_of, snapshot_of, sync_over,
+    expect_asked, expect_counts, expect_held, expect_report, pool_in, pool_of, snapshot_of,
+    sync_over,
 };
+use range_state::config::RangeConfig;
 use ring_node::link::{Link, Reached};
 use ring_node::memory::MemoryLink;
 use ring_node::offers::OfferPool;
@@ -9,11 +14,15 @@ use ring_node::syncer::SyncReport;
 use snapshot::snapshot::Snapshot;
 use std::alloc::Global;
 use std::marker::Brand;
-use std::sync::ledger::Blank;
+use std::sync::ledger::{Blank, Ledger};
 use std::sync::{Arc, Wait};
 use std::test::Fail;
+use std::thread::Threads;
 use sync_session::state::SessionState;
+use test_core::checks::expect;
+use test_core::versions::version;
 use vclock::refusal::Refusal;
+use version_set::kind::Kind;
 
 /// The report of the first session of a range, if it knew no version and met no lie.
 pub(crate) fn finished(asked: u64, accepted: u64) -> SyncReport {
@@ -117,5 +126,114 @@ fn a_dropped_offer_is_gone(rt: HostRuntime) -> Result<(), Fail> {
         [SessionState::Cancelled].as_slice()
     );
     expect_counts(&rt, &synced, 0, 0);
+    Ok(())
+}
+
+/// Has a node take in a version of that clock for each key, and makes all its nodes clean.
+fn fill<L: Ledger, C: Ledger, R: Wait>(
+    rt: &R,
+    alloc: Global,
+    node: &mut Node<L, C>,
+    keys: &[&[u8]],
+    pair: (u64, u64),
+) -> Result<(), Refusal> {
+    for key in keys {
+        let version = version(alloc, pair, Kind::Live, b"x")?;
+        node.copy(rt, alloc, key, version)?;
+    }
+    node.rehash(rt, alloc)
+}
+
+/// Syncs with a partner that has two versions of `a` and two of `b`, one of them known.
+fn sync_known<L: Ledger, C: Ledger, R: Threads + Wait + Sync>(
+    rt: &R,
+    alloc: Global,
+    node: &mut Node<L, C>,
+    config: RangeConfig,
+) -> Result<SyncReport, Fail> {
+    let (a, b) = (b"a".as_slice(), b"b".as_slice());
+    fill(rt, alloc, node, &[a, b], (1, 1))?;
+    let versions = [(a, (1, 1)), (a, (2, 1)), (b, (1, 1)), (b, (2, 1))];
+    let pool = pool_in(rt, alloc, config, &versions)?;
+    Ok(node.sync(rt, alloc, &mut MemoryLink::new(alloc, &pool))?)
+}
+
+/// A node that knows a version of each of two answers counts both.
+fn count_known<L: Ledger, C: Ledger, R: Threads + Wait + Sync>(
+    rt: &R,
+    alloc: Global,
+    blank: Blank,
+    slots: Blank,
+) -> Result<(), Fail>
+    requires range { (blank.name ≡ L.name) × (blank.parts ≡ L.parts) × (blank.parts ≡ 1) }
+    requires slots { (slots.name ≡ C.name) × (slots.parts ≡ C.parts) × (slots.parts ≡ 1024) }
+{
+    let config = RangeConfig::new(1, 0, 0, 1_000).ok_or("no such range")?;
+    let mut node = Node::<L, C>::open(alloc, blank, slots, config)?;
+    let report = sync_known(rt, alloc, &mut node, config)?;
+    let wanted = SyncReport {
+        known: 2,
+        ..finished(5, 2)
+    };
+    expect(report == wanted, "the report")
+}
+
+#[test]
+fn the_known_versions_of_all_answers_are_counted(rt: HostRuntime) -> Result<(), Fail> {
+    let (range, slots) = (Blank::new(1), Blank::new(1024));
+    count_known::<Brand, Brand, HostRuntime>(&rt, rt.alloc(), range, slots)
+}
+
+/// What a sync of a node with a partner comes to that offers a range: whether it takes the partner's row, and isn't refused
+/// as OtherRange.
+fn is_synced<L: Ledger, C: Ledger, R: Wait>(
+    rt: &R,
+    alloc: Global,
+    node: &mut Node<L, C>,
+    pool: &OfferPool,
+) -> Result<bool, Fail> {
+    node.rehash(rt, alloc)?;
+    match node.sync(rt, alloc, &mut MemoryLink::new(alloc, pool)) {
+        Ok(report) => Ok(report == finished(3, 1)),
+        Err(Refusal::OtherRange) => Ok(false),
+        Err(refusal) => Err(Fail::from(refusal)),
+    }
+}
+
+/// Syncs a range of a ring of two with a partner's, each of that number. The partner has a row of `a` or of `b`.
+fn sync_ranges<L: Ledger, C: Ledger, R: Threads + Wait + Sync>(
+    rt: &R,
+    alloc: Global,
+    blanks: (Blank, Blank),
+    number: u64,
+    offered: u64,
+) -> Result<bool, Fail>
+    requires range { (blanks.0.name ≡ L.name) × (blanks.0.parts ≡ L.parts) × (blanks.0.parts ≡ 1) }
+    requires slots { (blanks.1.name ≡ C.name) × (blanks.1.parts ≡ C.parts) × (blanks.1.parts ≡ 1024) }
+{
+    let (range, slots) = blanks;
+    let config = RangeConfig::new(1, 1, number, 1_000).ok_or("no such range")?;
+    let other = RangeConfig::new(1, 1, offered, 1_000).ok_or("no such range")?;
+    let key = if offered == 0 {
+        b"a".as_slice()
+    } else {
+        b"b".as_slice()
+    };
+    let pool = pool_in(rt, alloc, other, &[(key, (1, 1))])?;
+    let mut node = Node::<L, C>::open(alloc, range, slots, config)?;
+    is_synced(rt, alloc, &mut node, &pool)
+}
+
+#[test]
+fn an_offer_of_another_range_is_refused(rt: HostRuntime) -> Result<(), Fail> {
+    let alloc = rt.alloc();
+    for (number, offered) in [(0, 0), (0, 1), (1, 0), (1, 1)] {
+        let blanks = (Blank::new(1), Blank::new(1024));
+        let synced = sync_ranges::<Brand, Brand, HostRuntime>(&rt, alloc, blanks, number, offered)?;
+        expect(
+            synced == (number == offered),
+            "only the range itself is synced",
+        )?;
+    }
     Ok(())
 }
