@@ -10,7 +10,7 @@ use circular_buffer::HeapCircularBuffer;
 use std::alloc::Global;
 use std::marker::Model;
 use std::sync::ledger::{Blank, Book, Ledger, Share};
-use vclock::refusal::Refusal;
+use vclock::Refusal;
 
 /// Lends slots, at most as many as its target, which follows the latency of the foreground: section 6.5 of the Dynamo
 /// paper of 2007.

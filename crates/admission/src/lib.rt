@@ -10,3 +10,6 @@
 pub mod controller;
 mod latency;
 pub mod slot;
+
+pub use controller::Controller;
+pub use slot::Slot;

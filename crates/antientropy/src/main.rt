@@ -10,7 +10,7 @@ use clap::Error;
 use fault::Fault;
 use outage_script::{LineFault, ScriptEnd, run_last_script};
 use progress::Teller;
-use ring_node::gate::OpenGate;
+use ring_node::OpenGate;
 use status::{code_of, code_of_refusal, code_of_storm, fault_code, usage_code};
 use std::env::Env;
 use std::io;
@@ -18,9 +18,8 @@ use std::io::BufWriter;
 use std::process::ExitCode;
 use std::sync::Wait;
 use std::thread::Threads;
-use storm::storm::{MOST_PUTS, StormEnd, run_storm};
-use storm::tally::Tallies;
-use vclock::refusal::Refusal;
+use storm::{MOST_PUTS, StormEnd, Tallies, run_storm};
+use vclock::Refusal;
 use words::{Task, task_in, words_of};
 
 fn main(rt: HostRuntime) -> ExitCode {

@@ -1,9 +1,9 @@
 // How far a storm is, on standard error.
 ghost use Rattle.std.specs.Prelude.{◌≤◌};
 
-use ring_node::gate::Gate;
+use ring_node::Gate;
 use std::sync::{Mutex, Wait};
-use storm::tally::{Tallies, Tally};
+use storm::{Tallies, Tally};
 
 /// The step of a storm's gate after a put.
 const AFTER_A_PUT: u32 = 3;

@@ -8,8 +8,8 @@ use clap::Error;
 use clap::error::ErrorKind;
 use outage_script::ScriptEnd;
 use std::process::ExitCode;
-use storm::storm::StormEnd;
-use vclock::refusal::Refusal;
+use storm::StormEnd;
+use vclock::Refusal;
 
 /// All was read and answered, or the help was shown.
 const DONE: u8 = 0;

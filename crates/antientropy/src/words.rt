@@ -6,7 +6,7 @@ use std::alloc::Global;
 use std::env;
 use std::env::Env;
 use std::io::ErrorKind;
-use storm::storm::MOST_PUTS;
+use storm::MOST_PUTS;
 
 /// What the program is.
 const ABOUT: &str =

@@ -7,12 +7,11 @@ ghost use Rattle.antientropy_c.specs.Counts.{counts_of};
 
 use crate::numbers::EMPTY;
 use crate::replica::Replica;
-use hash_tree::node::NodeAt;
-use range_state::record::Record;
-use range_state::state::RangeState;
+use hash_tree::NodeAt;
+use range_state::{RangeState, Record};
 use std::alloc::Global;
-use sync_session::state::SessionState;
-use vclock::format::Format;
+use sync_session::SessionState;
+use vclock::Format;
 
 /// What a replica has.
 #[repr(C)]

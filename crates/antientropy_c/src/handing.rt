@@ -3,8 +3,8 @@ ghost use Rattle.std.specs.Prelude.{Ok};
 ghost use Rattle.antientropy_c.specs.Hands.{HandsOut};
 
 use crate::numbers::SMALL;
-use hash_tree::text::Text;
-use vclock::refusal::Refusal;
+use hash_tree::Text;
+use vclock::Refusal;
 
 /// Hands out the bytes of a result, or nothing, and returns the number of what came of it.
 pub(crate) fn hand_out(told: &Result<Text, Refusal>, out: &mut [u8], need: &mut u64) -> u32

@@ -11,12 +11,11 @@ ghost use Rattle.antientropy_c.specs.Calls.{Calls};
 
 use crate::numbers::{EMPTY, code};
 use crate::replica::Replica;
-use hash_tree::hashed::Hashed;
-use hash_tree::node::NodeAt;
-use range_state::state::RangeState;
-use rehash::job::{Job, run_job};
+use hash_tree::{Hashed, NodeAt};
+use range_state::RangeState;
+use rehash::{Job, run_job};
 use std::alloc::{AllocError, Global};
-use vclock::refusal::Refusal;
+use vclock::Refusal;
 
 /// Hashes every dirty node. Refused, in order: EMPTY, NoMemory. After NoMemory some of the dirty nodes may be clean, and all
 /// else is as it was.

@@ -11,10 +11,9 @@ ghost use Rattle.antientropy_c.specs.Makes.{Makes, TakesState, config_fault, IsF
 
 use crate::numbers::{EMPTY, HELD, code};
 use crate::replica::Replica;
-use range_state::config::RangeConfig;
-use range_state::state::RangeState;
+use range_state::{RangeConfig, RangeState};
 use std::alloc::Global;
-use vclock::refusal::Refusal;
+use vclock::Refusal;
 
 /// Makes a replica that has accepted nothing, as [`RangeConfig::new`] and [`RangeState::new`].
 ///

@@ -14,14 +14,12 @@ use crate::numbers::{EMPTY, HELD, code};
 use crate::publication::Publication;
 use crate::published::Published;
 use crate::replica::Replica;
-use hash_tree::text::Text;
-use range_state::state::RangeState;
-use snapshot::snapshot::Snapshot;
+use hash_tree::Text;
+use range_state::RangeState;
+use snapshot::Snapshot;
 use std::alloc::Global;
-use vclock::refusal::Refusal;
-use walk_messages::decoding::decode;
-use walk_messages::encoding::encode;
-use walk_messages::message::{Answer, Ask, Message};
+use vclock::Refusal;
+use walk_messages::{Answer, Ask, Message, decode, encode};
 
 /// Publishes the rows of a replica now. Refused, in order: EMPTY, HELD (the publication holds something already), Dirty (some
 /// node has no digest), NoMemory. The publication is then as it was.

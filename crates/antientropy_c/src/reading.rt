@@ -10,14 +10,11 @@ ghost use Rattle.antientropy_c.specs.Shows.{row_shown};
 use crate::handing::hand_out;
 use crate::numbers::EMPTY;
 use crate::replica::Replica;
-use hash_tree::text::Text;
-use range_state::state::RangeState;
-use row_bytes::row::Row;
-use row_bytes::writing::write_row;
+use hash_tree::Text;
+use range_state::RangeState;
+use row_bytes::{Row, write_row};
 use std::alloc::Global;
-use vclock::bytes::Bytes;
-use vclock::key::check_key;
-use vclock::refusal::Refusal;
+use vclock::{Bytes, Refusal, check_key};
 
 /// The text of the row of a key: no bytes if nothing is held. Refused, in order: EMPTY, BadKey, NoMemory.
 #[unsafe(no_mangle)]

@@ -8,7 +8,7 @@ use crate::handing::copy_out;
 use crate::numbers::{EMPTY, NO_VERSION, SMALL};
 use crate::pair::Pair;
 use crate::replica::Replica;
-use range_state::state::RangeState;
+use range_state::RangeState;
 use std::alloc::Global;
 
 /// The value of a version that is held for a key, by its index from 0, and its kind: 0 for a live version, 1 for a

@@ -13,16 +13,12 @@ ghost use Rattle.antientropy_c.specs.Sessions.{Opens, TellsNumber, Asks, TakesWi
 use crate::handing::hand_out;
 use crate::numbers::{EMPTY, code};
 use crate::replica::Replica;
-use hash_tree::hashed::hash;
-use hash_tree::text::Text;
-use range_state::event::AnswerTaken;
-use range_state::state::RangeState;
+use hash_tree::{Text, hash};
+use range_state::{AnswerTaken, RangeState};
 use std::alloc::Global;
-use sync_session::state::SessionState;
-use vclock::refusal::Refusal;
-use walk_messages::decoding::decode;
-use walk_messages::encoding::encode;
-use walk_messages::message::{Answer, Ask, Message};
+use sync_session::SessionState;
+use vclock::Refusal;
+use walk_messages::{Answer, Ask, Message, decode, encode};
 
 /// Opens a session with a partner by the bytes of its offer, and gives the session's number, from 0.
 ///

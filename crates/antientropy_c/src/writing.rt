@@ -13,14 +13,11 @@ ghost use Rattle.antientropy_c.specs.Puts.{kind_fault, kind_of, put_at, accept_a
 use crate::numbers::{EMPTY, code};
 use crate::pair::{Pair, clock_of};
 use crate::replica::Replica;
-use range_journal::journal::Source;
-use range_state::event::{Accepted, Receipt};
-use range_state::state::RangeState;
+use range_journal::Source;
+use range_state::{Accepted, RangeState, Receipt};
 use std::alloc::Global;
-use vclock::bytes::Bytes;
-use vclock::refusal::Refusal;
-use version_set::kind::Kind;
-use version_set::version::Version;
+use vclock::{Bytes, Refusal};
+use version_set::{Kind, Version};
 
 /// What a put is told.
 #[repr(C)]

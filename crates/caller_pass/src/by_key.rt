@@ -2,7 +2,7 @@
 ghost use Rattle.std.specs.Prelude.{◌≡◌, ◌+◌, ◌<◌, [], Some, length, slice_get, OnOk};
 ghost use Rattle.caller_pass.specs.Indexes.{IsIndex, found_in};
 
-use range_state::event::Receipt;
+use range_state::Receipt;
 use std::alloc::{AllocError, Global};
 use std::collections::HashMap;
 

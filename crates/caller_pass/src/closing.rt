@@ -8,13 +8,11 @@ ghost use Rattle.caller_pass.specs.Closings.{of_seat, IsTrueReading, IsSettled, 
 use crate::locked::LockedRange;
 use crate::pass::Pass;
 use crate::reading::Reading;
-use range_journal::journal::Entry;
-use range_state::event::Receipt;
-use range_state::replay::Replay;
-use range_state::state::RangeState;
+use range_journal::Entry;
+use range_state::{RangeState, Receipt, Replay};
 use std::alloc::Global;
 use std::sync::ledger::Ledger;
-use vclock::refusal::{PassPart, Refusal};
+use vclock::{PassPart, Refusal};
 
 /// A range that was closed: each pass was handed in and settled, which means that its receipts are the entries of its
 /// seat, and its readings what the journal says.

@@ -17,3 +17,10 @@ pub mod locked;
 pub mod pass;
 pub mod reading;
 pub mod unread;
+
+pub use book::{Book, Unabsorbed, open_passes};
+pub use closing::{Closed, Unclosed};
+pub use locked::LockedRange;
+pub use pass::Pass;
+pub use reading::Reading;
+pub use unread::Unread;

@@ -19,26 +19,18 @@ use crate::by_key::ByKey;
 use crate::pass::Pass;
 use crate::reading::Reading;
 use crate::unread::Unread;
-use hash_tree::hashed::Hashed;
-use hash_tree::node::NodeAt;
-use range_journal::journal::Source;
-use range_state::config::RangeConfig;
-use range_state::event::{Accepted, AnswerCounted, Receipt};
-use range_state::record::Record;
-use range_state::state::RangeState;
-use rehash::job::Job;
-use snapshot::snapshot::Snapshot;
+use hash_tree::{Hashed, NodeAt};
+use range_journal::Source;
+use range_state::{Accepted, AnswerCounted, RangeConfig, RangeState, Receipt, Record};
+use rehash::Job;
+use snapshot::Snapshot;
 use std::alloc::Global;
 use std::marker::Model;
 use std::sync::Arc;
 use std::sync::ledger::Ledger;
-use vclock::bytes::Bytes;
-use vclock::clock::Clock;
-use vclock::refusal::Refusal;
-use version_set::kind::Kind;
-use version_set::set::VersionSet;
-use version_set::version::Version;
-use walk_messages::message::Offer;
+use vclock::{Bytes, Clock, Refusal};
+use version_set::{Kind, Version, VersionSet};
+use walk_messages::Offer;
 
 /// A range with its book, as a lock keeps it. Each call is one step of the range. The pass that it is lent gets exactly the
 /// receipts of the entries that came, or the one reading that is returned; no other call adds to a pass.

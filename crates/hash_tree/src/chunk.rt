@@ -9,14 +9,12 @@ ghost use Rattle.row_bytes.specs.declared.row.Row.{Row};
 ghost use Rattle.hash_tree.specs.Chunks.{chunk_text, begin_by, versions_at, offered_at};
 
 use crate::written::WrittenRows;
-use row_bytes::row::Row;
+use row_bytes::Row;
 use std::alloc::Global;
 use std::marker::Model;
 use std::sync::Arc;
-use vclock::bytes::Bytes;
-use vclock::format::Format;
-use vclock::refusal::Refusal;
-use version_set::version::Version;
+use vclock::{Bytes, Format, Refusal};
+use version_set::Version;
 
 /// Some consecutive rows of a leaf, at least one. Copies of the leaf share them until one is changed. The first key is
 /// kept as well, so that a search among chunks looks at no row.

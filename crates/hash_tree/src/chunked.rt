@@ -11,11 +11,10 @@ ghost use Rattle.hash_tree.specs.Chunks.{all_rows, rows_of, chunk_text, AreChunk
 
 use crate::chunk::Chunk;
 use crate::written::MOST_ROWS;
-use row_bytes::row::Row;
+use row_bytes::Row;
 use std::alloc::Global;
-use vclock::format::Format;
-use vclock::refusal::Refusal;
-use version_set::version::Version;
+use vclock::{Format, Refusal};
+use version_set::Version;
 
 /// How many chunks a leaf has at most: more than any memory holds, and so few that the bytes of its text can be counted.
 const MOST_CHUNKS: usize = 1 << 56;

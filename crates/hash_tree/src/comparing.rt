@@ -8,7 +8,7 @@ ghost use Rattle.hash_tree.specs.Texts.{leaf_byte, inner_text};
 use crate::chunk::Chunk;
 use crate::hashed::Digest;
 use crate::texts::{inner_byte, leaf_byte};
-use vclock::format::Format;
+use vclock::Format;
 
 /// Whether a text is that of a leaf with these chunks.
 pub(crate) fn is_chunked_text(format: Format, text: &[u8], chunks: &[Chunk]) -> bool

@@ -15,14 +15,11 @@ use crate::chunk::Chunk;
 use crate::chunked::{Spot, chunk_of, insert_at, offer_at, share_chunks, text_len};
 use crate::comparing::is_chunked_text;
 use crate::texts::put_chunks;
-use row_bytes::row::Row;
+use row_bytes::Row;
 use std::alloc::{AllocError, Global};
 use std::marker::Model;
-use vclock::bytes::Bytes;
-use vclock::format::Format;
-use vclock::refusal::Refusal;
-use version_set::set::VersionSet;
-use version_set::version::Version;
+use vclock::{Bytes, Format, Refusal};
+use version_set::{Version, VersionSet};
 
 /// Rows in ascending order of key, each key once, in chunks: what is put into a leaf moves the rows of one chunk only.
 #[derive(Debug)]

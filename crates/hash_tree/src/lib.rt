@@ -21,3 +21,11 @@ pub mod shared;
 pub mod text;
 pub mod texts;
 mod written;
+
+pub use comparing::is_inner_text;
+pub use hashed::{Digest, Hashed, hash};
+pub use marks::Marks;
+pub use node::{NodeAt, tree_depth};
+pub use shared::SharedLeaf;
+pub use text::Text;
+pub use texts::{INNER_LEN, inner_byte, inner_text, leaf_byte, leaf_text, put_inner_text};

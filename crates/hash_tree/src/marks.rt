@@ -7,8 +7,7 @@ use crate::hashed::Digest;
 use crate::node::{NodeAt, tree_depth};
 use std::alloc::Global;
 use std::marker::Model;
-use vclock::format::Format;
-use vclock::refusal::Refusal;
+use vclock::{Format, Refusal};
 
 /// The digests of the clean nodes of a tree; the other nodes are dirty, and have none. A new version makes its leaf and
 /// all nodes above it dirty, and a rehash makes them clean from the leaves up, so the children of a clean node are

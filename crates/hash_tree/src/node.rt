@@ -2,7 +2,7 @@
 ghost use Rattle.std.specs.Prelude.{◌≡◌, ◌+◌, ◌<◌, ◌≤◌, ◌^◌, ◌↔◌, IsSome, IfSome};
 ghost use Rattle.hash_tree.specs.Nodes.{nodes_above, place_at, tree_depth};
 
-use vclock::format::Format;
+use vclock::Format;
 
 /// A node of a tree, by its depth and its index there. The root is the only node of depth 0. The children of a node are
 /// the nodes of the next depth with 16 times its index, and the 15 after.

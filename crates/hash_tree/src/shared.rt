@@ -14,14 +14,12 @@ ghost use Rattle.hash_tree.specs.Texts.{leaf_text};
 use crate::comparing::is_chunked_text;
 use crate::leaf::Leaf;
 use crate::texts::leaf_byte;
-use row_bytes::row::Row;
+use row_bytes::Row;
 use std::alloc::{AllocError, Global};
 use std::marker::Model;
 use std::sync::Arc;
-use vclock::format::Format;
-use vclock::refusal::Refusal;
-use version_set::set::VersionSet;
-use version_set::version::Version;
+use vclock::{Format, Refusal};
+use version_set::{Version, VersionSet};
 
 /// The rows of one leaf, with any number of owners: a range, its snapshots and its jobs share it until the range
 /// changes it. A leaf without rows takes no memory.

@@ -4,7 +4,7 @@ ghost use Rattle.vclock.specs.Answer.{Answers};
 
 use std::alloc::Global;
 use std::marker::Model;
-use vclock::refusal::Refusal;
+use vclock::Refusal;
 
 /// The text of a node, of a row or of a message: bytes with one owner, in the allocation in which they were written.
 ///

@@ -9,11 +9,9 @@ ghost use Rattle.hash_tree.specs.Texts.{leaf_byte, inner_byte, leaf_text, inner_
 
 use crate::chunk::Chunk;
 use crate::hashed::Digest;
-use row_bytes::row::Row;
-use row_bytes::writing::put_row;
+use row_bytes::{Row, put_row};
 use std::alloc::{AllocError, Global};
-use vclock::format::Format;
-use vclock::refusal::Refusal;
+use vclock::{Format, Refusal};
 
 /// How many bytes the text of a node that is no leaf has: one, and the digests of its 16 children.
 pub const INNER_LEN: usize = 513;

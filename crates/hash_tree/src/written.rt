@@ -9,14 +9,11 @@ ghost use Rattle.row_bytes.specs.Rows.{row_text, FitsText};
 ghost use Rattle.row_bytes.specs.declared.row.Row.{Row};
 ghost use Rattle.hash_tree.specs.Chunks.{chunk_text, versions_at, offered_at};
 
-use row_bytes::lengths::{row_len, version_len};
-use row_bytes::row::Row;
-use row_bytes::writing::put_row;
+use row_bytes::{Row, put_row, row_len, version_len};
 use std::alloc::{AllocError, Global};
 use std::marker::Model;
-use vclock::format::Format;
-use vclock::refusal::Refusal;
-use version_set::version::Version;
+use vclock::{Format, Refusal};
+use version_set::Version;
 
 /// How many rows a chunk of a leaf has at most: a new row moves no more than these, and their texts.
 pub(crate) const MOST_ROWS: usize = 15;

@@ -4,9 +4,8 @@ ghost use Rattle.vclock.specs.Answer.{Answers};
 ghost use Rattle.hint_store.specs.Hints.{delivery_by};
 
 use std::alloc::Global;
-use vclock::bytes::Bytes;
-use vclock::refusal::Refusal;
-use version_set::version::Version;
+use vclock::{Bytes, Refusal};
+use version_set::Version;
 
 /// A version that a carrier keeps for a replica that is down, until that replica, its owner, has taken it.
 #[derive(Debug, Drop)]

@@ -3,3 +3,6 @@
 
 pub mod hint;
 pub mod store;
+
+pub use hint::{Delivery, Fate, Hint, Kept};
+pub use store::HintStore;

@@ -12,9 +12,8 @@ use crate::hint::{Delivery, Fate, Hint, Kept};
 use std::alloc::Global;
 use std::cmp::Ordering;
 use std::marker::Model;
-use vclock::bytes::Bytes;
-use vclock::refusal::Refusal;
-use version_set::version::Version;
+use vclock::{Bytes, Refusal};
+use version_set::Version;
 
 /// How many hints can be pending.
 const MOST_PENDING: u32 = 10_000;

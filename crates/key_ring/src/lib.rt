@@ -7,3 +7,6 @@
 
 pub mod places;
 pub mod ring;
+
+pub use places::{KeyPlace, place};
+pub use ring::Ring;

@@ -4,7 +4,7 @@ ghost use Rattle.std.specs.Prelude.{◌≡◌, ◌-◌, ◌/◌, ◌<◌, ◌≤
 ghost use Rattle.key_ring.specs.Places.{key_number, leaf_at, leaf_bits, range_at};
 
 use md5::{Digest, Md5};
-use vclock::format::Format;
+use vclock::Format;
 
 /// The range and the leaf of a key.
 #[derive(Clone, Copy, Debug, PartialEq, Eq)]

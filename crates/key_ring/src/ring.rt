@@ -9,8 +9,7 @@ ghost use Rattle.key_ring.specs.Ring.{has_repeat, is_node, is_ring, preference_l
 use crate::places::place;
 use std::alloc::Global;
 use std::marker::Model;
-use vclock::format::Format;
-use vclock::refusal::Refusal;
+use vclock::{Format, Refusal};
 
 /// How many bits a range's number has at the most.
 const MOST_BITS: u64 = 8;

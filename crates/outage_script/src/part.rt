@@ -5,9 +5,8 @@ ghost use Rattle.outage_script.specs.Told.{part_data, tokens_of};
 
 use json::Writer;
 use std::alloc::{AllocError, Global};
-use vclock::clock::Clock;
-use version_set::kind::Kind;
-use version_set::version::Version;
+use vclock::Clock;
+use version_set::{Kind, Version};
 
 /// The value of an answer's member.
 #[derive(Clone, Copy)]

@@ -8,10 +8,8 @@ ghost use Rattle.range_journal.specs.Journal.{append, reserve, with_entry, held,
 
 use std::alloc::Global;
 use std::marker::Model;
-use vclock::bytes::Bytes;
-use vclock::refusal::Refusal;
-use version_set::set::VersionSet;
-use version_set::version::Version;
+use vclock::{Bytes, Refusal};
+use version_set::{Version, VersionSet};
 
 /// How a version came to a range: by a client's put, as a copy from the node of the put, as a hint from its carrier, or
 /// from a partner in a sync.

@@ -3,3 +3,5 @@
 
 pub mod journal;
 pub mod laws;
+
+pub use journal::{Entry, Journal, Source, held_in};

@@ -4,7 +4,7 @@ ghost use Rattle.range_state.specs.Config.{config_of, is_config};
 ghost use Rattle.range_state.specs.Migrates.{config_in_two};
 
 use std::marker::Model;
-use vclock::format::Format;
+use vclock::Format;
 
 /// How many bits the number of a range has at the most.
 const MOST_BITS: u64 = 8;

@@ -18,20 +18,13 @@ ghost use Rattle.range_state.specs.State.{IsRight, fresh, leaf_in, leaf_count, p
 use crate::config::RangeConfig;
 use crate::event::{Accepted, Receipt};
 use crate::record::Record;
-use hash_tree::marks::Marks;
-use hash_tree::shared::SharedLeaf;
-use key_ring::places::place;
-use range_journal::journal::{Journal, Source};
+use hash_tree::{Marks, SharedLeaf};
+use key_ring::place;
+use range_journal::{Journal, Source};
 use std::alloc::Global;
 use std::marker::Model;
-use vclock::bytes::Bytes;
-use vclock::clock::{Clock, ClockOrder};
-use vclock::format::Format;
-use vclock::key::check_key;
-use vclock::refusal::Refusal;
-use version_set::kind::Kind;
-use version_set::set::VersionSet;
-use version_set::version::Version;
+use vclock::{Bytes, Clock, ClockOrder, Format, Refusal, check_key};
+use version_set::{Kind, Version, VersionSet};
 
 mod bulk;
 mod migrating;

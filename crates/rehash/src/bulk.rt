@@ -3,11 +3,11 @@ ghost use Rattle.std.specs.Prelude.{◌≡◌, None, map};
 ghost use Rattle.vclock.specs.Answer.{Answers};
 
 use crate::job::{Job, run_job};
-use hash_tree::hashed::Hashed;
+use hash_tree::Hashed;
 use rayon::prelude::*;
 use std::alloc::Global;
 use std::thread::Threads;
-use vclock::refusal::Refusal;
+use vclock::Refusal;
 
 /// How many bytes a thread is to write and hash at the least, so that it is worth starting.
 const PIECE_LEN: usize = 65_536;

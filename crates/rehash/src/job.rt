@@ -4,15 +4,10 @@ ghost use Rattle.vclock.specs.Answer.{Answers};
 ghost use Rattle.hash_tree.specs.Texts.{leaf_text, inner_text};
 
 use crate::source::Source;
-use hash_tree::hashed::{Digest, Hashed, hash};
-use hash_tree::node::NodeAt;
-use hash_tree::shared::SharedLeaf;
-use hash_tree::text::Text;
-use hash_tree::texts::{INNER_LEN, put_inner_text};
+use hash_tree::{Digest, Hashed, INNER_LEN, NodeAt, SharedLeaf, Text, hash, put_inner_text};
 use std::alloc::Global;
 use std::marker::Model;
-use vclock::format::Format;
-use vclock::refusal::Refusal;
+use vclock::{Format, Refusal};
 
 /// A node whose text is to be hashed. It carries what the text is written from, and the room for it, so a range makes
 /// jobs under its lock in little time, and their texts are written and hashed without it. The result is installed in

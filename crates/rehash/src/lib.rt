@@ -7,3 +7,6 @@
 pub mod bulk;
 pub mod job;
 mod source;
+
+pub use bulk::hash_all;
+pub use job::{Job, run_job};

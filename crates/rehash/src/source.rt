@@ -1,7 +1,6 @@
 //! What the text of a node is written from.
-use hash_tree::hashed::Digest;
-use hash_tree::shared::SharedLeaf;
-use vclock::format::Format;
+use hash_tree::{Digest, SharedLeaf};
+use vclock::Format;
 
 /// What the text of a node is written from.
 #[derive(Debug, Drop)]

@@ -8,7 +8,7 @@ use crate::serving::Reply;
 use crossbeam_channel::{Receiver, Sender, bounded};
 use std::alloc::Global;
 use std::sync::Wait;
-use vclock::refusal::Refusal;
+use vclock::Refusal;
 
 /// How many messages a channel holds.
 const CAPACITY: usize = 16;

@@ -20,3 +20,17 @@ pub mod rehasher;
 pub mod scripted;
 mod serving;
 pub mod syncer;
+
+pub use channel::{ChannelLink, ChannelServer, channel_link};
+pub use controller::{Counts, SharedController};
+pub use deed::Deed;
+pub use delivery::{DeliverReport, deliver};
+pub use gate::{Gate, OpenGate};
+pub use hints::SharedHints;
+pub use link::{Link, Reached};
+pub use memory::MemoryLink;
+pub use offers::OfferPool;
+pub use range::{NotClosed, SharedRange};
+pub use rehasher::RehashReport;
+pub use scripted::ScriptedLink;
+pub use syncer::SyncReport;

@@ -9,14 +9,13 @@ ghost use Rattle.snapshot.specs.RowMaps.{root_of};
 ghost use Rattle.ring_node.specs.Moments.{FoundAtSomeMoment, ChangedAtSomeMoment};
 ghost use Rattle.ring_node.specs.Offers.{Offered, AreOffers, unpublished, publish, latest, kept_under, serve_fault, IsAnswerIn};
 
-use hash_tree::node::tree_depth;
-use hash_tree::text::Text;
-use snapshot::snapshot::Snapshot;
+use hash_tree::{Text, tree_depth};
+use snapshot::Snapshot;
 use std::alloc::Global;
 use std::marker::Model;
 use std::sync::{Arc, Mutex, Wait};
-use vclock::refusal::Refusal;
-use walk_messages::message::{Answer, Ask, Offer};
+use vclock::Refusal;
+use walk_messages::{Answer, Ask, Offer};
 
 /// How many offers are kept.
 const MOST_KEPT: usize = 16;

@@ -8,12 +8,12 @@ ghost use Rattle.ring_node.specs.Reports.{IsRehashReport};
 
 use crate::gate::Gate;
 use crate::range::SharedRange;
-use admission::slot::Slot;
-use rehash::job::{Job, run_job};
+use admission::Slot;
+use rehash::{Job, run_job};
 use std::alloc::Global;
 use std::sync::Wait;
 use std::sync::ledger::Ledger;
-use vclock::refusal::Refusal;
+use vclock::Refusal;
 
 /// What a rehash worker did.
 #[derive(Clone, Copy, Debug, PartialEq, Eq)]

@@ -4,13 +4,11 @@ ghost use Rattle.ring_node.specs.Links.{IsCounted};
 
 use crate::deed::Deed;
 use crate::link::{Link, Reached, lose};
-use hash_tree::node::NodeAt;
+use hash_tree::NodeAt;
 use std::alloc::Global;
 use std::sync::Wait;
-use vclock::refusal::Refusal;
-use walk_messages::decoding::decode;
-use walk_messages::encoding::encode;
-use walk_messages::message::{Ask, Message};
+use vclock::Refusal;
+use walk_messages::{Ask, Message, decode, encode};
 
 /// A link round another one that does, call by call, what a list of deeds says. After the list it hands on what comes.
 ///

@@ -6,10 +6,8 @@ use crate::link::{Reached, lose};
 use crate::offers::OfferPool;
 use std::alloc::Global;
 use std::sync::Wait;
-use vclock::refusal::Refusal;
-use walk_messages::decoding::decode;
-use walk_messages::encoding::encode;
-use walk_messages::message::Message;
+use vclock::Refusal;
+use walk_messages::{Message, decode, encode};
 
 /// What a pool replies.
 #[derive(Debug, Drop)]

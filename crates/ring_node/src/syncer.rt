@@ -14,20 +14,17 @@ ghost use Rattle.ring_node.specs.Walks.{IsOfferRefusal, IsOpenRefusal, IsAskRefu
 
 use crate::link::{Link, Reached};
 use crate::range::SharedRange;
-use admission::slot::Slot;
-use caller_pass::pass::Pass;
-use hash_tree::hashed::hash;
-use hash_tree::node::NodeAt;
-use range_journal::journal::Source;
-use range_state::event::AnswerCounted;
+use admission::Slot;
+use caller_pass::Pass;
+use hash_tree::{NodeAt, hash};
+use range_journal::Source;
+use range_state::AnswerCounted;
 use std::alloc::Global;
 use std::sync::Wait;
 use std::sync::ledger::Ledger;
-use sync_session::state::SessionState;
-use vclock::refusal::Refusal;
-use walk_messages::decoding::decode;
-use walk_messages::encoding::encode;
-use walk_messages::message::{Answer, Ask, Message, Offer};
+use sync_session::SessionState;
+use vclock::Refusal;
+use walk_messages::{Answer, Ask, Message, Offer, decode, encode};
 
 /// What a sync worker did.
 ///

@@ -6,9 +6,8 @@ ghost use Rattle.row_bytes.specs.Reading.{Gives, number_at, field_at, bytes_at, 
 use crate::fault::ReadError;
 use smallvec::SmallVec;
 use std::alloc::Global;
-use vclock::clock::ClockPairs;
-use vclock::format::Format;
-use version_set::kind::Kind;
+use vclock::{ClockPairs, Format};
+use version_set::Kind;
 
 /// A number of one byte.
 fn u8_at(bytes: &[u8]) -> Result<(u8, &[u8]), ReadError>

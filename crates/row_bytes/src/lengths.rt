@@ -5,8 +5,8 @@ ghost use Rattle.version_set.specs.Version.{plain_text, version_text};
 ghost use Rattle.row_bytes.specs.Rows.{row_text, FitsText};
 
 use crate::row::Row;
-use vclock::format::Format;
-use version_set::version::Version;
+use vclock::Format;
+use version_set::Version;
 
 /// How many bytes stand for a version in both formats, without its kind: at most 65,861.
 #[tactic(auto, using(crate::proofs::TextLengthLaws::text_lengths))]

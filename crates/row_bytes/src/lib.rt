@@ -7,3 +7,8 @@ pub mod lengths;
 pub mod reading;
 pub mod row;
 pub mod writing;
+
+pub use lengths::{row_len, version_len};
+pub use reading::{a_held_set_is_a_row, a_row_has_one_text, key_at, read_row, read_rows};
+pub use row::{Row, RowList};
+pub use writing::{put_row, write_row};

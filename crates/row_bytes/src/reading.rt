@@ -13,12 +13,8 @@ use crate::fields::{
 };
 use crate::row::{Row, RowList};
 use std::alloc::Global;
-use vclock::bytes::Bytes;
-use vclock::clock::Clock;
-use vclock::format::Format;
-use vclock::refusal::Refusal;
-use version_set::set::VersionSet;
-use version_set::version::Version;
+use vclock::{Bytes, Clock, Format, Refusal};
+use version_set::{Version, VersionSet};
 
 /// How many bytes a key has at the most.
 const LONGEST_KEY: u16 = 255;

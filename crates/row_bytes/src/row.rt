@@ -4,8 +4,8 @@ ghost use Rattle.std.specs.Slice.Iter.{iter_rest};
 
 use std::marker::Model;
 use std::slice::Iter;
-use vclock::bytes::Bytes;
-use version_set::set::VersionSet;
+use vclock::Bytes;
+use version_set::VersionSet;
 
 /// A key with the versions that are held for it: what a leaf of the tree consists of, and what the text of a leaf
 /// spells.

@@ -11,9 +11,8 @@ ghost use Rattle.row_bytes.specs.Rows.{row_text, FitsText};
 use crate::lengths::row_len;
 use crate::row::Row;
 use std::alloc::{AllocError, Global};
-use vclock::format::Format;
-use vclock::refusal::Refusal;
-use version_set::version::Version;
+use vclock::{Format, Refusal};
+use version_set::Version;
 
 /// Appends a pair of a clock: a node in two bytes, then its counter in eight. Like each of these calls, it fails only if
 /// memory is needed beyond the room of `out`.

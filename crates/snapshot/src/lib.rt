@@ -7,3 +7,5 @@
 
 pub mod laws;
 pub mod snapshot;
+
+pub use snapshot::Snapshot;

@@ -10,17 +10,12 @@ ghost use Rattle.hash_tree.specs.Texts.{inner_text, leaf_text};
 ghost use Rattle.snapshot.specs.RowMaps.{IsRowMap, leaf_in, text_at, digest_at, root_of};
 ghost use Rattle.snapshot.specs.Snapshots.{IsSnapshot, map_of, answer_fault};
 
-use hash_tree::hashed::{Digest, Hashed};
-use hash_tree::node::{NodeAt, tree_depth};
-use hash_tree::shared::SharedLeaf;
-use hash_tree::text::Text;
-use hash_tree::texts::inner_text;
+use hash_tree::{Digest, Hashed, NodeAt, SharedLeaf, Text, inner_text, tree_depth};
 use std::alloc::Global;
 use std::marker::Model;
 use std::sync::Arc;
-use vclock::format::Format;
-use vclock::refusal::Refusal;
-use walk_messages::message::{Ask, Offer};
+use vclock::{Format, Refusal};
+use walk_messages::{Ask, Offer};
 
 /// All rows of a range at one moment, with the digest of each node of the tree over them. It shares the leaves with the
 /// range, which copies a leaf before it changes one that is shared, so a snapshot stays as it was made. A node offers a

@@ -4,21 +4,15 @@ ghost use Rattle.std.specs.Prelude.{◌≡◌, ◌≤◌};
 use crate::tally::SharedTally;
 use crate::workers::{rehash_rounds, sync_rounds};
 use crate::writer::write;
-use caller_pass::book::open_passes;
-use caller_pass::pass::Pass;
-use range_state::config::RangeConfig;
-use range_state::state::RangeState;
-use ring_node::channel::{ChannelLink, ChannelServer};
-use ring_node::controller::SharedController;
-use ring_node::gate::Gate;
-use ring_node::offers::OfferPool;
-use ring_node::range::SharedRange;
+use caller_pass::{Pass, open_passes};
+use range_state::{RangeConfig, RangeState};
+use ring_node::{ChannelLink, ChannelServer, Gate, OfferPool, SharedController, SharedRange};
 use std::alloc::Global;
 use std::sync::Wait;
 use std::sync::ledger::{Blank, Ledger};
 use std::thread;
 use std::thread::Threads;
-use vclock::refusal::Refusal;
+use vclock::Refusal;
 
 /// How many entries a journal takes.
 const LIMIT: u64 = 1_000_000;

@@ -1,15 +1,12 @@
 // Rehash and sync workers.
 use crate::node::{Node, Plan};
-use admission::slot::Slot;
-use caller_pass::pass::Pass;
-use ring_node::channel::ChannelLink;
-use ring_node::controller::SharedController;
-use ring_node::gate::Gate;
-use ring_node::link::Link;
+use admission::Slot;
+use caller_pass::Pass;
+use ring_node::{ChannelLink, Gate, Link, SharedController};
 use std::alloc::Global;
 use std::sync::Wait;
 use std::sync::ledger::Ledger;
-use vclock::refusal::Refusal;
+use vclock::Refusal;
 
 /// How many turns a rehash worker has: enough for the 273 nodes of a tree, and for finding it clean.
 const REHASH_TURNS: u64 = 300;
@@ -38,7 +35,7 @@ pub(crate) fn rehash_rounds<L: Ledger, C: Ledger, R: Wait, G: Gate>(
 }
 
 /// Syncs a node over a link, in as many rounds as there are puts, at most 100, and stops the link. Refused as
-/// [`ring_node::range::SharedRange::sync_worker`], but that NoSlot, Dirty, Gone and LinkLost are passed over.
+/// [`ring_node::SharedRange::sync_worker`], but that NoSlot, Dirty, Gone and LinkLost are passed over.
 pub(crate) fn sync_rounds<L: Ledger, C: Ledger, R: Wait, G: Gate>(
     rt: &R,
     alloc: Global,
@@ -87,7 +84,7 @@ pub(crate) fn rehash<L: Ledger, C: Ledger, R: Wait, G: Gate>(
 }
 
 /// Takes over a link, with a slot, what the other node has and this one lacks. Refused: NoSlot, or as
-/// [`ring_node::range::SharedRange::sync_worker`].
+/// [`ring_node::SharedRange::sync_worker`].
 pub(crate) fn sync<L: Ledger, C: Ledger, R: Wait, G: Gate, K: Link>(
     rt: &R,
     alloc: Global,

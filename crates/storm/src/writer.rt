@@ -1,20 +1,18 @@
 // Writers.
 use crate::node::{Node, Plan};
-use caller_pass::pass::Pass;
-use ring_node::gate::Gate;
+use caller_pass::Pass;
+use ring_node::Gate;
 use std::alloc::Global;
 use std::sync::Wait;
 use std::sync::ledger::Ledger;
-use vclock::bytes::Bytes;
-use vclock::clock::Clock;
-use vclock::refusal::Refusal;
-use version_set::kind::Kind;
+use vclock::{Bytes, Clock, Refusal};
+use version_set::Kind;
 
 /// The step of the gate after a put.
 const AFTER_A_PUT: u32 = 3;
 
 /// Puts the keys `w-0`, `w-1` and so on at a node, w being its number, each with its own number as the value, and passes
-/// the gate after each. Refused as [`ring_node::range::SharedRange::put`].
+/// the gate after each. Refused as [`ring_node::SharedRange::put`].
 pub(crate) fn write<L: Ledger, C: Ledger, R: Wait, G: Gate>(
     rt: &R,
     alloc: Global,

@@ -7,9 +7,8 @@ ghost use Rattle.sync_session.specs.TreeNodes.{node_of, top, child, parent_of, i
 ghost use Rattle.sync_session.specs.Walks.{taken_at, child_digest, expected, differing};
 
 use crate::taken::Taken;
-use hash_tree::hashed::Digest;
-use hash_tree::node::NodeAt;
-use snapshot::snapshot::Snapshot;
+use hash_tree::{Digest, NodeAt};
+use snapshot::Snapshot;
 use std::alloc::{AllocError, Global};
 
 /// How many bytes a digest has.

@@ -15,3 +15,8 @@ mod reading;
 pub mod session;
 pub mod state;
 pub mod taken;
+
+pub use news::News;
+pub use session::{Answered, Session};
+pub use state::SessionState;
+pub use taken::Taken;

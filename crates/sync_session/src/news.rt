@@ -9,14 +9,11 @@ ghost use Rattle.sync_session.specs.TreeNodes.{node_of};
 ghost use Rattle.sync_session.specs.Readings.{ReadsNews, FrontRow, FrontOwn, FrontRun};
 
 use crate::reading::{body_of, is_here};
-use hash_tree::node::NodeAt;
-use hash_tree::shared::SharedLeaf;
-use hash_tree::texts::leaf_byte;
-use row_bytes::reading::{key_at, read_row};
-use row_bytes::row::Row;
-use snapshot::snapshot::Snapshot;
+use hash_tree::{NodeAt, SharedLeaf, leaf_byte};
+use row_bytes::{Row, key_at, read_row};
+use snapshot::Snapshot;
 use std::alloc::Global;
-use vclock::refusal::Refusal;
+use vclock::Refusal;
 
 /// What a leaf's text has beside the own rows. A row that the own snapshot has, byte by byte, is counted and not read, so
 /// most of a text costs no more than comparing it.

@@ -10,15 +10,12 @@ ghost use Rattle.sync_session.specs.TreeNodes.{node_of};
 ghost use Rattle.sync_session.specs.Walks.{IsInnerText};
 ghost use Rattle.sync_session.specs.Readings.{ReadsLeaf};
 
-use hash_tree::node::NodeAt;
-use hash_tree::texts::{INNER_LEN, inner_byte, leaf_byte};
-use key_ring::places::place;
-use row_bytes::reading::read_rows;
-use row_bytes::row::{Row, RowList};
-use snapshot::snapshot::Snapshot;
+use hash_tree::{INNER_LEN, NodeAt, inner_byte, leaf_byte};
+use key_ring::place;
+use row_bytes::{Row, RowList, read_rows};
+use snapshot::Snapshot;
 use std::alloc::Global;
-use vclock::format::Format;
-use vclock::refusal::Refusal;
+use vclock::{Format, Refusal};
 
 /// Whether a text has the form of that of a node with children.
 pub fn is_inner(format: Format, text: &[u8]) -> bool

@@ -12,14 +12,13 @@ use crate::news::{News, leaf_news};
 use crate::state::SessionState;
 use crate::taken::Taken;
 use crate::{asking, reading};
-use hash_tree::hashed::{Digest, Hashed};
-use hash_tree::node::{NodeAt, tree_depth};
-use row_bytes::row::RowList;
-use snapshot::snapshot::Snapshot;
+use hash_tree::{Digest, Hashed, NodeAt, tree_depth};
+use row_bytes::RowList;
+use snapshot::Snapshot;
 use std::alloc::Global;
 use std::marker::Model;
 use std::sync::Arc;
-use vclock::refusal::Refusal;
+use vclock::Refusal;
 
 /// What kind of text a session took.
 #[derive(Debug, Drop)]

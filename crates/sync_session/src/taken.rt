@@ -2,8 +2,7 @@
 ghost use Rattle.std.specs.Prelude.{◌≡◌};
 ghost use Rattle.sync_session.specs.TreeNodes.{node_of};
 
-use hash_tree::hashed::Hashed;
-use hash_tree::node::NodeAt;
+use hash_tree::{Hashed, NodeAt};
 use std::marker::Model;
 
 /// A text that a session took, and the node that it is the text of.

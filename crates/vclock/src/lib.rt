@@ -6,3 +6,9 @@ pub mod clock;
 pub mod format;
 pub mod key;
 pub mod refusal;
+
+pub use bytes::Bytes;
+pub use clock::{Clock, ClockOrder, ClockPairs};
+pub use format::Format;
+pub use key::check_key;
+pub use refusal::{Clocks, PassPart, Refusal};

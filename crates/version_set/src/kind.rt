@@ -3,8 +3,7 @@ ghost use Rattle.std.specs.Prelude.{◌≡◌, ⊤};
 ghost use Rattle.vclock.specs.Answer.{AnswersAtOnce};
 ghost use Rattle.version_set.specs.Kind.{kind_byte, value_fault};
 
-use vclock::format::Format;
-use vclock::refusal::Refusal;
+use vclock::{Format, Refusal};
 
 /// Whether a version has a value or deletes the key.
 #[derive(Clone, Copy, Debug, PartialEq, Eq)]

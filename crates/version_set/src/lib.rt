@@ -5,3 +5,7 @@ pub mod kind;
 pub mod laws;
 pub mod set;
 pub mod version;
+
+pub use kind::Kind;
+pub use set::{Offered, VersionSet};
+pub use version::Version;

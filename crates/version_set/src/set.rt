@@ -11,9 +11,7 @@ use std::alloc::{AllocError, Global};
 use std::cmp::Ordering;
 use std::marker::Model;
 use std::slice::Iter;
-use vclock::clock::ClockOrder;
-use vclock::format::Format;
-use vclock::refusal::{Clocks, Refusal};
+use vclock::{ClockOrder, Clocks, Format, Refusal};
 
 /// How many versions a set has at the most.
 const MOST_VERSIONS: usize = 64;

@@ -5,10 +5,7 @@ ghost use Rattle.version_set.specs.Version.{is_below, IsBelow, version_cmp, text
 
 use crate::kind::Kind;
 use std::cmp::Ordering;
-use vclock::bytes::Bytes;
-use vclock::clock::{Clock, ClockOrder};
-use vclock::format::Format;
-use vclock::refusal::Refusal;
+use vclock::{Bytes, Clock, ClockOrder, Format, Refusal};
 
 /// A value or a tombstone, with the clock under which it was put. One version is below another if its clock is before
 /// the other's: the other writer had seen it. Equal clocks with different values are two versions, and both are kept.

@@ -4,9 +4,9 @@ ghost use Rattle.walk_messages.specs.Messages.{Decodes};
 
 use crate::fields::{answer_parts_of, ask_of, offer_of};
 use crate::message::{Answer, Message};
-use hash_tree::text::Text;
+use hash_tree::Text;
 use std::alloc::Global;
-use vclock::refusal::Refusal;
+use vclock::Refusal;
 
 /// The message that has exactly these bytes. Neither the format's number of an offer is judged, nor its range, nor the
 /// text of an answer.

@@ -6,10 +6,9 @@ ghost use Rattle.walk_messages.specs.declared.message.Message.TheVariants as mes
 ghost use Rattle.walk_messages.specs.Messages.{node_text, message_text};
 
 use crate::message::{Answer, Message, Offer};
-use hash_tree::node::NodeAt;
-use hash_tree::text::Text;
+use hash_tree::{NodeAt, Text};
 use std::alloc::{AllocError, Global};
-use vclock::refusal::Refusal;
+use vclock::Refusal;
 
 /// How many bytes of an offer stand before its root.
 const BEFORE_ROOT: usize = 7;

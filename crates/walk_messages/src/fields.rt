@@ -9,8 +9,7 @@ ghost use Rattle.walk_messages.specs.declared.message.Message.TheVariants as mes
 ghost use Rattle.walk_messages.specs.Messages.{node_text, message_text, IsMessage};
 
 use crate::message::{Ask, Offer};
-use hash_tree::hashed::Digest;
-use hash_tree::node::NodeAt;
+use hash_tree::{Digest, NodeAt};
 
 /// The number of an offer, and what follows it: `None` if there are fewer than four bytes.
 fn offer_number_at(bytes: &[u8]) -> Option<(u32, &[u8])>

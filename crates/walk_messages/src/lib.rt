@@ -10,3 +10,7 @@ pub mod encoding;
 mod fields;
 pub mod laws;
 pub mod message;
+
+pub use decoding::decode;
+pub use encoding::encode;
+pub use message::{Answer, Ask, Message, Offer};

@@ -1,7 +1,5 @@
 //! Messages. What their bytes are, this project's profile says.
-use hash_tree::hashed::Digest;
-use hash_tree::node::NodeAt;
-use hash_tree::text::Text;
+use hash_tree::{Digest, NodeAt, Text};
 
 /// A replica's tree, by the digest of its root: the first message of a sync. A partner whose own root differs opens a
 /// session with it.

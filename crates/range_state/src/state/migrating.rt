@@ -7,10 +7,9 @@ ghost use Rattle.range_state.specs.Migrates.{cancelled, in_two, migrate};
 use crate::record::Record;
 use crate::replay::leaves_of;
 use crate::state::RangeState;
-use hash_tree::marks::Marks;
+use hash_tree::Marks;
 use std::alloc::Global;
-use vclock::format::Format;
-use vclock::refusal::Refusal;
+use vclock::{Format, Refusal};
 
 impl RangeState {
     /// Takes a range of format 1 over to format 2. The journal stays word for word, and its versions are live; the rows

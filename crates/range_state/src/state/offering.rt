@@ -5,11 +5,11 @@ ghost use Rattle.vclock.specs.Answer.{Answers};
 ghost use Rattle.range_state.specs.State.{rows_now, dirty_fault};
 
 use crate::state::RangeState;
-use hash_tree::shared::SharedLeaf;
-use snapshot::snapshot::Snapshot;
+use hash_tree::SharedLeaf;
+use snapshot::Snapshot;
 use std::alloc::Global;
 use std::sync::Arc;
-use vclock::refusal::Refusal;
+use vclock::Refusal;
 
 impl RangeState {
     /// The rows now with the digests of the whole tree, as another replica may be offered them. It copies no row: a

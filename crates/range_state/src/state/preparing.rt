@@ -14,14 +14,13 @@ ghost use Rattle.range_state.specs.Batches.{IsRowFor, ahead, IsBatch, seen_count
 
 use crate::event::Receipt;
 use crate::state::{RangeState, covers, crowds};
-use hash_tree::shared::SharedLeaf;
-use range_journal::journal::{Entry, Source};
-use row_bytes::row::Row;
+use hash_tree::SharedLeaf;
+use range_journal::{Entry, Source};
+use row_bytes::Row;
 use std::alloc::Global;
-use sync_session::news::News;
-use vclock::bytes::Bytes;
-use vclock::refusal::Refusal;
-use version_set::version::Version;
+use sync_session::News;
+use vclock::{Bytes, Refusal};
+use version_set::Version;
 
 /// Versions of one leaf that are to be accepted together.
 #[derive(Drop)]

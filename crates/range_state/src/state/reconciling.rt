@@ -11,9 +11,9 @@ ghost use Rattle.vclock.specs.Answer.{first_fault};
 use crate::state::RangeState;
 use crate::state::sessions::check_crowd;
 use crate::state::syncing::Synced;
-use snapshot::snapshot::Snapshot;
+use snapshot::Snapshot;
 use std::alloc::Global;
-use vclock::refusal::Refusal;
+use vclock::Refusal;
 
 /// What it took to make two replicas hold the same: how many nodes each asked, and how many versions each journaled.
 ///

@@ -9,12 +9,11 @@ ghost use Rattle.range_state.specs.Syncs.{IsFirstOf};
 
 use crate::record::Record;
 use crate::state::RangeState;
-use hash_tree::node::NodeAt;
+use hash_tree::NodeAt;
 use std::alloc::Global;
-use sync_session::session::Session;
-use sync_session::state::SessionState;
-use vclock::refusal::Refusal;
-use walk_messages::message::Offer;
+use sync_session::{Session, SessionState};
+use vclock::Refusal;
+use walk_messages::Offer;
 
 /// How many sessions of a range are open at the most.
 const MOST_OPEN: usize = 64;

@@ -9,11 +9,11 @@ ghost use Rattle.range_state.specs.Syncs.{IsOfRange, HasAskedAll, IsSyncedTo, Is
 
 use crate::event::AnswerTaken;
 use crate::state::RangeState;
-use hash_tree::node::NodeAt;
-use snapshot::snapshot::Snapshot;
+use hash_tree::NodeAt;
+use snapshot::Snapshot;
 use std::alloc::Global;
-use vclock::refusal::Refusal;
-use walk_messages::message::Ask;
+use vclock::Refusal;
+use walk_messages::Ask;
 
 /// What a session with a partner that answers truly came to.
 #[derive(Debug, Drop)]

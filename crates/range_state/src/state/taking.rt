@@ -11,13 +11,11 @@ ghost use Rattle.range_state.specs.Sessions.{walked_to, IsInnerRead, IsNewsRead,
 use crate::event::{AnswerTaken, Receipt};
 use crate::state::RangeState;
 use crate::state::preparing::Batch;
-use hash_tree::hashed::Hashed;
-use hash_tree::marks::Marks;
-use hash_tree::node::{NodeAt, tree_depth};
-use range_journal::journal::{Entry, Journal};
+use hash_tree::{Hashed, Marks, NodeAt, tree_depth};
+use range_journal::{Entry, Journal};
 use std::alloc::Global;
-use sync_session::news::News;
-use vclock::refusal::Refusal;
+use sync_session::News;
+use vclock::Refusal;
 
 impl RangeState {
     /// Takes a partner's text for a node of a session: the children that differ are asked; the versions of a leaf are

@@ -12,15 +12,11 @@ ghost use Rattle.range_state.specs.Told.{with_put, with_sent, CountsAnswer};
 
 use crate::event::{Accepted, AnswerCounted, AnswerTaken, Receipt};
 use crate::state::{RangeState, covers};
-use hash_tree::hashed::Hashed;
-use hash_tree::node::NodeAt;
-use range_journal::journal::Source;
+use hash_tree::{Hashed, NodeAt};
+use range_journal::Source;
 use std::alloc::Global;
-use vclock::bytes::Bytes;
-use vclock::clock::Clock;
-use vclock::refusal::Refusal;
-use version_set::kind::Kind;
-use version_set::version::Version;
+use vclock::{Bytes, Clock, Refusal};
+use version_set::{Kind, Version};
 
 impl RangeState {
     /// Whether the versions that are held for a key cover a version: it is one of them or below one. It takes no memory.
