@@ -10,8 +10,8 @@ ghost use Rattle.antientropy_c.specs.Sessions.{TellsNumber};
 
 use crate::numbers::code;
 use crate::pair::{Pair, clock_of};
-use crate::showing::copy_pairs;
-use crate::syncing::tell_number;
+use crate::sessions::tell_number;
+use crate::versions::copy_pairs;
 use std::alloc::Global;
 use vclock::{Clock, ClockOrder, Refusal};
 

@@ -3,9 +3,9 @@ ghost use Rattle.std.specs.Prelude.{◌≡◌, ◌+◌, ◌<◌, ◌≤◌, leng
 ghost use Rattle.vclock.specs.Answer.{Answers};
 ghost use Rattle.caller_pass.specs.Passes.{new_book, new_passes, counted, absorbed, receipts_of};
 
-use crate::by_key::ByKey;
 use crate::pass::Pass;
 use crate::reading::Reading;
+use crate::receipt_index::ByKey;
 use range_state::Receipt;
 use std::alloc::Global;
 use std::marker::Model;

@@ -1,7 +1,7 @@
 // Leaves of more rows than a chunk has. The digest was made by another program from the definition.
 use crate::versions::version;
-use hash_tree::hashed::hash;
-use hash_tree::shared::SharedLeaf;
+use hash_tree::digest::hash;
+use hash_tree::shared_leaf::SharedLeaf;
 use hash_tree::text::Text;
 use std::alloc::Global;
 use std::test::Fail;

@@ -1,6 +1,6 @@
 // A row at all its limits: a key of 255 bytes, and 64 versions with clocks of 32 pairs and the longest values.
-use row_bytes::reading::{a_held_set_is_a_row, read_row};
-use row_bytes::writing::write_row;
+use row_bytes::reader::{a_held_set_is_a_row, read_row};
+use row_bytes::writer::write_row;
 use std::alloc::Global;
 use std::process::Abort;
 use std::test::Fail;

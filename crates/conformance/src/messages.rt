@@ -6,8 +6,8 @@ use std::alloc::Global;
 use std::process::Abort;
 use std::test::Fail;
 use vclock::refusal::Refusal;
-use walk_messages::decoding::decode;
-use walk_messages::encoding::encode;
+use walk_messages::decoder::decode;
+use walk_messages::encoder::encode;
 use walk_messages::message::{Answer, Ask, Message, Offer};
 
 /// Asserts that a message has these bytes, and that what is read from them has them too.

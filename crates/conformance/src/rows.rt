@@ -1,7 +1,7 @@
 //! Row texts, written and read, byte by byte.
 
-use row_bytes::reading::{a_held_set_is_a_row, read_row, read_rows};
-use row_bytes::writing::write_row;
+use row_bytes::reader::{a_held_set_is_a_row, read_row, read_rows};
+use row_bytes::writer::write_row;
 use std::alloc::Global;
 use std::process::Abort;
 use std::test::Fail;

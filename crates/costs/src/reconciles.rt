@@ -5,7 +5,7 @@ mod pair;
 
 use crate::fault::Fault;
 use pair::Pair;
-use range_state::state::reconciling::Reconciled;
+use range_state::state::reconciliation::Reconciled;
 use std::alloc::Global;
 use std::io;
 use std::thread::Threads;

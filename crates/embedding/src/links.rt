@@ -4,7 +4,7 @@ use ring_node::channel::channel_link;
 use ring_node::controller::SharedController;
 use ring_node::deed::Deed;
 use ring_node::memory::MemoryLink;
-use ring_node::scripted::ScriptedLink;
+use ring_node::scripted_link::ScriptedLink;
 use ring_node::syncer::SyncReport;
 use std::alloc::Global;
 use std::sync::Wait;

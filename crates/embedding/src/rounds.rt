@@ -2,7 +2,7 @@
 use crate::client::update;
 use crate::replica::Replica;
 use caller_pass::pass::Pass;
-use hash_tree::hashed::Digest;
+use hash_tree::digest::Digest;
 use ring_node::controller::SharedController;
 use ring_node::gate::OpenGate;
 use ring_node::link::Link;

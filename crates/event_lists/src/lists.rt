@@ -8,7 +8,7 @@ use crate::plain::{Fault, KEYS, PlainVersion, Trouble, expect};
 use crate::random::Random;
 use crate::replicas::{Replica, SEAT, is_entry};
 use crate::walks::{Offering, Sent};
-use hash_tree::hashed::{Digest, hash};
+use hash_tree::digest::{Digest, hash};
 use hash_tree::node::NodeAt;
 use hash_tree::text::Text;
 use range_state::event::AnswerTaken;

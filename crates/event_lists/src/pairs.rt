@@ -6,7 +6,7 @@ use crate::trees::{Tree, differing};
 use crate::walks::{Offering, Sent, Walk};
 use hash_tree::node::NodeAt;
 use range_state::state::RangeState;
-use range_state::state::reconciling::{Reconciled, reconcile};
+use range_state::state::reconciliation::{Reconciled, reconcile};
 use std::alloc::Global;
 use sync_session::state::SessionState;
 use vclock::refusal::Refusal;

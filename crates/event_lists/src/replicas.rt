@@ -4,7 +4,7 @@ ghost use Rattle.std.specs.Prelude.{◌≤◌};
 use crate::plain::{Fault, KEYS, PlainEntry, PlainRange, PlainVersion, Trouble, expect, key_bytes};
 use crate::trees::{Tree, leaf_depth, width};
 use crate::walks::Walk;
-use hash_tree::hashed::Hashed;
+use hash_tree::digest::Hashed;
 use hash_tree::node::NodeAt;
 use range_journal::journal::{Entry, Source};
 use range_state::config::RangeConfig;

@@ -4,7 +4,7 @@ use crate::plain::{Fault, PlainEntry, Trouble, expect};
 use crate::replicas::Replica;
 use crate::trees::Tree;
 use crate::walks::{Offering, Walk};
-use hash_tree::hashed::Digest;
+use hash_tree::digest::Digest;
 use hash_tree::node::NodeAt;
 use range_journal::journal::Source;
 use std::alloc::Global;

@@ -2,7 +2,7 @@
 ghost use Rattle.std.specs.Prelude.{◌≤◌};
 
 use crate::plain::{KEYS, PlainRange, PlainVersion, Trouble, key_bytes};
-use hash_tree::hashed::Digest;
+use hash_tree::digest::Digest;
 use hash_tree::node::NodeAt;
 use sha2::{Digest as _, Sha256};
 use std::alloc::Global;

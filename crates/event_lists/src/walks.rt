@@ -2,13 +2,13 @@
 
 use crate::plain::{Fault, Trouble};
 use crate::trees::{Tree, child, inner_byte, leaf_depth};
-use hash_tree::hashed::Digest;
+use hash_tree::digest::Digest;
 use hash_tree::node::NodeAt;
 use range_state::record::Record;
 use sha2::{Digest as _, Sha256};
 use std::alloc::Global;
 use sync_session::state::SessionState;
-use sync_session::taken::Taken;
+use sync_session::taken_text::Taken;
 use vclock::format::Format;
 
 /// A text that was sent for a node.

@@ -1,7 +1,7 @@
 // Shared leaves.
 use crate::versions::version;
 use growth_checks::lines::{show, unchanged};
-use hash_tree::shared::SharedLeaf;
+use hash_tree::shared_leaf::SharedLeaf;
 use std::alloc::Global;
 use std::io;
 use vclock::format::Format;

@@ -5,8 +5,8 @@ use hash_tree::text::Text;
 use std::alloc::Global;
 use std::io;
 use vclock::refusal::Refusal;
-use walk_messages::decoding::decode;
-use walk_messages::encoding::encode;
+use walk_messages::decoder::decode;
+use walk_messages::encoder::encode;
 use walk_messages::message::{Answer, Message};
 
 /// An answer for the root of offer 1, whose text is too long to stand in a `Bytes` itself.

@@ -4,7 +4,7 @@ use growth_checks::states::{is_between, is_same};
 use range_journal::journal::Source;
 use range_state::config::RangeConfig;
 use range_state::state::RangeState;
-use range_state::state::reconciling::{Reconciled, reconcile};
+use range_state::state::reconciliation::{Reconciled, reconcile};
 use std::alloc::Global;
 use std::io;
 use std::thread::Threads;

@@ -1,7 +1,7 @@
 // Row texts.
 use growth_checks::lines::{show, unchanged};
-use row_bytes::reading::{a_held_set_is_a_row, read_row, read_rows};
-use row_bytes::writing::{put_row, write_row};
+use row_bytes::reader::{a_held_set_is_a_row, read_row, read_rows};
+use row_bytes::writer::{put_row, write_row};
 use std::alloc::Global;
 use std::io;
 use vclock::format::Format;

@@ -2,7 +2,7 @@
 use crate::snapshots::Snapshots;
 use growth_checks::lines::{show, unchanged};
 use growth_checks::sessions::is_same_session;
-use hash_tree::hashed::{Hashed, hash};
+use hash_tree::digest::{Hashed, hash};
 use hash_tree::node::{NodeAt, tree_depth};
 use hash_tree::text::Text;
 use snapshot::snapshot::Snapshot;

@@ -3,7 +3,7 @@ use crate::leaves::leaf_of;
 use crate::ranges::range_of;
 use growth_checks::lines::{show, unchanged};
 use growth_checks::states::is_between;
-use hash_tree::hashed::{Digest, hash};
+use hash_tree::digest::{Digest, hash};
 use hash_tree::marks::Marks;
 use hash_tree::node::NodeAt;
 use hash_tree::text::Text;

@@ -8,7 +8,7 @@ ghost use Rattle.row_bytes.specs.Rows.{row_text, FitsText};
 ghost use Rattle.row_bytes.specs.declared.row.Row.{Row};
 ghost use Rattle.hash_tree.specs.Chunks.{chunk_text, begin_by, versions_at, offered_at};
 
-use crate::written::WrittenRows;
+use crate::written_rows::WrittenRows;
 use row_bytes::Row;
 use std::alloc::Global;
 use std::marker::Model;

@@ -12,8 +12,8 @@ ghost use Rattle.hash_tree.specs.Chunks.{all_rows, AreChunks};
 ghost use Rattle.hash_tree.specs.Texts.{leaf_text};
 
 use crate::chunk::Chunk;
-use crate::chunked::{Spot, chunk_of, insert_at, offer_at, share_chunks, text_len};
-use crate::comparing::is_chunked_text;
+use crate::chunks::{Spot, chunk_of, insert_at, offer_at, share_chunks, text_len};
+use crate::comparison::is_chunked_text;
 use crate::texts::put_chunks;
 use row_bytes::Row;
 use std::alloc::{AllocError, Global};

@@ -3,7 +3,7 @@ ghost use Rattle.std.specs.Prelude.{◌≡◌, ◌+◌, ◌/◌, ◌<◌, ◌≤
 ghost use Rattle.vclock.specs.Answer.{Answers};
 ghost use Rattle.hash_tree.specs.Nodes.{tree_depth, nodes_above, node_count, place_at, digest_at, children_of, are_clean, is_ready, ready_from, dirtied, dirty_count, IsTree};
 
-use crate::hashed::Digest;
+use crate::digest::Digest;
 use crate::node::{NodeAt, tree_depth};
 use std::alloc::Global;
 use std::marker::Model;

@@ -8,7 +8,7 @@ ghost use Rattle.hash_tree.specs.Chunks.{chunk_text};
 ghost use Rattle.hash_tree.specs.Texts.{leaf_byte, inner_byte, leaf_text, inner_text};
 
 use crate::chunk::Chunk;
-use crate::hashed::Digest;
+use crate::digest::Digest;
 use row_bytes::{Row, put_row};
 use std::alloc::{AllocError, Global};
 use vclock::{Format, Refusal};

@@ -2,7 +2,7 @@
 ghost use Rattle.ring_node.specs.Links.{IsCounted};
 
 use crate::random::Random;
-use hash_tree::hashed::{Digest, hash};
+use hash_tree::digest::{Digest, hash};
 use hash_tree::text::Text;
 use hash_tree::texts::inner_text;
 use ring_node::link::{Link, Reached};
@@ -10,8 +10,8 @@ use std::alloc::Global;
 use std::sync::Wait;
 use vclock::format::Format;
 use vclock::refusal::Refusal;
-use walk_messages::decoding::decode;
-use walk_messages::encoding::encode;
+use walk_messages::decoder::decode;
+use walk_messages::encoder::encode;
 use walk_messages::message::{Answer, Ask, Message, Offer};
 
 /// What a forger says that the text of each node below the root is.

@@ -7,7 +7,7 @@ use crate::trouble::Trouble;
 use crate::watched::Watched;
 use admission::slot::Slot;
 use caller_pass::book::open_passes;
-use caller_pass::closing::Closed;
+use caller_pass::close::Closed;
 use caller_pass::pass::Pass;
 use hash_tree::node::NodeAt;
 use range_journal::journal::Source;

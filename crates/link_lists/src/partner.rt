@@ -2,7 +2,7 @@
 
 use crate::rows::{Given, KEYS, key_bytes};
 use crate::trouble::Trouble;
-use hash_tree::hashed::Digest;
+use hash_tree::digest::Digest;
 use range_journal::journal::Source;
 use range_state::config::RangeConfig;
 use range_state::state::RangeState;

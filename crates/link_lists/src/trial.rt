@@ -16,7 +16,7 @@ use admission::slot::Slot;
 use ring_node::controller::SharedController;
 use ring_node::link::Link;
 use ring_node::memory::MemoryLink;
-use ring_node::scripted::ScriptedLink;
+use ring_node::scripted_link::ScriptedLink;
 use std::alloc::Global;
 use std::marker::Brand;
 use std::sync::Wait;

@@ -4,7 +4,7 @@ use ring_node::link::{Link, Reached};
 use std::alloc::Global;
 use std::mem::replace;
 use std::sync::Wait;
-use walk_messages::decoding::decode;
+use walk_messages::decoder::decode;
 use walk_messages::message::{Answer, Message};
 
 /// A link round another one that counts the asks, and keeps the answers that are of the offer asked of. What comes over the

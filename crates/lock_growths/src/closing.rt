@@ -1,6 +1,6 @@
 // Ranges that are closed.
-use caller_pass::closing::{Closed, Unclosed};
-use caller_pass::locked::LockedRange;
+use caller_pass::close::{Closed, Unclosed};
+use caller_pass::locked_range::LockedRange;
 use caller_pass::pass::Pass;
 use ring_node::range::{NotClosed, SharedRange};
 use std::alloc::Global;

@@ -1,6 +1,6 @@
 // What is left when the ranges are closed.
 use crate::told::Told;
-use caller_pass::closing::Closed;
+use caller_pass::close::Closed;
 use growth_checks::states::{clean_nodes, is_between};
 use hint_store::hint::Hint;
 use range_journal::journal::Source;

@@ -5,12 +5,12 @@ use hash_tree::node::NodeAt;
 use ring_node::deed::Deed;
 use ring_node::link::{Link, Reached};
 use ring_node::memory::MemoryLink;
-use ring_node::scripted::ScriptedLink;
+use ring_node::scripted_link::ScriptedLink;
 use std::alloc::Global;
 use std::io;
 use std::sync::Wait;
 use vclock::refusal::Refusal;
-use walk_messages::encoding::encode;
+use walk_messages::encoder::encode;
 use walk_messages::message::{Ask, Message};
 
 /// Shows the calls on links.

@@ -21,7 +21,7 @@ use ring_node::hints::SharedHints;
 use ring_node::link::Link;
 use ring_node::memory::MemoryLink;
 use ring_node::range::SharedRange;
-use ring_node::scripted::ScriptedLink;
+use ring_node::scripted_link::ScriptedLink;
 use ring_node::syncer::SyncReport;
 use std::alloc::Global;
 use std::sync::Wait;

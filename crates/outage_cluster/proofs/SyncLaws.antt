@@ -15,7 +15,7 @@ use Rattle.range_state.specs.Trees.{digests_below, rehashed}
 use Rattle.range_state.specs.Records.{is_open_state}
 use Rattle.range_state.specs.Sessions.{taken_in, leaf_fault}
 use Rattle.range_state.specs.Syncs.{Progress, IsSyncedTo, IsPartWay, leaves_between, offers_at, known_in, taken_leaves, unless_refused}
-use Rattle.range_state.specs.declared.state.syncing.Synced.{Synced}
+use Rattle.range_state.specs.declared.state.sync.Synced.{Synced}
 use Rattle.range_state.proofs.SyncStepLaws.{config_stays, taken_beside, fault_beside}
 use Rattle.outage_cluster.specs.State.{Replica, keeping, range_in, replica_of, without_records}
 use Rattle.outage_cluster.specs.Syncs.{IsCounted, after_sync, synced_with, walk_fault}

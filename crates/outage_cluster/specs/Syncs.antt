@@ -9,7 +9,7 @@ use Rattle.range_state.specs.State as range
 use Rattle.range_state.specs.State.{dirty_fault, rows_now}
 use Rattle.range_state.specs.Sessions.{crowd_fault}
 use Rattle.range_state.specs.Syncs.{Progress, synced, ended}
-use Rattle.range_state.specs.declared.state.syncing.Synced.{Synced}
+use Rattle.range_state.specs.declared.state.sync.Synced.{Synced}
 use Rattle.outage_cluster.specs.State.{Replica}
 
 -- why a node opens no session: it does not keep the range, too many sessions are open, or a node of its own tree is dirty

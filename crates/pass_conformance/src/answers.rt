@@ -2,10 +2,10 @@
 ghost use Rattle.std.specs.Prelude.{◌≡◌};
 
 use crate::ranges::range;
-use caller_pass::locked::LockedRange;
+use caller_pass::locked_range::LockedRange;
 use caller_pass::pass::Pass;
 use conformance::refusals::is_refused;
-use hash_tree::hashed::{Digest, Hashed, hash};
+use hash_tree::digest::{Digest, Hashed, hash};
 use hash_tree::node::NodeAt;
 use hash_tree::text::Text;
 use range_state::config::RangeConfig;

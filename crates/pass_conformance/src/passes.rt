@@ -3,8 +3,8 @@ ghost use Rattle.std.specs.Prelude.{◌≡◌};
 
 use crate::ranges::range;
 use caller_pass::book::{Book, open_passes};
-use caller_pass::closing::Unclosed;
-use caller_pass::locked::LockedRange;
+use caller_pass::close::Unclosed;
+use caller_pass::locked_range::LockedRange;
 use caller_pass::pass::Pass;
 use conformance::versions::version;
 use range_journal::journal::Source;

@@ -2,7 +2,7 @@
 ghost use Rattle.std.specs.Prelude.{◌≡◌, [], IfOk};
 
 use caller_pass::book::open_passes;
-use caller_pass::locked::LockedRange;
+use caller_pass::locked_range::LockedRange;
 use caller_pass::pass::Pass;
 use range_state::config::RangeConfig;
 use range_state::state::RangeState;

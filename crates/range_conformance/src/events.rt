@@ -1,5 +1,5 @@
 // Sessions as events of a range.
-use hash_tree::hashed::{Hashed, hash};
+use hash_tree::digest::{Hashed, hash};
 use hash_tree::node::NodeAt;
 use hash_tree::text::Text;
 use range_state::config::RangeConfig;

@@ -4,9 +4,9 @@ ghost use Rattle.sha2.specs.Sha256.{sha256};
 ghost use Rattle.hash_tree.specs.Texts.{inner_text};
 
 use conformance::refusals::is_refused;
-use hash_tree::hashed::Digest;
+use hash_tree::digest::Digest;
 use hash_tree::node::NodeAt;
-use hash_tree::shared::SharedLeaf;
+use hash_tree::shared_leaf::SharedLeaf;
 use hash_tree::texts::{inner_text, leaf_text};
 use range_state::config::RangeConfig;
 use range_state::event::{Event, Reply};

@@ -1,8 +1,8 @@
 // Trees: node texts, marks, jobs and rehashes. The digests were made by another program from the definition.
 use conformance::refusals::is_refused;
 use conformance::versions::version;
-use hash_tree::comparing::is_inner_text;
-use hash_tree::hashed::{Digest, Hashed, hash};
+use hash_tree::comparison::is_inner_text;
+use hash_tree::digest::{Digest, Hashed, hash};
 use hash_tree::marks::Marks;
 use hash_tree::node::NodeAt;
 use hash_tree::text::Text;

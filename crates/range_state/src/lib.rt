@@ -27,5 +27,5 @@ pub use event::{
 pub use record::Record;
 pub use replay::Replay;
 pub use state::RangeState;
-pub use state::reconciling::{Reconciled, reconcile};
-pub use state::syncing::Synced;
+pub use state::reconciliation::{Reconciled, reconcile};
+pub use state::sync::Synced;

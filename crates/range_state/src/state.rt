@@ -26,15 +26,15 @@ use std::marker::Model;
 use vclock::{Bytes, Clock, ClockOrder, Format, Refusal, check_key};
 use version_set::{Kind, Version, VersionSet};
 
+mod answers;
 mod bulk;
-mod migrating;
-mod offering;
-mod preparing;
-pub mod reconciling;
+mod migration;
+mod preparation;
+mod receipts;
+pub mod reconciliation;
 mod sessions;
-pub mod syncing;
-mod taking;
-mod telling;
+mod snapshots;
+pub mod sync;
 mod tree;
 
 /// One replica of a range, for one thread: the journal of the versions that it accepted; its rows, which are exactly

@@ -17,8 +17,8 @@ pub mod memory;
 pub mod offers;
 pub mod range;
 pub mod rehasher;
-pub mod scripted;
-mod serving;
+pub mod scripted_link;
+mod server;
 pub mod syncer;
 
 pub use channel::{ChannelLink, ChannelServer, channel_link};
@@ -32,5 +32,5 @@ pub use memory::MemoryLink;
 pub use offers::OfferPool;
 pub use range::{NotClosed, SharedRange};
 pub use rehasher::RehashReport;
-pub use scripted::ScriptedLink;
+pub use scripted_link::ScriptedLink;
 pub use syncer::SyncReport;

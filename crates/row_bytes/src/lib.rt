@@ -4,11 +4,11 @@
 mod fault;
 mod fields;
 pub mod lengths;
-pub mod reading;
+pub mod reader;
 pub mod row;
-pub mod writing;
+pub mod writer;
 
 pub use lengths::{row_len, version_len};
-pub use reading::{a_held_set_is_a_row, a_row_has_one_text, key_at, read_row, read_rows};
+pub use reader::{a_held_set_is_a_row, a_row_has_one_text, key_at, read_row, read_rows};
 pub use row::{Row, RowList};
-pub use writing::{put_row, write_row};
+pub use writer::{put_row, write_row};

@@ -1,6 +1,6 @@
 // Sessions of ranges with their partners.
 use conformance::refusals::is_refused;
-use hash_tree::hashed::{Digest, Hashed, hash};
+use hash_tree::digest::{Digest, Hashed, hash};
 use hash_tree::node::NodeAt;
 use hash_tree::text::Text;
 use range_state::config::RangeConfig;

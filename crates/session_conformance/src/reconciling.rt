@@ -2,10 +2,10 @@
 ghost use Rattle.std.specs.Prelude.{◌≤◌};
 
 use conformance::refusals::is_refused;
-use hash_tree::hashed::Digest;
+use hash_tree::digest::Digest;
 use range_state::config::RangeConfig;
 use range_state::state::RangeState;
-use range_state::state::reconciling::{Reconciled, reconcile};
+use range_state::state::reconciliation::{Reconciled, reconcile};
 use std::alloc::Global;
 use std::process::Abort;
 use std::test::Fail;

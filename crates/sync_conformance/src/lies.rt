@@ -2,13 +2,13 @@
 ghost use Rattle.std.specs.Prelude.{◌≡◌};
 
 use crate::partners::{Synced, expect_asked, expect_counts, expect_report, pool_of, sync_over};
-use hash_tree::hashed::hash;
+use hash_tree::digest::hash;
 use hash_tree::node::NodeAt;
 use hash_tree::text::Text;
 use ring_node::deed::Deed;
 use ring_node::link::{Link, Reached};
 use ring_node::memory::MemoryLink;
-use ring_node::scripted::ScriptedLink;
+use ring_node::scripted_link::ScriptedLink;
 use ring_node::syncer::SyncReport;
 use std::alloc::Global;
 use std::marker::Brand;
@@ -19,8 +19,8 @@ use std::test::Fail;
 use std::thread::Threads;
 use sync_session::state::SessionState;
 use vclock::refusal::Refusal;
-use walk_messages::decoding::decode;
-use walk_messages::encoding::encode;
+use walk_messages::decoder::decode;
+use walk_messages::encoder::encode;
 use walk_messages::message::{Answer, Message, Offer};
 
 /// Syncs a range that has nothing with a partner that has these keys, over a link that does the deeds, in so many turns.

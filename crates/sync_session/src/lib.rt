@@ -4,19 +4,19 @@
 //! - [`session`]: one walk: what is asked, and what the answers are worth.
 //! - [`news`]: what a leaf's text has beside the own rows.
 //! - [`state`]: how a session stands.
-//! - [`taken`]: texts that a session took.
+//! - [`taken_text`]: texts that a session took.
 //! - [`laws`]: what the definitions say: a finished session holds what the partner's rows had.
 #![tactic(auto)]
 
-mod asking;
 pub mod laws;
 pub mod news;
-mod reading;
+mod node_list;
 pub mod session;
 pub mod state;
-pub mod taken;
+pub mod taken_text;
+mod text_reader;
 
 pub use news::News;
 pub use session::{Answered, Session};
 pub use state::SessionState;
-pub use taken::Taken;
+pub use taken_text::Taken;

@@ -8,7 +8,7 @@ ghost use Rattle.hash_tree.specs.Nodes.{tree_depth};
 ghost use Rattle.sync_session.specs.TreeNodes.{node_of};
 ghost use Rattle.sync_session.specs.Readings.{ReadsNews, FrontRow, FrontOwn, FrontRun};
 
-use crate::reading::{body_of, is_here};
+use crate::text_reader::{body_of, is_here};
 use hash_tree::{NodeAt, SharedLeaf, leaf_byte};
 use row_bytes::{Row, key_at, read_row};
 use snapshot::Snapshot;

@@ -10,8 +10,8 @@ ghost use Rattle.sync_session.specs.Readings.{Shows, Tells, Awaits};
 
 use crate::news::{News, leaf_news};
 use crate::state::SessionState;
-use crate::taken::Taken;
-use crate::{asking, reading};
+use crate::taken_text::Taken;
+use crate::{node_list, text_reader};
 use hash_tree::{Digest, Hashed, NodeAt, tree_depth};
 use row_bytes::RowList;
 use snapshot::Snapshot;
@@ -81,8 +81,8 @@ impl Session {
         let mut asked = Vec::new(alloc);
         let mut outstanding = Vec::new(alloc);
         if root != own.root() {
-            asked.push(asking::root())?;
-            outstanding.push(asking::root())?;
+            asked.push(node_list::root())?;
+            outstanding.push(node_list::root())?;
         }
         let state = state_by(&outstanding);
         Ok(Session {
@@ -143,10 +143,10 @@ impl Session {
     fn expects(&self, node: NodeAt, text: &Hashed) -> Result<(), Refusal>
         ensures { Awaits self.now (record { node = node_of node; text = text.now }) result }
     {
-        if !asking::has(&self.outstanding, node) {
+        if !node_list::has(&self.outstanding, node) {
             return Err(Refusal::NotAsked);
         }
-        if !asking::is_expected(&self.root, &self.taken, node, &text.digest()) {
+        if !node_list::is_expected(&self.root, &self.taken, node, &text.digest()) {
             return Err(Refusal::WrongDigest);
         }
         Ok(())
@@ -157,7 +157,7 @@ impl Session {
         ensures { IsTrue result ↔ ((node.depth < tree_depth self.now.own.format) × IsInnerText self.now.own.format text.now) }
     {
         let format = self.own.format();
-        node.depth < tree_depth(format) && reading::is_inner(format, text.text())
+        node.depth < tree_depth(format) && text_reader::is_inner(format, text.text())
     }
 
     /// The rows that taking this text would give. A node with children gives no rows. The session stays as it is.
@@ -170,7 +170,7 @@ impl Session {
     {
         self.expects(node, text)?;
         if node.depth == tree_depth(self.own.format()) {
-            reading::leaf_rows(alloc, &self.own, node, text.text())
+            text_reader::leaf_rows(alloc, &self.own, node, text.text())
         } else if self.is_inner(node, text) {
             Ok(RowList::from(Vec::new(alloc)))
         } else {
@@ -208,7 +208,7 @@ impl Session {
         match self.rows_of(alloc, node, &text) {
             Ok(rows) => {
                 if node.depth < tree_depth(self.own.format()) {
-                    let new = asking::differing(alloc, &self.own, node, text.text())?;
+                    let new = node_list::differing(alloc, &self.own, node, text.text())?;
                     self.record(node, text, &new)?;
                     Ok(Answered::Inner)
                 } else {
@@ -247,9 +247,9 @@ impl Session {
         self.asked.reserve(new.len())?;
         self.outstanding.reserve(new.len())?;
         self.taken.push(Taken::new(node, text))?;
-        asking::remove(&mut self.outstanding, node);
-        asking::append(&mut self.asked, new);
-        asking::append(&mut self.outstanding, new);
+        node_list::remove(&mut self.outstanding, node);
+        node_list::append(&mut self.asked, new);
+        node_list::append(&mut self.outstanding, new);
         self.state = state_by(&self.outstanding);
         Ok(())
     }

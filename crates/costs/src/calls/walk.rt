@@ -1,5 +1,5 @@
 // A sync by messages, whose bytes go over memory.
-use hash_tree::hashed::hash;
+use hash_tree::digest::hash;
 use hash_tree::node::NodeAt;
 use hash_tree::text::Text;
 use range_state::event::AnswerTaken;
@@ -8,8 +8,8 @@ use snapshot::snapshot::Snapshot;
 use std::alloc::Global;
 use sync_session::state::SessionState;
 use vclock::refusal::Refusal;
-use walk_messages::decoding::decode;
-use walk_messages::encoding::encode;
+use walk_messages::decoder::decode;
+use walk_messages::encoder::encode;
 use walk_messages::message::{Answer, Ask, Message};
 
 /// The number of the node that offers.

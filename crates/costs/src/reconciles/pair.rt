@@ -1,7 +1,7 @@
 // Two replicas of a range.
 use crate::ranges::{accept, new_range};
 use range_state::state::RangeState;
-use range_state::state::reconciling::{Reconciled, reconcile};
+use range_state::state::reconciliation::{Reconciled, reconcile};
 use std::alloc::Global;
 use std::thread::Threads;
 use vclock::refusal::Refusal;
