@@ -8,7 +8,6 @@ use Rattle.vclock.specs.declared.refusal.Refusal.{Refusal}
 use Rattle.vclock.specs.declared.refusal.Refusal.TheVariants.{HintsFull, UnknownHint}
 use Rattle.version_set.specs.declared.version.Version.{Version}
 use Rattle.version_set.specs.Version.{is_same}
-use Rattle.hint_store.specs.declared.store.TheConstants.{MOST_PENDING}
 use Rattle.hint_store.specs.declared.hint.Hint.{Hint}
 use Rattle.hint_store.specs.declared.hint.Delivery.{Delivery}
 use Rattle.hint_store.specs.declared.hint.Fate.{Fate}
@@ -42,7 +41,7 @@ AreNumberedFrom n (k ∷ ks) = (k.hint.id ≡ n) × AreNumberedFrom (n + 1) ks
 -- numbered from 1, at most 10,000 pending, and no number above 2^32 - 1
 pub record AreHints (hints : List Kept) : Type 0 where
   pub numbered : AreNumberedFrom 1 hints
-  pub few : pending_count hints ≤ MOST_PENDING
+  pub few : pending_count hints ≤ 10000
   pub small : length hints < 2 ^ 32
 
 -- the hint of a number
@@ -51,7 +50,7 @@ kept_at hints id = if nat_eq id 0 then None else slice_get hints (id - 1)
 
 -- why no hint can be kept
 abbrev pub keep_fault : List Kept → Option Refusal
-keep_fault hints = if nat_lt (pending_count hints) MOST_PENDING && nat_lt (length hints + 1) (2 ^ 32) then None else Some HintsFull
+keep_fault hints = if nat_lt (pending_count hints) 10000 && nat_lt (length hints + 1) (2 ^ 32) then None else Some HintsFull
 
 -- the hints with one more, which is pending
 abbrev pub with_hint : List Kept → ℕ → List ℕ → Version → List Kept

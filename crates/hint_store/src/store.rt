@@ -12,11 +12,9 @@ use crate::hint::{Delivery, Fate, Hint, Kept};
 use std::alloc::Global;
 use std::cmp::Ordering;
 use std::marker::Model;
+use vclock::limits::PENDING_HINTS_MAX;
 use vclock::{Bytes, Refusal};
 use version_set::Version;
-
-/// How many hints can be pending.
-const MOST_PENDING: u32 = 10_000;
 
 /// The last number of a hint.
 const LAST_ID: usize = 0xffff_ffff;
@@ -190,7 +188,7 @@ impl HintStore {
     fn is_full(&self) -> bool
         ensures { keep_fault self.now ≡ (if result then Some Refusal.HintsFull else None) }
     {
-        self.pending() >= MOST_PENDING || self.len() >= LAST_ID
+        self.pending() >= PENDING_HINTS_MAX || self.len() >= LAST_ID
     }
 
     // Whether the delivery is of a pending hint of this id.

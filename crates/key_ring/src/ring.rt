@@ -9,16 +9,8 @@ ghost use Rattle.key_ring.specs.Ring.{has_repeat, is_node, is_ring, preference_l
 use crate::places::place;
 use std::alloc::Global;
 use std::marker::Model;
+use vclock::limits::{NODE_MAX, RING_BITS_MAX, RING_NODES_MAX};
 use vclock::{Format, Refusal};
-
-/// How many bits a range's number has at the most.
-const MOST_BITS: u64 = 8;
-
-/// How many nodes a ring has at the most.
-const MOST_NODES: usize = 32;
-
-/// The greatest node number.
-const LAST_NODE: u64 = 65_535;
 
 /// The ring (the paper of 2007, sections 4.2, 4.3 and 6.2): the keys in 2^bits equal ranges by their digests, 1 to 256
 /// of them, the nodes in the order of the ring, 1 to 32 of them and each once, and how many nodes keep a range.
@@ -144,21 +136,21 @@ impl Ring {
 fn is_ring(bits: u64, nodes: &[u64], copies: u64) -> bool
     ensures { result ≡ is_ring (record { bits = bits; nodes = nodes.now; copies = copies }) }
 {
-    bits <= MOST_BITS && is_node_list(nodes) && 0 < copies && copies <= nodes.len() as u64
+    bits <= RING_BITS_MAX && is_node_list(nodes) && 0 < copies && copies <= nodes.len() as u64
 }
 
 // Whether these are a ring's nodes: not too few, not too many, and each once. Only a short list is searched.
 fn is_node_list(nodes: &[u64]) -> bool
     ensures { result ≡ (nat_lt 0 (length nodes.now) && nat_le (length nodes.now) 32 && list_all is_node nodes.now && not (has_repeat nodes.now)) }
 {
-    !nodes.is_empty() && nodes.len() <= MOST_NODES && are_nodes(nodes) && !has_repeat(nodes)
+    !nodes.is_empty() && nodes.len() <= RING_NODES_MAX && are_nodes(nodes) && !has_repeat(nodes)
 }
 
 // Whether each number is a node's.
 fn are_nodes(nodes: &[u64]) -> bool
     ensures { result ≡ list_all is_node nodes.now }
 {
-    nodes.iter().all(|&node| 0 < node && node <= LAST_NODE)
+    nodes.iter().all(|&node| 0 < node && node <= NODE_MAX)
 }
 
 // Whether some number comes twice. It takes time in proportion to the square of the length.

@@ -24,11 +24,9 @@ use row_bytes::{Row, write_row};
 use std::alloc::{AllocError, Global};
 use std::marker::Model;
 use std::thread::Threads;
+use vclock::limits::ENTRIES_MAX;
 use vclock::{Bytes, Clock, Format, Refusal, check_key};
 use version_set::{Kind, VersionSet};
-
-/// How many entries a journal of the first ring may have.
-const JOURNAL_LIMIT: u64 = 1_000_000;
 
 /// A ring: its nodes, the hints that they keep, and the replicas of its ranges.
 pub(crate) struct Cluster {
@@ -55,7 +53,7 @@ impl Cluster {
     pub(crate) fn start(alloc: Global) -> Result<Cluster, AllocError>
         ensures { IfOk result (λ cluster. cluster ≡ made first_ring first_config) }
     {
-        let config = RangeConfig::new(1, 0, 0, JOURNAL_LIMIT).unwrap();
+        let config = RangeConfig::new(1, 0, 0, ENTRIES_MAX).unwrap();
         match Ring::new(alloc, 0, &[1], 1) {
             Ok(ring) => Cluster::new(alloc, ring, config),
             Err(_) => Err(AllocError),

@@ -12,9 +12,7 @@ use crate::tree::{
 use json::{Scratch, Value};
 use std::alloc::{AllocError, Global};
 use vclock::Bytes;
-
-/// How many entries a journal may have if the ring does not say it.
-const JOURNAL_LIMIT: u64 = 1_000_000;
+use vclock::limits::ENTRIES_MAX;
 
 /// The number of the format of a ring that does not say it.
 const FIRST_FORMAT: u64 = 1;
@@ -220,7 +218,7 @@ fn ring_in(alloc: Global, members: &Value<'_>) -> Result<Option<NewRing>, AllocE
     let Some(nodes) = list_at(alloc, members, "nodes")? else {
         return Ok(None);
     };
-    let Some(limit) = number_or(members, "limit", JOURNAL_LIMIT) else {
+    let Some(limit) = number_or(members, "limit", ENTRIES_MAX) else {
         return Ok(None);
     };
     let format = number_or(members, "format", FIRST_FORMAT);

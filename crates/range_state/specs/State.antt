@@ -29,7 +29,6 @@ use Rattle.hash_tree.specs.declared.node.NodeAt.{NodeAt}
 use Rattle.rehash.specs.Jobs.{NodeText}
 use Rattle.snapshot.specs.RowMaps.{RowMap}
 use Rattle.range_state.specs.declared.«record».Record.{Record}
-use Rattle.range_state.specs.declared.state.sessions.TheConstants.{MOST_OPEN, MOST_RECORDS}
 use Rattle.range_state.specs.declared.event.Accepted.{Accepted}
 use Rattle.range_state.specs.declared.event.Accepted.TheVariants.{Taken, Known}
 use Rattle.range_state.specs.Config.{Config, is_config}
@@ -211,8 +210,8 @@ pub record IsRight (s : State) : Type 0 where
   pub rows : AllByRecursion (IsRow s.config.format) (rows_of s.entries)
   pub marks : IsTreeFor (leaf_in s.config) (rows_of s.entries) (tree_of s)
   pub records : AllByRecursion (IsKept s.config s.entries) s.records
-  pub few : length s.records ≤ MOST_RECORDS
-  pub few_open : open_count s.records ≤ MOST_OPEN
+  pub few : length s.records ≤ 1024
+  pub few_open : open_count s.records ≤ 64
   pub partners : AllByRecursion (λ (e : Entry). e.source ≡ Partner → IsFromPartner s e) s.entries
 
 -- the rows of a leaf

@@ -15,10 +15,8 @@ use std::alloc::Global;
 use std::marker::Model;
 use std::sync::{Arc, Mutex, Wait};
 use vclock::Refusal;
+use vclock::limits::OFFERS_MAX;
 use walk_messages::{Answer, Ask, Offer};
-
-/// How many offers are kept.
-const MOST_KEPT: usize = 16;
 
 /// A snapshot with the number of its offer.
 #[derive(Drop)]
@@ -77,7 +75,7 @@ impl Offers {
         if self.last == u32::MAX {
             return Err(Refusal::SessionsFull);
         }
-        if self.kept.len() < MOST_KEPT {
+        if self.kept.len() < OFFERS_MAX {
             self.kept.reserve(1)?;
         } else {
             *oldest = Some(self.kept.remove(0));

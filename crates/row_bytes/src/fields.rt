@@ -6,6 +6,7 @@ ghost use Rattle.row_bytes.specs.Reading.{Gives, number_at, field_at, bytes_at, 
 use crate::fault::ReadError;
 use smallvec::SmallVec;
 use std::alloc::Global;
+use vclock::limits::PAIRS_MAX;
 use vclock::{ClockPairs, Format};
 use version_set::Kind;
 
@@ -73,7 +74,7 @@ pub(crate) fn pair_count_of(bytes: &[u8]) -> Result<(u8, &[u8]), ReadError>
     ensures { Gives ⊥ (λ x. (x.0, x.1.now)) result (field_at w8 (λ n. nat_le n 32) bytes.now) }
 {
     let (count, rest) = u8_at(bytes)?;
-    if count > 32 {
+    if usize::from(count) > PAIRS_MAX {
         return Err(ReadError::Left(bytes.len()));
     }
     Ok((count, rest))

@@ -13,14 +13,9 @@ use crate::fields::{
 };
 use crate::row::{Row, RowList};
 use std::alloc::Global;
+use vclock::limits::{KEY_LEN_MAX, VERSIONS_MAX};
 use vclock::{Bytes, Clock, Format, Refusal};
 use version_set::{Version, VersionSet};
-
-/// How many bytes a key has at the most.
-const LONGEST_KEY: u16 = 255;
-
-/// How many versions a row has at the most.
-const MOST_VERSIONS: u16 = 64;
 
 /// Equal bytes that are kept.
 fn bytes_of(alloc: Global, bytes: &[u8]) -> Result<Bytes, ReadError>
@@ -130,9 +125,9 @@ fn versions_of(
 fn row_of(alloc: Global, format: Format, bytes: &[u8]) -> Result<(Row, &[u8]), ReadError>
     ensures { Gives (HasHead bytes.now) (λ x. (x.0, x.1.now)) result (row_at format bytes.now) }
 {
-    let (len, rest) = count_of(LONGEST_KEY, bytes)?;
+    let (len, rest) = count_of(KEY_LEN_MAX as u16, bytes)?;
     let (key, rest) = slice_of(len as usize, rest)?;
-    let (count, rest) = count_of(MOST_VERSIONS, rest)?;
+    let (count, rest) = count_of(VERSIONS_MAX as u16, rest)?;
     let (versions, rest) = versions_of(alloc, format, count, rest)?;
     let row = Row {
         key: bytes_of(alloc, key)?,
@@ -169,7 +164,7 @@ pub fn key_at(text: &[u8]) -> Option<&[u8]>
     // A text that begins with a key begins with no other, and it is found.
     ensures only { (key rest : List ℕ) → BeginsWithKey text.now key rest → option_map (λ found. found.now) result ≡ Some key }
 {
-    let Ok((len, rest)) = count_of(LONGEST_KEY, text) else {
+    let Ok((len, rest)) = count_of(KEY_LEN_MAX as u16, text) else {
         return None;
     };
     match slice_of(len as usize, rest) {

@@ -13,9 +13,7 @@ use std::sync::ledger::{Blank, Ledger};
 use std::thread;
 use std::thread::Threads;
 use vclock::Refusal;
-
-/// How many entries a journal takes.
-const LIMIT: u64 = 1_000_000;
+use vclock::limits::ENTRIES_MAX;
 
 /// A node: its replica of the one range, the offers of its snapshots, what it has done, and the number of the other node.
 pub(crate) struct Node<'a, L: Ledger> {
@@ -59,7 +57,7 @@ impl<'a, L: Ledger> Node<'a, L> {
         requires ledger { (blank.name ≡ L.name) × (blank.parts ≡ L.parts) × (blank.parts ≡ 2) }
         requires number { 1 ≤ number }
     {
-        let config = RangeConfig::new(1, 0, 0, LIMIT).ok_or(Refusal::BadRing)?;
+        let config = RangeConfig::new(1, 0, 0, ENTRIES_MAX).ok_or(Refusal::BadRing)?;
         let state = RangeState::new(alloc, config)?;
         let (book, mut passes) = open_passes::<L>(blank, alloc, 2)?;
         let syncer = passes.pop().ok_or(Refusal::Stranger)?;

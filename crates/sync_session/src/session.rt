@@ -95,8 +95,7 @@ impl Session {
         })
     }
 
-    /// The own snapshot. It takes no memory, like each of these calls but `start`, `rows_of`, `take` and
-    /// `take_leaf`.
+    /// The local snapshot.
     pub fn own(&self) -> &Arc<Snapshot, Global>
         ensures { arc_value result.now ≡ self.now.own }
     {
@@ -165,7 +164,7 @@ impl Session {
     /// Refused, in order: NotAsked (the node is not outstanding), WrongDigest (the text has not the digest that is
     /// expected at the node), NotCanonical (no rows of the range give the node this text), NoMemory. Reading a leaf takes
     /// memory, so at a leaf NoMemory may stand in place of NotCanonical.
-    fn rows_of(&self, alloc: Global, node: NodeAt, text: &Hashed) -> Result<RowList, Refusal>
+    pub fn rows_of(&self, alloc: Global, node: NodeAt, text: &Hashed) -> Result<RowList, Refusal>
         ensures { Shows self.now (record { node = node_of node; text = text.now }) result }
     {
         self.expects(node, text)?;

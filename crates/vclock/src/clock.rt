@@ -4,22 +4,17 @@ ghost use Rattle.vclock.specs.Clock.{counter, at_most, IsAtMost, IsClock, Pairs,
 ghost use Rattle.std.specs.List.{list_any, filter};
 ghost use Rattle.vclock.specs.Answer.{Answers};
 
+use crate::limits::{NODE_MAX, PAIRS_MAX};
 use crate::refusal::Refusal;
 use smallvec::SmallVec;
 use std::alloc::{AllocError, Global};
 use std::marker::Model;
-
-/// How many pairs a clock has at the most.
-const MOST_PAIRS: usize = 32;
 
 /// How many pairs are stored inline: a clock of one node allocates nothing.
 const FEW_PAIRS: usize = 1;
 
 /// Pairs of node and counter, which lie inline while they are few.
 pub type ClockPairs = SmallVec<(u16, u64), FEW_PAIRS>;
-
-/// The greatest node number.
-const LAST_NODE: u64 = 65_535;
 
 /// How one clock compares with another. Versions whose clocks are `Apart` are concurrent: neither writer had seen the
 /// other's version, and a store keeps both.
@@ -72,7 +67,7 @@ impl Clock {
         if has_bad_pair(pairs) || has_repeat(pairs) {
             return Err(Refusal::BadClock);
         }
-        if pairs.len() > MOST_PAIRS {
+        if pairs.len() > PAIRS_MAX {
             return Err(Refusal::ClockFull);
         }
         let mut kept = SmallVec::with_capacity(alloc, pairs.len())?;
@@ -102,7 +97,7 @@ impl Clock {
         ensures others { IfOk result (λ c. (n : ℕ) → n ≢ node → counter c n ≡ counter self.now n) }
     {
         let counter = self.get(node);
-        if (counter == 0) & (self.pairs.len() >= MOST_PAIRS) {
+        if (counter == 0) & (self.pairs.len() >= PAIRS_MAX) {
             return Err(Refusal::ClockFull);
         }
         if counter == u64::MAX {
@@ -152,7 +147,7 @@ impl Clock {
     {
         let others = other.pairs.as_slice();
         let len = self.pairs.len() + self.count_absent(others);
-        if len > MOST_PAIRS {
+        if len > PAIRS_MAX {
             return Err(Refusal::ClockFull);
         }
         let mut merged = copy_with_room(alloc, self.pairs.as_slice(), len)?;
@@ -255,7 +250,7 @@ fn has_bad_pair(pairs: &[(u64, u64)]) -> bool
 {
     pairs
         .iter()
-        .any(|pair| pair.0 == 0 || pair.0 > LAST_NODE || pair.1 == 0)
+        .any(|pair| pair.0 == 0 || pair.0 > NODE_MAX || pair.1 == 0)
 }
 
 // Whether some node comes twice. Few pairs are compared with one another; for more, a table records which nodes came.
@@ -263,7 +258,7 @@ fn has_repeat(pairs: &[(u64, u64)]) -> bool
     requires { list_any is_bad_pair pairs.now ≡ false }
     ensures { result ≡ has_repeat pairs.now }
 {
-    if pairs.len() <= MOST_PAIRS {
+    if pairs.len() <= PAIRS_MAX {
         return has_repeat_among_few(pairs);
     }
     let mut seen = [false; 65_536];

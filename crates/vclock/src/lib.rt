@@ -5,6 +5,7 @@ pub mod bytes;
 pub mod clock;
 pub mod format;
 pub mod key;
+pub mod limits;
 pub mod refusal;
 
 pub use bytes::Bytes;

@@ -58,12 +58,13 @@ pub enum PassPart {
     Reading,
 }
 
-/// Why a call was refused, in the order of the numbers that scripts print, 1 to 32. It is the one error type of all
-/// crates, so a caller passes it on by `?`. docs/EMBEDDING.md has what each asks of the caller.
+/// The cause of a refusal, in the order of the numbers that scripts print, 1 to 32. It is the one error type of all
+/// crates, so a caller passes it on by `?`. docs/FORMATS.md lists the causes with what to do about each.
 ///
-/// A call tests its causes in the order that its own page lists, returns the first that is present, and leaves its value
-/// as it was, with three exceptions that docs/FORMATS.md names: a session that refuses a text as `NotCanonical` has failed,
-/// and a rehash or a whole sync that runs out of memory keeps what it has done so far.
+/// A call tests its causes in the order that its doc comment lists, returns the first that is present, and leaves its
+/// value unchanged, with four exceptions: a session that refuses a text as `NotCanonical` has failed; a rehash or a whole
+/// sync that runs out of memory keeps the work done so far; and a `reconcile` that is refused part of the way cancels
+/// that session and keeps the versions it accepted.
 ///
 /// ```
 /// let full = Clock::from_pairs(alloc, &pairs)?;

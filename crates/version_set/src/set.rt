@@ -11,10 +11,8 @@ use std::alloc::{AllocError, Global};
 use std::cmp::Ordering;
 use std::marker::Model;
 use std::slice::Iter;
+use vclock::limits::VERSIONS_MAX;
 use vclock::{ClockOrder, Clocks, Format, Refusal};
-
-/// How many versions a set has at the most.
-const MOST_VERSIONS: usize = 64;
 
 /// What became of an offered version: whether it was new to the set.
 #[derive(Clone, Copy, Debug, PartialEq, Eq)]
@@ -152,13 +150,13 @@ impl VersionSet {
         ensures { offer_fault version.now self.now ≡ (if result then Some Refusal.Crowded else None) }
     {
         // Most sets have so few members that there is room for any version.
-        if self.versions.len() < MOST_VERSIONS {
+        if self.versions.len() < VERSIONS_MAX {
             return false;
         }
         if is_covered(&self.versions, version) {
             return false;
         }
-        count_kept(&self.versions, version) >= MOST_VERSIONS
+        count_kept(&self.versions, version) >= VERSIONS_MAX
     }
 
     /// Takes a version into the set, unless it is covered: then the members below it leave.
@@ -175,7 +173,7 @@ impl VersionSet {
             return Ok(Offered::Known);
         }
         let kept = count_kept(&self.versions, &version);
-        if kept >= MOST_VERSIONS {
+        if kept >= VERSIONS_MAX {
             return Err(Refusal::Crowded);
         }
         make_room(&mut self.versions, kept)?;
