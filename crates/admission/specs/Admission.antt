@@ -3,6 +3,7 @@ use Rattle.std.specs.Prelude.{ℕ, ◌+◌, ◌-◌, ◌*◌, ◌/◌, ◌≤◌
 use Rattle.circular_buffer.specs.Buffer.{keep_last}
 use Rattle.vclock.specs.Outcome.{Outcome, gives, refuses}
 use Rattle.vclock.specs.declared.refusal.Refusal.TheVariants.{NoSlot, ClockBack}
+use Rattle.admission.specs.declared.latency.Sample.{Sample}
 
 -- a controller
 pub record Admission : Type 0 where
@@ -89,3 +90,7 @@ abbrev pub adjust : Admission → ℕ → Outcome (Option ℕ) Admission
 adjust a now =
     let found = percentile (window_of now a.samples) in
     if nat_lt now a.latest then refuses ClockBack else gives found (record a { target = target_after a found; latest = now })
+
+-- a sample is seen as its moment and its latency
+abbrev pub pairs : List Sample → List (ℕ × ℕ)
+pairs samples = map (λ s. (s.moment, s.micros)) samples

@@ -40,8 +40,7 @@ pub struct Controller<L: Ledger> {
 
 impl<L: Ledger> Model for Controller<L> {
     ghost use Rattle.std.specs.Prelude.{◌≡◌, ◌+◌, ◌≤◌, length, vec_capacity};
-    ghost use Rattle.admission.specs.Admission.{Admission};
-    ghost use Rattle.admission.specs.Samples.{pairs};
+    ghost use Rattle.admission.specs.Admission.{Admission, pairs};
 
     ghost Value = { Admission };
 

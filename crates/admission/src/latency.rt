@@ -1,7 +1,6 @@
 //! Latencies, and their percentile.
 ghost use Rattle.std.specs.Prelude.{◌≡◌, ◌+◌, ◌*◌, ◌<◌, ◌≤◌, length, [], ◌∷◌, ◌++◌, MatchOption, vec_capacity, vec_len};
-ghost use Rattle.admission.specs.Admission.{window_of, IsPercentile, percentile};
-ghost use Rattle.admission.specs.Samples.{pairs};
+ghost use Rattle.admission.specs.Admission.{window_of, IsPercentile, percentile, pairs};
 
 use circular_buffer::HeapCircularBuffer;
 

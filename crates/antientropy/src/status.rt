@@ -1,4 +1,4 @@
-// Which status belongs to which end of the program.
+//! Which status belongs to which end of the program.
 ghost use Rattle.std.specs.Prelude.{◌≡◌, ◌≢◌, ℕ, Ok, Err, true, false, IsOkAnd, ◌⊎◌};
 ghost use Rattle.std.specs.Process.{exit_status};
 ghost use Rattle.clap.specs.Values.{kind_of};

@@ -1,4 +1,4 @@
-// The words of the command line.
+//! The words of the command line.
 
 use crate::fault::Fault;
 use clap::{Arg, ArgAction, ArgMatches, Command, Error, value_parser};

@@ -2,8 +2,7 @@
 ghost use Rattle.std.specs.Prelude.{◌≡◌, ◌<◌};
 ghost use Rattle.hash_tree.specs.Nodes.{node_count, nodes_above, place_at, dirty_count};
 ghost use Rattle.range_state.specs.Records.{is_open, open_count};
-ghost use Rattle.antientropy_c.specs.Calls.{Calls};
-ghost use Rattle.antientropy_c.specs.Counts.{counts_of};
+ghost use Rattle.antientropy_c.specs.Calls.{Calls, counts_of};
 
 use crate::numbers::EMPTY;
 use crate::replica::Replica;

@@ -4,9 +4,8 @@ ghost use Rattle.vclock.specs.Answer.{Answers};
 ghost use Rattle.walk_messages.specs.Messages.{message_text};
 ghost use Rattle.walk_messages.specs.declared.message.Message.TheVariants as messages;
 ghost use Rattle.range_state.specs.State.{rows_now, dirty_fault};
-ghost use Rattle.antientropy_c.specs.Calls.{Calls};
+ghost use Rattle.antientropy_c.specs.Calls.{Calls, Reads};
 ghost use Rattle.antientropy_c.specs.Hands.{Gives};
-ghost use Rattle.antientropy_c.specs.Messages.{Reads};
 ghost use Rattle.antientropy_c.specs.Offers.{Shows, Publishes, TakesRows, offer_of, ServesAsk, Serves};
 
 use crate::numbers::{EMPTY, HELD, code};

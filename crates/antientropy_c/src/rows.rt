@@ -1,7 +1,7 @@
 //! What a replica shows.
 ghost use Rattle.std.specs.Prelude.{◌≡◌, length};
 ghost use Rattle.vclock.specs.Answer.{Answers};
-ghost use Rattle.vclock.specs.Keys.{key_fault};
+ghost use Rattle.vclock.specs.Bytes.{key_fault};
 ghost use Rattle.range_journal.specs.Journal.{held};
 ghost use Rattle.antientropy_c.specs.Calls.{Calls};
 ghost use Rattle.antientropy_c.specs.Hands.{Gives};

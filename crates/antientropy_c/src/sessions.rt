@@ -5,9 +5,8 @@ ghost use Rattle.vclock.specs.declared.refusal.Refusal.{Refusal};
 ghost use Rattle.range_state.specs.Sessions.{cancel_session};
 ghost use Rattle.range_state.specs.declared.event.AnswerTaken.{AnswerTaken};
 ghost use Rattle.antientropy_c.specs.Numbers.{Returns};
-ghost use Rattle.antientropy_c.specs.Calls.{Calls};
+ghost use Rattle.antientropy_c.specs.Calls.{Calls, Reads};
 ghost use Rattle.antientropy_c.specs.Hands.{Gives};
-ghost use Rattle.antientropy_c.specs.Messages.{Reads};
 ghost use Rattle.antientropy_c.specs.Sessions.{Opens, TellsNumber, Asks, TakesWith, Takes, TellsTaken, number_of_state, session_seen};
 
 use crate::numbers::{EMPTY, code};

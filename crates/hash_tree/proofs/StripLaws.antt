@@ -1,7 +1,7 @@
 -- One front after another.
 use Rattle.std.proofs.Common.{◌≡◌, ℕ, ◌+◌, ◌<◌, List, ◌++◌, length, drop, get_or, refl, sym, ap, subst, ◌∙◌, append_assoc, Option, Some, None, ◌≢◌, Bor, add-one, drop-cons}
 use Rattle.std.specs.Prelude.{MatchOption}
-use Rattle.hash_tree.specs.Strip.{Strips}
+use Rattle.hash_tree.specs.Texts.{Strips}
 use Rattle.std.specs.List.{flat_map}
 use Rattle.std.proofs.lemmas.List.{append_cancel_left}
 

@@ -2,8 +2,7 @@
 ghost use Rattle.std.specs.Prelude.{◌≡◌, ◌↔◌, ◌∷◌, IsTrue};
 ghost use Rattle.std.specs.List.{flat_map};
 ghost use Rattle.hash_tree.specs.Chunks.{chunk_text};
-ghost use Rattle.hash_tree.specs.Strip.{Strips};
-ghost use Rattle.hash_tree.specs.Texts.{leaf_byte, inner_text};
+ghost use Rattle.hash_tree.specs.Texts.{Strips, leaf_byte, inner_text};
 
 use crate::chunk::Chunk;
 use crate::digest::Digest;

@@ -176,14 +176,14 @@ impl HintStore {
         Ok(())
     }
 
-    // How many hints there are.
+    /// How many hints there are.
     fn len(&self) -> usize
         ensures { result ≡ length self.now }
     {
         self.hints.len()
     }
 
-    // Whether no hint can be kept: 10,000 are pending, or the last id was used.
+    /// Whether no hint can be kept: 10,000 are pending, or the last id was used.
     #[tactic(auto, using(crate::proofs::HintLaws::full_of_pending, crate::proofs::HintLaws::full_of_ids))]
     fn is_full(&self) -> bool
         ensures { keep_fault self.now ≡ (if result then Some Refusal.HintsFull else None) }
@@ -191,7 +191,7 @@ impl HintStore {
         self.pending() >= PENDING_HINTS_MAX || self.len() >= LAST_ID
     }
 
-    // Whether the delivery is of a pending hint of this id.
+    /// Whether the delivery is of a pending hint of this id.
     fn awaits(&self, id: u32, delivery: &Delivery) -> bool
         ensures { result ≡ list_any (is_answered id delivery.now) self.now }
     {
@@ -203,7 +203,7 @@ impl HintStore {
         }
     }
 
-    // The least id over `after` of a pending hint of this owner.
+    /// The least id over `after` of a pending hint of this owner.
     fn first_of(&self, owner: u16, after: u32) -> Option<u32>
         ensures { result ≡ option_map (λ h. h.id) (next_hint (owner ∷ []) after self.now) }
     {
@@ -211,7 +211,7 @@ impl HintStore {
         id_at(&self.pending, place, owner)
     }
 
-    // A copy of the hint of an id, if there is one.
+    /// A copy of the hint of an id, if there is one.
     fn copy_of(&self, alloc: Global, id: Option<u32>) -> Result<Option<Hint>, Refusal>
         ensures { Answers result None (λ found. found ≡ option_map (λ k. k.hint) (option_and_then (kept_at self.now) id)) }
     {
@@ -225,7 +225,7 @@ impl HintStore {
     }
 }
 
-// The id of the entry at a place, if there is one and it is of this owner.
+/// The id of the entry at a place, if there is one and it is of this owner.
 fn id_at(pending: &[Waiting], place: usize, owner: u16) -> Option<u32>
     ensures { result ≡ id_of owner (slice_get pending.now place) }
 {
@@ -241,7 +241,7 @@ fn id_at(pending: &[Waiting], place: usize, owner: u16) -> Option<u32>
     }
 }
 
-// How many entries are up to an owner and an id.
+/// How many entries are up to an owner and an id.
 fn place_after(pending: &[Waiting], owner: u16, id: u32) -> usize
     requires { AllPairs IsBefore pending.now }
     ensures bound { result ≤ length pending.now }
@@ -250,14 +250,14 @@ fn place_after(pending: &[Waiting], owner: u16, id: u32) -> usize
     pending.partition_point(|waiting| is_at_most(waiting, owner, id))
 }
 
-// Whether an entry is the one of an owner and an id, or before it.
+/// Whether an entry is the one of an owner and an id, or before it.
 fn is_at_most(waiting: &Waiting, owner: u16, id: u32) -> bool
     ensures { result ≡ is_up_to owner id waiting.now }
 {
     waiting.owner < owner || (waiting.owner == owner && waiting.id <= id)
 }
 
-// Whether a fate is that of a pending hint.
+/// Whether a fate is that of a pending hint.
 fn is_open(fate: Fate) -> bool
     ensures { result ≡ is_open fate }
 {
@@ -267,7 +267,7 @@ fn is_open(fate: Fate) -> bool
     }
 }
 
-// What becomes of a hint by a delivery.
+/// What becomes of a hint by a delivery.
 fn fate_of(delivery: &Delivery) -> Fate
     ensures { result ≡ fate_of delivery.now }
 {
@@ -278,7 +278,7 @@ fn fate_of(delivery: &Delivery) -> Fate
     }
 }
 
-// Whether a delivery has the owner, the key and the version of a hint.
+/// Whether a delivery has the owner, the key and the version of a hint.
 fn is_delivery_of(delivery: &Delivery, hint: &Hint) -> bool
     ensures { result ≡ is_of delivery.now hint.now }
 {
@@ -287,7 +287,7 @@ fn is_delivery_of(delivery: &Delivery, hint: &Hint) -> bool
         && hint.version.text_order(&delivery.version) == Ordering::Equal
 }
 
-// The lesser of two ids, either of which may be missing.
+/// The lesser of two ids, either of which may be missing.
 fn lesser(one: Option<u32>, other: Option<u32>) -> Option<u32>
     ensures { result ≡ lesser one other }
 {

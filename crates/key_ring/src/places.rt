@@ -35,7 +35,7 @@ pub fn place(format: Format, bits: u8, key: &[u8]) -> KeyPlace
     KeyPlace { range, leaf }
 }
 
-// The first three bytes of a key's digest: a range and a leaf have at most 20 bits.
+/// The first three bytes of a key's digest: a range and a leaf have at most 20 bits.
 fn front(key: &[u8]) -> u32
     ensures front { result ≡ key_number key.now / 2 ^ 104 }
     ensures short { result < 2 ^ 24 }
@@ -44,7 +44,7 @@ fn front(key: &[u8]) -> u32
     u32::from_be_bytes([0, digest[0], digest[1], digest[2]])
 }
 
-// How many bits a leaf has.
+/// How many bits a leaf has.
 fn leaf_bits(format: Format) -> u32
     ensures { result ≡ leaf_bits format }
 {

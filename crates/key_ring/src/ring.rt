@@ -132,28 +132,28 @@ impl Ring {
     }
 }
 
-// Whether these are a ring's numbers.
+/// Whether these are a ring's numbers.
 fn is_ring(bits: u64, nodes: &[u64], copies: u64) -> bool
     ensures { result ≡ is_ring (record { bits = bits; nodes = nodes.now; copies = copies }) }
 {
     bits <= RING_BITS_MAX && is_node_list(nodes) && 0 < copies && copies <= nodes.len() as u64
 }
 
-// Whether these are a ring's nodes: not too few, not too many, and each once. Only a short list is searched.
+/// Whether these are a ring's nodes: not too few, not too many, and each once. Only a short list is searched.
 fn is_node_list(nodes: &[u64]) -> bool
     ensures { result ≡ (nat_lt 0 (length nodes.now) && nat_le (length nodes.now) 32 && list_all is_node nodes.now && not (has_repeat nodes.now)) }
 {
     !nodes.is_empty() && nodes.len() <= RING_NODES_MAX && are_nodes(nodes) && !has_repeat(nodes)
 }
 
-// Whether each number is a node's.
+/// Whether each number is a node's.
 fn are_nodes(nodes: &[u64]) -> bool
     ensures { result ≡ list_all is_node nodes.now }
 {
     nodes.iter().all(|&node| 0 < node && node <= NODE_MAX)
 }
 
-// Whether some number comes twice. It takes time in proportion to the square of the length.
+/// Whether some number comes twice. It takes time in proportion to the square of the length.
 fn has_repeat(nodes: &[u64]) -> bool
     ensures { result ≡ has_repeat nodes.now }
 {

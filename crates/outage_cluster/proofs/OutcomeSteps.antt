@@ -19,8 +19,7 @@ use Rattle.range_state.specs.declared.event.Accepted.{Accepted}
 use Rattle.range_state.specs.declared.event.Accepted.TheVariants.{Taken, Known}
 use Rattle.range_state.specs.State.{State, place_fault, knows, full_fault, stale_fault, entry_of, journaled, accept, put, put_entry, put_version}
 use Rattle.range_state.specs.Trees.{rehashed}
-use Rattle.outage_cluster.specs.Acts.{clean_at}
-use Rattle.outage_cluster.specs.Replies.{replied}
+use Rattle.outage_cluster.specs.Acts.{clean_at, replied}
 use Rattle.outage_cluster.specs.declared.answer.Answer.{Answer}
 use Rattle.outage_cluster.specs.declared.answer.Answer.TheVariants.{Refused}
 use Rattle.outage_cluster.specs.Homes.{IsHome}

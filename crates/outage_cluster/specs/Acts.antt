@@ -3,7 +3,7 @@ use Rattle.std.specs.Prelude.{ℕ, ◌^◌, Bool, true, false, not, ◌==◌, �
 use Rattle.std.specs.List.{list_any, list_all}
 use Rattle.vclock.specs.Answer.{first_fault}
 use Rattle.vclock.specs.Clock.{clock_of, pairs_fault}
-use Rattle.vclock.specs.Keys.{key_fault}
+use Rattle.vclock.specs.Bytes.{key_fault}
 use Rattle.vclock.specs.Outcome.{Outcome, gives, refuses, is_given, through, ◌>>◌, ◌>>=◌}
 use Rattle.vclock.specs.declared.format.Format.{Format}
 use Rattle.vclock.specs.declared.format.Format.TheVariants.{One, Two}
@@ -35,6 +35,7 @@ use Rattle.outage_cluster.specs.State.{Cluster, State, Replica, first_slots, mad
 use Rattle.outage_cluster.specs.Handoff.{owners_of, carrier_of, hinted, deliver_at}
 use Rattle.outage_cluster.specs.Syncs.{told, synced_with}
 use Rattle.outage_cluster.specs.Slots.{slot_act, sample_act, is_target}
+use Rattle.outage_cluster.specs.declared.answer.Answer.TheVariants.{Refused}
 
 -- ---- a ring
 
@@ -279,3 +280,8 @@ suits s (put p) = has_value s.cluster.format p.value
 suits s (show_node q) = is_tree_node s.cluster.format q.depth q.index
 suits s (slot x) = is_target s.slots x
 suits s ask = true
+
+-- what is answered: what the command tells, or why it is refused
+abbrev pub replied : {S : Type 0} → Outcome Answer S → Answer
+replied (gives answer s) = answer
+replied (refuses refusal) = Refused refusal

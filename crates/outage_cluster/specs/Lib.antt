@@ -5,4 +5,3 @@ pub mod Homes
 pub mod Slots
 pub mod Offers
 pub mod Acts
-pub mod Replies

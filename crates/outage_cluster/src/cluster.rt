@@ -1,10 +1,10 @@
-// The cluster that a script changes: a ring, its nodes and their hints, and the replicas of its ranges.
+//! The cluster that a script changes: a ring, its nodes and their hints, and the replicas of its ranges.
 ghost use Rattle.std.specs.Prelude.{◌≡◌, ◌<◌, ◌^◌, ◌==◌, ⊤, [], length, position, replicate, None, is_some, option_map, IsTrue, IfOk, IfSome, OnOk};
 ghost use Rattle.std.specs.List.{list_all, AllByRecursion};
 ghost use Rattle.vclock.specs.Answer.{Answers, AnswersAtOnce, AnswersOrNoMemory};
 ghost use Rattle.vclock.specs.Clock.{clock_of};
 ghost use Rattle.vclock.specs.Outcome.{gives, DoesOrBreaksOff};
-ghost use Rattle.vclock.specs.Keys.{key_fault};
+ghost use Rattle.vclock.specs.Bytes.{key_fault};
 ghost use Rattle.version_set.specs.Kind.{value_fault};
 ghost use Rattle.outage_cluster.specs.Acts.{ask_fault, down_act, down_fault, held_at, is_tree_node, keepers_fault, kept_at, key_act, kind_of, node_act, nodes_fault, put_act, range_fault, rehash_at, ring_nodes_fault, row_at, sync_at, text_of, up_act, value_of};
 ghost use Rattle.outage_cluster.specs.Handoff.{carrier_of, deliver_at, hinted, up_nodes};

@@ -1,4 +1,4 @@
-// Hinted handoff: hints are kept for replicas that are down, and offered to them later.
+//! Hinted handoff: hints are kept for replicas that are down, and offered to them later.
 ghost use Rattle.std.specs.Prelude.{◌≡◌, ◌-◌, ◌^◌, ℕ, Bool, length, fold, IfOk, IsTrue, OnOk};
 ghost use Rattle.vclock.specs.Outcome.{DoesOrNoMemory, is_given};
 ghost use Rattle.hint_store.specs.Hints.{AreHints, confirm, delivery_by, keep, next_hint};

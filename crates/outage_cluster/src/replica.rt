@@ -1,4 +1,4 @@
-// A replica of a range.
+//! A replica of a range.
 ghost use Rattle.std.specs.Prelude.{◌≡◌, ◌≤◌, IsTrue, [], ◌&&◌, ◌≢◌, Some, IfOk, IfErr, OnOk, None};
 ghost use Rattle.std.specs.List.{AllByRecursion};
 ghost use Rattle.vclock.specs.Answer.{Answers, AnswersOrNoMemory};
@@ -6,10 +6,9 @@ ghost use Rattle.vclock.specs.Outcome.{DoesOrNoMemory, DoesOrBreaksOff};
 ghost use Rattle.version_set.specs.Kind.{value_fault};
 ghost use Rattle.range_journal.specs.Journal.{held};
 ghost use Rattle.range_journal.specs.declared.journal.Source.{Source};
-ghost use Rattle.range_state.specs.Sent.{is_sent};
+ghost use Rattle.range_state.specs.State.{is_sent, dirty_fault, rows_now, fresh, accept, put};
 ghost use Rattle.range_state.specs.Syncs.{IsOfRange};
 ghost use Rattle.std.specs.Arc.{arc_value};
-ghost use Rattle.range_state.specs.State.{dirty_fault, rows_now, fresh, accept, put};
 ghost use Rattle.outage_cluster.specs.Acts.{takes, after_copy, clean_at, copied_to, gets_hint, is_sent_to, shown_digest};
 ghost use Rattle.outage_cluster.specs.State.{in_replica, replica_of};
 ghost use Rattle.outage_cluster.specs.Syncs.{IsCounted, session_fault, synced_with};

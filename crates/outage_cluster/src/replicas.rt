@@ -1,4 +1,4 @@
-// The replicas of a range, in the order of its preference list.
+//! The replicas of a range, in the order of its preference list.
 ghost use Rattle.std.specs.Prelude.{◌≡◌, ◌≢◌, ◌<◌, ◌^◌, length, filter, map, option_map, IfOk, IfErr, IfSome, IfNone, OnOk, None};
 ghost use Rattle.std.specs.Result.{result_map_both};
 ghost use Rattle.vclock.specs.Answer.{AnswersOrNoMemory};

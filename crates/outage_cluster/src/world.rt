@@ -1,7 +1,6 @@
-// The world that a script changes: a cluster, and the slots for background work.
+//! The world that a script changes: a cluster, and the slots for background work.
 ghost use Rattle.std.specs.Prelude.{◌≡◌, ◌≢◌, IsTrue, IfOk, IfErr, OnOk};
-ghost use Rattle.outage_cluster.specs.Acts.{act, deliver_act, rehash_act, ring_act, ring_config, suits, sync_act};
-ghost use Rattle.outage_cluster.specs.Replies.{replied};
+ghost use Rattle.outage_cluster.specs.Acts.{act, deliver_act, rehash_act, ring_act, ring_config, suits, sync_act, replied};
 ghost use Rattle.outage_commands.specs.Orders.{ask_of, rehash_ask, ring_ask, sync_ask};
 ghost use Rattle.outage_cluster.specs.State.{left, start};
 ghost use Rattle.vclock.specs.Outcome.{DoesOrBreaksOff};

@@ -4,8 +4,7 @@ use Rattle.std.specs.List.{list_all}
 use Rattle.outage_script.specs.Lines.{lines_of, is_space}
 use Rattle.outage_cluster.specs.State.{State, start, left}
 use Rattle.outage_commands.specs.Asks.{Ask}
-use Rattle.outage_cluster.specs.Acts.{act, suits}
-use Rattle.outage_cluster.specs.Replies.{replied}
+use Rattle.outage_cluster.specs.Acts.{act, suits, replied}
 use Rattle.outage_script.specs.Answers.{answer_line}
 use Rattle.outage_cluster.specs.declared.answer.Answer.TheVariants.{BadLine}
 use Rattle.outage_commands.specs.Reading.{value_of}

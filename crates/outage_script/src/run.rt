@@ -1,4 +1,4 @@
-// A script from its reader to its writer.
+//! A script from its reader to its writer.
 ghost use Rattle.std.specs.Prelude.{false, ◌≡◌, ◌⊎◌, ◌+◌, [], vec_len, IfOk};
 ghost use Rattle.std.specs.Io.KnownBytes.{Keeps};
 ghost use Rattle.outage_script.specs.Ends.{Explains, Runs};

@@ -1,4 +1,4 @@
-// A run in progress: the world, and what has come of the line that is not whole yet.
+//! A run in progress: the world, and what has come of the line that is not whole yet.
 ghost use Rattle.std.specs.Prelude.{Some, Option, ◌≡◌, ◌≤◌, ◌+◌, ◌^◌, ◌<◌, ◌∷◌, ◌++◌, [], ℕ, List, IsTrue, length, vec_len, false, IfOk, IfNone, option_map};
 ghost use Rattle.std.specs.List.{list_all};
 ghost use Rattle.std.specs.Io.KnownBytes.{Appends};

@@ -1,6 +1,6 @@
 //! The calls of a range as events, and what they return.
 ghost use Rattle.std.specs.Prelude.{◌≤◌, IsTrue};
-ghost use Rattle.range_state.specs.Sent.{is_sent};
+ghost use Rattle.range_state.specs.State.{is_sent};
 
 use hash_tree::{Hashed, NodeAt};
 use range_journal::{Entry, Source};

@@ -10,10 +10,9 @@ ghost use Rattle.range_journal.specs.Journal.{held};
 ghost use Rattle.range_journal.specs.declared.journal.Source.{Source};
 ghost use Rattle.key_ring.specs.Places.{leaf_bits};
 ghost use Rattle.hash_tree.specs.Leaves.{rows_at};
-ghost use Rattle.range_state.specs.Sent.{is_sent};
+ghost use Rattle.range_state.specs.State.{is_sent, IsRight, fresh, leaf_in, leaf_count, place_fault, ask_fault, stale_fault, full_fault, entry_of, put_version, knows, admit, accept, put};
 ghost use Rattle.range_state.specs.Rows.{rows_of};
 ghost use Rattle.range_state.specs.Fitting.{IsFitting, made_fault, sent_fault};
-ghost use Rattle.range_state.specs.State.{IsRight, fresh, leaf_in, leaf_count, place_fault, ask_fault, stale_fault, full_fault, entry_of, put_version, knows, admit, accept, put};
 
 use crate::config::RangeConfig;
 use crate::event::{Accepted, Receipt};

@@ -3,7 +3,7 @@ ghost use Rattle.std.specs.Prelude.{◌≡◌, ◌+◌};
 ghost use Rattle.vclock.specs.Outcome.{DoesAtOnce, ChangesAtOnce};
 ghost use Rattle.admission.specs.Admission.{IsAdmission, lend, sample, adjust};
 ghost use Rattle.ring_node.specs.Moments.{FoundAtSomeMoment, ChangedAtSomeMoment};
-ghost use Rattle.ring_node.specs.Counts.{AreCounts};
+ghost use Rattle.ring_node.specs.Reports.{AreCounts};
 
 use admission::{Controller, Slot};
 use std::sync::ledger::Ledger;

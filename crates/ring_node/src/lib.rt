@@ -25,7 +25,7 @@ pub use channel::{ChannelLink, ChannelServer, channel_link};
 pub use controller::{Counts, SharedController};
 pub use deed::Deed;
 pub use delivery::{DeliverReport, deliver};
-pub use gate::{Gate, OpenGate};
+pub use gate::{Gate, OpenGate, Step};
 pub use hints::SharedHints;
 pub use link::{Link, Reached};
 pub use memory::MemoryLink;

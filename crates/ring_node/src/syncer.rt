@@ -10,7 +10,7 @@ ghost use Rattle.caller_pass.specs.Locks.{IsLocked, moved, TellsAnswer};
 ghost use Rattle.ring_node.specs.Gains.{Gains, GainsSome};
 ghost use Rattle.ring_node.specs.Links.{IsLostExactly};
 ghost use Rattle.ring_node.specs.Moments.{FoundAtSomeMoment, ChangedAtSomeMoment};
-ghost use Rattle.ring_node.specs.Walks.{IsOfferRefusal, IsOpenRefusal, IsAskRefusal, IsTakeRefusal, IsWalkRefusal, IsEndIn};
+ghost use Rattle.ring_node.specs.Walks.{IsOfferRefusal, IsOpenRefusal, IsAskRefusal, IsTakeRefusal, IsWalkRefusal, IsEndIn, IsOpening};
 
 use crate::link::{Link, Reached};
 use crate::range::SharedRange;
@@ -100,7 +100,7 @@ impl<L: Ledger> SharedRange<L> {
     /// Refused, in order: LinkLost (the link failed), Gone (the partner has no such offer), BadMessage (no offer came),
     /// OtherFormat, OtherRange, SessionsFull, Dirty (some node of the own tree has no digest), UnknownSession (no run
     /// meets it), Crowded, JournalFull, NoMemory. What was taken until then stays, and the session is cancelled.
-    #[tactic(auto, using(crate::proofs::GainLaws::some_none, crate::proofs::GainLaws::some_same, crate::proofs::WalkLaws::gains_grow, crate::proofs::WalkLaws::gains_counted, crate::proofs::WalkLaws::open_keeps))]
+    #[tactic(auto, using(crate::proofs::GainLaws::some_none, crate::proofs::GainLaws::some_same, crate::proofs::WalkLaws::gains_grow, crate::proofs::WalkLaws::gains_counted, crate::proofs::WalkLaws::open_keeps, crate::proofs::WalkLaws::session_opened))]
     pub fn sync_worker<R: Wait, C: Ledger, K: Link>(
         &self,
         rt: &R,
@@ -113,6 +113,7 @@ impl<L: Ledger> SharedRange<L> {
     ) -> Result<SyncReport, Refusal>
         ensures gains { IfOk result (λ report. Gains pass.old pass.new Source.Partner report.accepted) }
         ensures turns { IfOk result (λ report. report.bad ≤ turns) }
+        ensures opened { IfOk result (λ report. ChangedAtSomeMoment (IsLocked L.parts) (IsOpening report.id partner)) }
         ensures end { IfOk result (λ report. FoundAtSomeMoment (IsLocked L.parts)
             (λ locked. IsEndIn locked.state.records report.id report.state report.asked)) }
         ensures some { OnErr result (GainsSome pass.old pass.new Source.Partner) }

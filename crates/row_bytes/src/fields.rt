@@ -1,4 +1,4 @@
-// The fields that texts are made of, read from the left.
+//! The fields that texts are made of, read from the left.
 ghost use Rattle.std.specs.Prelude.{◌≡◌, [], ⊤, nat_lt, nat_le, ◌&&◌};
 ghost use Rattle.std.specs.Int.{w8, w16, w32, w64};
 ghost use Rattle.row_bytes.specs.Reading.{Gives, number_at, field_at, bytes_at, pair_at, pairs_at, kind_at, longest_value};

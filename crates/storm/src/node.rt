@@ -1,4 +1,4 @@
-// A node of a storm, and its threads.
+//! A node of a storm, and its threads.
 ghost use Rattle.std.specs.Prelude.{◌≡◌, ◌≤◌};
 
 use crate::tally::SharedTally;

@@ -1,8 +1,8 @@
-// Rehash and sync workers.
+//! Rehash and sync workers.
 use crate::node::{Node, Plan};
 use admission::Slot;
 use caller_pass::Pass;
-use ring_node::{ChannelLink, Gate, Link, SharedController};
+use ring_node::{ChannelLink, Gate, Link, SharedController, Step};
 use std::alloc::Global;
 use std::sync::Wait;
 use std::sync::ledger::Ledger;
@@ -13,9 +13,6 @@ const REHASH_TURNS: u64 = 300;
 
 /// How many turns a sync worker has: enough to ask for each node twice.
 const SYNC_TURNS: u64 = 600;
-
-/// The step of the gate before a sync worker's round.
-const BEFORE_A_SYNC: u32 = 4;
 
 /// How many rounds a worker has at the most.
 const MOST_ROUNDS: u64 = 100;
@@ -48,7 +45,7 @@ pub(crate) fn sync_rounds<L: Ledger, C: Ledger, R: Wait, G: Gate>(
     let mut link = link;
     let mut ended = Ok(());
     for _ in 0..plan.puts.min(MOST_ROUNDS) {
-        plan.gate.pass(rt, BEFORE_A_SYNC);
+        plan.gate.pass(rt, Step::Round);
         ended = pass_over(sync(rt, alloc, node, plan, &mut link, &mut pass));
         if ended.is_err() {
             break;

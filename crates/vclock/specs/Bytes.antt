@@ -1,7 +1,9 @@
--- Where bytes lie.
-use Rattle.std.specs.Prelude.{ℕ, ◌≡◌, ◌≤◌, List, length, take}
+-- Bytes: where they are kept, and which of them are a key.
+use Rattle.std.specs.Prelude.{ℕ, ◌≡◌, ◌≤◌, List, length, take, ◌==◌, ◌||◌, nat_lt, if◌then◌else◌, Option, Some, None}
 use Rattle.vclock.specs.declared.bytes.Kept.{Kept}
 use Rattle.vclock.specs.declared.bytes.Kept.TheVariants.{Short, Shared}
+use Rattle.vclock.specs.declared.refusal.Refusal.{Refusal}
+use Rattle.vclock.specs.declared.refusal.Refusal.TheVariants.{BadKey}
 
 -- the bytes, without the places that are free
 abbrev pub kept_bytes : Kept → List ℕ
@@ -11,3 +13,7 @@ kept_bytes (Shared block) = block.value.items
 abbrev pub IsKept : Kept → Type 0
 IsKept (Short len bytes) = (len ≤ 14) × (length bytes ≡ 14)
 IsKept (Shared block) = Unit {0}
+
+-- why these bytes are no key: a key has 1 to 255
+abbrev pub key_fault : List ℕ → Option Refusal
+key_fault key = if length key == 0 || nat_lt 255 (length key) then Some BadKey else None

@@ -158,7 +158,7 @@ impl Clock {
         Ok(Clock { pairs: merged })
     }
 
-    // How many of the pairs have a node that is absent here.
+    /// How many of the pairs have a node that is absent here.
     fn count_absent(&self, pairs: &[(u16, u64)]) -> usize
         ensures count { result ≡ length (filter (λ p. counter self.now p.0 == 0) pairs.now) }
         ensures bound { result ≤ length pairs.now }
@@ -190,7 +190,7 @@ impl Drop for Clock {
     }
 }
 
-// Whether each counter of the first is at most the second's, and the other way round.
+/// Whether each counter of the first is at most the second's, and the other way round.
 fn walk(a: &[(u16, u64)], b: &[(u16, u64)]) -> (bool, bool)
     requires first { Rises 0 a.now }
     requires second { Rises 0 b.now }
@@ -218,7 +218,7 @@ fn walk(a: &[(u16, u64)], b: &[(u16, u64)]) -> (bool, bool)
     (le & (i == a.len()), ge & (j == b.len()))
 }
 
-// The same pairs, with room for that many in all.
+/// The same pairs, with room for that many in all.
 fn copy_with_room(alloc: Global, pairs: &[(u16, u64)], len: usize) -> Result<ClockPairs, AllocError>
     ensures { IfOk result (λ copy. copy.items ≡ pairs.now) }
 {
@@ -227,7 +227,7 @@ fn copy_with_room(alloc: Global, pairs: &[(u16, u64)], len: usize) -> Result<Clo
     Ok(copy)
 }
 
-// Sets the counter of a node.
+/// Sets the counter of a node.
 fn put(pairs: &mut ClockPairs, node: u16, counter: u64) -> Result<(), AllocError>
     ensures ok { OnOk result (pairs.new.items ≡ with_counter pairs.old.items node counter) }
     ensures err { OnErr result (pairs.new.items ≡ pairs.old.items) }
@@ -244,7 +244,7 @@ fn put(pairs: &mut ClockPairs, node: u16, counter: u64) -> Result<(), AllocError
     Ok(())
 }
 
-// Whether some pair can't be in a clock.
+/// Whether some pair can't be in a clock.
 fn has_bad_pair(pairs: &[(u64, u64)]) -> bool
     ensures { result ≡ list_any is_bad_pair pairs.now }
 {
@@ -253,7 +253,7 @@ fn has_bad_pair(pairs: &[(u64, u64)]) -> bool
         .any(|pair| pair.0 == 0 || pair.0 > NODE_MAX || pair.1 == 0)
 }
 
-// Whether some node comes twice. Few pairs are compared with one another; for more, a table records which nodes came.
+/// Whether some node comes twice. Few pairs are compared with one another; for more, a table records which nodes came.
 fn has_repeat(pairs: &[(u64, u64)]) -> bool
     requires { list_any is_bad_pair pairs.now ≡ false }
     ensures { result ≡ has_repeat pairs.now }
@@ -282,7 +282,7 @@ fn contains_node(pairs: &[(u64, u64)], node: u64) -> bool
     pairs.iter().any(|pair| pair.0 == node)
 }
 
-// The same by a table of the nodes that came, which is empty at first.
+/// The same by a table of the nodes that came, which is empty at first.
 fn has_repeat_by_table(pairs: &[(u64, u64)], seen: &mut [bool]) -> bool
     requires good { list_any is_bad_pair pairs.now ≡ false }
     requires empty { seen.old ≡ replicate 65536 false }

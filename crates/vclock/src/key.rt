@@ -1,7 +1,7 @@
 //! Which keys there are.
 ghost use Rattle.std.specs.Prelude.{⊤};
 ghost use Rattle.vclock.specs.Answer.{AnswersAtOnce};
-ghost use Rattle.vclock.specs.Keys.{key_fault};
+ghost use Rattle.vclock.specs.Bytes.{key_fault};
 
 use crate::limits::KEY_LEN_MAX;
 use crate::refusal::Refusal;

@@ -183,7 +183,7 @@ impl VersionSet {
     }
 }
 
-// Whether two lists have equal versions, in the same order.
+/// Whether two lists have equal versions, in the same order.
 fn are_same(versions: &[Version], others: &[Version]) -> bool
     ensures { IsTrue result ↔ (versions.now ≡ others.now) }
 {
@@ -204,7 +204,7 @@ fn is_covered(versions: &[Version], version: &Version) -> bool
     versions.iter().any(|held| is_covered_by(version, held))
 }
 
-// Whether a version is the held one or below it.
+/// Whether a version is the held one or below it.
 fn is_covered_by(version: &Version, held: &Version) -> bool
     ensures { result ≡ (is_same version.now held.now || is_below version.now held.now) }
 {
@@ -215,7 +215,7 @@ fn is_covered_by(version: &Version, held: &Version) -> bool
     }
 }
 
-// How many are not below the version.
+/// How many are not below the version.
 fn count_kept(versions: &[Version], version: &Version) -> usize
     ensures count { result ≡ length (filter (λ w. not (is_below w version.now)) versions.now) }
     ensures bound { result ≤ length versions.now }
@@ -226,7 +226,7 @@ fn count_kept(versions: &[Version], version: &Version) -> usize
         .count()
 }
 
-// Makes room for one more version, and no more than that: most sets have one version.
+/// Makes room for one more version, and no more than that: most sets have one version.
 fn make_room(versions: &mut Vec<Version>, kept: usize) -> Result<(), AllocError>
     requires { kept ≤ length versions.old.items }
     ensures items { versions.new.items ≡ versions.old.items }
@@ -238,7 +238,7 @@ fn make_room(versions: &mut Vec<Version>, kept: usize) -> Result<(), AllocError>
     Ok(())
 }
 
-// Keeps those that are not below the version.
+/// Keeps those that are not below the version.
 fn drop_below(versions: &mut Vec<Version>, version: &Version)
     ensures kept { versions.new.items ≡ filter (λ w. not (is_below w version.now)) versions.old.items }
     ensures room { vec_capacity versions.new ≡ vec_capacity versions.old }
@@ -247,7 +247,7 @@ fn drop_below(versions: &mut Vec<Version>, version: &Version)
     versions.retain(|held| !held.is_below(version));
 }
 
-// Puts a version into its place. No member has its text.
+/// Puts a version into its place. No member has its text.
 fn insert(versions: &mut Vec<Version>, version: Version)
     requires { vec_len versions.old < vec_capacity versions.old }
     ensures { versions.new.items ≡ with_version version versions.old.items }

@@ -1,4 +1,4 @@
-// The fields that messages are made of, read from the left.
+//! The fields that messages are made of, read from the left.
 ghost use Rattle.std.specs.Prelude.{◌≡◌, ◌<◌, ℕ, List, ◌∷◌, ◌++◌, length, MatchOption};
 ghost use Rattle.std.specs.Int.{w32, w64, to_be_bytes};
 ghost use Rattle.hash_tree.specs.declared.node.NodeAt.{NodeAt};

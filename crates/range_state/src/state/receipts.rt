@@ -5,8 +5,7 @@ ghost use Rattle.vclock.specs.Outcome.{Does, DoesOrNoMemory};
 ghost use Rattle.version_set.specs.Version.{covered};
 ghost use Rattle.range_journal.specs.Journal.{held};
 ghost use Rattle.sync_session.specs.TreeNodes.{node_of};
-ghost use Rattle.range_state.specs.Sent.{is_sent};
-ghost use Rattle.range_state.specs.State.{ask_fault, entry_of, admit, accept, put};
+ghost use Rattle.range_state.specs.State.{is_sent, ask_fault, entry_of, admit, accept, put};
 ghost use Rattle.range_state.specs.Fitting.{IsFitting};
 ghost use Rattle.range_state.specs.Told.{with_put, with_sent, CountsAnswer};
 
