@@ -6,7 +6,7 @@ use Rattle.serde_json.specs.Data.{Data}
 use Rattle.outage_commands.specs.Commands.{Form, forms}
 use Rattle.outage_commands.specs.Reading.{value_of, sole_member}
 use Rattle.outage_commands.specs.declared.fault.LineFault.{LineFault}
-use Rattle.outage_commands.specs.declared.fault.LineFault.TheVariants.{TooLong, NoJson, NoName, Unknown, Members}
+use Rattle.outage_commands.specs.declared.fault.LineFault.TheVariants.{TooLong, NoJson, NoName, Unknown, Misspelled, Member, Members}
 
 -- how many bytes a line has at the most, without its line feed
 abbrev pub line_limit : ℕ
@@ -23,9 +23,11 @@ Names known d = (m : List ℕ × Data) × (sole_member d ≡ Some m) × (is_comm
 -- what a fault says of a line that is not too long
 abbrev pub IsFaultOf : LineFault → List ℕ → Type 0
 IsFaultOf TooLong line = ⊥
-IsFaultOf (NoJson e) line = value_of line ≡ None
+IsFaultOf (NoJson problem column) line = value_of line ≡ None
 IsFaultOf NoName line = (d : Data) × (value_of line ≡ Some d) × (sole_member d ≡ None)
-IsFaultOf (Unknown name nearest) line = (d : Data) × (value_of line ≡ Some d) × Names false d
+IsFaultOf (Unknown name) line = (d : Data) × (value_of line ≡ Some d) × Names false d
+IsFaultOf (Misspelled name nearest) line = (d : Data) × (value_of line ≡ Some d) × Names false d
+IsFaultOf (Member wants wrong) line = (d : Data) × (value_of line ≡ Some d) × Names true d
 IsFaultOf (Members members) line = (d : Data) × (value_of line ≡ Some d) × Names true d
 
 -- what a fault says of a bad line

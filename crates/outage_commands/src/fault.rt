@@ -1,14 +1,15 @@
-//! Why a line is no command, for the one who wrote it.
+//! The reason why a line isn't a command, for its author.
 ghost use Rattle.std.specs.Prelude.{◌≡◌, IfOk, is_some, option_map};
 ghost use Rattle.outage_commands.specs.Faults.{IsFaultOf, is_command};
 ghost use Rattle.outage_commands.specs.Reading.{sole_member};
 ghost use Rattle.serde_json.specs.View.{view};
 
-use serde_json::{Error, Value};
+use crate::member::wrong_member;
+use serde_json::Value;
 use std::alloc::{AllocError, Global};
 use strsim::levenshtein;
 
-/// How many characters of an unknown name are shown.
+/// The number of characters of an unknown name that a message shows.
 const SHOWN: usize = 40;
 
 /// The names of the commands.
@@ -17,32 +18,49 @@ const NAMES: [&str; 12] = [
     "sample",
 ];
 
-/// Why a line is no command.
+/// The reason why a line isn't a command.
 #[derive(Debug, Drop, thiserror::Error)]
 pub enum LineFault {
     /// It has more than 1,048,576 bytes.
     #[error("it is longer than 1048576 bytes")]
     TooLong,
-    /// It is no JSON text.
-    #[error("{0}")]
-    NoJson(Error),
-    /// It is no object with one member.
-    #[error("it is no object with one member, which names a command")]
+    /// It isn't a JSON text.
+    #[error("{problem} at column {column}")]
+    NoJson {
+        /// The problem.
+        problem: &'static str,
+        /// The column, in bytes from 1.
+        column: usize,
+    },
+    /// It isn't an object with one member.
+    #[error("it isn't an object with one member, the name of a command")]
     NoName,
+    /// No command has the name of its member, and none has a similar one.
+    #[error("unknown command {0:?}")]
+    Unknown(String),
     /// No command has the name of its member.
     #[error("unknown command {name:?}; the nearest is {nearest:?}")]
-    Unknown {
+    Misspelled {
         /// The name, cut after 40 characters.
         name: String,
-        /// The name of a command that takes the fewest edits.
+        /// The name of a command that takes the fewest edits: at most half as many as the name has characters.
         nearest: &'static str,
     },
-    /// The command has other members, or a value that the ring in force doesn't have.
+    /// The command lacks a member, has one too many, or one of another kind.
+    #[error("{wants}; {wrong}")]
+    Member {
+        /// The members that the command wants.
+        wants: &'static str,
+        /// The first member that is wrong, and why.
+        wrong: String,
+    },
+    /// The command has a value that the ring in force doesn't have, or that no such command has.
     #[error("{0}")]
     Members(&'static str),
 }
 
-/// Why a line of at most 1,048,576 bytes is no command of the ring in force. It fails only if memory is needed.
+/// Returns the reason why a line of at most 1,048,576 bytes isn't a command of the ring in force. On error memory ran
+/// out.
 #[tactic(auto, unfolding(crate::specs::Reading::value_of))]
 pub fn fault_of(alloc: Global, line: &[u8]) -> Result<LineFault, AllocError>
     ensures { IfOk result (λ fault. IsFaultOf fault line.now) }
@@ -50,20 +68,33 @@ pub fn fault_of(alloc: Global, line: &[u8]) -> Result<LineFault, AllocError>
     let value = match Value::from_slice(alloc, line) {
         Ok(value) => value,
         Err(e) if e.is_memory() => return Err(AllocError),
-        Err(e) => return Ok(LineFault::NoJson(e)),
+        Err(e) => {
+            let problem = if e.is_eof() {
+                "JSON that ends early"
+            } else {
+                "invalid JSON"
+            };
+            let column = e.column();
+            return Ok(LineFault::NoJson { problem, column });
+        }
     };
-    let Some((name, _)) = sole_member(&value) else {
+    let Some((name, members)) = sole_member(&value) else {
         return Ok(LineFault::NoName);
     };
-    if let Some(members) = members_of(name) {
-        return Ok(LineFault::Members(members));
+    if let Some(wants) = members_of(name) {
+        return match wrong_member(alloc, name, members)? {
+            Some(wrong) => Ok(LineFault::Member { wants, wrong }),
+            None => Ok(LineFault::Members(wants)),
+        };
     }
     let name = beginning_of(alloc, name)?;
-    let nearest = nearest_to(alloc, name.as_str())?;
-    Ok(LineFault::Unknown { name, nearest })
+    match nearest_to(alloc, name.as_str())? {
+        Some(nearest) => Ok(LineFault::Misspelled { name, nearest }),
+        None => Ok(LineFault::Unknown(name)),
+    }
 }
 
-/// The name and the value of the one member of an object.
+/// Returns the name and the value of the one member of an object.
 #[tactic(auto, using(crate::proofs::ReadLemmas::one_member, crate::proofs::ReadLemmas::other_members))]
 fn sole_member(value: &Value) -> Option<(&str, &Value)>
     ensures { option_map (λ m. (m.0.now, view m.1.now)) result ≡ sole_member (view value.now) }
@@ -76,7 +107,7 @@ fn sole_member(value: &Value) -> Option<(&str, &Value)>
     Some((name.as_str(), inner))
 }
 
-/// What the command of that name wants as its members, if there is one.
+/// Returns the members that the command of a name wants. `None` if there is no such command.
 fn members_of(name: &str) -> Option<&'static str>
     ensures { is_some result ≡ is_command name.now }
 {
@@ -105,13 +136,13 @@ fn members_of(name: &str) -> Option<&'static str>
     }
 }
 
-/// The first characters of a name.
-fn beginning_of(alloc: Global, name: &str) -> Result<String, AllocError> {
+/// Returns the first characters of a name.
+pub(crate) fn beginning_of(alloc: Global, name: &str) -> Result<String, AllocError> {
     name.chars().take(SHOWN).collect(alloc)
 }
 
-/// The name of a command that takes the fewest edits.
-fn nearest_to(alloc: Global, name: &str) -> Result<&'static str, AllocError> {
+/// Returns the name of a command that takes the fewest edits. `None` if they are more than half of its characters.
+fn nearest_to(alloc: Global, name: &str) -> Result<Option<&'static str>, AllocError> {
     let mut nearest = 0;
     let mut fewest = usize::MAX;
     for place in 0..NAMES.len() {
@@ -121,5 +152,5 @@ fn nearest_to(alloc: Global, name: &str) -> Result<&'static str, AllocError> {
             nearest = place;
         }
     }
-    Ok(NAMES[nearest])
+    Ok((fewest <= name.chars().count() / 2).then_some(NAMES[nearest]))
 }

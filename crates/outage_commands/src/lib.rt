@@ -4,6 +4,7 @@
 pub mod command;
 mod digits;
 pub mod fault;
+mod member;
 mod tree;
 
 pub use command::{
