@@ -28,7 +28,8 @@ abbrev pub AreRead : List Row → Result (List Row) Refusal → Type 0
 AreRead rows (Ok found) = found ≡ rows
 AreRead rows (Err e) = e ≡ refusals.NoMemory
 
--- rows are broken: each row takes at least one byte, so there are at most as many rows as bytes
+-- rows are broken: offset and the rest that begins with the broken field make up the text. A row has at least one byte,
+-- so reading at most length text rows reads all.
 pub record AreBrokenAt (format : Format) (text : List ℕ) (offset : ℕ) : Type 0 where
   pub left : ℕ
   pub broken : rows_at format (length text) [] [] text ≡ Err left

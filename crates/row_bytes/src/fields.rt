@@ -1,4 +1,4 @@
-//! The fields of texts, read from the left. Each function returns the field and the bytes after it.
+//! The fields of texts, read from the left. A function that reads a field returns it with the bytes after it.
 ghost use Rattle.std.specs.Prelude.{◌≡◌, [], ⊤, nat_lt, nat_le, ◌&&◌};
 ghost use Rattle.std.specs.Int.{w8, w16, w32, w64};
 ghost use Rattle.row_bytes.specs.Reading.{Gives, number_at, field_at, bytes_at, pair_at, pairs_at, kind_at, longest_value};
