@@ -1,4 +1,4 @@
-//! The rows of a leaf in chunks: how a row is found, and how one is put.
+//! The rows of a leaf in chunks: finding a row, and inserting one.
 ghost use Rattle.std.specs.Prelude.{◌≡◌, ◌+◌, ◌<◌, ◌≤◌, ◌^◌, ⊤, None, length, take, drop, IfOk, OnOk, OnErr};
 ghost use Rattle.std.specs.List.{AllByRecursion, flat_map, insert};
 ghost use Rattle.std.specs.declared.cmp.Ordering.TheVariants.{Less, Greater};
@@ -16,20 +16,20 @@ use std::alloc::Global;
 use vclock::{Format, Refusal};
 use version_set::Version;
 
-/// How many chunks a leaf has at most: more than any memory holds, and so few that the bytes of its text can be counted.
+/// The maximum number of chunks of a leaf: more than any memory holds, and few enough to count the bytes of its text.
 const MOST_CHUNKS: usize = 1 << 56;
 
-/// The place of a row, or of one that is to be put.
+/// The place of a row, or a place at which to insert one.
 #[derive(Clone, Copy)]
 pub(crate) struct Spot {
-    /// The number of the chunk.
+    /// The index of the chunk.
     pub(crate) chunk: usize,
-    /// The place among the rows of the chunk.
+    /// The index among the rows of the chunk.
     pub(crate) at: usize,
 }
 
-/// The number of the chunk that has the row of a key, or can get it: the last chunk whose first key is at most the key,
-/// or else the first chunk.
+/// Returns the index of the chunk that has the row of a key, or into which one is inserted: the last chunk whose first
+/// key is at most the key, otherwise the first chunk.
 pub(crate) fn chunk_of(chunks: &[Chunk], key: &[u8]) -> usize
     requires some { 1 ≤ length chunks.now }
     requires each { AllByRecursion (λ (c : Bucket). 1 ≤ length c.rows) chunks.now }
@@ -43,7 +43,7 @@ pub(crate) fn chunk_of(chunks: &[Chunk], key: &[u8]) -> usize
         .saturating_sub(1)
 }
 
-/// How many bytes the text of a leaf with these chunks has.
+/// Returns the length in bytes of the text of a leaf with these chunks.
 pub(crate) fn text_len(chunks: &[Chunk]) -> u128
     requires { length chunks.now ≤ 2 ^ 56 }
     ensures { result ≡ 1 + length (flat_map chunk_text chunks.now) }
@@ -55,7 +55,7 @@ pub(crate) fn text_len(chunks: &[Chunk]) -> u128
     len
 }
 
-/// One more owner of each chunk. Refused: NoMemory. No row is copied.
+/// Adds an owner to each chunk, and returns the chunks. Refused: NoMemory. Copies no row.
 pub(crate) fn share_chunks(alloc: Global, chunks: &[Chunk]) -> Result<Vec<Chunk>, Refusal>
     ensures { Answers result None (λ copy. copy.items ≡ chunks.now) }
 {
@@ -66,9 +66,9 @@ pub(crate) fn share_chunks(alloc: Global, chunks: &[Chunk]) -> Result<Vec<Chunk>
     Ok(copy)
 }
 
-/// Offers a version to the set of a row.
+/// Offers a version to the set of a row. On error the chunks are unchanged.
 ///
-/// Refused, in order: Crowded (the set would have over 64 versions), NoMemory. The chunks are then as they were.
+/// Refused, in order: Crowded (the set would have over 64 versions), NoMemory.
 pub(crate) fn offer_at(
     alloc: Global,
     chunks: &mut Vec<Chunk>,
@@ -87,9 +87,9 @@ pub(crate) fn offer_at(
     chunks[spot.chunk].offer(alloc, spot.at, version)
 }
 
-/// Puts a row among the others. A chunk that is full is split before.
+/// Inserts a row among the others, after splitting its chunk if that is full. On error the rows are unchanged.
 ///
-/// Refused: NoMemory. The rows are then as they were.
+/// Refused: NoMemory.
 pub(crate) fn insert_at(
     alloc: Global,
     format: Format,
@@ -110,8 +110,8 @@ pub(crate) fn insert_at(
     chunks[gap.chunk].insert(alloc, gap.at, row)
 }
 
-/// Makes room at a gap, by splitting a full chunk, and returns the place of the gap. Refused: NoMemory. The rows are as
-/// they were.
+/// Makes room at a gap, by splitting a full chunk, and returns the place of the gap. The rows are unchanged, even on
+/// error. Refused: NoMemory.
 fn roomy_gap(alloc: Global, chunks: &mut Vec<Chunk>, gap: Spot) -> Result<Spot, Refusal>
     requires gap { IsGapSpot chunks.old.items (place_in chunks.old.items gap.chunk gap.at) gap.chunk gap.at }
     requires each { AllByRecursion (λ (c : Bucket). length c.rows ≤ 15) chunks.old.items }
@@ -135,8 +135,8 @@ fn roomy_gap(alloc: Global, chunks: &mut Vec<Chunk>, gap: Spot) -> Result<Spot, 
     })
 }
 
-/// The row from which a full chunk is split, if a row is to be put at a place in it. After all rows, as with keys that
-/// come in order, it is the last one, so that most rows are in full chunks; else it is the middle one.
+/// Returns the index from which a full chunk is split, if a row is to be inserted at `at`. After all rows, as with keys
+/// in ascending order, it is the last one, so that most rows are in full chunks; otherwise it is the middle one.
 fn cut_for(at: usize) -> usize
     ensures some { 1 ≤ result }
     ensures less { result < 15 }
@@ -148,7 +148,7 @@ fn cut_for(at: usize) -> usize
     }
 }
 
-/// Splits the rows of a full chunk from a place on off. Refused: NoMemory. The chunks are then as they were.
+/// Splits a full chunk in two at `cut`. On error the chunks are unchanged. Refused: NoMemory.
 fn split_at(
     alloc: Global,
     chunks: &mut Vec<Chunk>,

@@ -1,4 +1,4 @@
-//! Comparing a text with that of a node in place, with no memory taken.
+//! Comparing a text with the text of a node in place. Doesn't allocate.
 ghost use Rattle.std.specs.Prelude.{◌≡◌, ◌↔◌, ◌∷◌, IsTrue};
 ghost use Rattle.std.specs.List.{flat_map};
 ghost use Rattle.hash_tree.specs.Chunks.{chunk_text};
@@ -9,7 +9,7 @@ use crate::digest::Digest;
 use crate::texts::{inner_byte, leaf_byte};
 use vclock::Format;
 
-/// Whether a text is that of a leaf with these chunks.
+/// Returns true if a text is the text of a leaf with these chunks.
 pub(crate) fn is_chunked_text(format: Format, text: &[u8], chunks: &[Chunk]) -> bool
     ensures { IsTrue result ↔ (text.now ≡ leaf_byte format ∷ flat_map chunk_text chunks.now) }
 {
@@ -19,7 +19,7 @@ pub(crate) fn is_chunked_text(format: Format, text: &[u8], chunks: &[Chunk]) -> 
     }
 }
 
-/// Whether a text is that of a node whose children have these digests, in order.
+/// Returns true if a text is the text of a node whose children have these digests, in order.
 pub fn is_inner_text(format: Format, text: &[u8], digests: &[Digest; 16]) -> bool
     ensures { IsTrue result ↔ (text.now ≡ inner_text format digests.now) }
 {
@@ -29,7 +29,7 @@ pub fn is_inner_text(format: Format, text: &[u8], digests: &[Digest; 16]) -> boo
     }
 }
 
-/// What follows the text of a leaf with these chunks.
+/// Returns the bytes after the text of a leaf with these chunks.
 fn strip_chunked<'a>(format: Format, text: &'a [u8], chunks: &[Chunk]) -> Option<&'a [u8]>
     ensures { Strips (λ x. x.now) (leaf_byte format ∷ flat_map chunk_text chunks.now) text.now result }
 {
@@ -37,7 +37,7 @@ fn strip_chunked<'a>(format: Format, text: &'a [u8], chunks: &[Chunk]) -> Option
     strip_chunks(rest, chunks)
 }
 
-/// What follows the texts of chunks, one after another.
+/// Returns the bytes after the texts of chunks, one after another.
 fn strip_chunks<'a>(text: &'a [u8], chunks: &[Chunk]) -> Option<&'a [u8]>
     ensures { Strips (λ x. x.now) (flat_map chunk_text chunks.now) text.now result }
 {
@@ -48,7 +48,7 @@ fn strip_chunks<'a>(text: &'a [u8], chunks: &[Chunk]) -> Option<&'a [u8]>
     Some(rest)
 }
 
-/// What follows the text of a node whose children have these digests.
+/// Returns the bytes after the text of a node whose children have these digests.
 fn strip_inner<'a>(format: Format, text: &'a [u8], digests: &[Digest; 16]) -> Option<&'a [u8]>
     ensures { Strips (λ x. x.now) (inner_text format digests.now) text.now result }
 {
@@ -56,7 +56,7 @@ fn strip_inner<'a>(format: Format, text: &'a [u8], digests: &[Digest; 16]) -> Op
     strip_all(rest, digests)
 }
 
-/// What follows these digests, one after another.
+/// Returns the bytes after these digests, one after another.
 fn strip_all<'a>(text: &'a [u8], digests: &[Digest]) -> Option<&'a [u8]>
     ensures { Strips (λ x. x.now) (flat_map (λ d. d) digests.now) text.now result }
 {
@@ -67,7 +67,7 @@ fn strip_all<'a>(text: &'a [u8], digests: &[Digest]) -> Option<&'a [u8]>
     Some(rest)
 }
 
-/// What follows the front, or `None` if the text doesn't begin with it.
+/// Returns the bytes after `front`, or `None` if the text doesn't begin with it.
 fn strip<'a>(text: &'a [u8], front: &[u8]) -> Option<&'a [u8]>
     ensures { Strips (λ x. x.now) front.now text.now result }
 {

@@ -9,8 +9,8 @@ use std::marker::Model;
 /// A SHA-256 digest.
 pub type Digest = [u8; 32];
 
-/// A text with its SHA-256 digest. Only `hash` computes one, so a call that takes a `Hashed` need not hash the text
-/// itself, and under a lock none is hashed.
+/// A text with its SHA-256 digest. Only `hash` computes one, so a call that takes a `Hashed` needn't hash the text, and
+/// no text is hashed under a lock.
 ///
 /// ```
 /// let hashed = hash(Text::copy_of(alloc, b"abc")?);
@@ -32,7 +32,7 @@ impl Model for Hashed {
 }
 
 impl Hashed {
-    /// A text whose digest is known. It takes no memory, and nothing is hashed.
+    /// Wraps a text and its known digest. Doesn't allocate or hash.
     pub fn known(text: Text, digest: Digest) -> Hashed
         requires { digest ≡ sha256 text }
         ensures { result ≡ text }
@@ -40,14 +40,14 @@ impl Hashed {
         Hashed { text, digest }
     }
 
-    /// The text.
+    /// Returns the text.
     pub fn text(&self) -> &[u8]
         ensures { result.now ≡ self.now }
     {
         self.text.as_slice()
     }
 
-    /// The digest of the text.
+    /// Returns the digest of the text.
     pub fn digest(&self) -> Digest
         ensures { result ≡ sha256 self.now }
     {
@@ -55,7 +55,7 @@ impl Hashed {
     }
 }
 
-/// A text with its digest. It takes no memory.
+/// Hashes a text. Doesn't allocate.
 pub fn hash(text: Text) -> Hashed
     ensures { result ≡ text }
 {

@@ -1,12 +1,17 @@
-//! The tree of a range (the paper of 2007, section 4.7): its rows in leaves, and a digest for each node.
+//! The tree of a range (the paper of 2007, section 4.7): its rows in leaves, and a digest for each node. Use it to
+//! change leaves, to write the texts of nodes, and to record which nodes are clean.
 //!
-//! - [`shared_leaf`]: the rows of one leaf, in order of key, which a range shares with whoever looked at it. They stand in chunks,
-//!   which copies of a leaf share.
+//! - [`shared_leaf`]: the rows of one leaf, in order of key, with any number of owners.
 //! - [`node`]: nodes by depth and index.
 //! - [`text`], [`digest`]: texts, and texts with their digests.
-//! - [`texts`], [`comparison`]: the texts of nodes, written, and compared in place.
-//! - [`marks`]: which nodes are clean, and their digests.
-//! - [`laws`]: what the definitions say.
+//! - [`texts`], [`comparison`]: writing the texts of nodes, and comparing them in place.
+//! - [`marks`]: the clean nodes, and their digests.
+//! - [`laws`]: laws proved from the definitions.
+//!
+//! ```
+//! let hashed = hash(Text::copy_of(alloc, b"abc")?);
+//! assert_eq!(rt; hashed.text(), b"abc".as_slice());
+//! ```
 #![tactic(auto)]
 
 mod chunk;

@@ -1,4 +1,4 @@
-//! Leaves that have several owners: a range, and the jobs that look at it.
+//! Leaves with several owners: a range, and the jobs that read them.
 ghost use Rattle.std.specs.Prelude.{◌≡◌, ◌↔◌, ◌++◌, ◌+◌, ◌<◌, [], ⊤, None, IsTrue, length, unwrap_or, option_map, MatchOption, OnOk, OnErr};
 ghost use Rattle.std.specs.List.{flat_map};
 ghost use Rattle.std.specs.Vec.{vec_capacity};
@@ -21,8 +21,9 @@ use std::sync::Arc;
 use vclock::{Format, Refusal};
 use version_set::{Version, VersionSet};
 
-/// The rows of one leaf, with any number of owners: a range, its snapshots and its jobs share it until the range
-/// changes it. A leaf without rows takes no memory.
+/// The rows of one leaf, in ascending order of key, with any number of owners: a range, its snapshots and its jobs
+/// share it until the range changes it. The rows are in chunks that copies of a leaf share. A leaf without rows takes
+/// no memory. On error a leaf is unchanged.
 ///
 /// ```
 /// let mut text = Vec::new(alloc);
@@ -49,21 +50,21 @@ impl Model for SharedLeaf {
 }
 
 impl SharedLeaf {
-    /// A leaf without rows. It takes no memory.
+    /// Creates a leaf without rows. Doesn't allocate.
     pub fn empty(format: Format) -> SharedLeaf
         ensures { result ≡ record { format = format; rows = [] } }
     {
         SharedLeaf { format, leaf: None }
     }
 
-    /// The format of the rows.
+    /// Returns the format of the rows.
     pub fn format(&self) -> Format
         ensures { result ≡ self.now.format }
     {
         self.format
     }
 
-    /// How many bytes the text of the leaf has. No row is looked at, but each chunk.
+    /// Returns the length in bytes of the text of the leaf. Reads no row, but each chunk.
     #[tactic(auto, unfolding(crate::specs::Texts::leaf_text))]
     pub fn text_len(&self) -> u128
         ensures { result ≡ length (leaf_text self.now.format self.now.rows) }
@@ -74,7 +75,7 @@ impl SharedLeaf {
         }
     }
 
-    /// One more owner of the leaf. Refused: NoMemory. No row is copied.
+    /// Adds an owner to the leaf, and returns its handle. Refused: NoMemory. Copies no row.
     pub fn share(&self) -> Result<SharedLeaf, Refusal>
         ensures { Answers result None (λ shared. shared ≡ self.now) }
     {
@@ -88,8 +89,8 @@ impl SharedLeaf {
         })
     }
 
-    /// Appends the text of the leaf, without a look at its rows. It fails only if memory is needed beyond the room of
-    /// `out`, which is then as it was.
+    /// Appends the text of the leaf, copied from its chunks. Fails only if memory is needed beyond the room of `out`,
+    /// which is then unchanged.
     #[tactic(auto, unfolding(crate::specs::Texts::leaf_text))]
     pub fn put_text(&self, out: &mut Vec<u8>) -> Result<(), AllocError>
         ensures ok { OnOk result (out.new.items ≡ out.old.items ++ leaf_text self.now.format self.now.rows) }
@@ -102,7 +103,7 @@ impl SharedLeaf {
         }
     }
 
-    /// Whether a text is that of the leaf. It takes no memory.
+    /// Returns true if `text` is the text of the leaf. Doesn't allocate.
     #[tactic(auto, unfolding(crate::specs::Texts::leaf_text))]
     pub fn is_text(&self, text: &[u8]) -> bool
         ensures { IsTrue result ↔ (text.now ≡ leaf_text self.now.format self.now.rows) }
@@ -113,7 +114,7 @@ impl SharedLeaf {
         }
     }
 
-    /// What is held for a key, if it has a row. The rows ascend by key. It takes no memory: a binary search.
+    /// Returns the versions that are held for a key, if it has a row, by a binary search. Doesn't allocate.
     pub fn find(&self, key: &[u8]) -> Option<&VersionSet>
         ensures found { unwrap_or (option_map (λ s. s.now) result) [] ≡ versions_in key.now self.now.rows }
         ensures valid { IsBucket self.now }
@@ -124,7 +125,8 @@ impl SharedLeaf {
         }
     }
 
-    /// The row of a key, if it has one: its versions and its text. It takes no memory: a binary search.
+    /// Returns the row of a key, if it has one: its versions and its text. Searches by a binary search. Doesn't
+    /// allocate.
     pub fn find_row(&self, key: &[u8]) -> Option<(&VersionSet, &[u8])>
         ensures found { FindsRow self.now.rows key.now (option_map (λ x. x.0.now) result) }
         ensures text { MatchOption result ⊤ (λ x. x.1.now ≡ row_text self.now.format (record { key = key.now; versions = x.0.now })) }
@@ -135,8 +137,9 @@ impl SharedLeaf {
         }
     }
 
-    /// The row of a key, if it has one, and some that follow it, with their texts, one after another. It takes no memory: a
-    /// binary search. How many follow is a matter of speed: those that the leaf keeps together.
+    /// Returns the row of a key, if it has one, and some rows that follow it, with their texts one after another.
+    /// Searches by a binary search. Doesn't allocate. The number of rows matters only for speed: the leaf returns those
+    /// that it keeps together.
     pub fn find_run(&self, key: &[u8]) -> Option<(&[Row], &[u8])>
         ensures found { FindsRun self.now.rows key.now (option_map (λ x. x.0.now) result) }
         ensures text { MatchOption result ⊤ (λ x. x.1.now ≡ flat_map (row_text self.now.format) x.0.now) }
@@ -149,7 +152,7 @@ impl SharedLeaf {
 
     /// Offers a version to the set of a key. If the leaf has other owners, a copy of it is changed.
     ///
-    /// Refused, in order: Crowded (the set would have over 64 versions), NoMemory. The leaf is then as it was.
+    /// Refused, in order: Crowded (the set would have over 64 versions), NoMemory.
     pub fn offer(&mut self, alloc: Global, key: &[u8], version: Version) -> Result<(), Refusal>
         requires key { key_fault key.now ≡ None }
         requires value { value_fault self.old.format version.kind version.value ≡ None }
@@ -169,9 +172,10 @@ impl SharedLeaf {
     }
 }
 
-/// Offers a version to the set of a key of a leaf. If it has other owners, a copy is changed and takes its place.
+/// Offers a version to the set of a key of a leaf. If the leaf has other owners, a changed copy replaces it. On error
+/// the leaf is unchanged.
 ///
-/// Refused, in order: Crowded (the set would have over 64 versions), NoMemory. The leaf is then as it was.
+/// Refused, in order: Crowded (the set would have over 64 versions), NoMemory.
 fn offer_to(
     alloc: Global,
     shared: &mut Arc<Leaf, Global>,

@@ -15,17 +15,18 @@ use std::marker::Model;
 use vclock::{Format, Refusal};
 use version_set::Version;
 
-/// How many rows a chunk of a leaf has at most: a new row moves no more than these, and their texts.
+/// The maximum number of rows of a chunk: a new row moves at most these, and their texts.
 pub(crate) const MOST_ROWS: usize = 15;
 
-/// How many rows a small chunk gets room for, beside the one that needs it.
+/// The number of spare rows for which a small chunk reserves room.
 const SPARE_ROWS: usize = 3;
 
-/// How many bytes of text a small chunk gets room for, beside those that need it.
+/// The number of spare bytes of text for which a small chunk reserves room.
 const SPARE_BYTES: usize = 32;
 
-/// Some consecutive rows of a leaf. Beside the rows stand their texts, one after another, and how long each is: a row's
-/// parts are scattered over the heap, and the text of the leaf is written again and again.
+/// Some consecutive rows of a leaf, with their texts one after another and the length of each text. The texts are kept
+/// since a row's parts are scattered over the heap and the text of the leaf is written again and again. On error the
+/// rows are unchanged.
 #[derive(Debug)]
 pub(crate) struct WrittenRows {
     format: Format,
@@ -63,7 +64,7 @@ impl Clone for WrittenRows {
 }
 
 impl WrittenRows {
-    /// No rows. It takes no memory.
+    /// Creates an empty list of rows.
     pub(crate) fn none(alloc: Global, format: Format) -> WrittenRows
         ensures { result ≡ record { format = format; rows = [] } }
     {
@@ -75,7 +76,7 @@ impl WrittenRows {
         }
     }
 
-    /// Equal rows. Refused: NoMemory.
+    /// Returns equal rows. Refused: NoMemory.
     fn try_clone(&self, alloc: Global) -> Result<WrittenRows, Refusal>
         ensures { Answers result None (λ copy. copy ≡ self.now) }
     {
@@ -87,28 +88,28 @@ impl WrittenRows {
         })
     }
 
-    /// The format of the rows.
+    /// Returns the format of the rows.
     pub(crate) fn format(&self) -> Format
         ensures { result ≡ self.now.format }
     {
         self.format
     }
 
-    /// The rows, in ascending order of key.
+    /// Returns the rows, in ascending order of key.
     pub(crate) fn rows(&self) -> &[Row]
         ensures { result.now ≡ self.now.rows }
     {
         self.rows.as_slice()
     }
 
-    /// The texts of the rows, one after another.
+    /// Returns the texts of the rows, one after another.
     pub(crate) fn text(&self) -> &[u8]
         ensures { result.now ≡ chunk_text self.now }
     {
         self.text.as_slice()
     }
 
-    /// The text of the row at a place.
+    /// Returns the text of the row at a place.
     pub(crate) fn row_text(&self, at: usize) -> &[u8]
         requires { at < length self.now.rows }
         ensures { (d : Row) → result.now ≡ row_text self.now.format (slice_index_or self.now.rows at d) }
@@ -117,7 +118,7 @@ impl WrittenRows {
         part_of(&self.text, start, self.lens[at] as usize)
     }
 
-    /// The texts of the rows from a place on, one after another.
+    /// Returns the texts of the rows from a place on, one after another.
     pub(crate) fn texts_from(&self, at: usize) -> &[u8]
         requires { at < length self.now.rows }
         ensures { result.now ≡ flat_map (row_text self.now.format) (drop at self.now.rows) }
@@ -126,7 +127,7 @@ impl WrittenRows {
         texts
     }
 
-    /// Offers a version to the set of the row at a place. Refused: NoMemory. The rows are then as they were.
+    /// Offers a version to the set of the row at a place. Refused: NoMemory.
     pub(crate) fn offer(
         &mut self,
         alloc: Global,
@@ -154,7 +155,7 @@ impl WrittenRows {
         Ok(())
     }
 
-    /// Puts a row at a place among the rows. Refused: NoMemory. The rows are then as they were.
+    /// Inserts a row at a place among the rows. Refused: NoMemory.
     pub(crate) fn insert(&mut self, alloc: Global, at: usize, row: Row) -> Result<(), Refusal>
         requires at { at ≤ length self.old.rows }
         requires fits { FitsText self.old.format row }
@@ -175,19 +176,20 @@ impl WrittenRows {
         Ok(())
     }
 
-    /// How many spare rows to reserve: as many as there are, at most a full chunk.
+    /// Returns the number of spare rows to reserve: the number of rows, but not fewer than `SPARE_ROWS`, and at most up
+    /// to a full chunk.
     fn spare_rows(&self) -> usize {
         let len = self.rows.len();
         len.max(SPARE_ROWS)
             .min(MOST_ROWS.saturating_sub(len.saturating_add(1)))
     }
 
-    /// How many spare bytes of text to reserve: a quarter of what there are, and some.
+    /// Returns the number of spare bytes of text to reserve: a quarter of the text, and some more.
     fn spare_bytes(&self) -> usize {
         SPARE_BYTES.saturating_add(self.text.len() / 4)
     }
 
-    /// Splits off the rows from a place on. Refused: NoMemory. The rows are then as they were.
+    /// Splits off the rows from a place on. Refused: NoMemory.
     pub(crate) fn split(&mut self, alloc: Global, at: usize) -> Result<WrittenRows, Refusal>
         requires within { at < length self.old.rows }
         ensures answers { Answers result None (λ _. ⊤) }
@@ -211,7 +213,7 @@ impl WrittenRows {
     }
 }
 
-/// Equal rows. Refused: NoMemory.
+/// Returns equal rows. Refused: NoMemory.
 fn clone_rows(alloc: Global, rows: &[Row]) -> Result<Vec<Row>, Refusal>
     ensures { Answers result None (λ copy. copy.items ≡ rows.now) }
 {
@@ -225,7 +227,7 @@ fn clone_rows(alloc: Global, rows: &[Row]) -> Result<Vec<Row>, Refusal>
     Ok(copy)
 }
 
-/// How many bytes texts of these lengths have together.
+/// Returns the sum of the lengths.
 fn total(lens: &[u32]) -> usize
     requires { sum_by (λ len. len) lens.now < 2 ^ 64 }
     ensures { result ≡ sum_by (λ len. len) lens.now }
@@ -233,8 +235,8 @@ fn total(lens: &[u32]) -> usize
     lens.iter().map(|len| *len as usize).sum()
 }
 
-/// Makes room for some more items, if there is none, and then for spare ones as well. The items are as they were. It
-/// fails only if memory is needed.
+/// Makes room for `more` items. If there is too little room, makes room for `spare` ones in addition. The items are
+/// unchanged. Fails only if memory is needed.
 fn make_room<T>(items: &mut Vec<T>, more: usize, spare: usize) -> Result<(), AllocError>
     ensures items { items.new.items ≡ items.old.items }
     ensures room { OnOk result (length items.new.items + more ≤ vec_capacity items.new) }
@@ -245,7 +247,7 @@ fn make_room<T>(items: &mut Vec<T>, more: usize, spare: usize) -> Result<(), All
     items.reserve_exact(more.saturating_add(spare))
 }
 
-/// So many bytes of a text, from a place on.
+/// Returns the `len` bytes of a text from `start` on.
 fn part_of(text: &[u8], start: usize, len: usize) -> &[u8]
     requires { start + len ≤ length text.now }
     ensures { result.now ≡ take len (drop start text.now) }
@@ -255,7 +257,7 @@ fn part_of(text: &[u8], start: usize, len: usize) -> &[u8]
     part
 }
 
-/// What a text has from a place on. Refused: NoMemory.
+/// Copies the bytes of a text from `from` on. Refused: NoMemory.
 fn rest_of(alloc: Global, text: &[u8], from: usize) -> Result<Vec<u8>, Refusal>
     requires { from ≤ length text.now }
     ensures { Answers result None (λ rest. rest.items ≡ drop from text.now) }
@@ -263,7 +265,7 @@ fn rest_of(alloc: Global, text: &[u8], from: usize) -> Result<Vec<u8>, Refusal>
     Ok(Vec::from_slice(alloc, &text[from..])?)
 }
 
-/// Writes the text of a row, and then the rest, in place of what stands from `start` on. There is room for both.
+/// Replaces the bytes from `start` on by the text of a row and then the rest. There is room for both.
 fn put_before(text: &mut Vec<u8>, start: usize, format: Format, row: &Row, rest: &[u8])
     requires within { start ≤ length text.old.items }
     requires fits { FitsText format row.now }
@@ -275,8 +277,8 @@ fn put_before(text: &mut Vec<u8>, start: usize, format: Format, row: &Row, rest:
     text.extend_from_slice(rest).unwrap();
 }
 
-/// Puts bytes in place of those between two places of a text. If they are as many, nothing else moves. The text and the
-/// bytes have room for the bytes and for what follows the second place.
+/// Replaces the bytes between two places of a text by others. If the lengths are equal, nothing else moves. The text
+/// and `bytes` have room for `bytes` and for the bytes after the second place.
 fn replace(text: &mut Vec<u8>, start: usize, end: usize, mut bytes: Vec<u8>)
     requires begins { start ≤ end }
     requires ends { end ≤ length text.old.items }

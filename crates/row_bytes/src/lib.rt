@@ -1,4 +1,16 @@
-//! Rows as bytes, and back: the texts that replicas must agree on byte for byte.
+//! The texts of rows, which replicas must agree on byte for byte: reading, writing and measuring them. Use it to read
+//! and write rows by this project's profile.
+//!
+//! - [`row`]: a row, and a list of rows.
+//! - [`reader`]: reading rows from texts.
+//! - [`writer`]: writing texts of rows.
+//! - [`lengths`]: the lengths of texts.
+//!
+//! ```
+//! let (row, _) = read_row(alloc, format, text)?;
+//! a_held_set_is_a_row();
+//! Ok((write_row(alloc, format, &row)?, row.versions.len()))
+//! ```
 #![tactic(auto)]
 
 mod fault;

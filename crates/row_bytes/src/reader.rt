@@ -1,4 +1,4 @@
-//! Reading rows. What a row's text is, this project's profile says.
+//! Reading rows from their texts, as this project's profile defines them.
 ghost use Rattle.std.specs.Prelude.{◌≡◌, ◌++◌, ℕ, List, [], ⊤, length, IfOk, IfErr, Some, MatchOption, option_map};
 ghost use Rattle.std.specs.List.{list_all, flat_map};
 ghost use Rattle.version_set.specs.Version.{version_text, IsVersionSet};
@@ -17,7 +17,7 @@ use vclock::limits::{KEY_LEN_MAX, VERSIONS_MAX};
 use vclock::{Bytes, Clock, Format, Refusal};
 use version_set::{Version, VersionSet};
 
-/// Equal bytes that are kept.
+/// Copies the bytes.
 fn bytes_of(alloc: Global, bytes: &[u8]) -> Result<Bytes, ReadError>
     ensures copy { IfOk result (λ copy. copy ≡ bytes.now) }
     ensures memory { IfErr result (λ e. e ≡ ReadError.Memory) }
@@ -28,7 +28,7 @@ fn bytes_of(alloc: Global, bytes: &[u8]) -> Result<Bytes, ReadError>
     }
 }
 
-/// A version.
+/// Reads a version, and returns it with the bytes after it.
 #[tactic(auto, unfolding(crate::specs::Reading::version_at))]
 fn version_of(alloc: Global, format: Format, bytes: &[u8]) -> Result<(Version, &[u8]), ReadError>
     ensures { Gives ⊤ (λ x. (x.0, x.1.now)) result (version_at format bytes.now) }
@@ -46,7 +46,7 @@ fn version_of(alloc: Global, format: Format, bytes: &[u8]) -> Result<(Version, &
     Ok((version, rest))
 }
 
-/// A version, its text and what follows.
+/// Reads a version, and returns it with its text and the bytes after it.
 fn version_and_text(
     alloc: Global,
     format: Format,
@@ -60,28 +60,29 @@ fn version_and_text(
     Ok((version, text, rest))
 }
 
-/// Whether the one text stands before the other.
+/// Returns true if `text` is before `other`, byte by byte.
 fn stands_before(text: &[u8], other: &[u8]) -> bool
     ensures { result ≡ is_before text.now other.now }
 {
     text.cmp(other).is_lt()
 }
 
-/// Whether the version is neither below nor above one of those before it.
+/// Returns true if the version is neither below nor above any of those before it.
 fn all_apart(before: &[Version], version: &Version) -> bool
     ensures { result ≡ list_all (λ u. is_apart u version.now) before.now }
 {
     before.iter().all(|other| are_apart(other, version))
 }
 
-/// Whether neither version is below the other.
+/// Returns true if neither version is below the other.
 fn are_apart(version: &Version, other: &Version) -> bool
     ensures { result ≡ is_apart version.now other.now }
 {
     !version.is_below(other) && !other.is_below(version)
 }
 
-/// Whether a version, which has this text, may stand after those before it, the last of which has the text `last`.
+/// Returns true if `version` may follow `before`. `text` and `last` are the texts of `version` and of the last of
+/// `before`.
 #[tactic(auto, unfolding(crate::specs::Reading::may_follow))]
 fn can_follow(
     format: Format,
@@ -96,7 +97,7 @@ fn can_follow(
     stands_before(last, text) && all_apart(before, version)
 }
 
-/// That many versions, in ascending order of their texts. No version is below another.
+/// Reads `count` versions, in ascending order of their texts. No version is below another.
 fn versions_of(
     alloc: Global,
     format: Format,
@@ -120,7 +121,7 @@ fn versions_of(
     Ok((versions, rest))
 }
 
-/// A row.
+/// Reads a row, and returns it with the bytes after it.
 #[tactic(auto, unfolding(crate::specs::Reading::row_at))]
 fn row_of(alloc: Global, format: Format, bytes: &[u8]) -> Result<(Row, &[u8]), ReadError>
     ensures { Gives (HasHead bytes.now) (λ x. (x.0, x.1.now)) result (row_at format bytes.now) }
@@ -136,17 +137,17 @@ fn row_of(alloc: Global, format: Format, bytes: &[u8]) -> Result<(Row, &[u8]), R
     Ok((row, rest))
 }
 
-/// Reads the row at the front, and hands back what follows it (this project's profile).
+/// Reads the row at the front, and returns it with the bytes after it (this project's profile).
 ///
-/// Refused: RowBroken, with the offset in bytes of the first field that is not whole or breaks its rule, or of a whole
-/// version that is not greater than the one before it, or is below or above an earlier one; NoMemory.
+/// Refused: RowBroken, with the offset in bytes of the first field that isn't whole or breaks its rule, or of a whole
+/// version that isn't greater than the one before it, or is below or above an earlier one; NoMemory.
 pub fn read_row(alloc: Global, format: Format, text: &[u8]) -> Result<(Row, &[u8]), Refusal>
-    // What is read is a row, and the text is that row's text and then the rest.
+    // The result is a row, and the text is that row's text followed by the rest.
     ensures found { IfOk result (λ x. IsRow format x.0 × (text.now ≡ row_text format x.0 ++ x.1.now)) }
-    // A text that begins with a row's is read, unless memory runs out.
+    // A text that begins with a row's text is read, unless memory runs out.
     ensures only { (r : Row) (rest : List ℕ) → IsRow format r → text.now ≡ row_text format r ++ rest
         → IsRead r rest (λ x. (x.0, x.1.now)) result }
-    // Where it is broken, it is broken there; memory runs out only after the key and the number of versions.
+    // A fault is at its offset. Memory runs out only after the key and the number of versions.
     ensures broken { IfErr result (IsReadFault format text.now) }
 {
     match row_of(alloc, format, text) {
@@ -156,12 +157,12 @@ pub fn read_row(alloc: Global, format: Format, text: &[u8]) -> Result<(Row, &[u8
     }
 }
 
-/// The key at the front of the text of a row, if the bytes begin with a whole one (this project's profile). What follows
-/// it is not looked at.
+/// Returns the key at the front of the text of a row, if the bytes begin with a whole key (this project's profile).
+/// Doesn't read the bytes after the key.
 pub fn key_at(text: &[u8]) -> Option<&[u8]>
     // The text begins with the key.
     ensures found { MatchOption result ⊤ (λ key. (rest : List ℕ) × BeginsWithKey text.now key.now rest) }
-    // A text that begins with a key begins with no other, and it is found.
+    // A text begins with at most one key, and that key is found.
     ensures only { (key rest : List ℕ) → BeginsWithKey text.now key rest → option_map (λ found. found.now) result ≡ Some key }
 {
     let Ok((len, rest)) = count_of(KEY_LEN_MAX as u16, text) else {
@@ -173,7 +174,7 @@ pub fn key_at(text: &[u8]) -> Option<&[u8]>
     }
 }
 
-/// The key of the last row, or no bytes.
+/// Returns the key of the last row, or no bytes.
 #[tactic(auto, unfolding(crate::specs::Reading::last_key))]
 fn last_key(rows: &[Row]) -> &[u8]
     ensures { result.now ≡ last_key rows.now }
@@ -184,7 +185,7 @@ fn last_key(rows: &[Row]) -> &[u8]
     }
 }
 
-/// Rows up to the end.
+/// Reads rows up to the end of the text.
 fn rows_of(alloc: Global, format: Format, text: &[u8]) -> Result<Vec<Row>, ReadError>
     ensures { Gives (HasHead text.now) (λ x. x.items) result (rows_at format (length text.now) [] [] text.now) }
 {
@@ -201,18 +202,18 @@ fn rows_of(alloc: Global, format: Format, text: &[u8]) -> Result<Vec<Row>, ReadE
     Ok(rows)
 }
 
-/// Reads rows up to the end of the text, in strictly ascending order of their keys (this project's profile). No bytes
-/// are no rows.
+/// Reads rows up to the end of the text, in strictly ascending order of their keys (this project's profile). An empty
+/// text has no rows.
 ///
-/// Refused: RowBroken, with the offset in bytes of the first field that is not whole or breaks its rule, of a whole
-/// version as in `read_row`, or of a whole row whose key is not greater than the key before it; NoMemory. It takes
-/// memory in proportion to what is read.
+/// Refused: RowBroken, with the offset in bytes of the first field that isn't whole or breaks its rule, of a whole
+/// version as in `read_row`, or of a whole row whose key isn't greater than the key before it; NoMemory. Allocates in
+/// proportion to the bytes read.
 pub fn read_rows(alloc: Global, format: Format, text: &[u8]) -> Result<RowList, Refusal>
-    // What is read are rows, and the text is theirs.
+    // The result is rows of the format, and the text is their texts, one after another.
     ensures found { IfOk result (λ rows. AreRows format rows × (text.now ≡ flat_map (row_text format) rows)) }
-    // The text of rows is read, unless memory runs out.
+    // A text that is the texts of rows is read, unless memory runs out.
     ensures only { (rows : List Row) → AreRows format rows → text.now ≡ flat_map (row_text format) rows → AreRead rows result }
-    // Where it is broken, it is broken there; memory runs out only after the first key and the number of its versions.
+    // A fault is at its offset. Memory runs out only after the first key and the number of its versions.
     ensures broken { IfErr result (AreReadFault format text.now) }
 {
     match rows_of(alloc, format, text) {
@@ -222,15 +223,15 @@ pub fn read_rows(alloc: Global, format: Format, text: &[u8]) -> Result<RowList, 
     }
 }
 
-/// No row's text begins another's (this project's profile): two row texts, each followed by anything, that are the same
-/// bytes are one row and one rest.
+/// No row's text begins another row's text (this project's profile): if two row texts, each followed by any bytes, are
+/// equal, then the rows are equal and the bytes that follow are equal.
 pub fn a_row_has_one_text()
     ensures { (format : Format) (r s : Row) (x y : List ℕ) → IsRow format r → IsRow format s
         → row_text format r ++ x ≡ row_text format s ++ y → (r ≡ s) × (x ≡ y) }
 {}
 
-/// The versions that are held for a key have a text (this project's profile): a set that fits a format, with a key, is
-/// a row of it; and a row's versions are such a set.
+/// The versions that are held for a key have a text (this project's profile): a key with a set that fits a format is a
+/// row of that format; and a row's versions are such a set.
 pub fn a_held_set_is_a_row()
     ensures held { (format : Format) (r : Row) → IsVersionSet r.versions → FitsText format r → IsRow format r }
     ensures back { (format : Format) (r : Row) → IsRow format r → IsVersionSet r.versions × FitsText format r }

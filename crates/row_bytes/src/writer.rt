@@ -1,4 +1,4 @@
-//! Writing rows. What a row's text is, this project's profile says.
+//! Writing texts of rows, as this project's profile defines them.
 ghost use Rattle.std.specs.Prelude.{◌≡◌, ◌++◌, ◌+◌, ◌<◌, ◌≤◌, length, None, OnOk, OnErr};
 ghost use Rattle.std.specs.List.{flat_map, AllByRecursion};
 ghost use Rattle.std.specs.Int.{w16, to_be_bytes};
@@ -14,8 +14,8 @@ use std::alloc::{AllocError, Global};
 use vclock::{Format, Refusal};
 use version_set::Version;
 
-/// Appends a pair of a clock: a node in two bytes, then its counter in eight. Like each of these calls, it fails only if
-/// memory is needed beyond the room of `out`.
+/// Appends a pair of a clock: the node in two bytes, then its counter in eight. This call and the others below that
+/// append fail only if memory is needed beyond the room of `out`.
 fn put_pair(out: &mut Vec<u8>, pair: (u16, u64)) -> Result<(), AllocError>
     ensures ok { OnOk result (out.new.items ≡ out.old.items ++ pair_text pair) }
     ensures room { OnErr result (vec_capacity out.old < length out.old.items + length (pair_text pair)) }
@@ -38,7 +38,7 @@ fn put_pairs(out: &mut Vec<u8>, pairs: &[(u16, u64)]) -> Result<(), AllocError>
     Ok(())
 }
 
-/// Appends what stands for a version in both formats: all but its kind.
+/// Appends a version without its kind, as in both formats.
 fn put_plain(out: &mut Vec<u8>, version: &Version) -> Result<(), AllocError>
     requires { length version.now.value ≤ 65536 }
     ensures ok { OnOk result (out.new.items ≡ out.old.items ++ plain_text version.now) }
@@ -54,7 +54,7 @@ fn put_plain(out: &mut Vec<u8>, version: &Version) -> Result<(), AllocError>
     Ok(())
 }
 
-/// Appends the text of a version, which has a byte for the kind in format 2 alone.
+/// Appends the text of a version. Only format 2 has a byte for the kind.
 #[tactic(auto, using(crate::proofs::LimitLaws::value_short))]
 fn put_version(out: &mut Vec<u8>, format: Format, version: &Version) -> Result<(), AllocError>
     requires { value_fault format version.now.kind version.now.value ≡ None }
@@ -71,7 +71,7 @@ fn put_version(out: &mut Vec<u8>, format: Format, version: &Version) -> Result<(
     }
 }
 
-/// Appends how many versions there are, and then their texts.
+/// Appends the number of versions, and then their texts.
 fn put_versions(out: &mut Vec<u8>, format: Format, versions: &[Version]) -> Result<(), AllocError>
     requires few { length versions.now ≤ 64 }
     requires each { AllByRecursion (λ v. value_fault format v.kind v.value ≡ None) versions.now }
@@ -86,8 +86,8 @@ fn put_versions(out: &mut Vec<u8>, format: Format, versions: &[Version]) -> Resu
     Ok(())
 }
 
-/// Appends the text of a row (this project's profile). It fails only if memory is needed beyond the room of `out`, which
-/// is then as it was.
+/// Appends the text of a row (this project's profile). Fails only if memory is needed beyond the room of `out`, which
+/// is then unchanged.
 #[tactic(auto, unfolding(crate::specs::Rows::row_text), using(crate::proofs::LimitLaws::key_short))]
 pub fn put_row(out: &mut Vec<u8>, format: Format, row: &Row) -> Result<(), AllocError>
     requires { FitsText format row.now }
@@ -103,7 +103,7 @@ pub fn put_row(out: &mut Vec<u8>, format: Format, row: &Row) -> Result<(), Alloc
     put_versions(out, format, row.versions.as_slice())
 }
 
-/// The text of a row (this project's profile). Refused: NoMemory.
+/// Returns the text of a row (this project's profile). Refused: NoMemory.
 pub fn write_row(alloc: Global, format: Format, row: &Row) -> Result<Vec<u8>, Refusal>
     requires { FitsText format row.now }
     ensures { Answers result None (λ text. text.items ≡ row_text format row.now) }

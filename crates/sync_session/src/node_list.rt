@@ -1,4 +1,4 @@
-//! Which nodes a session asks, and which digests it expects.
+//! The nodes that a session asks, and the digests that it expects.
 ghost use Rattle.std.specs.Prelude.{◌≡◌, ◌+◌, ◌<◌, ◌≤◌, ◌++◌, ◌↔◌, IsTrue, IfOk, Some, not, length, map, option_map};
 ghost use Rattle.std.specs.List.{filter};
 ghost use Rattle.std.specs.Vec.{vec_len, vec_capacity};
@@ -11,17 +11,17 @@ use hash_tree::{Digest, NodeAt};
 use snapshot::Snapshot;
 use std::alloc::{AllocError, Global};
 
-/// How many bytes a digest has.
+/// The length of a digest, in bytes.
 const DIGEST_LEN: usize = 32;
 
-/// The root of each tree.
+/// Returns the root of each tree.
 pub fn root() -> NodeAt
     ensures { node_of result ≡ top }
 {
     NodeAt { depth: 0, index: 0 }
 }
 
-/// A child of a node that is no leaf of the deepest tree.
+/// Returns a child of an inner node.
 fn child(node: NodeAt, j: u16) -> NodeAt
     requires inner { node.depth < 3 }
     requires few { j < 16 }
@@ -33,7 +33,7 @@ fn child(node: NodeAt, j: u16) -> NodeAt
     }
 }
 
-/// The parent of a node. The root has none.
+/// Returns the parent of a node, or `None` for the root.
 fn parent(node: NodeAt) -> Option<NodeAt>
     ensures { option_map node_of result ≡ parent_of (node_of node) }
 {
@@ -47,14 +47,14 @@ fn parent(node: NodeAt) -> Option<NodeAt>
     }
 }
 
-/// Whether a list has the node.
+/// Returns true if the list has the node.
 pub fn has(nodes: &[NodeAt], node: NodeAt) -> bool
     ensures { result ≡ has_node (node_of node) (map node_of nodes.now) }
 {
     nodes.iter().any(|other| node == *other)
 }
 
-/// The text that was taken for a node, if one was.
+/// Returns the text that was taken for a node, if any.
 fn taken_text(taken: &[Taken], node: NodeAt) -> Option<&[u8]>
     ensures { option_map (λ t. t.now) result ≡ taken_at taken.now (node_of node) }
 {
@@ -66,7 +66,7 @@ fn taken_text(taken: &[Taken], node: NodeAt) -> Option<&[u8]>
     None
 }
 
-/// The digest of a child in the text of a node with children.
+/// Returns the digest of a child in the text of an inner node.
 fn digest_in(text: &[u8], j: u16) -> &[u8]
     requires { j < 16 }
     ensures { result.now ≡ child_digest text.now j }
@@ -83,7 +83,7 @@ fn digest_in(text: &[u8], j: u16) -> &[u8]
     }
 }
 
-/// The digest that is expected at a node: at the root the offered one, else the one that the parent's text has.
+/// Returns the digest that is expected at a node: at the root the offered one, otherwise the one in the parent's text.
 fn expected_digest<'a>(offered: &'a Digest, taken: &'a [Taken], node: NodeAt) -> Option<&'a [u8]>
     ensures { option_map (λ d. d.now) result ≡ expected offered.now taken.now (node_of node) }
 {
@@ -96,7 +96,7 @@ fn expected_digest<'a>(offered: &'a Digest, taken: &'a [Taken], node: NodeAt) ->
     }
 }
 
-/// Whether this digest is the one that is expected at a node.
+/// Returns true if this digest is the one expected at a node.
 pub fn is_expected(offered: &Digest, taken: &[Taken], node: NodeAt, digest: &Digest) -> bool
     ensures { IsTrue result ↔ (expected offered.now taken.now (node_of node) ≡ Some digest.now) }
 {
@@ -106,7 +106,7 @@ pub fn is_expected(offered: &Digest, taken: &[Taken], node: NodeAt, digest: &Dig
     }
 }
 
-/// The children of a node whose digests in its text are not the own ones, by rising index.
+/// Returns the children of a node whose digests in its text differ from the local ones, by ascending index.
 #[tactic(auto, unfolding(crate::specs::Walks::differing))]
 pub fn differing(
     alloc: Global,
@@ -128,7 +128,7 @@ pub fn differing(
     Ok(nodes)
 }
 
-/// Takes a node out of a list, whose room stays.
+/// Removes a node from a list, and keeps the list's room.
 pub fn remove(nodes: &mut Vec<NodeAt>, node: NodeAt)
     ensures kept { map node_of nodes.new.items ≡ filter (λ n. not (is_node n (node_of node))) (map node_of nodes.old.items) }
     ensures room { vec_capacity nodes.new ≡ vec_capacity nodes.old }
@@ -137,7 +137,7 @@ pub fn remove(nodes: &mut Vec<NodeAt>, node: NodeAt)
     nodes.retain(|other| *other != node);
 }
 
-/// Adds nodes at the end of a list that has room for them.
+/// Appends nodes to a list that has room for them.
 pub fn append(nodes: &mut Vec<NodeAt>, new: &[NodeAt])
     requires { vec_len nodes.old + length new.now ≤ vec_capacity nodes.old }
     ensures { map node_of nodes.new.items ≡ map node_of nodes.old.items ++ map node_of new.now }

@@ -5,7 +5,7 @@ ghost use Rattle.sync_session.specs.TreeNodes.{node_of};
 use hash_tree::{Hashed, NodeAt};
 use std::marker::Model;
 
-/// A text that a session took, and the node that it is the text of.
+/// A text that a session took, with its node.
 #[derive(Debug)]
 pub struct Taken {
     node: NodeAt,
@@ -22,21 +22,21 @@ impl Model for Taken {
 }
 
 impl Taken {
-    /// A text that is taken for a node.
+    /// Creates the record of a text taken for a node.
     pub(crate) fn new(node: NodeAt, text: Hashed) -> Taken
         ensures { result ≡ record { node = node_of node; text = text } }
     {
         Taken { node, text }
     }
 
-    /// The node.
+    /// Returns the node.
     pub fn node(&self) -> NodeAt
         ensures { node_of result ≡ self.now.node }
     {
         self.node
     }
 
-    /// The text, with its digest.
+    /// Returns the text, with its digest.
     pub fn text(&self) -> &Hashed
         ensures { result.now ≡ self.now.text }
     {
@@ -45,7 +45,7 @@ impl Taken {
 }
 
 impl Drop for Taken {
-    /// Keeps the fields out of the proofs of callers that drop what was taken.
+    /// Keeps the fields out of the proofs of callers that drop a taken text.
     fn drop(self) {
         let Taken {
             node: _node,

@@ -17,14 +17,14 @@ use snapshot::Snapshot;
 use std::alloc::Global;
 use vclock::{Format, Refusal};
 
-/// Whether a text has the form of that of a node with children.
+/// Returns true if a text has the form of an inner node's text.
 pub fn is_inner(format: Format, text: &[u8]) -> bool
     ensures { IsTrue result ↔ IsInnerText format text.now }
 {
     text.len() == INNER_LEN && text[0] == inner_byte(format)
 }
 
-/// What follows the first byte of a text, if that byte is `mark`.
+/// Returns the bytes after the first byte of a text, if that byte is `mark`.
 pub fn body_of(mark: u8, text: &[u8]) -> Option<&[u8]>
     ensures { MatchOption result ((body : List ℕ) → text.now ≡ mark ∷ body → ⊥) (λ body. text.now ≡ mark ∷ body.now) }
 {
@@ -34,7 +34,7 @@ pub fn body_of(mark: u8, text: &[u8]) -> Option<&[u8]>
     }
 }
 
-/// Whether a key lies in the range of the own rows, and in this leaf.
+/// Returns true if a key is in the range of the local rows and in this leaf.
 pub fn is_here(own: &Snapshot, leaf: u16, key: &[u8]) -> bool
     ensures { result ≡ (nat_eq (range_at own.now.bits key.now) own.now.range && nat_eq (leaf_in own.now key.now) leaf) }
 {
@@ -42,7 +42,7 @@ pub fn is_here(own: &Snapshot, leaf: u16, key: &[u8]) -> bool
     place.range == own.range() && place.leaf == leaf
 }
 
-/// Whether each row lies there.
+/// Returns true if each row is in the range of the local rows and in this leaf.
 fn are_here(own: &Snapshot, leaf: u16, rows: &[Row]) -> bool
     ensures { result ≡ list_all (λ (r : Row). nat_eq (range_at own.now.bits r.key) own.now.range && nat_eq (leaf_in own.now r.key) leaf) rows.now }
 {
@@ -50,8 +50,8 @@ fn are_here(own: &Snapshot, leaf: u16, rows: &[Row]) -> bool
         .all(|row| is_here(own, leaf, row.key.as_slice()))
 }
 
-/// The rows that a leaf's text spells. Refused: NotCanonical (no rows of the range give the leaf this text), NoMemory,
-/// which may stand in place of NotCanonical.
+/// Returns the rows that a leaf's text spells. Refused: NotCanonical (no rows of the range give the leaf this text),
+/// NoMemory, which may replace NotCanonical.
 pub fn leaf_rows(
     alloc: Global,
     own: &Snapshot,

@@ -1,4 +1,4 @@
-//! Which keys there are.
+//! The check of a key.
 ghost use Rattle.std.specs.Prelude.{⊤};
 ghost use Rattle.vclock.specs.Answer.{AnswersAtOnce};
 ghost use Rattle.vclock.specs.Bytes.{key_fault};
@@ -6,7 +6,7 @@ ghost use Rattle.vclock.specs.Bytes.{key_fault};
 use crate::limits::KEY_LEN_MAX;
 use crate::refusal::Refusal;
 
-/// Whether these bytes are a key: 1 to 255 of them. Refused: BadKey.
+/// Checks that the bytes are a key: 1 to 255 bytes. Refused: BadKey.
 pub fn check_key(key: &[u8]) -> Result<(), Refusal>
     ensures { AnswersAtOnce result (key_fault key.now) (λ _. ⊤) }
 {

@@ -6,7 +6,7 @@ pub const KEY_LEN_MAX: usize = 255;
 /// The maximum number of pairs in a clock.
 pub const PAIRS_MAX: usize = 32;
 
-/// The greatest number of a node.
+/// The greatest number that a node can have.
 pub const NODE_MAX: u64 = 65_535;
 
 /// The maximum number of concurrent versions of a key.

@@ -1,4 +1,4 @@
-//! Reading messages. What their bytes are, this project's profile says.
+//! Reading messages, whose bytes this project's profile defines.
 ghost use Rattle.std.specs.Prelude.{◌∷◌};
 ghost use Rattle.walk_messages.specs.Messages.{Decodes};
 
@@ -8,11 +8,10 @@ use hash_tree::Text;
 use std::alloc::Global;
 use vclock::Refusal;
 
-/// The message that has exactly these bytes. Neither the format's number of an offer is judged, nor its range, nor the
-/// text of an answer.
+/// Returns the message that has exactly these bytes. Doesn't validate an offer's format or range, or an answer's text.
 ///
-/// Refused, in order: BadMessage (no message has these bytes), NoMemory. Only the text of an answer takes memory, as
-/// much as is really there: a length that is not that of the text is BadMessage before any is asked for.
+/// Refused, in order: BadMessage (no message has these bytes), NoMemory. Only the text of an answer is allocated, and
+/// only by its real length: a length field that differs from it is refused as BadMessage before memory is requested.
 pub fn decode(alloc: Global, bytes: &[u8]) -> Result<Message, Refusal>
     ensures { Decodes bytes.now result }
 {
@@ -24,7 +23,7 @@ pub fn decode(alloc: Global, bytes: &[u8]) -> Result<Message, Refusal>
     }
 }
 
-/// The offer with these fields.
+/// Reads the offer with these fields.
 #[tactic(auto, unfolding(crate::specs::Messages::message_text))]
 fn decode_offer(fields: &[u8]) -> Result<Message, Refusal>
     ensures { Decodes (1 ∷ fields.now) result }
@@ -35,7 +34,7 @@ fn decode_offer(fields: &[u8]) -> Result<Message, Refusal>
     }
 }
 
-/// The ask with these fields.
+/// Reads the ask with these fields.
 #[tactic(auto, unfolding(crate::specs::Messages::message_text))]
 fn decode_ask(fields: &[u8]) -> Result<Message, Refusal>
     ensures { Decodes (2 ∷ fields.now) result }
@@ -46,7 +45,7 @@ fn decode_ask(fields: &[u8]) -> Result<Message, Refusal>
     }
 }
 
-/// The answer with these fields.
+/// Reads the answer with these fields.
 #[tactic(auto, unfolding(crate::specs::Messages::message_text))]
 fn decode_answer(alloc: Global, fields: &[u8]) -> Result<Message, Refusal>
     ensures { Decodes (3 ∷ fields.now) result }

@@ -1,4 +1,4 @@
-//! Writing messages. What their bytes are, this project's profile says.
+//! Writing messages, whose bytes this project's profile defines.
 ghost use Rattle.std.specs.Prelude.{◌≡◌, ◌++◌, ◌≤◌, ◌^◌, ◌∷◌, length, None, OnOk, MatchOption};
 ghost use Rattle.std.specs.Int.{w32, w64, to_be_bytes};
 ghost use Rattle.vclock.specs.Answer.{Answers};
@@ -10,16 +10,16 @@ use hash_tree::{NodeAt, Text};
 use std::alloc::{AllocError, Global};
 use vclock::Refusal;
 
-/// How many bytes of an offer stand before its root.
+/// The number of bytes of an offer before its root.
 const BEFORE_ROOT: usize = 7;
 
-/// How many bytes an ask has.
+/// The length of an ask, in bytes.
 const ASK_LEN: usize = 8;
 
-/// How many bytes of an answer stand before its text.
+/// The number of bytes of an answer before its text.
 const BEFORE_TEXT: usize = 16;
 
-/// How many bytes a message has: `None` if the count does not fit a usize.
+/// Returns the length of a message in bytes, or `None` if it doesn't fit a usize.
 #[tactic(auto, unfolding(crate::specs::Messages::message_text))]
 fn message_len(message: &Message) -> Option<usize>
     ensures { MatchOption result (2 ^ 64 ≤ length (message_text message.now)) (λ len. len ≡ length (message_text message.now)) }
@@ -49,7 +49,7 @@ fn put_node(out: &mut Vec<u8>, node: NodeAt) -> Result<(), AllocError>
     Ok(())
 }
 
-/// Appends what an ask is, and what an answer begins with.
+/// Appends an ask, or the bytes of an answer before the length of its text.
 fn put_head(out: &mut Vec<u8>, kind: u8, offer: u32, node: NodeAt) -> Result<(), AllocError>
     ensures { OnOk result (out.new.items ≡ out.old.items ++ (kind ∷ to_be_bytes w32 offer ++ node_text node)) }
 {
@@ -88,7 +88,7 @@ fn put_answer(out: &mut Vec<u8>, answer: &Answer) -> Result<(), AllocError>
     put_text(out, &answer.text)
 }
 
-/// The bytes of a message. Refused: NoMemory.
+/// Returns the bytes of a message. Refused: NoMemory.
 #[tactic(auto, unfolding(crate::specs::Messages::message_text))]
 pub fn encode(alloc: Global, message: &Message) -> Result<Vec<u8>, Refusal>
     ensures { Answers result None (λ bytes. bytes.items ≡ message_text message.now) }
