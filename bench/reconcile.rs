@@ -1,6 +1,6 @@
 //! Reconciles two ranges of the yardstick, turn by turn: a sync each way over memory, on snapshots that were taken
 //! before both. `bench/reconcile` builds this into a copy of the yardstick. The words, the keys, and what is written are
-//! those of the crate `costs`.
+//! those of the crate `bench_costs`.
 use crate::shared::*;
 use crate::*;
 use std::sync::Mutex;

@@ -1,0 +1,92 @@
+// The calls of a range in one thread, and how many of each were done in a second.
+//
+// Keys are put into a range, got, put again with the context of the first put, and brought to another replica as copies.
+// If a journal has no room for two versions of each, none is put again. Then come turns: one more key is put, the tree is
+// rehashed, a snapshot is made, and the other replica takes the key over by messages. Key and value of each call are made
+// in the time that is measured. What is told is how many of each there were; in the figures 0 stands for calls that were
+// not made.
+mod pace;
+mod phase;
+pub(crate) mod plan;
+mod round;
+mod turns;
+mod walk;
+
+use crate::fault::Fault;
+use crate::ranges::new_range;
+use pace::Paces;
+use phase::Phase;
+use plan::CallPlan;
+use range_state::RangeState;
+use round::Round;
+use std::alloc::Global;
+use std::io;
+use std::thread::Threads;
+use std::time::Clock;
+use turns::run_turns;
+
+/// Makes all calls of a plan, and tells of them.
+pub(crate) fn run<R: Threads + Clock + Print + Eprint + AllocGlobal + Sync>(
+    rt: &R,
+    plan: CallPlan,
+) -> Result<bool, Fault> {
+    tell(rt, &make_all(rt, rt.alloc(), plan)?)?;
+    Ok(true)
+}
+
+/// Makes all calls of a plan.
+fn make_all(
+    rt: &(impl Threads + Clock + Sync),
+    alloc: Global,
+    plan: CallPlan,
+) -> Result<Paces, Fault> {
+    let (mut first, mut second) = (new_range(alloc)?, new_range(alloc)?);
+    make_calls(rt, alloc, plan, &mut first, &mut second)
+}
+
+/// Makes all calls of a plan on two replicas, which have accepted nothing.
+fn make_calls(
+    rt: &(impl Threads + Clock + Sync),
+    alloc: Global,
+    plan: CallPlan,
+    first: &mut RangeState,
+    second: &mut RangeState,
+) -> Result<Paces, Fault> {
+    let (keys, last) = (plan.keys, plan.last_round());
+    let mut paces = Paces::default();
+    paces.puts = Phase::Puts(Round::First).time(rt, alloc, first, keys)?;
+    paces.gets = Phase::Gets.time(rt, alloc, first, keys)?;
+    if last == Round::Second {
+        paces.rewrites = Phase::Puts(last).time(rt, alloc, first, keys)?;
+    }
+    paces.accepts = Phase::Accepts(last).time(rt, alloc, second, keys)?;
+    first.rehash(rt, alloc)?;
+    second.rehash(rt, alloc)?;
+    run_turns(rt, alloc, plan, first, second, &mut paces)?;
+    Ok(paces)
+}
+
+/// Says what was done, and the figures on standard error.
+fn tell(rt: &(impl Print + Eprint), paces: &Paces) -> io::Result<()> {
+    println!(rt;
+        "{} put, {} got, {} put again, {} accepted, {} turns",
+        paces.puts.calls,
+        paces.gets.calls,
+        paces.rewrites.calls,
+        paces.accepts.calls,
+        paces.syncs.calls
+    )?;
+    eprintln!(rt;
+        "{{\"puts_per_s\":{},\"gets_per_s\":{},\"rewrites_per_s\":{},\"accepts_per_s\":{},\
+         \"put_after_snapshot_per_s\":{},\"rehash_after_put_per_s\":{},\"snapshots_per_s\":{},\
+         \"sync_one_key_per_s\":{}}}",
+        paces.puts.a_second(),
+        paces.gets.a_second(),
+        paces.rewrites.a_second(),
+        paces.accepts.a_second(),
+        paces.puts_after_snapshot.a_second(),
+        paces.rehashes.a_second(),
+        paces.snapshots.a_second(),
+        paces.syncs.a_second()
+    )
+}

@@ -1,0 +1,80 @@
+// Turns, in each of which one key goes from one replica to the other.
+use crate::calls::pace::Paces;
+use crate::calls::phase::put;
+use crate::calls::plan::{CallPlan, TURNS};
+use crate::calls::round::Round;
+use crate::calls::walk::{Walk, sync};
+use crate::fault::Fault;
+use range_state::RangeState;
+use snapshot::Snapshot;
+use std::alloc::Global;
+use std::sync::Arc;
+use std::thread::Threads;
+use std::time::{Clock, Instant};
+
+/// What a sync of one key comes to: the root, a node below it and a leaf are asked for.
+const ONE_KEY: Walk = Walk {
+    asked: 3,
+    accepted: 1,
+    finished: true,
+};
+
+/// Runs all turns on two replicas that hold the same, with clean trees.
+pub(crate) fn run_turns(
+    rt: &(impl Threads + Clock + Sync),
+    alloc: Global,
+    plan: CallPlan,
+    first: &mut RangeState,
+    second: &mut RangeState,
+    paces: &mut Paces,
+) -> Result<(), Fault> {
+    let mut latest = first.snapshot(alloc)?;
+    for turn in 0..TURNS {
+        // (after the numbers of all keys, and of all values)
+        let number = plan.keys.wrapping_mul(2).wrapping_add(turn);
+        offer_key(rt, alloc, first, number, &mut latest, paces)?;
+        take_key(rt, alloc, second, &latest, paces)?;
+    }
+    Ok(())
+}
+
+/// Puts one more key, rehashes, and makes a snapshot, which replaces the latest one. That one is held until then, so the
+/// put finds its leaf shared.
+fn offer_key(
+    rt: &(impl Threads + Clock + Sync),
+    alloc: Global,
+    range: &mut RangeState,
+    number: u64,
+    latest: &mut Arc<Snapshot, Global>,
+    paces: &mut Paces,
+) -> Result<(), Fault> {
+    let from = Instant::now(rt)?;
+    put(alloc, range, Round::First, number, number)?;
+    paces.puts_after_snapshot.add(from.elapsed(rt)?);
+    let from = Instant::now(rt)?;
+    range.rehash(rt, alloc)?;
+    paces.rehashes.add(from.elapsed(rt)?);
+    let from = Instant::now(rt)?;
+    let snapshot = range.snapshot(alloc)?;
+    paces.snapshots.add(from.elapsed(rt)?);
+    *latest = snapshot;
+    Ok(())
+}
+
+/// Takes over the one key that a snapshot has more, and rehashes.
+fn take_key(
+    rt: &(impl Threads + Clock + Sync),
+    alloc: Global,
+    range: &mut RangeState,
+    latest: &Snapshot,
+    paces: &mut Paces,
+) -> Result<(), Fault> {
+    let from = Instant::now(rt)?;
+    let walk = sync(alloc, range, latest)?;
+    paces.syncs.add(from.elapsed(rt)?);
+    if walk != ONE_KEY {
+        return Err(Fault::NotOneKey);
+    }
+    range.rehash(rt, alloc)?;
+    Ok(())
+}

@@ -1,0 +1,100 @@
+// A sync by messages, whose bytes go over memory.
+use hash_tree::{NodeAt, Text, hash};
+use range_state::{AnswerTaken, RangeState};
+use snapshot::Snapshot;
+use std::alloc::Global;
+use sync_session::SessionState;
+use vclock::Refusal;
+use walk_messages::{Answer, Ask, Message, decode, encode};
+
+/// The number of the node that offers.
+const PARTNER: u16 = 1;
+
+/// The number of its offer.
+const OFFER: u32 = 1;
+
+/// How many nodes a tree of format 1 has: none is asked for twice.
+const NODES: u64 = 273;
+
+/// What a sync came to.
+#[derive(Clone, Copy, Debug, Default, PartialEq, Eq)]
+pub(crate) struct Walk {
+    /// How many nodes were asked for.
+    pub(crate) asked: u64,
+    /// How many versions were new.
+    pub(crate) accepted: u64,
+    /// Whether nothing was left to ask for.
+    pub(crate) finished: bool,
+}
+
+impl Walk {
+    /// Counts an answer that was taken.
+    fn count(&mut self, taken: &AnswerTaken) {
+        self.asked = self.asked.saturating_add(1);
+        self.accepted = self.accepted.saturating_add(taken.receipts.len() as u64);
+        self.finished = taken.state == SessionState::Finished;
+    }
+}
+
+/// Has a range take over what a snapshot has and it lacks. Refused as the calls of a session.
+pub(crate) fn sync(
+    alloc: Global,
+    range: &mut RangeState,
+    snapshot: &Snapshot,
+) -> Result<Walk, Refusal> {
+    let offer = encode(alloc, &Message::Offer(snapshot.offer(OFFER)))?;
+    let id = start(alloc, range, &offer)?;
+    let mut walk = Walk::default();
+    for _ in 0..NODES {
+        let Some(node) = range.outstanding(id)? else {
+            break;
+        };
+        let ask = encode(alloc, &Message::Ask(Ask { offer: OFFER, node }))?;
+        let answer = serve(alloc, snapshot, &ask)?;
+        walk.count(&take(alloc, range, id, &answer)?);
+    }
+    Ok(walk)
+}
+
+/// Opens a session with the bytes of an offer, and returns its number. Refused: BadMessage, or as
+/// [`RangeState::open_session`].
+fn start(alloc: Global, range: &mut RangeState, bytes: &[u8]) -> Result<u64, Refusal> {
+    match decode(alloc, bytes)? {
+        Message::Offer(offer) => range.open_session(alloc, PARTNER, offer),
+        Message::Ask(_) | Message::Answer(_) => Err(Refusal::BadMessage),
+    }
+}
+
+/// The bytes of the answer to those of an ask. Refused: BadMessage, NoMemory.
+fn serve(alloc: Global, snapshot: &Snapshot, bytes: &[u8]) -> Result<Vec<u8>, Refusal> {
+    match decode(alloc, bytes)? {
+        Message::Ask(ask) => answer(alloc, snapshot, ask),
+        Message::Offer(_) | Message::Answer(_) => Err(Refusal::BadMessage),
+    }
+}
+
+/// The bytes of the answer to an ask. Refused: BadMessage, NoMemory.
+fn answer(alloc: Global, snapshot: &Snapshot, ask: Ask) -> Result<Vec<u8>, Refusal> {
+    let text = snapshot.answer(alloc, ask)?;
+    let answer = Answer {
+        offer: ask.offer,
+        node: ask.node,
+        text: Text::from(text),
+    };
+    encode(alloc, &Message::Answer(answer))
+}
+
+/// Takes the bytes of an answer. Refused: BadMessage, or as [`RangeState::take_answer`].
+fn take(
+    alloc: Global,
+    range: &mut RangeState,
+    id: u64,
+    bytes: &[u8],
+) -> Result<AnswerTaken, Refusal> {
+    match decode(alloc, bytes)? {
+        Message::Answer(Answer { node, text, .. }) => {
+            range.take_answer(alloc, 0, id, node, hash(text))
+        }
+        Message::Offer(_) | Message::Ask(_) => Err(Refusal::BadMessage),
+    }
+}

@@ -1,0 +1,40 @@
+// What ends the program before its work is done.
+use std::alloc::{AllocError, AllocFailed};
+use std::io;
+use thiserror::Error;
+use vclock::Refusal;
+
+/// Why the program could not do its work. Its text goes to standard error.
+#[derive(Debug, Drop, Error)]
+pub(crate) enum Fault {
+    /// A call of the libraries was refused, or memory ran out.
+    #[error("{0}")]
+    Refused(#[from] Refusal),
+    /// The clock can't be read, or nothing can be written.
+    #[error("{0}")]
+    Device(#[from] io::Error),
+    /// A get did not return the one version of a key.
+    #[error("a key that was put is not held")]
+    NotHeld,
+    /// A sync was not that of one key.
+    #[error("a sync did not take one key by three asks")]
+    NotOneKey,
+    /// Some thread did not begin, or ended too early.
+    #[error("the threads did not start together")]
+    NotTogether,
+    /// A thread did not get a pass.
+    #[error("there are too few passes")]
+    TooFewPasses,
+}
+
+impl From<AllocError> for Fault {
+    fn from(error: AllocError) -> Fault {
+        Fault::Refused(Refusal::from(error))
+    }
+}
+
+impl<T: Drop> From<AllocFailed<T>> for Fault {
+    fn from(failed: AllocFailed<T>) -> Fault {
+        Fault::Refused(Refusal::from(failed))
+    }
+}

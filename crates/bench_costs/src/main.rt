@@ -1,0 +1,97 @@
+//! What `bench/` measures, each by a word, and most of it beside a plain Rust program:
+//!
+//! - `snapshots KEYS COUNT` makes a range of so many keys, and then so many snapshots of it, one after another;
+//!   `snapshots KEYS migrate` takes it over to format 2 (`bench/snapshot`).
+//! - `reconciles KEYS DIFFER TURNS` makes two replicas with the same keys, gives each so many that the other lacks, and
+//!   reconciles them, turn by turn (`bench/reconcile`).
+//! - `calls [KEYS]` makes the calls of a range in one thread (`bench/calls`).
+//! - `threads KEYS THREADS one|each` puts keys into ranges that threads share, and gets them again (`bench/threads`).
+//! - `storms PUTS beside|alone` runs a storm (`bench/storm`).
+//!
+//! Standard output says what was done. The figures, but those of snapshots, are a line of JSON on standard error.
+#![tactic(auto)]
+
+mod calls;
+mod entries;
+mod fault;
+mod ranges;
+mod reconciles;
+mod snapshots;
+mod storms;
+mod threads;
+
+use calls::plan::CallPlan;
+use fault::Fault;
+use reconciles::ReconcilePlan;
+use snapshots::SnapshotPlan;
+use std::env;
+use std::env::Env;
+use std::process::ExitCode;
+use std::sync::Wait;
+use std::thread::Threads;
+use std::time::Clock;
+use storms::StormPlan;
+use threads::plan::ThreadPlan;
+
+/// How the program is called.
+const USAGE: &str =
+    "usage: bench_costs snapshots KEYS COUNT|migrate\n       bench_costs reconciles KEYS DIFFER TURNS\n       \
+                     bench_costs calls [KEYS]\n       bench_costs threads KEYS THREADS one|each\n       \
+                     bench_costs storms PUTS beside|alone";
+
+/// What is measured.
+#[derive(Clone, Copy)]
+enum Measure {
+    Snapshots(SnapshotPlan),
+    Reconciles(ReconcilePlan),
+    Calls(CallPlan),
+    Threads(ThreadPlan),
+    Storms(StormPlan),
+}
+
+fn main(rt: HostRuntime) -> ExitCode {
+    let Some(measure) = read_words(&rt) else {
+        let _ = eprintln!(rt; "{USAGE}");
+        return ExitCode::from(2);
+    };
+    match measure.run(&rt) {
+        Ok(true) => ExitCode::SUCCESS,
+        Ok(false) => ExitCode::FAILURE,
+        Err(fault) => {
+            let _ = eprintln!(rt; "bench_costs: {fault}");
+            ExitCode::FAILURE
+        }
+    }
+}
+
+/// What the words of the command line ask for, if they do.
+fn read_words(rt: &(impl Env + AllocGlobal)) -> Option<Measure> {
+    let words: Vec<String> = env::args(rt).ok()?.collect(rt.alloc()).ok()?;
+    let [_, name, words @ ..] = words.as_slice() else {
+        return None;
+    };
+    match name.as_str() {
+        "snapshots" => Some(Measure::Snapshots(SnapshotPlan::of_words(words)?)),
+        "reconciles" => Some(Measure::Reconciles(ReconcilePlan::of_words(words)?)),
+        "calls" => Some(Measure::Calls(CallPlan::of_words(words)?)),
+        "threads" => Some(Measure::Threads(ThreadPlan::of_words(words)?)),
+        "storms" => Some(Measure::Storms(StormPlan::of_words(words)?)),
+        _ => None,
+    }
+}
+
+impl Measure {
+    /// Takes it, and says what was done: whether it ended as it has to.
+    fn run<R: Threads + Wait + Clock + Print + Eprint + AllocGlobal + Sync>(
+        self,
+        rt: &R,
+    ) -> Result<bool, Fault> {
+        match self {
+            Measure::Snapshots(plan) => snapshots::run(rt, plan),
+            Measure::Reconciles(plan) => reconciles::run(rt, plan),
+            Measure::Calls(plan) => calls::run(rt, plan),
+            Measure::Threads(plan) => threads::run(rt, plan),
+            Measure::Storms(plan) => storms::run(rt, plan),
+        }
+    }
+}

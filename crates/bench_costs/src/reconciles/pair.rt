@@ -1,0 +1,78 @@
+// Two replicas of a range.
+use crate::ranges::{accept, new_range};
+use range_state::{RangeState, Reconciled, reconcile};
+use std::alloc::Global;
+use std::thread::Threads;
+use vclock::Refusal;
+
+/// How deep the leaves lie in format 1.
+const LEAF_DEPTH: u8 = 2;
+
+/// Two replicas of a range, at the nodes 1 and 2, and the number of the next key.
+#[derive(Drop)]
+pub(crate) struct Pair {
+    a: RangeState,
+    b: RangeState,
+    next: u64,
+}
+
+impl Pair {
+    /// Two ranges with the same so many keys.
+    pub(crate) fn new(alloc: Global, keys: u64) -> Result<Pair, Refusal> {
+        let (mut a, mut b) = (new_range(alloc)?, new_range(alloc)?);
+        for number in 0..keys {
+            accept(alloc, &mut a, number)?;
+            accept(alloc, &mut b, number)?;
+        }
+        Ok(Pair { a, b, next: keys })
+    }
+
+    /// Gives each so many keys that the other lacks, and then each node its digest.
+    pub(crate) fn part(
+        &mut self,
+        rt: &(impl Threads + Sync),
+        alloc: Global,
+        differ: u64,
+    ) -> Result<(), Refusal> {
+        for _ in 0..differ {
+            accept(alloc, &mut self.a, self.next)?;
+            accept(alloc, &mut self.b, self.next.wrapping_add(1))?;
+            self.next = self.next.wrapping_add(2);
+        }
+        self.a.rehash(rt, alloc)?;
+        self.b.rehash(rt, alloc)?;
+        Ok(())
+    }
+
+    /// Makes both hold the same.
+    pub(crate) fn reconcile(&mut self, alloc: Global) -> Result<Reconciled, Refusal> {
+        reconcile_both(alloc, &mut self.a, &mut self.b)
+    }
+
+    /// How many leaves differed when they were reconciled last: those that the first asked.
+    pub(crate) fn leaves(&self) -> u64 {
+        match self.a.records().last() {
+            Some(record) => {
+                let asked = record.session().asked().iter();
+                asked.filter(|node| node.depth == LEAF_DEPTH).count() as u64
+            }
+            None => 0,
+        }
+    }
+}
+
+/// Reconciles two ranges, which must be replicas of one.
+fn reconcile_both(
+    alloc: Global,
+    a: &mut RangeState,
+    b: &mut RangeState,
+) -> Result<Reconciled, Refusal> {
+    let (one, other) = (a.config(), b.config());
+    if one.format() != other.format()
+        || one.bits() != other.bits()
+        || one.range() != other.range()
+    {
+        return Err(Refusal::OtherRange);
+    }
+    reconcile(alloc, a, 1, b, 2, 0)
+}

@@ -1,0 +1,97 @@
+// What is done with one range: snapshots, one after another, or its going over to format 2.
+use crate::fault::Fault;
+use crate::ranges::{accept, new_range};
+use range_state::RangeState;
+use std::alloc::Global;
+use std::io;
+use std::thread::Threads;
+use vclock::Refusal;
+
+/// What is to be done.
+#[derive(Clone, Copy)]
+pub(crate) struct SnapshotPlan {
+    /// How many keys the range has.
+    keys: u64,
+    /// What is done with it.
+    deed: Deed,
+}
+
+/// What is done with a range.
+#[derive(Clone, Copy)]
+enum Deed {
+    /// So many snapshots are made of it.
+    Snapshots(u64),
+    /// It goes over to format 2.
+    Migrate,
+}
+
+impl SnapshotPlan {
+    /// The plan of these words, if they are one's: how many keys, and how many snapshots or `migrate`.
+    pub(crate) fn of_words(words: &[String]) -> Option<SnapshotPlan> {
+        let [keys, deed] = words else {
+            return None;
+        };
+        Some(SnapshotPlan {
+            keys: keys.parse::<u64>().ok()?,
+            deed: Deed::of_word(deed)?,
+        })
+    }
+}
+
+impl Deed {
+    /// The deed that a word names.
+    fn of_word(word: &str) -> Option<Deed> {
+        match word {
+            "migrate" => Some(Deed::Migrate),
+            _ => Some(Deed::Snapshots(word.parse::<u64>().ok()?)),
+        }
+    }
+
+    /// Does it.
+    fn run(self, alloc: Global, state: &mut RangeState) -> Result<(), Refusal> {
+        match self {
+            Deed::Snapshots(count) => {
+                for _ in 0..count {
+                    let _snapshot = state.snapshot(alloc)?;
+                }
+                Ok(())
+            }
+            Deed::Migrate => state.migrate(alloc),
+        }
+    }
+}
+
+/// Makes the range, does what is to be done with it, and says so.
+pub(crate) fn run<R: Threads + Print + AllocGlobal + Sync>(
+    rt: &R,
+    plan: SnapshotPlan,
+) -> Result<bool, Fault> {
+    let alloc = rt.alloc();
+    let mut state = clean_range(rt, alloc, plan.keys)?;
+    plan.deed.run(alloc, &mut state)?;
+    tell(rt, plan)?;
+    Ok(true)
+}
+
+/// A range of so many keys, whose nodes are all clean.
+fn clean_range(
+    rt: &(impl Threads + Sync),
+    alloc: Global,
+    keys: u64,
+) -> Result<RangeState, Refusal> {
+    let mut state = new_range(alloc)?;
+    for number in 0..keys {
+        accept(alloc, &mut state, number)?;
+    }
+    state.rehash(rt, alloc)?;
+    Ok(state)
+}
+
+/// Says what was done.
+fn tell(rt: &impl Print, plan: SnapshotPlan) -> io::Result<()> {
+    let keys = plan.keys;
+    match plan.deed {
+        Deed::Snapshots(count) => println!(rt; "{keys} keys, {count} snapshots"),
+        Deed::Migrate => println!(rt; "{keys} keys, migrated"),
+    }
+}

@@ -1,0 +1,102 @@
+// A storm, and how long its puts took. What is told is how the storm ended.
+mod latencies;
+mod watch;
+
+use crate::fault::Fault;
+use latencies::Latencies;
+use std::io;
+use std::sync::Wait;
+use std::thread::Threads;
+use std::time::{Clock, Duration, Instant};
+use storm::{MOST_PUTS, StormEnd, Tallies, run_storm};
+use watch::Watch;
+
+/// When the rehash and sync workers run.
+#[derive(Clone, Copy, Debug, PartialEq, Eq)]
+enum Workers {
+    /// Beside the writers.
+    Beside,
+    /// When both writers have ended.
+    Afterwards,
+}
+
+/// What is to be done.
+#[derive(Clone, Copy)]
+pub(crate) struct StormPlan {
+    /// How many puts each writer does, 1 to 10,000.
+    puts: u64,
+    /// When the workers run.
+    workers: Workers,
+}
+
+impl StormPlan {
+    /// The plan of these words, if they are one's: how many puts, and `beside` or `alone`, which is whether the workers run
+    /// beside the writers, or wait until both have ended.
+    pub(crate) fn of_words(words: &[String]) -> Option<StormPlan> {
+        let [puts, workers] = words else {
+            return None;
+        };
+        let puts = puts.parse::<u64>().ok()?;
+        let workers = Workers::of_word(workers)?;
+        if 1 <= puts && puts <= MOST_PUTS {
+            Some(StormPlan { puts, workers })
+        } else {
+            None
+        }
+    }
+}
+
+impl Workers {
+    /// When the workers run, by a word.
+    fn of_word(word: &str) -> Option<Workers> {
+        match word {
+            "beside" => Some(Workers::Beside),
+            "alone" => Some(Workers::Afterwards),
+            _ => None,
+        }
+    }
+}
+
+/// Runs the storm, and tells of it: whether both nodes agree, and all is settled.
+pub(crate) fn run<R: Threads + Wait + Clock + Print + Eprint + AllocGlobal + Sync>(
+    rt: &R,
+    plan: StormPlan,
+) -> Result<bool, Fault> {
+    let tallies = Tallies::new();
+    let watch = Watch::new(rt.alloc(), rt, &tallies, plan)?;
+    let start = Instant::now(rt)?;
+    let end = run_storm(rt, rt.alloc(), plan.puts.min(MOST_PUTS), &watch, &tallies)?;
+    let took = start.elapsed(rt)?;
+    tell_end(rt, &end)?;
+    tell_figures(rt, took, &watch.into_latencies(), &tallies)?;
+    Ok(end.equal && end.settled)
+}
+
+/// Says how the storm ended.
+fn tell_end(rt: &impl Print, end: &StormEnd) -> io::Result<()> {
+    let roots = if end.equal { "equal" } else { "differ" };
+    let settled = if end.settled { "settled" } else { "unsettled" };
+    println!(rt; "puts {}, roots {roots}, {settled}", end.puts)
+}
+
+/// Tells the figures. What the tallies count is that of the workers, with the last rehashes and syncs.
+fn tell_figures<R: Eprint + Wait>(
+    rt: &R,
+    took: Duration,
+    puts: &Latencies,
+    tallies: &Tallies,
+) -> io::Result<()> {
+    let (one, two) = (tallies.one.look(rt), tallies.two.look(rt));
+    eprintln!(rt;
+        "{{\"wall_ms\":{},\"put_p50_ns\":{},\"put_p99_ns\":{},\"syncs\":{},\"stale\":{},\"installed\":{},\
+         \"published\":{},\"taken\":{}}}",
+        took.as_millis(),
+        puts.percentile(50),
+        puts.percentile(99),
+        one.syncs.saturating_add(two.syncs),
+        one.stale.saturating_add(two.stale),
+        one.installed.saturating_add(two.installed),
+        one.published.saturating_add(two.published),
+        one.taken.saturating_add(two.taken)
+    )
+}

@@ -1,0 +1,92 @@
+// What a thread does.
+use crate::entries::{key, value};
+use crate::fault::Fault;
+use crate::threads::plan::Part;
+use crate::threads::spans::{Span, Spans};
+use crate::threads::start::StartLine;
+use caller_pass::Pass;
+use ring_node::SharedRange;
+use std::alloc::Global;
+use std::sync::Wait;
+use std::sync::ledger::Ledger;
+use std::time::{Clock, Instant};
+use vclock::{Clock as VersionClock, Refusal};
+use version_set::Kind;
+
+/// Where the threads wait for one another: before the puts, and before the gets.
+#[derive(Drop)]
+pub(crate) struct Starts {
+    puts: StartLine,
+    gets: StartLine,
+}
+
+impl Starts {
+    /// The lines of so many threads.
+    pub(crate) fn new(threads: u16) -> Starts {
+        Starts {
+            puts: StartLine::new(threads),
+            gets: StartLine::new(threads),
+        }
+    }
+}
+
+/// Puts the keys of a part into a range, and gets them again, each when all threads have come to it.
+pub(crate) fn put_and_get<L: Ledger, R: Wait + Clock>(
+    rt: &R,
+    alloc: Global,
+    range: &SharedRange<L>,
+    pass: &mut Pass<L>,
+    starts: &Starts,
+    part: Part,
+) -> Result<Spans, Fault> {
+    starts.puts.meet(rt)?;
+    let from = Instant::now(rt)?;
+    put_all(rt, alloc, range, pass, part)?;
+    let puts = Span {
+        from,
+        to: Instant::now(rt)?,
+    };
+    starts.gets.meet(rt)?;
+    let from = Instant::now(rt)?;
+    get_all(rt, alloc, range, pass, part)?;
+    Ok(Spans {
+        puts,
+        gets: Span {
+            from,
+            to: Instant::now(rt)?,
+        },
+    })
+}
+
+/// Puts the keys of a part. Refused as [`SharedRange::put`].
+fn put_all<L: Ledger, R: Wait>(
+    rt: &R,
+    alloc: Global,
+    range: &SharedRange<L>,
+    pass: &mut Pass<L>,
+    part: Part,
+) -> Result<(), Refusal> {
+    let context = VersionClock::from_pairs(alloc, &[])?;
+    for number in part.from..part.to {
+        let (key, value) = (key(alloc, number)?, value(alloc, number)?);
+        range.put(rt, alloc, pass, key.as_bytes(), &context, Kind::Live, value)?;
+    }
+    Ok(())
+}
+
+/// Gets the keys of a part. Refused as [`SharedRange::get`].
+fn get_all<L: Ledger, R: Wait>(
+    rt: &R,
+    alloc: Global,
+    range: &SharedRange<L>,
+    pass: &mut Pass<L>,
+    part: Part,
+) -> Result<(), Refusal> {
+    for number in part.from..part.to {
+        let key = key(alloc, number)?;
+        if let Err(unread) = range.get(rt, alloc, pass, key.as_bytes()) {
+            return Err(unread.into_refusal());
+        }
+    }
+    Ok(())
+}

@@ -1,0 +1,10 @@
+use Rattle.example_store.proofs.day.run_day.Given as goal
+
+abbrev pub ghosts-run_with-A-Ledger : goal.ghosts-run_with-A-Ledger
+ghosts-run_with-A-Ledger g a = record { name = a.first.name; parts = a.first.parts }
+
+abbrev pub ghosts-run_with-B-Ledger : goal.ghosts-run_with-B-Ledger
+ghosts-run_with-B-Ledger g a = record { name = a.second.name; parts = a.second.parts }
+
+abbrev pub ghosts-run_with-C-Ledger : goal.ghosts-run_with-C-Ledger
+ghosts-run_with-C-Ledger g a = record { name = a.slots.name; parts = a.slots.parts }

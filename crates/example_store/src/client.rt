@@ -1,0 +1,61 @@
+// What a client's thread does.
+use caller_pass::Pass;
+use ring_node::SharedRange;
+use std::alloc::Global;
+use std::sync::Wait;
+use std::sync::ledger::Ledger;
+use vclock::{Bytes, Clock, Refusal};
+use version_set::{Kind, Version, VersionSet};
+
+/// The versions of a key. If there are several, they are concurrent. Refused: Behind, NoMemory.
+pub(crate) fn read<L: Ledger, R: Wait>(
+    rt: &R,
+    alloc: Global,
+    range: &SharedRange<L>,
+    pass: &mut Pass<L>,
+    key: &[u8],
+) -> Result<VersionSet, Refusal> {
+    match range.get(rt, alloc, pass, key) {
+        Ok(versions) => Ok(versions),
+        Err(unread) => Err(unread.into_refusal()),
+    }
+}
+
+/// The context that has seen these versions: their clocks, merged. Refused: ClockFull, NoMemory.
+fn context_of(alloc: Global, versions: &VersionSet) -> Result<Clock, Refusal> {
+    let mut context = Clock::from_pairs(alloc, &[])?;
+    for version in versions.iter() {
+        context = context.merge(alloc, &version.clock)?;
+    }
+    Ok(context)
+}
+
+/// Puts a value for a key, in place of the versions that the context has seen, and returns the new version. Refused as
+/// [`SharedRange::put`].
+pub(crate) fn put<L: Ledger, R: Wait>(
+    rt: &R,
+    alloc: Global,
+    range: &SharedRange<L>,
+    pass: &mut Pass<L>,
+    key: &[u8],
+    context: &Clock,
+    value: &[u8],
+) -> Result<Version, Refusal> {
+    let value = Bytes::copy_of(alloc, value)?;
+    let receipt = range.put(rt, alloc, pass, key, context, Kind::Live, value)?;
+    Ok(receipt.version)
+}
+
+/// Reads a key, and puts a value in place of all that was found. Refused as [`read`] and [`put`].
+pub(crate) fn update<L: Ledger, R: Wait>(
+    rt: &R,
+    alloc: Global,
+    range: &SharedRange<L>,
+    pass: &mut Pass<L>,
+    key: &[u8],
+    value: &[u8],
+) -> Result<Version, Refusal> {
+    let versions = read(rt, alloc, range, pass, key)?;
+    let context = context_of(alloc, &versions)?;
+    put(rt, alloc, range, pass, key, &context, value)
+}

@@ -1,0 +1,28 @@
+// What ends the program before its work is done.
+use std::alloc::{AllocError, AllocFailed};
+use std::io;
+use thiserror::Error;
+use vclock::Refusal;
+
+/// Why the program could not do its work. Its text goes to standard error.
+#[derive(Debug, Drop, Error)]
+pub(crate) enum Fault {
+    /// A call of the libraries was refused, or memory ran out.
+    #[error("{0}")]
+    Refused(#[from] Refusal),
+    /// Nothing can be written.
+    #[error("{0}")]
+    Device(#[from] io::Error),
+}
+
+impl From<AllocError> for Fault {
+    fn from(error: AllocError) -> Fault {
+        Fault::Refused(Refusal::from(error))
+    }
+}
+
+impl<T: Drop> From<AllocFailed<T>> for Fault {
+    fn from(failed: AllocFailed<T>) -> Fault {
+        Fault::Refused(Refusal::from(failed))
+    }
+}

@@ -1,0 +1,43 @@
+//! A store of two nodes, written to be read and copied: what a program does with these crates, in the order of a day.
+//! `docs/EMBEDDING.md` goes through it.
+//!
+//! The ring has two ranges, and both nodes keep each of them. Each range has a day of its own, with its own ledgers.
+#![tactic(auto)]
+
+mod client;
+mod closing;
+mod day;
+mod fault;
+mod handoff;
+mod links;
+mod replica;
+mod rounds;
+mod routes;
+mod slots;
+
+use day::run_day;
+use fault::Fault;
+use key_ring::Ring;
+use std::alloc::Global;
+use std::process::ExitCode;
+use std::sync::Wait;
+use std::thread::Threads;
+
+fn main(rt: HostRuntime) -> ExitCode {
+    match run(&rt, rt.alloc()) {
+        Ok(()) => ExitCode::SUCCESS,
+        Err(fault) => {
+            let _ = eprintln!(rt; "example_store: {fault}");
+            ExitCode::FAILURE
+        }
+    }
+}
+
+/// Runs the day of each range.
+fn run<R: Threads + Wait + Print + Sync>(rt: &R, alloc: Global) -> Result<(), Fault> {
+    let ring = Ring::new(alloc, 1, &[1, 2], 2)?;
+    for range in 0..ring.ranges() {
+        run_day(rt, alloc, &ring, range)?;
+    }
+    Ok(())
+}

@@ -1,0 +1,48 @@
+// A replica of a range.
+ghost use Rattle.std.specs.Prelude.{◌≡◌, ◌≤◌};
+
+use caller_pass::{Pass, open_passes};
+use range_state::{RangeConfig, RangeState};
+use ring_node::{OfferPool, SharedHints, SharedRange};
+use std::alloc::Global;
+use std::sync::ledger::{Blank, Ledger};
+use vclock::Refusal;
+
+/// How many callers a replica has.
+const SEATS: u16 = 3;
+
+/// A node's replica of a range: the range, the hints that the node keeps for the other replica, the offers that it makes
+/// to it, and a pass for each caller of the range: who serves clients, who takes copies and hints, and who syncs.
+#[derive(Drop)]
+pub(crate) struct Replica<L: Ledger> {
+    pub(crate) range: SharedRange<L>,
+    pub(crate) hints: SharedHints,
+    pub(crate) offers: OfferPool,
+    pub(crate) client: Pass<L>,
+    pub(crate) peer: Pass<L>,
+    pub(crate) syncer: Pass<L>,
+}
+
+impl<L: Ledger> Replica<L> {
+    /// A replica that has accepted nothing. Refused: NoMemory.
+    pub(crate) fn open(
+        alloc: Global,
+        blank: Blank,
+        node: u16,
+        config: RangeConfig,
+    ) -> Result<Replica<L>, Refusal>
+        requires ledger { (blank.name ≡ L.name) × (blank.parts ≡ L.parts) × (blank.parts ≡ 3) }
+        requires node { 1 ≤ node }
+    {
+        let state = RangeState::new(alloc, config)?;
+        let (book, mut passes) = open_passes::<L>(blank, alloc, SEATS)?;
+        Ok(Replica {
+            range: SharedRange::new(node, state, book),
+            hints: SharedHints::new(alloc),
+            offers: OfferPool::new(alloc),
+            client: passes.pop().ok_or(Refusal::Stranger)?,
+            peer: passes.pop().ok_or(Refusal::Stranger)?,
+            syncer: passes.pop().ok_or(Refusal::Stranger)?,
+        })
+    }
+}

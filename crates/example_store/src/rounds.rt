@@ -1,0 +1,113 @@
+// Rounds of anti-entropy.
+use crate::client::update;
+use crate::replica::Replica;
+use caller_pass::Pass;
+use hash_tree::Digest;
+use ring_node::{Link, OpenGate, RehashReport, SharedController, SharedRange, SyncReport};
+use std::alloc::Global;
+use std::sync::Wait;
+use std::sync::ledger::Ledger;
+use std::thread;
+use std::thread::Threads;
+use vclock::Refusal;
+use walk_messages::Offer;
+
+/// How many turns a rehash has at the most: more than a tree has nodes, which are 273, or 4,369 in format 2. The others
+/// are for nodes that a put makes dirty meanwhile.
+const REHASH_TURNS: u64 = 5_000;
+
+/// How many turns a sync has at the most: two for each node of a tree, and more.
+const SYNC_TURNS: u64 = 10_000;
+
+/// Hashes the dirty nodes of a range. Workers have different numbers, so that they take different nodes. Refused: NoSlot,
+/// NoMemory.
+pub(crate) fn rehash<L: Ledger, C: Ledger, R: Wait>(
+    rt: &R,
+    alloc: Global,
+    slots: &SharedController<C>,
+    range: &SharedRange<L>,
+    worker: u64,
+) -> Result<RehashReport, Refusal> {
+    let slot = slots.lend(rt)?;
+    let report = range.rehash_worker(rt, alloc, &slot, &OpenGate, worker, REHASH_TURNS);
+    slots.give_back(rt, slot);
+    report
+}
+
+/// Puts keys while two workers hash the range's tree. Refused as the puts or the workers are; NoMemory also if a thread
+/// can't be made.
+pub(crate) fn put_beside_rehash<L, C, R>(
+    rt: &R,
+    alloc: Global,
+    slots: &SharedController<C>,
+    range: &SharedRange<L>,
+    pass: &mut Pass<L>,
+    keys: &[String],
+) -> Result<(), Refusal>
+where
+    L: Ledger + Send + Sync,
+    C: Ledger + Send + Sync,
+    R: Threads + Wait + Sync,
+{
+    thread::scope(thread::scope_env(), rt, |scope| {
+        let one = scope.spawn(move || rehash(rt, alloc, slots, range, 0));
+        let two = scope.spawn(move || rehash(rt, alloc, slots, range, 1));
+        for key in keys {
+            update(rt, alloc, range, pass, key.as_bytes(), b"open")?;
+        }
+        match (one, two) {
+            (Ok(one), Ok(two)) => {
+                one.join(rt)?;
+                two.join(rt)?;
+                Ok(())
+            }
+            _ => Err(Refusal::NoMemory),
+        }
+    })
+}
+
+impl<L: Ledger> Replica<L> {
+    /// Hashes what is dirty, and offers a snapshot. Refused: NoSlot, Dirty (a put came after the rehash), SessionsFull,
+    /// NoMemory.
+    pub(crate) fn publish<C: Ledger, R: Wait>(
+        &self,
+        rt: &R,
+        alloc: Global,
+        slots: &SharedController<C>,
+    ) -> Result<Offer, Refusal> {
+        rehash(rt, alloc, slots, &self.range, 0)?;
+        let snapshot = self.range.snapshot(rt, alloc)?;
+        self.offers.publish(rt, snapshot)
+    }
+
+    /// Hashes what is dirty, and takes over a link what the partner has and this replica lacks. Refused: NoSlot, or as
+    /// [`SharedRange::sync_worker`].
+    pub(crate) fn sync<C: Ledger, K: Link, R: Wait>(
+        &mut self,
+        rt: &R,
+        alloc: Global,
+        slots: &SharedController<C>,
+        link: &mut K,
+        partner: u16,
+    ) -> Result<SyncReport, Refusal> {
+        rehash(rt, alloc, slots, &self.range, 0)?;
+        let (range, pass) = (&self.range, &mut self.syncer);
+        let slot = slots.lend(rt)?;
+        let report = range.sync_worker(rt, alloc, &slot, link, pass, partner, SYNC_TURNS);
+        slots.give_back(rt, slot);
+        report
+    }
+
+    /// What a node does with a replica at the end of a day: it hashes what is dirty, and returns the digest of the root.
+    /// Replicas that hold the same versions have the same root. Refused: NoSlot, Dirty (a put came after the rehash),
+    /// NoMemory.
+    pub(crate) fn end_day<C: Ledger, R: Wait>(
+        &self,
+        rt: &R,
+        alloc: Global,
+        slots: &SharedController<C>,
+    ) -> Result<Digest, Refusal> {
+        rehash(rt, alloc, slots, &self.range, 0)?;
+        Ok(self.range.snapshot(rt, alloc)?.root())
+    }
+}

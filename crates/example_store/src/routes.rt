@@ -1,0 +1,46 @@
+// Where keys go.
+ghost use Rattle.std.specs.Prelude.{◌^◌, ◌<◌, ◌≤◌};
+
+use key_ring::Ring;
+use std::alloc::Global;
+use vclock::Refusal;
+
+/// The two nodes that keep a range, in the order of its preference list.
+#[derive(Clone, Copy, Debug)]
+pub(crate) struct Homes {
+    pub(crate) first: u16,
+    pub(crate) second: u16,
+    ghost one: { 1 ≤ first },
+    ghost other: { 1 ≤ second },
+}
+
+/// The nodes that keep a range. Refused: BadRing (the ring has fewer than two nodes).
+pub(crate) fn homes_of(ring: &Ring, range: u16) -> Result<Homes, Refusal>
+    requires { range < 2 ^ ring.now.bits }
+{
+    if ring.nodes().len() < 2 {
+        return Err(Refusal::BadRing);
+    }
+    Ok(Homes {
+        first: ring.preference(range, 0),
+        second: ring.preference(range, 1),
+    })
+}
+
+/// Those of the keys `NAME-0`, `NAME-1` and so on, so many, that lie in a range. Refused: NoMemory.
+pub(crate) fn keys_in(
+    alloc: Global,
+    ring: &Ring,
+    range: u16,
+    name: &str,
+    count: u64,
+) -> Result<Vec<String>, Refusal> {
+    let mut keys = Vec::new(alloc);
+    for number in 0..count {
+        let key = format!(in alloc; "{name}-{number}")?;
+        if ring.range_of(key.as_bytes()) == range {
+            keys.push(key)?;
+        }
+    }
+    Ok(keys)
+}

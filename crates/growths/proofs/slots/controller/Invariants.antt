@@ -1,4 +1,0 @@
-use Rattle.growths.proofs.slots.controller.Given as goal
-
-abbrev pub ghosts-free_slots : goal.ghosts-free_slots
-ghosts-free_slots a = record { name = a.blank.name; parts = a.blank.parts }

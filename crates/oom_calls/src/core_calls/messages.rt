@@ -1,0 +1,36 @@
+// Messages.
+use crate::lines::show;
+use hash_tree::{NodeAt, Text};
+use std::alloc::Global;
+use std::io;
+use vclock::Refusal;
+use walk_messages::{Answer, Message, decode, encode};
+
+/// An answer for the root of offer 1, whose text is too long to stand in a `Bytes` itself.
+const ROOT_ANSWER: &[u8] =
+    b"\x03\x00\x00\x00\x01\x00\x00\x00\x00\x00\x00\x00\x00\x00\x00\x17more than sixteen bytes";
+
+/// Shows the calls on messages.
+pub(crate) fn show_all<R: Print + AllocGlobal>(rt: &R) -> io::Result<()> {
+    let alloc = rt.alloc();
+    show(rt, "encode", encoded(alloc))?;
+    show(rt, "decode", decoded(alloc))
+}
+
+/// How many bytes an answer has.
+fn encoded(alloc: Global) -> Result<u64, Refusal> {
+    let message = Message::Answer(Answer {
+        offer: 1,
+        node: NodeAt::new(0, 0).ok_or(Refusal::Stale)?,
+        text: Text::copy_of(alloc, b"text")?,
+    });
+    Ok(encode(alloc, &message)?.len() as u64)
+}
+
+/// How many bytes the text of an answer has.
+fn decoded(alloc: Global) -> Result<u64, Refusal> {
+    match decode(alloc, ROOT_ANSWER)? {
+        Message::Answer(answer) => Ok(answer.text.as_slice().len() as u64),
+        Message::Offer(_) | Message::Ask(_) => Err(Refusal::Stale),
+    }
+}

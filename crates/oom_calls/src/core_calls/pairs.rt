@@ -1,0 +1,108 @@
+// Pairs of ranges that reconcile.
+use crate::lines::{show, unchanged};
+use crate::states::{is_between, is_same};
+use range_journal::Source;
+use range_state::{RangeConfig, RangeState, Reconciled, reconcile};
+use std::alloc::Global;
+use std::io;
+use std::thread::Threads;
+use vclock::{Bytes, Clock, Refusal};
+use version_set::{Kind, Version};
+
+/// Shows the call on a pair.
+pub(crate) fn show_all<R: Print + AllocGlobal + Threads + Sync>(rt: &R) -> io::Result<()> {
+    show(rt, "reconcile", reconcile_pair(rt, rt.alloc()))
+}
+
+/// A range with a version of a key, which one node alone has counted, whose nodes are all clean.
+fn range(
+    rt: &(impl Threads + Sync),
+    alloc: Global,
+    key: &[u8],
+    node: u64,
+    value: &[u8],
+) -> Result<RangeState, Refusal> {
+    let config = RangeConfig::new(1, 0, 0, 100).ok_or(Refusal::BadRing)?;
+    let mut state = RangeState::new(alloc, config)?;
+    let version = Version {
+        clock: Clock::from_pairs(alloc, &[(node, 1)])?,
+        kind: Kind::Live,
+        value: Bytes::copy_of(alloc, value)?,
+    };
+    state.accept(alloc, 0, Source::Copy, key, version)?;
+    state.rehash(rt, alloc)?;
+    Ok(state)
+}
+
+/// Two ranges that have a key each.
+#[derive(Drop)]
+struct Pair {
+    a: RangeState,
+    b: RangeState,
+}
+
+impl Pair {
+    fn new(rt: &(impl Threads + Sync), alloc: Global) -> Result<Pair, Refusal> {
+        Ok(Pair {
+            a: range(rt, alloc, b"a", 1, b"x")?,
+            b: range(rt, alloc, b"abc", 2, b"y")?,
+        })
+    }
+
+    /// Reconciles both.
+    fn reconcile(&mut self, alloc: Global) -> Result<Reconciled, Refusal> {
+        reconcile_both(alloc, &mut self.a, &mut self.b)
+    }
+
+    /// Whether the first stopped on its way and the second has not begun, or the first is at its end and the second
+    /// stopped on its way. A session that stopped is cancelled.
+    fn has_stopped(&self, before: &Pair, after: &Pair) -> bool {
+        if is_same(&self.b, &before.b) {
+            is_between(&self.a, &before.a, &after.a) || is_same(&self.a, &after.a)
+        } else {
+            is_same(&self.a, &after.a) && is_between(&self.b, &before.b, &after.b)
+        }
+    }
+}
+
+/// Reconciles a pair. The digits tell how many nodes each asked, and how many versions came to each.
+fn reconcile_pair(rt: &(impl Threads + Sync), alloc: Global) -> Result<u64, Refusal> {
+    let mut pair = Pair::new(rt, alloc)?;
+    match pair.reconcile(alloc) {
+        Ok(told) => Ok(digits(&told)),
+        Err(refusal) => Err(unchanged(refusal, has_stopped(rt, alloc, &pair))),
+    }
+}
+
+/// Whether a pair stopped on its way.
+fn has_stopped(rt: &(impl Threads + Sync), alloc: Global, pair: &Pair) -> Result<bool, Refusal> {
+    let before = Pair::new(rt, alloc)?;
+    let mut after = Pair::new(rt, alloc)?;
+    after.reconcile(alloc)?;
+    Ok(pair.has_stopped(&before, &after))
+}
+
+/// Reconciles two replicas of one range, which are at the nodes 1 and 2.
+fn reconcile_both(
+    alloc: Global,
+    a: &mut RangeState,
+    b: &mut RangeState,
+) -> Result<Reconciled, Refusal> {
+    let (one, other) = (a.config(), b.config());
+    if one.format() != other.format()
+        || one.bits() != other.bits()
+        || one.range() != other.range()
+    {
+        return Err(Refusal::OtherRange);
+    }
+    reconcile(alloc, a, 1, b, 2, 0)
+}
+
+/// What is told of a pair, as the digits of a number.
+fn digits(told: &Reconciled) -> u64 {
+    let mut number = 0u64;
+    for count in [told.asked_a, told.asked_b, told.accepted_a, told.accepted_b] {
+        number = number.saturating_mul(10).saturating_add(count);
+    }
+    number
+}

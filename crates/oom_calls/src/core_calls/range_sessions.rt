@@ -1,0 +1,173 @@
+// Sessions of ranges.
+use crate::core_calls::sessions::{ASKED, first_text};
+use crate::core_calls::snapshots::{Snapshots, clean_range};
+use crate::lines::{show, unchanged};
+use crate::states::{is_between, is_same};
+use hash_tree::{Hashed, NodeAt};
+use range_state::{RangeState, Synced};
+use snapshot::Snapshot;
+use std::alloc::Global;
+use std::io;
+use std::thread::Threads;
+use sync_session::SessionState;
+use vclock::Refusal;
+
+/// Shows the calls on sessions of a range.
+pub(crate) fn show_all<R: Print + AllocGlobal + Threads + Sync>(
+    rt: &R,
+    both: &Snapshots,
+) -> io::Result<()> {
+    let (alloc, partner) = (rt.alloc(), &both.partner);
+    show(
+        rt,
+        "RangeState::open_session",
+        open_session(rt, alloc, partner),
+    )?;
+    show(
+        rt,
+        "RangeState::take_answer",
+        take_answer(rt, alloc, partner),
+    )?;
+    show(rt, "RangeState::sync_with", sync_with(rt, alloc, partner))
+}
+
+/// The clean range with that many sessions.
+fn range_with(
+    rt: &(impl Threads + Sync),
+    alloc: Global,
+    partner: &Snapshot,
+    sessions: u64,
+) -> Result<RangeState, Refusal> {
+    let mut state = clean_range(rt, alloc)?;
+    for _ in 0..sessions {
+        state.open_session(alloc, 2, partner.offer(1))?;
+    }
+    Ok(state)
+}
+
+/// Whether a range is as it is with that many sessions.
+fn is_range_with(
+    rt: &(impl Threads + Sync),
+    alloc: Global,
+    state: &RangeState,
+    partner: &Snapshot,
+    sessions: u64,
+) -> Result<bool, Refusal> {
+    Ok(is_same(state, &range_with(rt, alloc, partner, sessions)?))
+}
+
+/// Opens sessions of a range until its records have had to grow.
+fn open_session(
+    rt: &(impl Threads + Sync),
+    alloc: Global,
+    partner: &Snapshot,
+) -> Result<u64, Refusal> {
+    let mut state = clean_range(rt, alloc)?;
+    for sessions in 0..6u64 {
+        if let Err(refusal) = state.open_session(alloc, 2, partner.offer(1)) {
+            let is_same = is_range_with(rt, alloc, &state, partner, sessions);
+            return Err(unchanged(refusal, is_same));
+        }
+    }
+    Ok(state.records().len() as u64)
+}
+
+/// The first node that a range's first session awaits, with the partner's text.
+pub(crate) fn first_text_of(
+    alloc: Global,
+    state: &RangeState,
+    partner: &Snapshot,
+) -> Result<(NodeAt, Hashed), Refusal> {
+    let record = state.records().first().ok_or(Refusal::Stale)?;
+    first_text(alloc, record.session(), partner)
+}
+
+/// Answers the first node that a range's first session awaits.
+fn take_first_of(alloc: Global, state: &mut RangeState, partner: &Snapshot) -> Result<(), Refusal> {
+    let (node, text) = first_text_of(alloc, state, partner)?;
+    state.take_answer(alloc, 1, 0, node, text)?;
+    Ok(())
+}
+
+/// Whether a range is as it is with one session, which had that many answers.
+pub(crate) fn is_after(
+    rt: &(impl Threads + Sync),
+    alloc: Global,
+    state: &RangeState,
+    partner: &Snapshot,
+    answers: u64,
+) -> Result<bool, Refusal> {
+    let mut other = range_with(rt, alloc, partner, 1)?;
+    for _ in 0..answers {
+        take_first_of(alloc, &mut other, partner)?;
+    }
+    Ok(is_same(state, &other))
+}
+
+/// How many versions came in a session of a range when it is finished.
+fn take_answer(
+    rt: &(impl Threads + Sync),
+    alloc: Global,
+    partner: &Snapshot,
+) -> Result<u64, Refusal> {
+    let mut state = range_with(rt, alloc, partner, 1)?;
+    for answers in 0..ASKED {
+        if let Err(refusal) = take_first_of(alloc, &mut state, partner) {
+            let is_same = is_after(rt, alloc, &state, partner, answers);
+            return Err(unchanged(refusal, is_same));
+        }
+    }
+    Ok(state.journal().len())
+}
+
+/// Syncs a range with the partner. The digits tell how many nodes it asked, and how many versions came.
+fn sync_with(
+    rt: &(impl Threads + Sync),
+    alloc: Global,
+    partner: &Snapshot,
+) -> Result<u64, Refusal> {
+    let mut state = clean_range(rt, alloc)?;
+    match sync(alloc, &mut state, partner) {
+        Ok(synced) if synced.fault.is_none() => {
+            Ok(
+                synced
+                    .asked
+                    .saturating_mul(10)
+                    .saturating_add(synced.accepted),
+            )
+        }
+        Ok(_) => Err(Refusal::Dirty),
+        Err(refusal) => Err(unchanged(refusal, is_on_the_way(rt, alloc, state, partner))),
+    }
+}
+
+/// Syncs a range with a partner of the same range.
+fn sync(alloc: Global, state: &mut RangeState, partner: &Snapshot) -> Result<Synced, Refusal> {
+    let config = state.config();
+    if config.format() != partner.format()
+        || config.bits() != partner.bits()
+        || config.range() != partner.range()
+    {
+        return Err(Refusal::OtherRange);
+    }
+    state.sync_with(alloc, 1, 2, partner)
+}
+
+/// Whether a range is as it was before a sync, or has a session that is open on its way, and the leaves that it took.
+fn is_on_the_way(
+    rt: &(impl Threads + Sync),
+    alloc: Global,
+    mut state: RangeState,
+    partner: &Snapshot,
+) -> Result<bool, Refusal> {
+    let before = clean_range(rt, alloc)?;
+    let mut after = clean_range(rt, alloc)?;
+    sync(alloc, &mut after, partner)?;
+    if let Some(record) = state.records().first() {
+        if record.session().state() != SessionState::Open {
+            return Ok(false);
+        }
+        state.cancel_session(0)?;
+    }
+    Ok(is_between(&state, &before, &after))
+}

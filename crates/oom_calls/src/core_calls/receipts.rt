@@ -1,0 +1,110 @@
+// Calls of a range whose receipts go to a list.
+use crate::core_calls::range_sessions::{first_text_of, is_after};
+use crate::core_calls::ranges::{KEYS, is_before, is_before_key, put_parts, range};
+use crate::core_calls::sessions::ASKED;
+use crate::core_calls::snapshots::{Snapshots, clean_range};
+use crate::core_calls::versions::version;
+use crate::lines::{show, unchanged};
+use crate::states::begins;
+use range_journal::Source;
+use range_state::{Accepted, RangeState, Receipt};
+use snapshot::Snapshot;
+use std::alloc::Global;
+use std::io;
+use std::thread::Threads;
+use vclock::Refusal;
+use version_set::Kind;
+
+/// Shows the calls whose receipts go to a list.
+pub(crate) fn show_all<R: Print + AllocGlobal + Threads + Sync>(
+    rt: &R,
+    both: &Snapshots,
+) -> io::Result<()> {
+    let alloc = rt.alloc();
+    show(rt, "RangeState::put_into", put(alloc))?;
+    show(rt, "RangeState::accept_into", accept(alloc))?;
+    show(
+        rt,
+        "RangeState::take_answer_into",
+        take_answer(rt, alloc, &both.partner),
+    )
+}
+
+/// Whether a list has the receipts of all entries of a range, and no other.
+fn has_told(told: &[Receipt], state: &RangeState) -> bool {
+    let entries = state.journal().entries();
+    begins(told, entries) && begins(entries, told)
+}
+
+/// Puts `x` under `a`, with the context of one node.
+fn put_at(
+    alloc: Global,
+    state: &mut RangeState,
+    told: &mut Vec<Receipt>,
+    node: u64,
+) -> Result<Receipt, Refusal> {
+    let (context, value) = put_parts(alloc, node)?;
+    state.put_into(alloc, told, 0, 1, b"a", &context, Kind::Live, value)
+}
+
+/// Puts until journal, set and list have had to grow.
+fn put(alloc: Global) -> Result<u64, Refusal> {
+    let mut state = range(alloc)?;
+    let mut told = Vec::new(alloc);
+    for node in 2..8u64 {
+        if let Err(refusal) = put_at(alloc, &mut state, &mut told, node) {
+            let is_same = has_told(&told, &state);
+            return Err(unchanged(refusal, all(is_same, is_before(alloc, &state, node))));
+        }
+    }
+    Ok(told.len() as u64)
+}
+
+/// Whether both hold.
+fn all(first: bool, second: Result<bool, Refusal>) -> Result<bool, Refusal> {
+    Ok(second? && first)
+}
+
+/// Accepts versions of other keys, the last of them twice.
+fn accept(alloc: Global) -> Result<u64, Refusal> {
+    let mut state = range(alloc)?;
+    let mut told = Vec::new(alloc);
+    for (at, key) in KEYS.iter().enumerate() {
+        if let Err(refusal) = accept_of(alloc, &mut state, &mut told, *key) {
+            let is_same = has_told(&told, &state);
+            return Err(unchanged(refusal, all(is_same, is_before_key(alloc, &state, at))));
+        }
+    }
+    Ok(told.len() as u64)
+}
+
+/// Takes in a copy.
+fn accept_of(
+    alloc: Global,
+    state: &mut RangeState,
+    told: &mut Vec<Receipt>,
+    key: u8,
+) -> Result<Accepted, Refusal> {
+    let copy = version(alloc, 2)?;
+    state.accept_into(alloc, told, 0, Source::Copy, &[key], copy)
+}
+
+/// How many receipts came in a session of a range when it is finished.
+fn take_answer(
+    rt: &(impl Threads + Sync),
+    alloc: Global,
+    partner: &Snapshot,
+) -> Result<u64, Refusal> {
+    let mut state = clean_range(rt, alloc)?;
+    let mut told = Vec::new(alloc);
+    state.open_session(alloc, 2, partner.offer(1))?;
+    for answers in 0..ASKED {
+        let (node, text) = first_text_of(alloc, &state, partner)?;
+        if let Err(refusal) = state.take_answer_into(alloc, &mut told, 1, 0, node, text) {
+            let is_same = has_told(&told, &state);
+            let is_after = is_after(rt, alloc, &state, partner, answers);
+            return Err(unchanged(refusal, all(is_same, is_after)));
+        }
+    }
+    Ok(told.len() as u64)
+}

@@ -1,0 +1,114 @@
+// Sessions, which compare snapshots.
+use crate::core_calls::snapshots::Snapshots;
+use crate::lines::{show, unchanged};
+use crate::sessions::is_same_session;
+use hash_tree::{Hashed, NodeAt, Text, hash, tree_depth};
+use snapshot::Snapshot;
+use std::alloc::Global;
+use std::io;
+use std::sync::Arc;
+use sync_session::Session;
+use vclock::Refusal;
+use walk_messages::Ask;
+
+/// How many nodes are asked if a range without rows compares itself with its partner.
+pub(crate) const ASKED: u64 = 7;
+
+/// Shows the calls on sessions.
+pub(crate) fn show_all<R: Print + AllocGlobal>(rt: &R, both: &Snapshots) -> io::Result<()> {
+    let alloc = rt.alloc();
+    show(rt, "Session::start", start(alloc, both))?;
+    show(rt, "Session::news_of", news_of(alloc, both))?;
+    show(rt, "Session::take", take(alloc, both))?;
+    show(rt, "Session::take_leaf", take_leaf(alloc, both))
+}
+
+/// A session that has taken nothing.
+fn new_session(alloc: Global, both: &Snapshots) -> Result<Session, Refusal> {
+    Session::start(alloc, Arc::try_clone(&both.own)?, both.partner.root())
+}
+
+/// How many nodes a new session has asked.
+fn start(alloc: Global, both: &Snapshots) -> Result<u64, Refusal> {
+    Ok(new_session(alloc, both)?.asked().len() as u64)
+}
+
+/// The first node that is outstanding, with the partner's text.
+pub(crate) fn first_text(
+    alloc: Global,
+    session: &Session,
+    partner: &Snapshot,
+) -> Result<(NodeAt, Hashed), Refusal> {
+    let node = *session.outstanding().first().ok_or(Refusal::Stale)?;
+    let text = partner.answer(alloc, Ask { offer: 1, node })?;
+    Ok((node, hash(Text::from(text))))
+}
+
+/// Answers the first node that is outstanding.
+fn take_first(alloc: Global, session: &mut Session, partner: &Snapshot) -> Result<(), Refusal> {
+    let (node, text) = first_text(alloc, session, partner)?;
+    session.take(alloc, node, text)?;
+    Ok(())
+}
+
+/// The session after that many answers.
+fn session_after(alloc: Global, both: &Snapshots, answers: u64) -> Result<Session, Refusal> {
+    let mut session = new_session(alloc, both)?;
+    for _ in 0..answers {
+        take_first(alloc, &mut session, &both.partner)?;
+    }
+    Ok(session)
+}
+
+/// Whether a session is as it is after that many answers.
+fn is_after(
+    alloc: Global,
+    session: &Session,
+    both: &Snapshots,
+    answers: u64,
+) -> Result<bool, Refusal> {
+    let other = session_after(alloc, both, answers)?;
+    Ok(is_same_session(session, &other))
+}
+
+/// How many rows the leaf that is asked first has beside the own ones.
+fn news_of(alloc: Global, both: &Snapshots) -> Result<u64, Refusal> {
+    let session = session_after(alloc, both, ASKED.saturating_sub(1))?;
+    let (node, text) = first_text(alloc, &session, &both.partner)?;
+    Ok(session.news_of(alloc, node, &text)?.rows.len() as u64)
+}
+
+/// How many nodes a session has asked when it is finished.
+fn take(alloc: Global, both: &Snapshots) -> Result<u64, Refusal> {
+    let mut session = new_session(alloc, both)?;
+    for answers in 0..ASKED {
+        if let Err(refusal) = take_first(alloc, &mut session, &both.partner) {
+            return Err(unchanged(refusal, is_after(alloc, &session, both, answers)));
+        }
+    }
+    Ok(session.asked().len() as u64)
+}
+
+/// How many texts a session took whose last one is taken without reading it again.
+fn take_leaf(alloc: Global, both: &Snapshots) -> Result<u64, Refusal> {
+    let before = ASKED.saturating_sub(1);
+    let mut session = session_after(alloc, both, before)?;
+    match take_leaf_first(alloc, &mut session, &both.partner) {
+        Ok(()) => Ok(session.taken().len() as u64),
+        Err(refusal) => Err(unchanged(refusal, is_after(alloc, &session, both, before))),
+    }
+}
+
+/// Answers the first node that is outstanding, a leaf.
+fn take_leaf_first(
+    alloc: Global,
+    session: &mut Session,
+    partner: &Snapshot,
+) -> Result<(), Refusal> {
+    let (node, text) = first_text(alloc, session, partner)?;
+    let _news = session.news_of(alloc, node, &text)?;
+    if node.depth < tree_depth(session.own().format()) {
+        return Err(Refusal::Stale);
+    }
+    session.take_leaf(node, text)
+}

@@ -1,0 +1,27 @@
+// Slots.
+ghost use Rattle.std.specs.Prelude.{◌≡◌};
+
+use crate::lines::show;
+use admission::Controller;
+use std::alloc::Global;
+use std::io;
+use std::marker::Brand;
+use std::sync::ledger::{Blank, Ledger};
+use vclock::Refusal;
+
+/// Shows the calls on slots.
+pub(crate) fn show_all<R: Print + AllocGlobal>(rt: &R) -> io::Result<()> {
+    show(rt, "Controller::new", controller(rt.alloc()))
+}
+
+fn controller(alloc: Global) -> Result<u64, Refusal> {
+    free_slots::<Brand>(Blank::new(1024), alloc)
+}
+
+/// How many slots a new controller could lend.
+fn free_slots<L: Ledger>(blank: Blank, alloc: Global) -> Result<u64, Refusal>
+    requires ledger { (blank.name ≡ L.name) × (blank.parts ≡ L.parts) × (blank.parts ≡ 1024) }
+{
+    let controller = Controller::<L>::new(blank, alloc, 1, 8, 50_000)?;
+    Ok(u64::from(controller.free()))
+}

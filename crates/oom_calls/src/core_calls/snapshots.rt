@@ -1,0 +1,90 @@
+// Snapshots.
+use crate::core_calls::ranges::range as new_range;
+use crate::core_calls::trees::range;
+use crate::lines::show;
+use hash_tree::NodeAt;
+use range_state::RangeState;
+use snapshot::Snapshot;
+use std::alloc::Global;
+use std::io;
+use std::sync::Arc;
+use std::thread::Threads;
+use vclock::Refusal;
+use walk_messages::Ask;
+
+/// The snapshots that sessions compare.
+#[derive(Drop)]
+pub(crate) struct Snapshots {
+    /// That of a range without rows.
+    pub(crate) own: Arc<Snapshot, Global>,
+    /// That of a partner with three rows.
+    pub(crate) partner: Arc<Snapshot, Global>,
+}
+
+/// Makes both snapshots, and shows that. After a refusal they are made again.
+pub(crate) fn show_both<R: Print + AllocGlobal + Threads + Sync>(
+    rt: &R,
+) -> io::Result<Option<Snapshots>> {
+    let alloc = rt.alloc();
+    let name = "RangeState::snapshot, Marks::digests and Snapshot::new";
+    match Snapshots::new(rt, alloc) {
+        Ok(both) => {
+            show(rt, name, Ok(u64::from(both.partner.bits())))?;
+            Ok(Some(both))
+        }
+        Err(refusal) => {
+            show(rt, name, Err(refusal))?;
+            Ok(Snapshots::new(rt, alloc).ok())
+        }
+    }
+}
+
+/// Shows the calls on a snapshot.
+pub(crate) fn show_all<R: Print + AllocGlobal>(rt: &R, both: &Snapshots) -> io::Result<()> {
+    let alloc = rt.alloc();
+    show(rt, "Snapshot::answer", answer(alloc, &both.partner))?;
+    show(
+        rt,
+        "Snapshot::hashed_answer",
+        hashed_answer(alloc, &both.partner),
+    )
+}
+
+impl Snapshots {
+    fn new(rt: &(impl Threads + Sync), alloc: Global) -> Result<Snapshots, Refusal> {
+        let mut partner = range(alloc)?;
+        partner.rehash(rt, alloc)?;
+        Ok(Snapshots {
+            own: clean_range(rt, alloc)?.snapshot(alloc)?,
+            partner: partner.snapshot(alloc)?,
+        })
+    }
+}
+
+/// A range without rows, whose nodes are all clean.
+pub(crate) fn clean_range(
+    rt: &(impl Threads + Sync),
+    alloc: Global,
+) -> Result<RangeState, Refusal> {
+    let mut state = new_range(alloc)?;
+    state.rehash(rt, alloc)?;
+    Ok(state)
+}
+
+/// The ask for the root.
+fn root_ask() -> Result<Ask, Refusal> {
+    let node = NodeAt::new(0, 0).ok_or(Refusal::Stale)?;
+    Ok(Ask { offer: 1, node })
+}
+
+/// How many bytes the root's text has.
+fn answer(alloc: Global, partner: &Snapshot) -> Result<u64, Refusal> {
+    let text = partner.answer(alloc, root_ask()?)?;
+    Ok(text.len() as u64)
+}
+
+/// The same, by the other call.
+fn hashed_answer(alloc: Global, partner: &Snapshot) -> Result<u64, Refusal> {
+    let hashed = partner.hashed_answer(alloc, root_ask()?)?;
+    Ok(hashed.text().len() as u64)
+}

@@ -1,0 +1,111 @@
+// Trees: texts of nodes, marks, jobs and rehashes.
+use crate::core_calls::leaves::leaf_of;
+use crate::core_calls::ranges::range_of;
+use crate::lines::{show, unchanged};
+use crate::states::is_between;
+use hash_tree::{Digest, Marks, NodeAt, Text, hash, inner_text, leaf_text, put_inner_text};
+use range_state::RangeState;
+use rehash::{Job, hash_all, run_job};
+use std::alloc::Global;
+use std::io;
+use std::thread::Threads;
+use vclock::{Format, Refusal};
+
+/// A digest.
+const DIGEST: Digest = [7; 32];
+
+/// Shows the calls on trees.
+pub(crate) fn show_all<R: Print + AllocGlobal + Threads + Sync>(rt: &R) -> io::Result<()> {
+    let alloc = rt.alloc();
+    show(rt, "Marks::new", marks(alloc))?;
+    show(rt, "leaf_text and inner_text", texts(alloc))?;
+    show(rt, "put_inner_text", put_text(alloc))?;
+    show(rt, "Job::of_leaf", leaf_job(alloc))?;
+    show(rt, "Job::of_children", inner_job(alloc))?;
+    show(rt, "RangeState::take_job", take_job(alloc))?;
+    show(rt, "RangeState::take_jobs", take_jobs(alloc))?;
+    show(rt, "hash_all", hash_some(rt, alloc))?;
+    show(rt, "RangeState::rehash", rehash(rt, alloc))
+}
+
+fn marks(alloc: Global) -> Result<u64, Refusal> {
+    Ok(Marks::new(alloc, Format::One)?.dirty_count() as u64)
+}
+
+fn texts(alloc: Global) -> Result<u64, Refusal> {
+    let leaf = Text::from(leaf_text(alloc, Format::One, &[])?);
+    let digest = hash(leaf).digest();
+    Ok(inner_text(alloc, Format::One, &[digest; 16])?.len() as u64)
+}
+
+/// How many bytes a text has after another byte.
+fn put_text(alloc: Global) -> Result<u64, Refusal> {
+    let mut text = Vec::from_slice(alloc, b"z")?;
+    match put_inner_text(&mut text, Format::One, &[DIGEST; 16]) {
+        Ok(()) => Ok(text.len() as u64),
+        Err(_) => Err(unchanged(Refusal::NoMemory, Ok(text.as_slice() == b"z".as_slice()))),
+    }
+}
+
+/// How many bytes the text of a leaf has.
+fn leaf_job(alloc: Global) -> Result<u64, Refusal> {
+    let node = NodeAt::new(2, 0).ok_or(Refusal::Stale)?;
+    let job = Job::of_leaf(alloc, node, leaf_of(alloc, b"ab")?)?;
+    Ok(run_job(job).text().len() as u64)
+}
+
+/// How many bytes the text of another node has.
+fn inner_job(alloc: Global) -> Result<u64, Refusal> {
+    let node = NodeAt::new(1, 0).ok_or(Refusal::Stale)?;
+    let job = Job::of_children(alloc, Format::One, node, [DIGEST; 16])?;
+    Ok(run_job(job).text().len() as u64)
+}
+
+/// A range that holds a version of each of three keys.
+pub(crate) fn range(alloc: Global) -> Result<RangeState, Refusal> {
+    range_of(alloc, b"abc")
+}
+
+fn take_job(alloc: Global) -> Result<u64, Refusal> {
+    let state = range(alloc)?;
+    match state.take_job(alloc, 3)? {
+        Some(job) => Ok(u64::from(job.node().index)),
+        None => Err(Refusal::Stale),
+    }
+}
+
+fn take_jobs(alloc: Global) -> Result<u64, Refusal> {
+    Ok(range(alloc)?.take_jobs(alloc, 20)?.len() as u64)
+}
+
+/// The jobs are lost if a growth is refused, and can be taken again.
+fn hash_some(rt: &(impl Threads + Sync), alloc: Global) -> Result<u64, Refusal> {
+    let state = range(alloc)?;
+    let jobs = state.take_jobs(alloc, 20)?;
+    Ok(hash_all(rt, alloc, jobs)?.len() as u64)
+}
+
+/// A rehash that is refused leaves some of the nodes clean, and all else as it was.
+fn rehash(rt: &(impl Threads + Sync), alloc: Global) -> Result<u64, Refusal> {
+    let mut state = range(alloc)?;
+    match state.rehash(rt, alloc) {
+        Ok(hashed) => {
+            let root = NodeAt::new(0, 0).ok_or(Refusal::Stale)?;
+            let clean = state.digest_at(root).is_some();
+            Ok(hashed.saturating_add(u64::from(clean)))
+        }
+        Err(refusal) => Err(unchanged(refusal, is_on_the_way(rt, alloc, &state))),
+    }
+}
+
+/// Whether a range lies between what it is before a rehash and what it is after.
+fn is_on_the_way(
+    rt: &(impl Threads + Sync),
+    alloc: Global,
+    state: &RangeState,
+) -> Result<bool, Refusal> {
+    let before = range(alloc)?;
+    let mut after = range(alloc)?;
+    after.rehash(rt, alloc)?;
+    Ok(is_between(state, &before, &after))
+}

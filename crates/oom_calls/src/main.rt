@@ -1,0 +1,55 @@
+//! Makes each library call that takes memory, and prints what it returns. `examples/check` refuses its growths in turn. Each
+//! call then returns NoMemory, or what it returns with ample memory. The word on the command line says which calls:
+//!
+//! - `core`: those that take no lock.
+//! - `threads`: those of locked and shared ranges, and of what else threads share.
+#![tactic(auto)]
+
+mod core_calls;
+mod lines;
+mod sessions;
+mod states;
+mod thread_calls;
+
+use std::env::Env;
+use std::process::ExitCode;
+
+/// How the program is called.
+const USAGE: &str = "usage: oom_calls core|threads";
+
+/// Which calls are made.
+#[derive(Clone, Copy)]
+enum Calls {
+    Core,
+    Threads,
+}
+
+fn main(rt: HostRuntime) -> ExitCode {
+    let shown = match read_word(&rt) {
+        Some(Calls::Core) => core_calls::show_all(&rt),
+        Some(Calls::Threads) => thread_calls::show_all(&rt),
+        None => {
+            let _ = eprintln!(rt; "{USAGE}");
+            return ExitCode::from(2);
+        }
+    };
+    if shown.is_ok() {
+        ExitCode::SUCCESS
+    } else {
+        ExitCode::FAILURE
+    }
+}
+
+/// The calls that the word on the command line names. It takes no memory, so that each growth is one of a call.
+fn read_word(rt: &impl Env) -> Option<Calls> {
+    let mut bytes = [0u8; 8];
+    let length = rt.arg(1, &mut bytes).ok()?;
+    let word = bytes.get(..length)?;
+    if word == b"core".as_slice() {
+        Some(Calls::Core)
+    } else if word == b"threads".as_slice() {
+        Some(Calls::Threads)
+    } else {
+        None
+    }
+}

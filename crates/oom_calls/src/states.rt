@@ -1,0 +1,109 @@
+//! States of ranges, compared by all their readers.
+use crate::sessions::{is_cancelled, is_same_session};
+use hash_tree::NodeAt;
+use range_journal::Entry;
+use range_state::{RangeState, Record};
+use version_set::Version;
+
+/// How many nodes a tree has at a depth at the most.
+const MOST_NODES: u16 = 4_096;
+
+/// Whether a state lies between two others: its entries are those before and the first few of those after, its rows and
+/// digests are those of one of both, and a session that is new after may be there, cancelled halfway. With `before` as
+/// `after` it is exactly that state.
+pub(crate) fn is_between(state: &RangeState, before: &RangeState, after: &RangeState) -> bool {
+    let entries = state.journal().entries();
+    state.config() == before.config()
+        && begins(entries, before.journal().entries())
+        && begins(after.journal().entries(), entries)
+        && are_rows_between(state, before, after)
+        && are_digests_between(state, before, after)
+        && are_records_between(state.records(), before.records(), after.records())
+}
+
+/// Whether two states are the same.
+pub(crate) fn is_same(state: &RangeState, other: &RangeState) -> bool {
+    is_between(state, other, other)
+}
+
+/// Whether entries begin with others, word for word.
+pub(crate) fn begins(entries: &[Entry], others: &[Entry]) -> bool {
+    others.len() <= entries.len()
+        && entries
+            .iter()
+            .zip(others)
+            .all(|(entry, other)| entry.same(other))
+}
+
+/// Whether each key has the versions of before or of after. The keys are those of a byte, and those of the journal after.
+fn are_rows_between(state: &RangeState, before: &RangeState, after: &RangeState) -> bool {
+    let mut keys = after.journal().entries().iter();
+    (0..=255u8).all(|key| is_row_between(&[key], state, before, after))
+        && keys.all(|entry| is_row_between(entry.key.as_slice(), state, before, after))
+}
+
+fn is_row_between(key: &[u8], state: &RangeState, before: &RangeState, after: &RangeState) -> bool {
+    let versions = state.versions(key);
+    are_same_versions(versions, before.versions(key))
+        || are_same_versions(versions, after.versions(key))
+}
+
+fn are_same_versions(versions: &[Version], others: &[Version]) -> bool {
+    versions.len() == others.len()
+        && versions
+            .iter()
+            .zip(others)
+            .all(|(version, other)| version.same(other))
+}
+
+/// Whether each node has the digest of before or of after, or no digest as before or after.
+fn are_digests_between(state: &RangeState, before: &RangeState, after: &RangeState) -> bool {
+    for depth in 0..4u8 {
+        for index in 0..MOST_NODES {
+            if let Some(node) = NodeAt::new(depth, index) {
+                let digest = state.digest_at(node);
+                if digest != before.digest_at(node) && digest != after.digest_at(node) {
+                    return false;
+                }
+            }
+        }
+    }
+    true
+}
+
+/// How many nodes are clean.
+pub(crate) fn clean_nodes(state: &RangeState) -> u64 {
+    let mut count = 0u64;
+    for depth in 0..4u8 {
+        for index in 0..MOST_NODES {
+            if let Some(node) = NodeAt::new(depth, index)
+                && state.digest_at(node).is_some()
+            {
+                count = count.saturating_add(1);
+            }
+        }
+    }
+    count
+}
+
+/// Whether the records are those before, and perhaps a session of after that is cancelled.
+fn are_records_between(records: &[Record], before: &[Record], after: &[Record]) -> bool {
+    let old = before.len();
+    let mut pairs = records.iter().zip(before);
+    if records.len() < old || !pairs.all(|(record, other)| is_same_record(record, other)) {
+        return false;
+    }
+    match (records.get(old), after.get(old)) {
+        (None, _) => true,
+        (Some(record), Some(whole)) => {
+            records.len() == old.saturating_add(1)
+                && record.partner() == whole.partner()
+                && is_cancelled(record.session(), whole.session())
+        }
+        (Some(_), None) => false,
+    }
+}
+
+fn is_same_record(record: &Record, other: &Record) -> bool {
+    record.partner() == other.partner() && is_same_session(record.session(), other.session())
+}

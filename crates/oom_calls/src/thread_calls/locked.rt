@@ -1,0 +1,161 @@
+// A locked range.
+ghost use Rattle.std.specs.Prelude.{◌≡◌};
+
+use crate::thread_calls::calls::LockedCall;
+use crate::thread_calls::closing::{Closing, close_locked};
+use crate::thread_calls::partner::Partner;
+use crate::thread_calls::versions::{put_parts, version};
+use caller_pass::{LockedRange, Pass, open_passes};
+use hash_tree::{Text, hash};
+use range_journal::Source;
+use range_state::{Accepted, RangeConfig, RangeState};
+use rehash::run_job;
+use std::alloc::Global;
+use std::sync::ledger::{Blank, Ledger};
+use vclock::Refusal;
+use version_set::Kind;
+use walk_messages::Ask;
+
+/// Enough turns for all nodes of a tree of format 1.
+const TURNS: u64 = 300;
+
+/// A locked range with the passes of its two seats. The first one writes and reads, and the second one syncs.
+pub(crate) struct Locked<L: Ledger> {
+    range: LockedRange<L>,
+    passes: Vec<Pass<L>>,
+}
+
+impl<L: Ledger> Locked<L> {
+    /// A range of format 1 with all keys that has accepted nothing.
+    pub(crate) fn open(alloc: Global, blank: Blank) -> Result<Locked<L>, Refusal>
+        requires { (blank.name ≡ L.name) × (blank.parts ≡ L.parts) × (blank.parts ≡ 2) }
+    {
+        let config = RangeConfig::new(1, 0, 0, 100).ok_or(Refusal::BadRing)?;
+        let state = RangeState::new(alloc, config)?;
+        let (book, passes) = open_passes::<L>(blank, alloc, 2)?;
+        let range = LockedRange::new(state, book);
+        Ok(Locked { range, passes })
+    }
+
+    /// Closes it.
+    pub(crate) fn close(self, alloc: Global) -> Result<Closing<L>, Refusal> {
+        let Locked { range, passes } = self;
+        close_locked(alloc, range, passes)
+    }
+
+    /// Makes a call, and returns a number that tells its result.
+    pub(crate) fn make(
+        &mut self,
+        alloc: Global,
+        partner: &Partner,
+        call: LockedCall,
+    ) -> Result<u64, Refusal> {
+        match call {
+            LockedCall::Hash => self.hash(alloc),
+            LockedCall::Snapshot => Ok(u64::from(self.range.snapshot(alloc)?.format().number())),
+            LockedCall::OpenSession => {
+                let offer = partner.snapshot.offer(1);
+                self.range.open_session(alloc, 2, offer)
+            }
+            LockedCall::TakeAnswer => self.take_answer(alloc, partner),
+            LockedCall::Put(key) => self.put(alloc, key),
+            LockedCall::StalePut(key) => self.put_stale(alloc, key),
+            LockedCall::Accept(key) => self.accept(alloc, key),
+            LockedCall::Index => self.index(alloc),
+            LockedCall::Get(key) => self.get(alloc, key),
+            LockedCall::Read(key) => self.read(alloc, key),
+            LockedCall::Migrate => self.migrate(alloc),
+        }
+    }
+
+    /// Hashes the dirty nodes, and returns how many there were.
+    fn hash(&mut self, alloc: Global) -> Result<u64, Refusal> {
+        let mut count = 0u64;
+        for _ in 0..TURNS {
+            let Some(job) = self.range.take_job(alloc, 0)? else {
+                break;
+            };
+            let node = job.node();
+            self.range.install(node, &run_job(job))?;
+            count = count.saturating_add(1);
+        }
+        Ok(count)
+    }
+
+    /// Takes the partner's text of the first node that is outstanding, and returns how many versions came.
+    fn take_answer(&mut self, alloc: Global, partner: &Partner) -> Result<u64, Refusal> {
+        let node = self.range.outstanding(0)?.ok_or(Refusal::NotAsked)?;
+        let text = partner.snapshot.answer(alloc, Ask { offer: 1, node })?;
+        let hashed = hash(Text::from(text));
+        let pass = self.passes.get_mut(1).ok_or(Refusal::Stranger)?;
+        let taken = self.range.take_answer(alloc, pass, 0, node, hashed)?;
+        Ok(taken.receipts)
+    }
+
+    /// Puts a value, and returns the number of its entry.
+    fn put(&mut self, alloc: Global, key: u8) -> Result<u64, Refusal> {
+        let (context, value) = put_parts(alloc)?;
+        let pass = self.passes.get_mut(0).ok_or(Refusal::Stranger)?;
+        let receipt = self
+            .range
+            .put(alloc, pass, 1, &[key], &context, Kind::Live, value)?;
+        Ok(receipt.number)
+    }
+
+    /// Puts a value whose clock is held already, and returns how many clocks the refusal has.
+    fn put_stale(&mut self, alloc: Global, key: u8) -> Result<u64, Refusal> {
+        match self.put(alloc, key) {
+            Err(Refusal::StaleContext(held)) => Ok(held.as_slice().len() as u64),
+            Ok(_) => Err(Refusal::Stale),
+            other => other,
+        }
+    }
+
+    /// Takes in a copy, and returns the number of its entry, or 100 if it is known.
+    fn accept(&mut self, alloc: Global, key: u8) -> Result<u64, Refusal> {
+        let copy = version(alloc, 3)?;
+        let pass = self.passes.get_mut(0).ok_or(Refusal::Stranger)?;
+        match self.range.accept(alloc, pass, Source::Copy, &[key], copy)? {
+            Accepted::Taken(receipt) => Ok(receipt.number),
+            Accepted::Known => Ok(100),
+        }
+    }
+
+    /// Indexes a pass, which is never refused, and returns how many receipts it has.
+    fn index(&mut self, alloc: Global) -> Result<u64, Refusal> {
+        let pass = self.passes.get_mut(0).ok_or(Refusal::Stranger)?;
+        pass.index(alloc);
+        Ok(pass.receipts().len() as u64)
+    }
+
+    /// How many versions a key has.
+    fn get(&mut self, alloc: Global, key: u8) -> Result<u64, Refusal> {
+        let pass = self.passes.get_mut(0).ok_or(Refusal::Stranger)?;
+        Ok(self.range.get(alloc, pass, &[key])?.len() as u64)
+    }
+
+    /// The same, by the other call.
+    fn read(&mut self, alloc: Global, key: u8) -> Result<u64, Refusal> {
+        let pass = self.passes.get_mut(0).ok_or(Refusal::Stranger)?;
+        match self.range.read(alloc, pass, &[key]) {
+            Ok(versions) => Ok(versions.len() as u64),
+            Err(unread) => Err(unread.into_refusal()),
+        }
+    }
+
+    /// Goes over to format 2, which is the number.
+    fn migrate(&mut self, alloc: Global) -> Result<u64, Refusal> {
+        self.range.migrate(alloc)?;
+        Ok(u64::from(self.range.config().format().number()))
+    }
+}
+
+impl<L: Ledger> Drop for Locked<L> {
+    /// Keeps the fields out of the proofs of callers that drop what is locked.
+    fn drop(self) {
+        let Locked {
+            range: _range,
+            passes: _passes,
+        } = self;
+    }
+}

@@ -1,0 +1,87 @@
+// What passes were told.
+use crate::states::begins;
+use caller_pass::{Pass, Reading};
+use range_state::Receipt;
+use std::alloc::Global;
+use std::sync::ledger::Ledger;
+use vclock::Refusal;
+
+/// What a pass was told.
+pub(crate) struct Told {
+    seat: u16,
+    seen: u64,
+    receipts: Vec<Receipt>,
+    readings: Vec<Reading>,
+}
+
+impl Told {
+    /// A copy of what a pass was told. Refused: NoMemory.
+    pub(crate) fn of<L: Ledger>(alloc: Global, pass: &Pass<L>) -> Result<Told, Refusal> {
+        let mut receipts = Vec::new(alloc);
+        for receipt in pass.receipts() {
+            receipts.push(copy_of_receipt(receipt)?)?;
+        }
+        let mut readings = Vec::new(alloc);
+        for reading in pass.readings() {
+            readings.push(Reading {
+                front: reading.front,
+                key: reading.key.try_clone()?,
+                versions: reading.versions.try_clone(alloc)?,
+            })?;
+        }
+        Ok(Told {
+            seat: pass.seat(),
+            seen: pass.seen(),
+            receipts,
+            readings,
+        })
+    }
+
+    /// Whether a pass was told what it was told before, and as well the first few of the receipts after. With `before`
+    /// as `after` it was told exactly that.
+    pub(crate) fn is_between(&self, before: &Told, after: &Told) -> bool {
+        self.seat == before.seat
+            && before.seen <= self.seen
+            && self.seen <= after.seen
+            && begins(&self.receipts, &before.receipts)
+            && begins(&after.receipts, &self.receipts)
+            && are_same_readings(&self.readings, &before.readings)
+    }
+}
+
+/// An equal receipt. Refused: NoMemory.
+fn copy_of_receipt(receipt: &Receipt) -> Result<Receipt, Refusal> {
+    Ok(Receipt {
+        number: receipt.number,
+        seat: receipt.seat,
+        source: receipt.source,
+        key: receipt.key.try_clone()?,
+        version: receipt.version.try_clone()?,
+    })
+}
+
+fn are_same_readings(readings: &[Reading], others: &[Reading]) -> bool {
+    readings.len() == others.len()
+        && readings
+            .iter()
+            .zip(others)
+            .all(|(reading, other)| is_same_reading(reading, other))
+}
+
+fn is_same_reading(reading: &Reading, other: &Reading) -> bool {
+    reading.front == other.front
+        && reading.key.as_slice() == other.key.as_slice()
+        && reading.versions.same(&other.versions)
+}
+
+impl Drop for Told {
+    /// Keeps the fields out of the proofs of callers that drop what was told.
+    fn drop(self) {
+        let Told {
+            seat: _seat,
+            seen: _seen,
+            receipts: _receipts,
+            readings: _readings,
+        } = self;
+    }
+}

@@ -1,0 +1,47 @@
+//! Random versions, and limits of journals.
+ghost use Rattle.std.specs.Prelude.{◌<◌};
+
+use crate::calls::plain::{NODES, PlainVersion};
+use crate::random::Random;
+use version_set::Kind;
+
+impl Random {
+    /// How many entries a journal may have: once in so many times few, else more than come.
+    pub(crate) fn limit(&mut self, times: u64) -> u64
+        requires { 0 < times }
+    {
+        if self.once_in(times) {
+            2 + self.below(8)
+        } else {
+            1_000
+        }
+    }
+
+    /// A clock of small counters, rarely with the greatest one.
+    fn counters(&mut self) -> [u64; NODES] {
+        let mut counters = [0; NODES];
+        for i in 0..NODES {
+            counters[i] = if self.once_in(2) { 0 } else { self.below(4) };
+            if self.once_in(100) {
+                counters[i] = u64::MAX;
+            }
+        }
+        counters
+    }
+
+    /// A version with such a clock; one in eight is a tombstone, which rarely has a value.
+    pub(crate) fn version(&mut self) -> PlainVersion {
+        let counters = self.counters();
+        let (kind, has_value) = if self.once_in(8) {
+            (Kind::Tombstone, self.once_in(8))
+        } else {
+            (Kind::Live, !self.once_in(8))
+        };
+        let letter = if self.once_in(2) { b'x' } else { b'y' };
+        PlainVersion {
+            counters,
+            kind,
+            value: if has_value { Some(letter) } else { None },
+        }
+    }
+}

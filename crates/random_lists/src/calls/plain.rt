@@ -1,0 +1,378 @@
+//! What a range answers and holds, by the definitions: all accepted versions in a list.
+
+use crate::trouble::Trouble;
+use md5::{Digest, Md5};
+use range_journal::Source;
+use std::alloc::Global;
+use vclock::{Bytes, Clock, Format, Refusal};
+use version_set::{Kind, Version};
+
+/// How many nodes count in clocks: the nodes 1 to 4.
+pub(crate) const NODES: usize = 4;
+
+/// How many keys there are: they have the numbers from 0.
+pub(crate) const KEYS: u64 = 8;
+
+/// How many versions are held for a key at the most.
+const MOST_VERSIONS: usize = 64;
+
+/// Why a call is to be refused.
+#[derive(Clone, Copy, PartialEq, Eq)]
+pub(crate) enum Fault {
+    BadKey,
+    BadValue,
+    OtherRange,
+    CounterFull,
+    StaleContext,
+    Crowded,
+    JournalFull,
+    Dirty,
+    Stale,
+    OtherFormat,
+    SessionsFull,
+    UnknownSession,
+    NotAsked,
+    WrongDigest,
+    NotCanonical,
+}
+
+impl Fault {
+    /// Whether a refusal says so.
+    pub(crate) fn is(self, refusal: &Refusal) -> bool {
+        match refusal {
+            Refusal::BadKey => self == Fault::BadKey,
+            Refusal::BadValue => self == Fault::BadValue,
+            Refusal::OtherRange => self == Fault::OtherRange,
+            Refusal::CounterFull => self == Fault::CounterFull,
+            Refusal::StaleContext(_) => self == Fault::StaleContext,
+            Refusal::Crowded => self == Fault::Crowded,
+            Refusal::JournalFull => self == Fault::JournalFull,
+            Refusal::Dirty => self == Fault::Dirty,
+            Refusal::Stale => self == Fault::Stale,
+            Refusal::OtherFormat => self == Fault::OtherFormat,
+            Refusal::SessionsFull => self == Fault::SessionsFull,
+            Refusal::UnknownSession => self == Fault::UnknownSession,
+            Refusal::NotAsked => self == Fault::NotAsked,
+            Refusal::WrongDigest => self == Fault::WrongDigest,
+            Refusal::NotCanonical => self == Fault::NotCanonical,
+            _ => false,
+        }
+    }
+}
+
+/// The bytes of a key: the keys ascend by number. The first is none, and several lie in one leaf.
+pub(crate) fn key_bytes(key: u64) -> &'static [u8] {
+    match key {
+        0 => b"",
+        1 => b"a",
+        2 => b"b",
+        3 => b"c",
+        4 => b"dw",
+        5 => b"hj",
+        6 => b"mp",
+        _ => b"tg",
+    }
+}
+
+/// The first bits of a key's number, which a range and a leaf are taken from.
+fn front(key: u64) -> u32 {
+    let digest = Md5::digest(key_bytes(key));
+    u32::from_be_bytes([digest[0], digest[1], digest[2], digest[3]])
+}
+
+/// A version: the counter of each node, 0 where it has not counted, and a value of one byte or none.
+#[derive(Clone, Copy, PartialEq, Eq)]
+pub(crate) struct PlainVersion {
+    pub(crate) counters: [u64; NODES],
+    pub(crate) kind: Kind,
+    pub(crate) value: Option<u8>,
+}
+
+impl PlainVersion {
+    /// Whether each counter is at most the other's.
+    pub(crate) fn is_at_most(&self, other: &PlainVersion) -> bool {
+        for i in 0..NODES {
+            if self.counters[i] > other.counters[i] {
+                return false;
+            }
+        }
+        true
+    }
+
+    /// Whether the other's clock is later.
+    fn is_below(&self, other: &PlainVersion) -> bool {
+        self.is_at_most(other) && self.counters != other.counters
+    }
+
+    /// Whether it is the other or below it.
+    pub(crate) fn is_covered_by(&self, other: &PlainVersion) -> bool {
+        self == other || self.is_below(other)
+    }
+
+    /// How many nodes have counted.
+    fn pair_count(&self) -> u8 {
+        let mut count = 0u8;
+        for i in 0..NODES {
+            if self.counters[i] > 0 {
+                count = count.wrapping_add(1);
+            }
+        }
+        count
+    }
+
+    /// Writes the text.
+    pub(crate) fn put_text(&self, format: Format, text: &mut Vec<u8>) -> Result<(), Trouble> {
+        if format == Format::Two {
+            text.push(if self.kind == Kind::Live { 0 } else { 1 })?;
+        }
+        text.push(self.pair_count())?;
+        self.put_pairs(text)?;
+        match self.value {
+            None => text.extend_from_slice(&[0, 0, 0, 0])?,
+            Some(byte) => text.extend_from_slice(&[0, 0, 0, 1, byte])?,
+        }
+        Ok(())
+    }
+
+    /// Writes the pairs of the nodes that have counted.
+    fn put_pairs(&self, text: &mut Vec<u8>) -> Result<(), Trouble> {
+        for i in 0..NODES {
+            if self.counters[i] > 0 {
+                text.extend_from_slice(&(i as u16 + 1).to_be_bytes())?;
+                text.extend_from_slice(&self.counters[i].to_be_bytes())?;
+            }
+        }
+        Ok(())
+    }
+
+    /// Whether its text stands before the other's.
+    fn is_before(
+        &self,
+        alloc: Global,
+        format: Format,
+        other: &PlainVersion,
+    ) -> Result<bool, Trouble> {
+        let mut text = Vec::new(alloc);
+        self.put_text(format, &mut text)?;
+        let mut other_text = Vec::new(alloc);
+        other.put_text(format, &mut other_text)?;
+        Ok(text.as_slice() < other_text.as_slice())
+    }
+
+    /// The clock.
+    pub(crate) fn clock(&self, alloc: Global) -> Result<Clock, Trouble> {
+        let mut pairs = Vec::new(alloc);
+        for i in 0..NODES {
+            if self.counters[i] > 0 {
+                pairs.push((i as u64 + 1, self.counters[i]))?;
+            }
+        }
+        Ok(Clock::from_pairs(alloc, &pairs)?)
+    }
+
+    /// The value.
+    pub(crate) fn value(&self, alloc: Global) -> Result<Bytes, Trouble> {
+        match self.value {
+            None => Ok(Bytes::copy_of(alloc, b"")?),
+            Some(byte) => Ok(Bytes::copy_of(alloc, &[byte])?),
+        }
+    }
+
+    /// The version for a range.
+    pub(crate) fn version(&self, alloc: Global) -> Result<Version, Trouble> {
+        Ok(Version {
+            clock: self.clock(alloc)?,
+            kind: self.kind,
+            value: self.value(alloc)?,
+        })
+    }
+
+    /// Whether a clock has these counters.
+    pub(crate) fn has_clock(&self, clock: &Clock) -> bool {
+        for i in 0..NODES {
+            if clock.get(i as u16 + 1) != self.counters[i] {
+                return false;
+            }
+        }
+        clock.pairs().len() == usize::from(self.pair_count())
+    }
+
+    /// Whether a version of a range is this one.
+    pub(crate) fn is(&self, version: &Version) -> bool {
+        let value = version.value.as_slice();
+        let same_value = match self.value {
+            None => value.is_empty(),
+            Some(byte) => value == [byte].as_slice(),
+        };
+        same_value && version.kind == self.kind && self.has_clock(&version.clock)
+    }
+}
+
+/// A version that was accepted for a key.
+#[derive(Clone, Copy)]
+pub(crate) struct PlainEntry {
+    pub(crate) key: u64,
+    pub(crate) version: PlainVersion,
+    pub(crate) source: Source,
+}
+
+/// A range of a ring with one range, or with two.
+#[derive(Drop)]
+pub(crate) struct PlainRange {
+    pub(crate) format: Format,
+    pub(crate) is_half: bool,
+    pub(crate) limit: u64,
+    pub(crate) entries: Vec<PlainEntry>,
+}
+
+impl PlainRange {
+    /// The leaf of a key: the bits after those of the range, 8 or 12.
+    pub(crate) fn leaf_of(&self, key: u64) -> u16 {
+        let front = if self.is_half {
+            front(key) << 1
+        } else {
+            front(key)
+        };
+        let [first, second, _, _] = front.to_be_bytes();
+        match self.format {
+            Format::One => u16::from(first),
+            Format::Two => u16::from(first) * 16 + u16::from(second / 16),
+        }
+    }
+
+    /// Why a version has no place in the range.
+    fn place_fault(&self, key: u64, version: &PlainVersion) -> Option<Fault> {
+        let is_tombstone = version.kind == Kind::Tombstone;
+        if key_bytes(key).is_empty() {
+            Some(Fault::BadKey)
+        } else if is_tombstone && (self.format == Format::One || version.value.is_some()) {
+            Some(Fault::BadValue)
+        } else if self.is_half && front(key) >= 0x8000_0000 {
+            Some(Fault::OtherRange)
+        } else {
+            None
+        }
+    }
+
+    /// Whether some accepted version is the same or above.
+    pub(crate) fn knows(&self, key: u64, version: &PlainVersion) -> bool {
+        self.entries.iter().any(|entry| entry.key == key && version.is_covered_by(&entry.version))
+    }
+
+    /// Whether some accepted version is above.
+    fn has_above(&self, key: u64, version: &PlainVersion) -> bool {
+        self.entries.iter().any(|entry| entry.key == key && version.is_below(&entry.version))
+    }
+
+    /// Whether a version that is news would be one too many for its key, beside those that would still be held.
+    pub(crate) fn is_crowded_by(&self, key: u64, version: &PlainVersion) -> bool {
+        let stays = |entry: &PlainEntry| entry.key == key
+            && !self.has_above(key, &entry.version)
+            && !entry.version.is_below(version);
+        self.entries.iter().filter(|entry| stays(*entry)).count() >= MOST_VERSIONS
+    }
+
+    /// The versions that are held for a key: the accepted ones that are below no other, once, in the order of their texts.
+    pub(crate) fn held(&self, alloc: Global, key: u64) -> Result<Vec<PlainVersion>, Trouble> {
+        let mut held = Vec::new(alloc);
+        for entry in &self.entries {
+            if entry.key == key && !self.has_above(key, &entry.version) {
+                insert(alloc, self.format, &mut held, entry.version)?;
+            }
+        }
+        Ok(held)
+    }
+
+    /// Whether so many more entries can come.
+    pub(crate) fn has_room(&self, more: usize) -> bool {
+        (self.entries.len() as u64).wrapping_add(more as u64) <= self.limit
+    }
+
+    /// Why a version that is news has no place among those of its key, or in the journal.
+    fn room_fault(&self, key: u64, version: &PlainVersion) -> Option<Fault> {
+        if self.is_crowded_by(key, version) {
+            Some(Fault::Crowded)
+        } else if !self.has_room(1) {
+            Some(Fault::JournalFull)
+        } else {
+            None
+        }
+    }
+
+    /// The same range with entries of its own.
+    pub(crate) fn try_clone(&self) -> Result<PlainRange, Trouble> {
+        Ok(PlainRange {
+            format: self.format,
+            is_half: self.is_half,
+            limit: self.limit,
+            entries: self.entries.clone()?,
+        })
+    }
+
+    /// Why a version that another node sent is refused, or whether it is news.
+    pub(crate) fn accept(&self, key: u64, version: &PlainVersion) -> Result<bool, Fault> {
+        if let Some(fault) = self.place_fault(key, version) {
+            return Err(fault);
+        }
+        if self.knows(key, version) {
+            return Ok(false);
+        }
+        match self.room_fault(key, version) {
+            Some(fault) => Err(fault),
+            None => Ok(true),
+        }
+    }
+
+    /// The version that a put with this context makes at a node, counted from 0, or why it is refused.
+    pub(crate) fn put(
+        &self,
+        key: u64,
+        node: u8,
+        context: PlainVersion,
+    ) -> Result<PlainVersion, Fault> {
+        if let Some(fault) = self.place_fault(key, &context) {
+            return Err(fault);
+        }
+        let raised = raised(context, node).ok_or(Fault::CounterFull)?;
+        let has_seen = |entry: &PlainEntry| entry.key == key && raised.is_at_most(&entry.version);
+        if self.entries.iter().any(has_seen) {
+            return Err(Fault::StaleContext);
+        }
+        match self.room_fault(key, &raised) {
+            Some(fault) => Err(fault),
+            None => Ok(raised),
+        }
+    }
+}
+
+/// The version with the counter of a node raised by one: none where that is the greatest.
+fn raised(mut version: PlainVersion, node: u8) -> Option<PlainVersion> {
+    for i in 0..NODES {
+        if i == usize::from(node) {
+            version.counters[i] = version.counters[i].checked_add(1)?;
+        }
+    }
+    Some(version)
+}
+
+/// Puts a version into its place, unless it is there.
+fn insert(
+    alloc: Global,
+    format: Format,
+    held: &mut Vec<PlainVersion>,
+    version: PlainVersion,
+) -> Result<(), Trouble> {
+    let mut place = 0usize;
+    for other in held.iter() {
+        if *other == version {
+            return Ok(());
+        }
+        if other.is_before(alloc, format, &version)? {
+            place = place.wrapping_add(1);
+        }
+    }
+    if place <= held.len() {
+        held.insert(place, version)?;
+    }
+    Ok(())
+}

@@ -1,0 +1,216 @@
+//! The sessions of a range, beside their walks.
+
+use crate::calls::plain::{Fault, PlainEntry};
+use crate::calls::replicas::Replica;
+use crate::calls::trees::Tree;
+use crate::calls::walks::{Offering, Walk};
+use crate::trouble::{Trouble, expect};
+use hash_tree::{Digest, NodeAt};
+use range_journal::Source;
+use std::alloc::Global;
+use sync_session::SessionState;
+use vclock::Format;
+use walk_messages::{Ask, Offer};
+
+/// How many sessions are open at the most.
+const MOST_OPEN: usize = 64;
+
+/// How many records there are at the most.
+const MOST_RECORDS: usize = 1_024;
+
+impl Replica {
+    /// The number of the format.
+    fn format_number(&self) -> u8 {
+        match self.plain.format {
+            Format::One => 1,
+            Format::Two => 2,
+        }
+    }
+
+    /// A partner's offer of a root.
+    pub(crate) fn offer_of(&self, root: Digest) -> Offer {
+        Offer {
+            offer: 1,
+            format: self.format_number(),
+            range: 0,
+            root,
+        }
+    }
+
+    /// Why no session can be opened beside those that there are.
+    pub(crate) fn crowd_fault(&self) -> Option<Fault> {
+        let open = self
+            .walks
+            .iter()
+            .filter(|walk| walk.state == SessionState::Open);
+        if open.count() >= MOST_OPEN || self.walks.len() >= MOST_RECORDS {
+            Some(Fault::SessionsFull)
+        } else {
+            None
+        }
+    }
+
+    /// Why an offer is refused.
+    fn offer_fault(&self, offer: &Offer) -> Option<Fault> {
+        if offer.format != self.format_number() {
+            Some(Fault::OtherFormat)
+        } else if offer.range != 0 {
+            Some(Fault::OtherRange)
+        } else if let Some(fault) = self.crowd_fault() {
+            Some(fault)
+        } else if !self.is_all_clean() {
+            Some(Fault::Dirty)
+        } else {
+            None
+        }
+    }
+
+    /// Opens a session with a partner's offer.
+    pub(crate) fn open(
+        &mut self,
+        alloc: Global,
+        offer: Offer,
+        partner: Offering,
+    ) -> Result<(), Trouble> {
+        let fault = self.offer_fault(&offer);
+        let reply = self.state.open_session(alloc, partner.at, offer);
+        match (reply, fault) {
+            (Ok(id), None) => {
+                expect(id == self.walks.len() as u64, "the number of a session")?;
+                let walk = self.new_walk(alloc, partner)?;
+                self.walks.push(walk)?;
+                self.compare_walks()
+            }
+            (Err(refusal), Some(fault)) => expect(fault.is(&refusal), "the refusal of an offer"),
+            _ => Err(Trouble::Differs("the answer to an offer")),
+        }
+    }
+
+    /// Opens so many sessions of a clean range: with its own root, so that they are finished at once, or with one that no
+    /// text has.
+    pub(crate) fn open_many(
+        &mut self,
+        alloc: Global,
+        count: u64,
+        is_finished: bool,
+    ) -> Result<(), Trouble> {
+        let root = if is_finished {
+            Tree::new(alloc, &self.plain)?.root()
+        } else {
+            [1; 32]
+        };
+        for _ in 0..count {
+            let partner = Offering {
+                at: 9,
+                root,
+                tree: 0,
+                forged: None,
+            };
+            self.open(alloc, self.offer_of(root), partner)?;
+        }
+        Ok(())
+    }
+
+    /// The walk of a session that is opened now.
+    pub(crate) fn new_walk(&self, alloc: Global, partner: Offering) -> Result<Walk, Trouble> {
+        let tree = Tree::new(alloc, &self.plain)?;
+        Walk::new(alloc, self.plain.format, tree, partner)
+    }
+
+    /// Compares each session with its walk.
+    pub(crate) fn compare_walks(&self) -> Result<(), Trouble> {
+        let records = self.state.records();
+        let same = records.len() == self.walks.len()
+            && self
+                .walks
+                .iter()
+                .zip(records)
+                .all(|(walk, record)| walk.is(record));
+        expect(same, "a session")
+    }
+
+    /// Compares the texts that each session took.
+    pub(crate) fn compare_texts(&self) -> Result<(), Trouble> {
+        let records = self.state.records();
+        let same = self
+            .walks
+            .iter()
+            .zip(records)
+            .all(|(walk, record)| walk.has_taken(record.session().taken()));
+        expect(same, "the texts of a session")
+    }
+
+    /// Cancels a session, or one that there is not.
+    pub(crate) fn cancel(&mut self, id: u64) -> Result<(), Trouble> {
+        let reply = self.state.cancel_session(id);
+        match (reply, self.walks.get_mut(id as usize)) {
+            (Ok(()), Some(walk)) => walk.end(SessionState::Cancelled),
+            (Err(refusal), None) => {
+                expect(Fault::UnknownSession.is(&refusal), "the refusal of an end")?
+            }
+            _ => return Err(Trouble::Differs("the answer to an end")),
+        }
+        self.compare_walks()
+    }
+
+    /// The text of a node that the partner of a session has, which may be forged at the root.
+    pub(crate) fn true_text(
+        &self,
+        alloc: Global,
+        id: usize,
+        node: NodeAt,
+    ) -> Result<Vec<u8>, Trouble> {
+        let mut tree = 0;
+        if let Some(walk) = self.walks.get(id) {
+            if let (Some(forged), 0) = (&walk.partner.forged, node.depth) {
+                return Ok(forged.clone()?);
+            }
+            tree = walk.partner.tree;
+        }
+        let offered = self.offered.get(tree);
+        let offered = offered.ok_or(Trouble::Differs("what is offered"))?;
+        let text = offered.snapshot.answer(alloc, Ask { offer: 1, node })?;
+        let plain = offered.tree.text(alloc, node)?;
+        expect(text == plain, "the text that a snapshot answers")?;
+        Ok(text)
+    }
+
+    /// Compares what was taken from the partner: after a finished session its versions are held or below one that is, and
+    /// each entry that is said to come from it is in its rows.
+    pub(crate) fn compare_finished(&self, alloc: Global) -> Result<(), Trouble> {
+        for walk in &self.walks {
+            if let Some(offered) = self.offered.get(walk.partner.tree)
+                && walk.state == SessionState::Finished
+                && walk.partner.root == offered.tree.root()
+            {
+                self.compare_covered(alloc, &offered.tree)?;
+            }
+        }
+        for entry in &self.plain.entries {
+            let is_there = self.offered.iter().any(|offered| has(&offered.tree, entry));
+            expect(
+                entry.source != Source::Partner || is_there,
+                "where an entry came from",
+            )?;
+        }
+        Ok(())
+    }
+
+    /// Compares a partner's rows with what is held.
+    fn compare_covered(&self, alloc: Global, tree: &Tree) -> Result<(), Trouble> {
+        for row in &tree.rows {
+            let held = self.plain.held(alloc, row.key)?;
+            let covered = row.versions.iter().all(|version| held
+                .iter()
+                .any(|other| version.is_covered_by(other)));
+            expect(covered, "whether a partner's version is held")?;
+        }
+        Ok(())
+    }
+}
+
+/// Whether a tree has an entry's version in the row of its key.
+fn has(tree: &Tree, entry: &PlainEntry) -> bool {
+    tree.rows.iter().any(|row| row.key == entry.key
+        && row.versions.iter().any(|v| *v == entry.version))
+}

@@ -1,0 +1,198 @@
+//! What a session asks and takes, by the definitions.
+
+use crate::calls::plain::Fault;
+use crate::calls::trees::{Tree, child, inner_byte, leaf_depth};
+use crate::trouble::Trouble;
+use hash_tree::{Digest, NodeAt};
+use range_state::Record;
+use sha2::{Digest as _, Sha256};
+use std::alloc::Global;
+use sync_session::{SessionState, Taken};
+use vclock::Format;
+
+/// A text that was sent for a node.
+#[derive(Drop)]
+pub(crate) struct Sent {
+    pub(crate) node: NodeAt,
+    pub(crate) text: Vec<u8>,
+}
+
+/// What a session compares itself with.
+#[derive(Drop)]
+pub(crate) struct Offering {
+    /// The node that the partner is at.
+    pub(crate) at: u16,
+    /// The root that the partner offered.
+    pub(crate) root: Digest,
+    /// The number of the partner's tree.
+    pub(crate) tree: usize,
+    /// The text of the root, where it is not the partner's.
+    pub(crate) forged: Option<Vec<u8>>,
+}
+
+/// What a session compares: the own tree when it was opened, and what a partner offered.
+pub(crate) struct Walk {
+    format: Format,
+    pub(crate) own: Tree,
+    pub(crate) partner: Offering,
+    /// All nodes that were ever asked.
+    pub(crate) asked: Vec<NodeAt>,
+    pub(crate) outstanding: Vec<NodeAt>,
+    pub(crate) taken: Vec<Sent>,
+    pub(crate) state: SessionState,
+    /// What was sent last.
+    pub(crate) last: Option<Sent>,
+}
+
+impl Walk {
+    /// A new session's walk.
+    pub(crate) fn new(
+        alloc: Global,
+        format: Format,
+        own: Tree,
+        partner: Offering,
+    ) -> Result<Walk, Trouble> {
+        let mut outstanding = Vec::new(alloc);
+        if own.root() != partner.root
+            && let Some(top) = NodeAt::new(0, 0)
+        {
+            outstanding.push(top)?;
+        }
+        let asked = outstanding.clone()?;
+        let state = state_by(&outstanding);
+        Ok(Walk {
+            format,
+            own,
+            partner,
+            asked,
+            outstanding,
+            taken: Vec::new(alloc),
+            state,
+            last: None,
+        })
+    }
+
+    /// The digest that is expected at a node: at the root the offered one, else that in the text of the node above.
+    fn expected(&self, node: NodeAt) -> Option<&[u8]> {
+        if node.depth == 0 {
+            return Some(&self.partner.root);
+        }
+        let above = NodeAt::new(node.depth.wrapping_sub(1), node.index / 16)?;
+        let sent = self.taken.iter().find(|sent| sent.node == above)?;
+        digest_in(&sent.text, node.index % 16)
+    }
+
+    /// Whether the node is a leaf.
+    pub(crate) fn is_leaf(&self, node: NodeAt) -> bool {
+        node.depth == leaf_depth(self.format)
+    }
+
+    /// Why a text is not taken, where the partner's own text of the node is this.
+    pub(crate) fn fault_of(&self, node: NodeAt, text: &[u8], partners: &[u8]) -> Option<Fault> {
+        if !self.outstanding.iter().any(|other| *other == node) {
+            return Some(Fault::NotAsked);
+        }
+        let digest = Sha256::digest(text);
+        if self.expected(node) != Some(digest.as_slice()) {
+            return Some(Fault::WrongDigest);
+        }
+        let is_text = if self.is_leaf(node) {
+            text == partners
+        } else {
+            text.len() == 513 && text.first() == Some(&inner_byte(self.format))
+        };
+        if is_text {
+            None
+        } else {
+            Some(Fault::NotCanonical)
+        }
+    }
+
+    /// The walk after a text was taken: the node is not outstanding, and the children that differ are asked.
+    pub(crate) fn take(&mut self, sent: Sent) -> Result<(), Trouble> {
+        self.outstanding.retain(|other| *other != sent.node);
+        if !self.is_leaf(sent.node) {
+            self.ask(&sent)?;
+        }
+        self.state = state_by(&self.outstanding);
+        self.taken.push(sent)?;
+        Ok(())
+    }
+
+    /// Asks the children whose digests in the text are not the own ones, by rising index.
+    fn ask(&mut self, sent: &Sent) -> Result<(), Trouble> {
+        for j in 0..16u16 {
+            if let Some(node) = child(sent.node, j) {
+                let own = self.own.digest_at(node).unwrap_or([0; 32]);
+                if digest_in(&sent.text, j) != Some(own.as_slice()) {
+                    self.asked.push(node)?;
+                    self.outstanding.push(node)?;
+                }
+            }
+        }
+        Ok(())
+    }
+
+    /// The walk after it ended before it was finished.
+    pub(crate) fn end(&mut self, state: SessionState) {
+        if self.state == SessionState::Open {
+            self.outstanding.clear();
+            self.state = state;
+        }
+    }
+
+    /// Whether the session of a record is as the walk says.
+    pub(crate) fn is(&self, record: &Record) -> bool {
+        let session = record.session();
+        record.partner() == self.partner.at
+            && session.root() == self.partner.root
+            && session.own().root() == self.own.root()
+            && session.asked() == self.asked.as_slice()
+            && session.outstanding() == self.outstanding.as_slice()
+            && session.state() == self.state
+            && session.taken().len() == self.taken.len()
+    }
+
+    /// Whether a session took the texts that the walk says.
+    pub(crate) fn has_taken(&self, taken: &[Taken]) -> bool {
+        let is_same = |sent: &Sent, taken: &Taken| sent.node == taken.node()
+            && sent.text.as_slice() == taken.text().text();
+        taken.len() == self.taken.len()
+            && self
+                .taken
+                .iter()
+                .zip(taken)
+                .all(|(sent, taken)| is_same(sent, taken))
+    }
+}
+
+/// The digest of a child in the text of a node.
+fn digest_in(text: &[u8], j: u16) -> Option<&[u8]> {
+    let start = usize::from(j) * 32 + 1;
+    text.get(start..start + 32)
+}
+
+/// Open, or finished where nothing is outstanding.
+fn state_by(outstanding: &[NodeAt]) -> SessionState {
+    if outstanding.is_empty() {
+        SessionState::Finished
+    } else {
+        SessionState::Open
+    }
+}
+
+impl Drop for Walk {
+    /// Keeps the fields out of the proofs of callers that drop a walk.
+    fn drop(self) {
+        let Walk {
+            format: _format,
+            own: _own,
+            partner: _partner,
+            asked: _asked,
+            outstanding: _outstanding,
+            taken: _taken,
+            state: _state,
+            last: _last,
+        } = self;
+    }
+}

@@ -1,0 +1,28 @@
+//! Syncs of random ranges with random partners over links that do random deeds, and what must hold whatever a link does.
+mod checks;
+mod deeds;
+mod forger;
+mod own;
+mod partner;
+mod rows;
+pub(crate) mod tally;
+mod trial;
+mod watched;
+
+use std::sync::Wait;
+use std::thread::Threads;
+use tally::Tally;
+
+/// Runs a list, and returns whether all is as it must be. Says on standard error what differs, if anything does.
+pub(crate) fn run_list<R>(rt: &R, number: u64, tally: &mut Tally) -> bool
+where
+    R: Eprint + AllocGlobal + Threads + Wait + Sync,
+{
+    match trial::run_list(rt, rt.alloc(), number, tally) {
+        Ok(()) => true,
+        Err(trouble) => {
+            let _ = eprintln!(rt; "list {number}: {trouble}");
+            false
+        }
+    }
+}

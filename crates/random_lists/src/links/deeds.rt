@@ -1,0 +1,63 @@
+//! Lists of deeds.
+ghost use Rattle.std.specs.Prelude.{◌<◌};
+
+use crate::random::Random;
+use hash_tree::NodeAt;
+use ring_node::Deed;
+use std::alloc::Global;
+use vclock::Refusal;
+
+/// A list of at most 200 deeds. Most of them hand on what comes, in some lists almost all.
+pub(crate) fn random_deeds(alloc: Global, random: &mut Random) -> Result<Vec<Deed>, Refusal> {
+    let one_in = match random.below(4) {
+        0 => 2,
+        1 => 5,
+        2 => 20,
+        _ => 60,
+    };
+    let mut deeds = Vec::new(alloc);
+    for _ in 0..random.below(201) {
+        let deed = if random.once_in(one_in) {
+            random_lie(random)
+        } else {
+            Deed::Pass
+        };
+        deeds.push(deed)?;
+    }
+    Ok(deeds)
+}
+
+/// A deed of a link that fails or lies.
+fn random_lie(random: &mut Random) -> Deed {
+    match random.below(24) {
+        0 => Deed::Lost,
+        1 => Deed::Gone,
+        2..=4 => Deed::Repeat,
+        5..=8 => random_node(random),
+        9..=12 => Deed::Renumber(random.below(20) as u32),
+        13..=16 => Deed::Cut(random_place(random)),
+        _ => Deed::Change(random_place(random)),
+    }
+}
+
+/// The ask for some node of some tree.
+fn random_node(random: &mut Random) -> Deed {
+    let depth = random.below(4) as u8;
+    let index = random.below(4_096) as u16;
+    let width = match depth {
+        0 => 1,
+        1 => 16,
+        2 => 256,
+        _ => 4_096,
+    };
+    match NodeAt::new(depth, index % width) {
+        Some(node) => Deed::Node(node),
+        None => Deed::Pass,
+    }
+}
+
+/// A place in a message: mostly in its head.
+fn random_place(random: &mut Random) -> usize {
+    let bound = if random.once_in(3) { 600 } else { 40 };
+    random.below(bound) as usize
+}

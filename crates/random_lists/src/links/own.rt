@@ -1,0 +1,196 @@
+//! The range that takes what a partner has.
+ghost use Rattle.std.specs.Prelude.{◌≡◌};
+
+use crate::links::rows::Given;
+use crate::links::tally::Tally;
+use crate::links::watched::Watched;
+use crate::trouble::Trouble;
+use admission::Slot;
+use caller_pass::{Closed, Pass, open_passes};
+use hash_tree::NodeAt;
+use range_journal::Source;
+use range_state::{RangeConfig, RangeState};
+use ring_node::{Link, OpenGate, SharedRange, SyncReport};
+use std::alloc::Global;
+use std::sync::Wait;
+use std::sync::ledger::{Blank, Ledger};
+use std::thread::Threads;
+use vclock::{Format, Refusal};
+use walk_messages::Answer;
+
+/// How many turns suffice to hash what was dirtied since a tree was clean.
+const TURNS: u64 = 200;
+
+/// A sync that was done.
+#[derive(Drop)]
+pub(crate) struct Worked {
+    pub(crate) report: Result<SyncReport, Refusal>,
+    /// How many turns it had.
+    pub(crate) turns: u64,
+    /// How many asks the link got.
+    pub(crate) asks: u64,
+    /// How often the link failed.
+    pub(crate) failures: u64,
+    /// How many receipts the pass had before.
+    pub(crate) before: usize,
+    /// How many receipts the pass got.
+    pub(crate) receipts: usize,
+    /// The answers that came of the offer that was asked of.
+    pub(crate) answers: Vec<Answer>,
+}
+
+impl Worked {
+    /// Whether it opened a session. A sync that is refused before that asks nothing.
+    pub(crate) fn has_opened(&self) -> bool {
+        self.report.is_ok() || self.asks > 0
+    }
+
+    /// How often the link must have failed.
+    pub(crate) fn losses(&self) -> u64 {
+        u64::from(matches!(&self.report, Err(Refusal::LinkLost)))
+    }
+
+    /// Whether the text came as an answer of the offer that was asked of.
+    pub(crate) fn has_answer(&self, node: NodeAt, text: &[u8]) -> bool {
+        let mut answers = self.answers.iter();
+        answers.any(|answer| answer.node == node && answer.text.as_slice() == text)
+    }
+
+    /// Counts it.
+    pub(crate) fn count(&self, tally: &mut Tally) {
+        tally.count_sync(self.receipts);
+        match &self.report {
+            Ok(report) => tally.count_end(report.state, report.bad),
+            Err(refusal) => tally.count_refusal(refusal),
+        }
+    }
+}
+
+/// A range with its passes, what it was given, and the syncs that were done.
+#[derive(Drop)]
+pub(crate) struct Own<L: Ledger> {
+    range: SharedRange<L>,
+    writer: Pass<L>,
+    syncer: Pass<L>,
+    given: Vec<Given>,
+    syncs: Vec<Worked>,
+}
+
+/// A range that was closed.
+#[derive(Drop)]
+pub(crate) struct Ended<L: Ledger> {
+    pub(crate) closed: Closed<L>,
+    pub(crate) given: Vec<Given>,
+    pub(crate) syncs: Vec<Worked>,
+}
+
+impl<L: Ledger> Own<L> {
+    /// A range that has nothing, whose tree is clean.
+    pub(crate) fn open<R: Threads + Sync>(
+        rt: &R,
+        alloc: Global,
+        blank: Blank,
+        format: Format,
+        limit: u64,
+    ) -> Result<Own<L>, Trouble>
+        requires { (blank.name ≡ L.name) × (blank.parts ≡ L.parts) × (blank.parts ≡ 2) }
+    {
+        let number = u64::from(format.number());
+        let config = RangeConfig::new(number, 0, 0, limit).ok_or(Refusal::BadRing)?;
+        let mut state = RangeState::new(alloc, config)?;
+        state.rehash(rt, alloc)?;
+        let (book, mut passes) = open_passes::<L>(blank, alloc, 2)?;
+        let syncer = passes.pop().ok_or(Refusal::Stranger)?;
+        let writer = passes.pop().ok_or(Refusal::Stranger)?;
+        Ok(Own {
+            range: SharedRange::new(1, state, book),
+            writer,
+            syncer,
+            given: Vec::new(alloc),
+            syncs: Vec::new(alloc),
+        })
+    }
+
+    /// Accepts a version, if the journal has room.
+    pub(crate) fn accept<R: Wait>(
+        &mut self,
+        rt: &R,
+        alloc: Global,
+        row: Given,
+    ) -> Result<(), Trouble> {
+        let Given { key, version } = row;
+        let copy = version.try_clone()?;
+        match self
+            .range
+            .copy(rt, alloc, &mut self.writer, Source::Copy, key, copy)
+        {
+            Ok(_) => {
+                self.given.push(Given { key, version })?;
+                Ok(())
+            }
+            Err(Refusal::JournalFull | Refusal::Crowded) => Ok(()),
+            Err(refusal) => Err(Trouble::Refused(refusal)),
+        }
+    }
+
+    /// Hashes the dirty nodes.
+    pub(crate) fn rehash<R: Wait, C: Ledger>(
+        &self,
+        rt: &R,
+        alloc: Global,
+        slot: &Slot<C>,
+    ) -> Result<(), Trouble> {
+        self.range
+            .rehash_worker(rt, alloc, slot, &OpenGate, 0, TURNS)?;
+        Ok(())
+    }
+
+    /// Syncs it with what a link gives.
+    pub(crate) fn sync<R: Wait, C: Ledger, K: Link>(
+        &mut self,
+        rt: &R,
+        alloc: Global,
+        slot: &Slot<C>,
+        link: &mut Watched<K>,
+        turns: u64,
+    ) -> Result<(), Trouble> {
+        let (asks, failures) = (link.asks(), link.failures());
+        let before = self.syncer.receipts().len();
+        let pass = &mut self.syncer;
+        let report = self
+            .range
+            .sync_worker(rt, alloc, slot, link, pass, 2, turns);
+        self.syncs.push(Worked {
+            report,
+            turns,
+            asks: link.asks().wrapping_sub(asks),
+            failures: link.failures().wrapping_sub(failures),
+            before,
+            receipts: self.syncer.receipts().len().wrapping_sub(before),
+            answers: link.take_answers(),
+        })?;
+        Ok(())
+    }
+
+    /// Closes it with both passes.
+    pub(crate) fn end(self, alloc: Global) -> Result<Ended<L>, Trouble> {
+        let Own {
+            range,
+            writer,
+            syncer,
+            given,
+            syncs,
+        } = self;
+        let mut passes = Vec::new(alloc);
+        passes.push(writer)?;
+        passes.push(syncer)?;
+        match range.close(alloc, passes) {
+            Ok(closed) => Ok(Ended {
+                closed,
+                given,
+                syncs,
+            }),
+            Err(_) => Err(Trouble::Differs("whether the range is closed")),
+        }
+    }
+}

@@ -1,0 +1,96 @@
+//! Partners.
+
+use crate::links::rows::{Given, KEYS, key_bytes};
+use crate::trouble::Trouble;
+use hash_tree::Digest;
+use range_journal::Source;
+use range_state::{RangeConfig, RangeState};
+use ring_node::OfferPool;
+use snapshot::Snapshot;
+use std::alloc::Global;
+use std::sync::{Arc, Wait};
+use std::thread::Threads;
+use vclock::{Format, Refusal};
+
+/// What a partner had when it made an offer.
+#[derive(Drop)]
+pub(crate) struct Offered {
+    root: Digest,
+    pub(crate) rows: Vec<Given>,
+}
+
+/// A partner, with its offers.
+#[derive(Drop)]
+pub(crate) struct Partner {
+    state: RangeState,
+    pool: OfferPool,
+    offered: Vec<Offered>,
+}
+
+impl Partner {
+    /// A partner that has nothing and offers nothing.
+    pub(crate) fn new(alloc: Global, format: Format) -> Result<Partner, Refusal> {
+        let number = u64::from(format.number());
+        let config = RangeConfig::new(number, 0, 0, 1_000).ok_or(Refusal::BadRing)?;
+        Ok(Partner {
+            state: RangeState::new(alloc, config)?,
+            pool: OfferPool::new(alloc),
+            offered: Vec::new(alloc),
+        })
+    }
+
+    /// Accepts a version.
+    pub(crate) fn accept(&mut self, alloc: Global, row: Given) -> Result<(), Refusal> {
+        let Given { key, version } = row;
+        self.state.accept(alloc, 0, Source::Copy, key, version)?;
+        Ok(())
+    }
+
+    /// Offers what it has now, so many times.
+    pub(crate) fn publish<R: Threads + Wait + Sync>(
+        &mut self,
+        rt: &R,
+        alloc: Global,
+        times: u8,
+    ) -> Result<(), Trouble> {
+        self.state.rehash(rt, alloc)?;
+        let snapshot = self.state.snapshot(alloc)?;
+        for _ in 0..times {
+            self.pool.publish(rt, Arc::try_clone(&snapshot)?)?;
+        }
+        let (root, rows) = (snapshot.root(), self.held(alloc)?);
+        self.offered.push(Offered { root, rows })?;
+        Ok(())
+    }
+
+    /// The versions that it holds, each with its key.
+    fn held(&self, alloc: Global) -> Result<Vec<Given>, Trouble> {
+        let mut rows = Vec::new(alloc);
+        for number in 0..KEYS {
+            let key = key_bytes(number);
+            for version in self.state.versions(key) {
+                let version = version.try_clone()?;
+                rows.push(Given { key, version })?;
+            }
+        }
+        Ok(rows)
+    }
+
+    /// What it offered last.
+    pub(crate) fn rows(&self) -> &[Given] {
+        match self.offered.last() {
+            Some(offered) => &offered.rows,
+            None => &[],
+        }
+    }
+
+    /// Its offers.
+    pub(crate) fn pool(&self) -> &OfferPool {
+        &self.pool
+    }
+
+    /// What it had when it offered that root, if it did.
+    pub(crate) fn with_root(&self, root: &Digest) -> Option<&Offered> {
+        self.offered.iter().find(|offered| offered.root == *root)
+    }
+}

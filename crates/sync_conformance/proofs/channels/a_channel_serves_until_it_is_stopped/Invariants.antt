@@ -1,7 +1,0 @@
-use Rattle.sync_conformance.proofs.channels.a_channel_serves_until_it_is_stopped.Given as goal
-
-abbrev pub ghosts-serve_and_sync-L-Ledger : goal.ghosts-serve_and_sync-L-Ledger
-ghosts-serve_and_sync-L-Ledger g a = record { name = a.blanks.0.name; parts = a.blanks.0.parts }
-
-abbrev pub ghosts-serve_and_sync-C-Ledger : goal.ghosts-serve_and_sync-C-Ledger
-ghosts-serve_and_sync-C-Ledger g a = record { name = a.blanks.1.name; parts = a.blanks.1.parts }

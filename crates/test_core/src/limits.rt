@@ -1,0 +1,69 @@
+// A row at all its limits: a key of 255 bytes, and 64 versions with clocks of 32 pairs and the longest values.
+use row_bytes::{a_held_set_is_a_row, read_row, write_row};
+use std::alloc::Global;
+use std::process::Abort;
+use std::test::Fail;
+use vclock::{Format, Refusal};
+
+/// The text of a key of 255 bytes with 64 versions, none below another: the clock of each counts one node more than once,
+/// and each value has so many bytes.
+fn longest_text(alloc: Global, format: Format, value: u32) -> Result<Vec<u8>, Refusal> {
+    let mut text = Vec::from_slice(alloc, b"\x00\xff")?;
+    text.extend_from_slice(&[b'k'; 255])?;
+    text.extend_from_slice(b"\x00\x40")?;
+    for version in 0..64u16 {
+        if format == Format::Two {
+            text.push(0)?;
+        }
+        text.push(32)?;
+        put_pairs(&mut text, version)?;
+        text.extend_from_slice(&value.to_be_bytes())?;
+        for _ in 0..value {
+            text.push(b'v')?;
+        }
+    }
+    Ok(text)
+}
+
+/// Appends 32 pairs: nodes 1 to 31 were counted once, and then one that is another one for each version.
+fn put_pairs(text: &mut Vec<u8>, version: u16) -> Result<(), Refusal> {
+    for node in 1..32u16 {
+        put_pair(text, node)?;
+    }
+    put_pair(text, version.saturating_add(32))
+}
+
+/// Appends a pair of a node that was counted once.
+fn put_pair(text: &mut Vec<u8>, node: u16) -> Result<(), Refusal> {
+    text.extend_from_slice(&node.to_be_bytes())?;
+    text.extend_from_slice(&1u64.to_be_bytes())?;
+    Ok(())
+}
+
+/// Reads the text and writes it again, and clones the set.
+fn expect_row(
+    rt: &impl Abort,
+    alloc: Global,
+    format: Format,
+    value: u32,
+    length: usize,
+) -> Result<(), Refusal> {
+    let text = longest_text(alloc, format, value)?;
+    assert_eq!(rt; text.len(), length);
+    let (row, rest) = read_row(alloc, format, &text)?;
+    assert!(rt; rest.is_empty());
+    let copy = row.versions.try_clone(alloc)?;
+    assert_eq!(rt; (row.versions.len(), copy.len()), (64, 64));
+    a_held_set_is_a_row();
+    let written = write_row(alloc, format, &row)?;
+    assert!(rt; written.as_slice() == text.as_slice());
+    Ok(())
+}
+
+#[test]
+fn a_row_has_its_limits(rt: HostRuntime) -> Result<(), Fail> {
+    let alloc = rt.alloc();
+    expect_row(&rt, alloc, Format::One, 4_096, 283_203)?;
+    expect_row(&rt, alloc, Format::Two, 65_536, 4_215_427)?;
+    Ok(())
+}

@@ -1,0 +1,41 @@
+//! Tests of passes, of ranges behind a lock, and of what the threads of a node share: offers, links, sync workers and storms.
+#![tactic(auto)]
+
+#[cfg(test)]
+mod answers;
+#[cfg(test)]
+mod barrier;
+#[cfg(test)]
+mod channels;
+#[cfg(test)]
+mod deliveries;
+#[cfg(test)]
+mod fixtures;
+#[cfg(test)]
+mod hints;
+#[cfg(test)]
+mod interruptions;
+#[cfg(test)]
+mod lies;
+#[cfg(test)]
+mod locked;
+#[cfg(test)]
+mod migrations;
+#[cfg(test)]
+mod partners;
+#[cfg(test)]
+mod passes;
+#[cfg(test)]
+mod pools;
+#[cfg(test)]
+mod ranges;
+#[cfg(test)]
+mod rehashes;
+#[cfg(test)]
+mod slots;
+#[cfg(test)]
+mod storms;
+#[cfg(test)]
+mod syncs;
+#[cfg(test)]
+mod threads;

@@ -1,0 +1,182 @@
+// Storms, and gates that have their threads meet.
+
+use ring_node::{Gate, OpenGate, Step};
+use std::sync::Wait;
+use std::sync::atomic::{AtomicU64, Ordering};
+use std::test::Fail;
+use std::thread;
+use storm::{Tallies, run_storm};
+
+/// How often a thread looks whether it may go on.
+const MOST_LOOKS: u64 = 10_000_000;
+
+/// How many puts each writer does at the least before it is held.
+const EARLY_PUTS: u64 = 1_000;
+
+/// How many rounds a rehash worker has.
+const ROUNDS: u64 = 100;
+
+#[test]
+fn a_storm_of_two_puts_settles(rt: HostRuntime) -> Result<(), Fail> {
+    let end = run_storm(&rt, rt.alloc(), 1, &OpenGate, &Tallies::new())?;
+    assert_eq!(rt; (end.puts, end.equal, end.settled), (2, true, true));
+    Ok(())
+}
+
+/// A gate that holds each rehash worker with a job until some put has passed, and each writer after its first put until some
+/// rehash worker has a job.
+#[derive(Drop)]
+struct Overlap {
+    puts: AtomicU64,
+    jobs: AtomicU64,
+    gave_up: AtomicU64,
+}
+
+impl Overlap {
+    /// Waits until the word is set, or gives up.
+    fn wait_for(&self, word: &AtomicU64) {
+        for _ in 0..MOST_LOOKS {
+            if word.load(Ordering::SeqCst) > 0 {
+                return;
+            }
+            thread::yield_now();
+        }
+        self.gave_up.store(1, Ordering::SeqCst);
+    }
+}
+
+impl Gate for Overlap {
+    fn pass<R: Wait>(&self, _rt: &R, step: Step) {
+        match step {
+            Step::Taken => {
+                self.jobs.store(1, Ordering::SeqCst);
+                self.wait_for(&self.puts);
+            }
+            Step::Put => {
+                self.puts.store(1, Ordering::SeqCst);
+                self.wait_for(&self.jobs);
+            }
+            Step::Hashed | Step::Round => {}
+        }
+    }
+}
+
+#[test]
+fn a_storm_overlaps(rt: HostRuntime) -> Result<(), Fail> {
+    let gate = Overlap {
+        puts: AtomicU64::new(0),
+        jobs: AtomicU64::new(0),
+        gave_up: AtomicU64::new(0),
+    };
+    let end = run_storm(&rt, rt.alloc(), 100, &gate, &Tallies::new())?;
+    assert_eq!(rt; (end.puts, end.equal, end.settled), (200, true, true));
+    assert_eq!(rt; gate.gave_up.load(Ordering::SeqCst), 0);
+    Ok(())
+}
+
+/// A gate that has each rehash worker meet a late digest, and each sync worker finish a session, while both writers have
+/// more to write.
+///
+/// Each rehash worker is held with its first job, which is of the first leaf, until both writers have come to where they are
+/// held, after 1,000 puts each. Each writer is held there until both nodes have finished a session. Each sync worker is held
+/// before its first round until both rehash workers have done all of theirs, and so until both trees are clean.
+#[derive(Drop)]
+struct Meeting<'a> {
+    tallies: &'a Tallies,
+    jobs: AtomicU64,
+    held: AtomicU64,
+    gave_up: AtomicU64,
+}
+
+impl<'a> Meeting<'a> {
+    /// Whether both rehash workers have done all their rounds.
+    fn is_rehashed<R: Wait>(&self, rt: &R) -> bool {
+        let (one, two) = (self.tallies.one.look(rt), self.tallies.two.look(rt));
+        one.published >= ROUNDS && two.published >= ROUNDS
+    }
+
+    /// Whether both writers have done enough puts to be held.
+    fn is_time<R: Wait>(&self, rt: &R) -> bool {
+        let (one, two) = (self.tallies.one.look(rt), self.tallies.two.look(rt));
+        one.puts >= EARLY_PUTS && two.puts >= EARLY_PUTS
+    }
+
+    /// Whether both nodes have finished a session.
+    fn is_synced<R: Wait>(&self, rt: &R) -> bool {
+        let (one, two) = (self.tallies.one.look(rt), self.tallies.two.look(rt));
+        one.syncs >= 1 && two.syncs >= 1
+    }
+
+    /// Waits until the word is that number at the least, or gives up.
+    fn wait_for(&self, word: &AtomicU64, least: u64) {
+        for _ in 0..MOST_LOOKS {
+            if word.load(Ordering::SeqCst) >= least {
+                return;
+            }
+            thread::yield_now();
+        }
+        self.gave_up.store(1, Ordering::SeqCst);
+    }
+
+    /// Holds a writer until both nodes have finished a session, or gives up.
+    fn hold_writer<R: Wait>(&self, rt: &R) {
+        self.held.fetch_add(1, Ordering::SeqCst);
+        for _ in 0..MOST_LOOKS {
+            if self.is_synced(rt) {
+                return;
+            }
+            thread::yield_now();
+        }
+        self.gave_up.store(1, Ordering::SeqCst);
+    }
+
+    /// Holds a sync worker until both rehash workers have ended, or gives up.
+    fn hold_syncer<R: Wait>(&self, rt: &R) {
+        for _ in 0..MOST_LOOKS {
+            if self.is_rehashed(rt) {
+                return;
+            }
+            thread::yield_now();
+        }
+        self.gave_up.store(1, Ordering::SeqCst);
+    }
+}
+
+impl<'a> Gate for Meeting<'a> {
+    fn pass<R: Wait>(&self, rt: &R, step: Step) {
+        match step {
+            Step::Taken => {
+                self.jobs.fetch_add(1, Ordering::SeqCst);
+                self.wait_for(&self.held, 2);
+            }
+            Step::Put => {
+                self.wait_for(&self.jobs, 2);
+                if self.is_time(rt) && !self.is_synced(rt) {
+                    self.hold_writer(rt);
+                }
+            }
+            Step::Round => self.hold_syncer(rt),
+            Step::Hashed => {}
+        }
+    }
+}
+
+#[test]
+fn each_node_syncs_while_writers_write(rt: HostRuntime) -> Result<(), Fail> {
+    let tallies = Tallies::new();
+    let gate = Meeting {
+        tallies: &tallies,
+        jobs: AtomicU64::new(0),
+        held: AtomicU64::new(0),
+        gave_up: AtomicU64::new(0),
+    };
+    let end = run_storm(&rt, rt.alloc(), 10_000, &gate, &tallies)?;
+    assert_eq!(rt; (end.puts, end.equal, end.settled), (20_000, true, true));
+    assert_eq!(rt; gate.gave_up.load(Ordering::SeqCst), 0);
+    for tally in [tallies.one.look(&rt), tallies.two.look(&rt)] {
+        assert!(rt; tally.stale >= 1);
+        assert!(rt; tally.syncs >= 1);
+        assert_eq!(rt; tally.puts, 10_000);
+    }
+    Ok(())
+}
