@@ -26,6 +26,11 @@
  *   except that a snapshot shares memory with its replica: both stay on one thread.
  * - No call from a signal handler, or from the forked child of a process with threads.
  * - malloc, realloc and free come from one allocator, and align blocks up to 16 bytes.
+ * - Counters never go back: a replica that lost entries returns under a node number that was never used, or with every version
+ *   that it ever acknowledged, showed to a reader or handed to a partner (antientropy_accept takes them in). Otherwise a put can
+ *   reuse a clock that another replica holds, and is then lost silently. So responses, copies, hints and offers go out only
+ *   after the versions in them are on disk. A clock has at most 32 pairs, and a number that was used stays in it. See
+ *   docs/EMBEDDING_C.md, "Restarts", and examples/restart.c.
  * - What was made is freed: antientropy_free, antientropy_snapshot_free. A snapshot may outlive its replica.
  */
 #ifndef ANTIENTROPY_H
