@@ -239,7 +239,9 @@ uint32_t antientropy_ask(struct antientropy *replica, uint64_t session, uint32_t
 /* Takes the message of a partner's answer, to an ask of that offer. The partner isn't trusted.
  * Refused, in order: EMPTY, BAD_MESSAGE (no answer, or of another offer), UNKNOWN_SESSION, NOT_ASKED, WRONG_DIGEST,
  * NOT_CANONICAL (the session has failed then), CROWDED, JOURNAL_FULL, NO_MEMORY. NO_MEMORY may stand in place of any but
- * EMPTY. After BAD_MESSAGE, NOT_ASKED and WRONG_DIGEST ask again. */
+ * EMPTY. After BAD_MESSAGE, NOT_ASKED and WRONG_DIGEST ask again, with a bound on the number of tries. After CROWDED,
+ * JOURNAL_FULL and NO_MEMORY the session stays open, and the next ask is for the same node: cancel the session. No call
+ * asks for another node. */
 uint32_t antientropy_take(struct antientropy *replica, uint64_t session, uint32_t number, const uint8_t *answer,
                           size_t answer_len, struct antientropy_taken *taken);
 
