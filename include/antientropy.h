@@ -165,8 +165,8 @@ uint32_t antientropy_accept(struct antientropy *replica, const uint8_t *key, siz
                             const struct antientropy_pair *clock, size_t clock_len, uint8_t kind, const uint8_t *value,
                             size_t value_len, uint64_t *taken);
 
-/* Returns the text of the row of a key (docs/FORMATS.md): the key with all versions held for it. If none is held, `need`
- * is 0. Refused, in order: EMPTY, BAD_KEY, NO_MEMORY, SMALL. */
+/* Returns the text of the row of a key (docs/FORMATS.md): the key with all versions held for it. If none is held,
+ * `need` is 0. Refused, in order: EMPTY, BAD_KEY, NO_MEMORY, SMALL. */
 uint32_t antientropy_get(struct antientropy *replica, const uint8_t *key, size_t key_len, uint8_t *out, size_t out_len,
                          uint64_t *need);
 
