@@ -1,5 +1,5 @@
-// For `examples/check` alone, which loads it into the program by LD_PRELOAD: it is loaded before
-// the C library, and refuses one growth of memory, or fails one read or write. No part of the program is written in C.
+// For `examples/check` alone, which loads it into the program by LD_PRELOAD, before the C library. It refuses one growth of
+// memory, or fails one read or write. No part of the program is written in C.
 //
 //   REFUSE_ALLOC=N    the Nth growth is refused
 //   REFUSE_ALLOCS=N   the Nth growth and each one after it
