@@ -1,4 +1,4 @@
-// The keys that are written, their values, and their versions.
+//! The keys that are written, their values, and their versions.
 use std::alloc::Global;
 use vclock::{Bytes, Clock, Refusal};
 use version_set::{Kind, Version};

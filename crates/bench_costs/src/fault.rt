@@ -1,4 +1,4 @@
-// What ends the program before its work is done.
+//! What ends the program before its work is done.
 use std::alloc::{AllocError, AllocFailed};
 use std::io;
 use thiserror::Error;

@@ -1,4 +1,4 @@
-// Ranges of format 1 with all keys.
+//! Ranges of format 1 with all keys.
 use crate::entries::{key, version};
 use range_journal::Source;
 use range_state::{RangeConfig, RangeState};

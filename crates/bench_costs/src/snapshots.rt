@@ -1,4 +1,4 @@
-// What is done with one range: snapshots, one after another, or its going over to format 2.
+//! What is done with one range: snapshots, one after another, or its going over to format 2.
 use crate::fault::Fault;
 use crate::ranges::{accept, new_range};
 use range_state::RangeState;

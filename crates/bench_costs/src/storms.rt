@@ -1,4 +1,4 @@
-// A storm, and how long its puts took. What is told is how the storm ended.
+//! A storm, and how long its puts took. What is told is how the storm ended.
 mod latencies;
 mod watch;
 

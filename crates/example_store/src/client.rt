@@ -1,4 +1,4 @@
-// What a client's thread does.
+//! What a client's thread does.
 use caller_pass::Pass;
 use ring_node::SharedRange;
 use std::alloc::Global;

@@ -1,4 +1,4 @@
-// How a replica is closed.
+//! How a replica is closed.
 use crate::replica::Replica;
 use std::alloc::Global;
 use std::sync::ledger::Ledger;

@@ -1,4 +1,4 @@
-// The day of a range, and what it prints.
+//! The day of a range, and what it prints.
 ghost use Rattle.std.specs.Prelude.{◌≡◌, ◌^◌, ◌<◌};
 
 use crate::client::{put, read, update};

@@ -1,4 +1,4 @@
-// How a version gets to the other replica.
+//! How a version gets to the other replica.
 use crate::replica::Replica;
 use range_journal::Source;
 use ring_node::{DeliverReport, SharedController, deliver};

@@ -1,4 +1,4 @@
-// Links to the other replica.
+//! Links to the other replica.
 use crate::replica::Replica;
 use ring_node::{Deed, MemoryLink, ScriptedLink, SharedController, SyncReport, channel_link};
 use std::alloc::Global;

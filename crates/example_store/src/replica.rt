@@ -1,4 +1,4 @@
-// A replica of a range.
+//! A replica of a range.
 ghost use Rattle.std.specs.Prelude.{◌≡◌, ◌≤◌};
 
 use caller_pass::{Pass, open_passes};

@@ -1,4 +1,4 @@
-// Rounds of anti-entropy.
+//! Rounds of anti-entropy.
 use crate::client::update;
 use crate::replica::Replica;
 use caller_pass::Pass;

@@ -1,4 +1,4 @@
-// Where keys go.
+//! Where keys go.
 ghost use Rattle.std.specs.Prelude.{◌^◌, ◌<◌, ◌≤◌};
 
 use key_ring::Ring;

@@ -1,4 +1,4 @@
-// The slots of background work.
+//! The slots of background work.
 ghost use Rattle.std.specs.Prelude.{◌≡◌};
 
 use admission::Controller;

@@ -1,4 +1,4 @@
-// Clocks, bytes, keys and refusals.
+//! Clocks, bytes, keys and refusals.
 use std::alloc::{AllocError, Global};
 use std::test::Fail;
 use vclock::{Bytes, Clock, ClockOrder, Clocks, PassPart, Refusal, check_key};

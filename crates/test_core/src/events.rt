@@ -1,4 +1,4 @@
-// Sessions as events of a range.
+//! Sessions as events of a range.
 use hash_tree::{Hashed, NodeAt, Text, hash};
 use range_state::{AnswerEvent, Event, OpenEvent, RangeConfig, RangeState, Reply};
 use snapshot::Snapshot;

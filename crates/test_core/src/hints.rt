@@ -1,4 +1,4 @@
-// Hints: versions that are kept for replicas that are down.
+//! Hints: versions that are kept for replicas that are down.
 use crate::versions::version;
 use hint_store::{Delivery, Fate, HintStore};
 use std::alloc::Global;

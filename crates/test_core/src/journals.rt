@@ -1,4 +1,4 @@
-// Journals.
+//! Journals.
 use crate::versions::version;
 use range_journal::{Journal, Source, held_in};
 use std::alloc::Global;

@@ -1,4 +1,4 @@
-// A row at all its limits: a key of 255 bytes, and 64 versions with clocks of 32 pairs and the longest values.
+//! A row at all its limits: a key of 255 bytes, and 64 versions with clocks of 32 pairs and the longest values.
 use row_bytes::{a_held_set_is_a_row, read_row, write_row};
 use std::alloc::Global;
 use std::process::Abort;

@@ -1,4 +1,4 @@
-// Messages of a session, written and read, byte by byte.
+//! Messages of a session, written and read, byte by byte.
 
 use hash_tree::{NodeAt, Text};
 use std::alloc::Global;

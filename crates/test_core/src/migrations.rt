@@ -1,4 +1,4 @@
-// A range that goes over to format 2.
+//! A range that goes over to format 2.
 use crate::refusals::is_refused;
 use hash_tree::NodeAt;
 use range_state::{Event, RangeConfig, RangeState, Reply};

@@ -1,4 +1,4 @@
-// Sessions of ranges with their partners.
+//! Sessions of ranges with their partners.
 use crate::refusals::is_refused;
 use hash_tree::{Digest, Hashed, NodeAt, Text, hash};
 use range_state::{AnswerTaken, RangeConfig, RangeState};

@@ -1,4 +1,4 @@
-// Range states.
+//! Range states.
 ghost use Rattle.std.specs.Prelude.{◌<◌};
 
 use crate::refusals::is_refused;

@@ -1,4 +1,4 @@
-// Two replicas that are reconciled.
+//! Two replicas that are reconciled.
 ghost use Rattle.std.specs.Prelude.{◌≤◌};
 
 use crate::refusals::is_refused;

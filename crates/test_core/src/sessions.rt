@@ -1,4 +1,4 @@
-// Sessions: two trees compared, and what is taken of the partner's answers.
+//! Sessions: two trees compared, and what is taken of the partner's answers.
 use crate::refusals::is_refused;
 use hash_tree::{Digest, Hashed, NodeAt, Text, hash};
 use range_state::{RangeConfig, RangeState};

@@ -1,4 +1,4 @@
-// Versions and sets of them.
+//! Versions and sets of them.
 use crate::versions::{members, version};
 use std::alloc::Global;
 use std::process::Abort;

@@ -1,4 +1,4 @@
-// Slots and latencies.
+//! Slots and latencies.
 ghost use Rattle.std.specs.Prelude.{◌≡◌};
 
 use admission::{Controller, Slot};

@@ -1,4 +1,4 @@
-// Trees: node texts, marks, jobs and rehashes. The digests were made by another program from the definition.
+//! Trees: node texts, marks, jobs and rehashes. The digests were made by another program from the definition.
 use crate::refusals::is_refused;
 use crate::versions::version;
 use hash_tree::{Digest, Hashed, Marks, NodeAt, Text, hash, inner_text, is_inner_text, leaf_text};

@@ -1,4 +1,4 @@
-// Answers of partners, true and forged.
+//! Answers of partners, true and forged.
 ghost use Rattle.std.specs.Prelude.{◌≡◌};
 
 use crate::locked::range;

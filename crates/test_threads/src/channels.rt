@@ -1,4 +1,4 @@
-// Links over channels.
+//! Links over channels.
 ghost use Rattle.std.specs.Prelude.{◌≡◌};
 
 use crate::partners::{Synced, pool_of, sync_over};

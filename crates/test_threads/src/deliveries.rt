@@ -1,4 +1,4 @@
-// Deliveries of hints.
+//! Deliveries of hints.
 ghost use Rattle.std.specs.Prelude.{◌≡◌};
 
 use crate::fixtures::{counted, last_pass, open_range, open_slots, value};

@@ -1,4 +1,4 @@
-// Shared hints.
+//! Shared hints.
 use hint_store::Delivery;
 use ring_node::SharedHints;
 use std::alloc::Global;

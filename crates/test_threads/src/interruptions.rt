@@ -1,4 +1,4 @@
-// Syncs that are held while something else is done at their range.
+//! Syncs that are held while something else is done at their range.
 ghost use Rattle.std.specs.Prelude.{◌≡◌};
 
 use crate::barrier::Barrier;

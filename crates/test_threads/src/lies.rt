@@ -1,4 +1,4 @@
-// Sync workers whose links lie or fail.
+//! Sync workers whose links lie or fail.
 ghost use Rattle.std.specs.Prelude.{◌≡◌};
 
 use crate::partners::{Synced, expect_asked, expect_counts, expect_report, pool_of, sync_over};

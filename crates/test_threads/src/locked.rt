@@ -1,4 +1,4 @@
-// A range with two passes.
+//! A range with two passes.
 ghost use Rattle.std.specs.Prelude.{◌≡◌, [], IfOk};
 
 use caller_pass::{LockedRange, Pass, open_passes};

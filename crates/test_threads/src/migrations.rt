@@ -1,4 +1,4 @@
-// Two nodes that write, rehash and sync in threads, and go over to format 2 half-way.
+//! Two nodes that write, rehash and sync in threads, and go over to format 2 half-way.
 ghost use Rattle.std.specs.Prelude.{◌≡◌};
 
 use crate::fixtures::{open_range, open_slots};

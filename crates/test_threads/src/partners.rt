@@ -1,4 +1,4 @@
-// Partners, and syncs with what links give.
+//! Partners, and syncs with what links give.
 ghost use Rattle.std.specs.Prelude.{◌≡◌};
 
 use crate::fixtures::{open_range, open_slots};

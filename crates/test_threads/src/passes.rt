@@ -1,4 +1,4 @@
-// Passes, from their opening to the close of their range.
+//! Passes, from their opening to the close of their range.
 ghost use Rattle.std.specs.Prelude.{◌≡◌};
 
 use crate::locked::range;

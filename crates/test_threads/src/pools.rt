@@ -1,4 +1,4 @@
-// Pools of offers.
+//! Pools of offers.
 
 use crate::partners::snapshot_of;
 use hash_tree::NodeAt;

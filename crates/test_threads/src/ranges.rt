@@ -1,4 +1,4 @@
-// Calls of a shared range, in one thread.
+//! Calls of a shared range, in one thread.
 ghost use Rattle.std.specs.Prelude.{◌≡◌};
 
 use crate::fixtures::{counted, last_pass, open_range, value};

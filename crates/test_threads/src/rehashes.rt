@@ -1,4 +1,4 @@
-// Rehash workers, and puts that pass them.
+//! Rehash workers, and puts that pass them.
 ghost use Rattle.std.specs.Prelude.{◌≡◌};
 
 use crate::barrier::Barrier;

@@ -1,4 +1,4 @@
-// A shared controller of slots.
+//! A shared controller of slots.
 ghost use Rattle.std.specs.Prelude.{◌≡◌};
 
 use admission::{Controller, Slot};

@@ -1,4 +1,4 @@
-// Storms, and gates that have their threads meet.
+//! Storms, and gates that have their threads meet.
 
 use ring_node::{Gate, OpenGate, Step};
 use std::sync::Wait;

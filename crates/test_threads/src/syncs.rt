@@ -1,4 +1,4 @@
-// Sync workers whose partners answer truly.
+//! Sync workers whose partners answer truly.
 use crate::partners::{
     expect_asked, expect_counts, expect_held, expect_report, pool_of, snapshot_of, sync_over,
 };

@@ -1,4 +1,4 @@
-// Eight threads that write and read one range.
+//! Eight threads that write and read one range.
 ghost use Rattle.std.specs.Prelude.{◌≡◌};
 
 use crate::fixtures::{counted, open_range, value};

@@ -1,4 +1,4 @@
-// Calls that are made for all keys, one after another.
+//! Calls that are made for all keys, one after another.
 use crate::calls::pace::Pace;
 use crate::calls::round::Round;
 use crate::entries::{key, value};

@@ -1,4 +1,4 @@
-// Which version of each key is written.
+//! Which version of each key is written.
 use std::alloc::Global;
 use vclock::{Clock, Refusal};
 

@@ -1,4 +1,4 @@
-// Turns, in each of which one key goes from one replica to the other.
+//! Turns, in each of which one key goes from one replica to the other.
 use crate::calls::pace::Paces;
 use crate::calls::phase::put;
 use crate::calls::plan::{CallPlan, TURNS};

@@ -1,4 +1,4 @@
-// A sync by messages, whose bytes go over memory.
+//! A sync by messages, whose bytes go over memory.
 use hash_tree::{NodeAt, Text, hash};
 use range_state::{AnswerTaken, RangeState};
 use snapshot::Snapshot;

@@ -1,4 +1,4 @@
-// Two replicas of a range.
+//! Two replicas of a range.
 use crate::ranges::{accept, new_range};
 use range_state::{RangeState, Reconciled, reconcile};
 use std::alloc::Global;

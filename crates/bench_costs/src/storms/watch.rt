@@ -1,4 +1,4 @@
-// A gate that looks at the clock.
+//! A gate that looks at the clock.
 use crate::storms::latencies::Latencies;
 use crate::storms::{StormPlan, Workers};
 use ring_node::{Gate, Step};

@@ -1,4 +1,4 @@
-// What a thread does.
+//! What a thread does.
 use crate::entries::{key, value};
 use crate::fault::Fault;
 use crate::threads::plan::Part;

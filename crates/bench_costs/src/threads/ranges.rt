@@ -1,4 +1,4 @@
-// The ranges, and the threads that write them.
+//! The ranges, and the threads that write them.
 ghost use Rattle.std.specs.Prelude.{◌≡◌, ◌≤◌};
 
 use crate::fault::Fault;

@@ -1,4 +1,4 @@
-// Lists of events.
+//! Lists of events.
 use crate::core_calls::ranges::range;
 use crate::core_calls::versions::version;
 use crate::lines::{show, unchanged};

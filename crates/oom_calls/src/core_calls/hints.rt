@@ -1,4 +1,4 @@
-// Hints.
+//! Hints.
 use crate::core_calls::versions::wide_version;
 use crate::lines::{show, unchanged};
 use hint_store::{Hint, HintStore, Kept};

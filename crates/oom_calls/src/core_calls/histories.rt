@@ -1,4 +1,4 @@
-// Journals.
+//! Journals.
 use crate::core_calls::versions::version;
 use crate::lines::{show, unchanged};
 use crate::states::begins;

@@ -1,4 +1,4 @@
-// Shared leaves.
+//! Shared leaves.
 use crate::core_calls::versions::version;
 use crate::lines::{show, unchanged};
 use hash_tree::SharedLeaf;

@@ -1,4 +1,4 @@
-// Messages.
+//! Messages.
 use crate::lines::show;
 use hash_tree::{NodeAt, Text};
 use std::alloc::Global;

@@ -1,4 +1,4 @@
-// Pairs of ranges that reconcile.
+//! Pairs of ranges that reconcile.
 use crate::lines::{show, unchanged};
 use crate::states::{is_between, is_same};
 use range_journal::Source;

@@ -1,4 +1,4 @@
-// Sessions of ranges.
+//! Sessions of ranges.
 use crate::core_calls::sessions::{ASKED, first_text};
 use crate::core_calls::snapshots::{Snapshots, clean_range};
 use crate::lines::{show, unchanged};

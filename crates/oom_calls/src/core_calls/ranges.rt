@@ -1,4 +1,4 @@
-// Range states.
+//! Range states.
 use crate::core_calls::versions::version;
 use crate::lines::{show, unchanged};
 use crate::states::is_same;

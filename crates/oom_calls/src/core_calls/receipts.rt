@@ -1,4 +1,4 @@
-// Calls of a range whose receipts go to a list.
+//! Calls of a range whose receipts go to a list.
 use crate::core_calls::range_sessions::{first_text_of, is_after};
 use crate::core_calls::ranges::{KEYS, is_before, is_before_key, put_parts, range};
 use crate::core_calls::sessions::ASKED;

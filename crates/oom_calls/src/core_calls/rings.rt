@@ -1,4 +1,4 @@
-// Rings.
+//! Rings.
 use crate::lines::show;
 use key_ring::Ring;
 use std::alloc::Global;

@@ -1,4 +1,4 @@
-// Row texts.
+//! Row texts.
 use crate::lines::{show, unchanged};
 use row_bytes::{a_held_set_is_a_row, put_row, read_row, read_rows, write_row};
 use std::alloc::Global;

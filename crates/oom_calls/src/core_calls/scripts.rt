@@ -1,4 +1,4 @@
-// Scripts.
+//! Scripts.
 use crate::lines::show;
 use outage_script::{ScriptEnd, run_bytes, run_script};
 use std::alloc::Global;

@@ -1,4 +1,4 @@
-// Sessions, which compare snapshots.
+//! Sessions, which compare snapshots.
 use crate::core_calls::snapshots::Snapshots;
 use crate::lines::{show, unchanged};
 use crate::sessions::is_same_session;

@@ -1,4 +1,4 @@
-// Slots.
+//! Slots.
 ghost use Rattle.std.specs.Prelude.{◌≡◌};
 
 use crate::lines::show;

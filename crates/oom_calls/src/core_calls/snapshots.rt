@@ -1,4 +1,4 @@
-// Snapshots.
+//! Snapshots.
 use crate::core_calls::ranges::range as new_range;
 use crate::core_calls::trees::range;
 use crate::lines::show;

@@ -1,4 +1,4 @@
-// Trees: texts of nodes, marks, jobs and rehashes.
+//! Trees: texts of nodes, marks, jobs and rehashes.
 use crate::core_calls::leaves::leaf_of;
 use crate::core_calls::ranges::range_of;
 use crate::lines::{show, unchanged};

@@ -1,4 +1,4 @@
-// Versions and sets of them.
+//! Versions and sets of them.
 use crate::lines::{show, unchanged};
 use std::alloc::Global;
 use std::io;

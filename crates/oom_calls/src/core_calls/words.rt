@@ -1,4 +1,4 @@
-// Clocks, bytes and texts.
+//! Clocks, bytes and texts.
 use crate::lines::{show, unchanged};
 use hash_tree::Text;
 use std::alloc::Global;

@@ -1,4 +1,4 @@
-// Books of passes.
+//! Books of passes.
 ghost use Rattle.std.specs.Prelude.{◌≡◌};
 
 use crate::lines::show;

@@ -1,4 +1,4 @@
-// Links over channels.
+//! Links over channels.
 use crate::lines::show;
 use crate::thread_calls::links::{ask, offer};
 use crate::thread_calls::partner::Partner;

@@ -1,4 +1,4 @@
-// Ranges that are closed.
+//! Ranges that are closed.
 use caller_pass::{Closed, LockedRange, Pass, Unclosed};
 use ring_node::{NotClosed, SharedRange};
 use std::alloc::Global;

@@ -1,4 +1,4 @@
-// What is left when the ranges are closed.
+//! What is left when the ranges are closed.
 use crate::states::{clean_nodes, is_between};
 use crate::thread_calls::told::Told;
 use caller_pass::Closed;

@@ -1,4 +1,4 @@
-// Links to a pool in the same memory.
+//! Links to a pool in the same memory.
 use crate::lines::show;
 use crate::thread_calls::partner::Partner;
 use hash_tree::NodeAt;

@@ -1,4 +1,4 @@
-// A locked range.
+//! A locked range.
 ghost use Rattle.std.specs.Prelude.{◌≡◌};
 
 use crate::thread_calls::calls::LockedCall;

@@ -1,4 +1,4 @@
-// A partner that has rows which the ranges lack.
+//! A partner that has rows which the ranges lack.
 use crate::lines::show;
 use crate::thread_calls::versions::version;
 use range_journal::Source;

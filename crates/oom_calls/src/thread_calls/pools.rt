@@ -1,4 +1,4 @@
-// Pools of offers.
+//! Pools of offers.
 use crate::lines::{show, unchanged};
 use crate::thread_calls::partner::Partner;
 use hash_tree::NodeAt;

@@ -1,4 +1,4 @@
-// A locked range and a shared one, on which calls are made.
+//! A locked range and a shared one, on which calls are made.
 ghost use Rattle.std.specs.Prelude.{◌≡◌};
 
 use crate::thread_calls::calls::{CALLS, Call};

@@ -1,4 +1,4 @@
-// A shared range, with the hints for it.
+//! A shared range, with the hints for it.
 ghost use Rattle.std.specs.Prelude.{◌≡◌};
 
 use crate::thread_calls::calls::SharedCall;

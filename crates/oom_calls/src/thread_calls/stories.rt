@@ -1,4 +1,4 @@
-// The calls on ranges, each on what the ones before it left.
+//! The calls on ranges, each on what the ones before it left.
 ghost use Rattle.std.specs.Prelude.{◌≡◌};
 
 use crate::lines::{show, unchanged};

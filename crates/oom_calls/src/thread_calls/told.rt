@@ -1,4 +1,4 @@
-// What passes were told.
+//! What passes were told.
 use crate::states::begins;
 use caller_pass::{Pass, Reading};
 use range_state::Receipt;

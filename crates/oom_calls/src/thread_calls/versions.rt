@@ -1,4 +1,4 @@
-// Versions, and what they are put with.
+//! Versions, and what they are put with.
 use std::alloc::Global;
 use vclock::{Bytes, Clock, Refusal};
 use version_set::{Kind, Version};
