@@ -71,7 +71,7 @@ fn answer_first(
     }
 }
 
-/// Asserts that the partner's text of the first outstanding node would give no rows beside the own ones.
+/// Asserts that the partner's text of the first outstanding node, an inner one, gives no rows and no news.
 fn expect_no_news(
     rt: &impl Abort,
     alloc: Global,
@@ -79,7 +79,9 @@ fn expect_no_news(
     partner: &Snapshot,
 ) -> Result<(), Fail> {
     let node = first(session)?;
-    let news = session.news_of(alloc, node, &text_of(alloc, partner, node)?)?;
+    let text = text_of(alloc, partner, node)?;
+    assert!(rt; session.rows_of(alloc, node, &text)?.is_empty());
+    let news = session.news_of(alloc, node, &text)?;
     assert!(rt; news.rows.is_empty());
     assert_eq!(rt; news.known, 0);
     Ok(())

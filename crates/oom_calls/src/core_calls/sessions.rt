@@ -18,6 +18,7 @@ pub(crate) const ASKED: u64 = 7;
 pub(crate) fn show_all<R: Print + AllocGlobal>(rt: &R, both: &Snapshots) -> io::Result<()> {
     let alloc = rt.alloc();
     show(rt, "Session::start", start(alloc, both))?;
+    show(rt, "Session::rows_of", rows_of(alloc, both))?;
     show(rt, "Session::news_of", news_of(alloc, both))?;
     show(rt, "Session::take", take(alloc, both))?;
     show(rt, "Session::take_leaf", take_leaf(alloc, both))
@@ -71,7 +72,14 @@ fn is_after(
     Ok(is_same_session(session, &other))
 }
 
-/// How many rows the leaf that is asked first has beside the own ones.
+/// Returns the number of rows of the leaf that is asked first.
+fn rows_of(alloc: Global, both: &Snapshots) -> Result<u64, Refusal> {
+    let session = session_after(alloc, both, ASKED.saturating_sub(1))?;
+    let (node, text) = first_text(alloc, &session, &both.partner)?;
+    Ok(session.rows_of(alloc, node, &text)?.len() as u64)
+}
+
+/// Returns the number of rows of the leaf that is asked first and that the local snapshot lacks.
 fn news_of(alloc: Global, both: &Snapshots) -> Result<u64, Refusal> {
     let session = session_after(alloc, both, ASKED.saturating_sub(1))?;
     let (node, text) = first_text(alloc, &session, &both.partner)?;
