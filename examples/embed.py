@@ -14,6 +14,10 @@ from ctypes import POINTER, byref, c_bool, c_char_p, c_size_t, c_uint8, c_uint16
 FOLDER = sys.argv[1] if len(sys.argv) > 1 else "crates/antientropy_c/out"
 KEYS, LACKED, LATE, OFFERS = 2000, 40, 100, 2
 ROOM, ROOT = 1 << 20, 7
+# Refusals of an answer after which the next ask is for the same node: NOT_ASKED, WRONG_DIGEST, BAD_MESSAGE.
+BAD_ANSWER = (13, 14, 31)
+# A tree of format 2 has 4,369 nodes: more asks mean that the link or the partner is at fault.
+MOST_ASKS = 10000
 
 
 class Handle(ctypes.Structure):
@@ -36,16 +40,17 @@ library = ctypes.CDLL(os.path.join(FOLDER, "libantientropy.so"))
 BYTES, OUT, NEED, HANDLE = (c_char_p, c_size_t), (c_char_p, c_size_t), POINTER(c_uint64), POINTER(Handle)
 
 
-def call(name, *types):
-    """A call that has to return 0."""
+def call(name, *types, allowed=()):
+    """A call that has to return 0, or one of the numbers `allowed`."""
     function = getattr(library, "antientropy_" + name)
     function.restype = c_uint32
     function.argtypes = [HANDLE, *types]
 
     def checked(*args):
         number = function(*args)
-        if number != 0:
+        if number != 0 and number not in allowed:
             raise SystemExit(f"{name} returned {number}")
+        return number
 
     return checked
 
@@ -58,7 +63,8 @@ offer = call("offer", c_uint32, *OUT, NEED)
 serve = call("serve", c_uint32, *BYTES, *OUT, NEED)
 open_session = call("open", c_uint16, *BYTES, POINTER(c_uint64))
 ask = call("ask", c_uint64, c_uint32, *OUT, NEED)
-take = call("take", c_uint64, c_uint32, *BYTES, POINTER(Taken))
+take = call("take", c_uint64, c_uint32, *BYTES, POINTER(Taken), allowed=BAD_ANSWER)
+cancel = call("cancel", c_uint64)
 for free in (library.antientropy_free, library.antientropy_snapshot_free):
     free.restype = None
     free.argtypes = [HANDLE]
@@ -97,11 +103,16 @@ class Replica:
         session, number = c_uint64(), struct.unpack(">I", message[1:5])[0]
         open_session(self.handle, partner, message, len(message), byref(session))
         accepted = 0
-        while question := given(ask, self.handle, session, number):
-            answer = reach(question)
-            taken = Taken()
-            take(self.handle, session, number, answer, len(answer), byref(taken))
-            accepted += taken.accepted
+        try:
+            for _ in range(MOST_ASKS):
+                if not (question := given(ask, self.handle, session, number)):
+                    break
+                answer = reach(question)
+                taken = Taken()
+                if take(self.handle, session, number, answer, len(answer), byref(taken)) == 0:
+                    accepted += taken.accepted
+        finally:
+            cancel(self.handle, session)  # a session that has ended stays as it is
         return accepted
 
     def close(self):

@@ -2,7 +2,7 @@
  *
  *     fuzz [MUTATIONS]     (100,000 for each call, if no number is given)
  *
- * Each is refused, and the replica is afterwards as it was: the same counts, the same rows. It prints how many were tried,
+ * Each is refused, and the replica is unchanged: the same counts, the same rows. It prints how many were tried,
  * and ends with status 1 at the first call that did otherwise. */
 #include "antientropy.h"
 
@@ -60,7 +60,7 @@ static void remember(struct antientropy *replica, struct antientropy_counts *cou
         must("get", antientropy_get(replica, key, key_of(n, key), before[n], sizeof before[n], &before_len[n]));
 }
 
-/* Ends the program unless the replica is as it was. */
+/* Ends the program unless the replica is unchanged. */
 static void compare(struct antientropy *replica, const struct antientropy_counts *counts)
 {
     struct antientropy_counts now;
@@ -76,7 +76,7 @@ static void compare(struct antientropy *replica, const struct antientropy_counts
     }
 }
 
-/* A replica with as many open sessions as there can be, a partner's snapshot, and one message of each kind. */
+/* A replica with 64 open sessions, the maximum, a partner's snapshot, and one message of each kind. */
 static struct antientropy replica, partner;
 static struct antientropy_snapshot offered;
 static uint8_t offer[64], ask[64], answer[ROOM];

@@ -1,5 +1,5 @@
-// For `examples/check` alone, which loads it into the program by LD_PRELOAD: it stands before the C library, and
-// refuses one growth of memory, or fails one read or write. No part of the program is written in C.
+// For `examples/check` alone, which loads it into the program by LD_PRELOAD, before the C library. It refuses one growth of
+// memory, or fails one read or write. No part of the program is written in C.
 //
 //   REFUSE_ALLOC=N    the Nth growth is refused
 //   REFUSE_ALLOCS=N   the Nth growth and each one after it
@@ -7,7 +7,7 @@
 //   REFUSE_WRITE=N    the Nth write to standard output fails
 //   REFUSE_SHORT=1    each of these reads and writes moves one byte
 //
-// What it refuses it tells by a line to descriptor 9: how many line feeds were written to standard output before.
+// For each refusal it writes a line to descriptor 9: the number of line feeds written to standard output before.
 
 typedef unsigned long size;
 

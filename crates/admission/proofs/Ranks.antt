@@ -12,8 +12,7 @@ use Rattle.circular_buffer.specs.Buffer.{keep_last}
 use Rattle.std.specs.Ordering.{nat_cmp}
 use Rattle.admission.specs.declared.latency.Sample.{Sample}
 use Rattle.std.proofs.lemmas.List.Sorted.{IsNonDecreasingBy-from_sort, sum_by-IsPermutation, Contains-permutation, IsPermutation-sym}
-use Rattle.admission.specs.Admission.{at_most, IsPercentile, window_of, least, lesser, percentile}
-use Rattle.admission.specs.Samples.{pairs}
+use Rattle.admission.specs.Admission.{at_most, IsPercentile, window_of, least, lesser, percentile, pairs}
 
 abbrev one_if : Bool → ℕ
 one_if b = cond b 1 0

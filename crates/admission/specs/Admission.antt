@@ -3,6 +3,7 @@ use Rattle.std.specs.Prelude.{ℕ, ◌+◌, ◌-◌, ◌*◌, ◌/◌, ◌≤◌
 use Rattle.circular_buffer.specs.Buffer.{keep_last}
 use Rattle.vclock.specs.Outcome.{Outcome, gives, refuses}
 use Rattle.vclock.specs.declared.refusal.Refusal.TheVariants.{NoSlot, ClockBack}
+use Rattle.admission.specs.declared.latency.Sample.{Sample}
 
 -- a controller
 pub record Admission : Type 0 where
@@ -10,16 +11,16 @@ pub record Admission : Type 0 where
   pub floor : ℕ
   pub ceiling : ℕ
   pub threshold : ℕ
-  -- how many slots there may be
+  -- the maximum number of slots lent
   pub target : ℕ
-  -- how many slots there are: the number of the ledger whose shares they are
+  -- the number of slots lent: the number of the ledger whose shares they are
   pub slots : ℕ
   -- the last 1,024 samples, each a moment and a latency, the oldest first
   pub samples : List (ℕ × ℕ)
   -- the greatest moment accepted
   pub latest : ℕ
 
--- what holds of each controller
+-- the facts of each controller
 pub record IsAdmission (a : Admission) : Type 0 where
   pub floor : 1 ≤ a.floor
   pub low : a.floor ≤ a.target
@@ -32,11 +33,11 @@ abbrev pub fresh : ℕ → ℕ → ℕ → Admission
 fresh floor ceiling threshold =
     record { floor = floor; ceiling = ceiling; threshold = threshold; target = ceiling; slots = 0; samples = []; latest = 0 }
 
--- how many slots could be lent
+-- the number of slots that could be lent
 abbrev pub free_of : Admission → ℕ
 free_of a = a.target - a.slots
 
--- how many slots there are or could be
+-- the number of slots that are lent or could be
 abbrev pub allowance_of : Admission → ℕ
 allowance_of a = max a.target a.slots
 
@@ -44,7 +45,7 @@ allowance_of a = max a.target a.slots
 abbrev pub lend : Admission → Outcome (Unit {0}) Admission
 lend a = if nat_lt a.slots a.target then gives tt (record a { slots = a.slots + 1 }) else refuses NoSlot
 
--- how many samples are kept, and the controller with one more
+-- the number of samples kept, and the controller with one more
 abbrev pub sample : Admission → ℕ → ℕ → Outcome ℕ Admission
 sample a moment micros =
     if nat_lt moment a.latest then refuses ClockBack
@@ -54,7 +55,7 @@ sample a moment micros =
 abbrev pub window_of : ℕ → List (ℕ × ℕ) → List ℕ
 window_of now samples = map (λ s. s.1) (filter (λ s. nat_lt now (s.0 + 60000)) samples)
 
--- how many are at most v
+-- the number of items that are at most v
 abbrev pub at_most : ℕ → List ℕ → ℕ
 at_most v xs = count_by (λ x. nat_le x v) xs
 
@@ -72,7 +73,7 @@ least (x ∷ xs) = Some (lesser x (least xs))
 unfoldable pub percentile : List ℕ → Option ℕ
 percentile xs = least (filter (λ v. nat_le (99 * length xs) (100 * at_most v xs)) xs)
 
--- the same as a fact: it is a sample, at least 99 of 100 are at most it, and it is the smallest of those
+-- the percentile as a fact: it is a sample, at least 99 of 100 are at most it, and it is the smallest such sample
 pub record IsPercentile (xs : List ℕ) (v : ℕ) : Type 0 where
   pub there : Contains xs v
   pub enough : 99 * length xs ≤ 100 * at_most v xs
@@ -89,3 +90,7 @@ abbrev pub adjust : Admission → ℕ → Outcome (Option ℕ) Admission
 adjust a now =
     let found = percentile (window_of now a.samples) in
     if nat_lt now a.latest then refuses ClockBack else gives found (record a { target = target_after a found; latest = now })
+
+-- the samples as pairs of moment and latency
+abbrev pub pairs : List Sample → List (ℕ × ℕ)
+pairs samples = map (λ s. (s.moment, s.micros)) samples

@@ -10,13 +10,14 @@ use circular_buffer::HeapCircularBuffer;
 use std::alloc::Global;
 use std::marker::Model;
 use std::sync::ledger::{Blank, Book, Ledger, Share};
-use vclock::refusal::Refusal;
+use vclock::Refusal;
 
 /// Lends slots, at most as many as its target, which follows the latency of the foreground: section 6.5 of the Dynamo
 /// paper of 2007.
 ///
-/// Moments are milliseconds and latencies are microseconds. The slots are counted by the ledger that they are parts
-/// of. A slot can't be dropped, so that one who borrows it must give it back.
+/// Moments are in milliseconds, latencies in microseconds. The slots are parts of a ledger, which counts them. A slot
+/// can't be dropped, so every borrower must give it back. On error a controller is unchanged. Only `new`
+/// allocates.
 ///
 /// ```
 /// assert!(rt; matches!(&controller.adjust(100), Ok(Some(99_000))));
@@ -40,8 +41,7 @@ pub struct Controller<L: Ledger> {
 
 impl<L: Ledger> Model for Controller<L> {
     ghost use Rattle.std.specs.Prelude.{◌≡◌, ◌+◌, ◌≤◌, length, vec_capacity};
-    ghost use Rattle.admission.specs.Admission.{Admission};
-    ghost use Rattle.admission.specs.Samples.{pairs};
+    ghost use Rattle.admission.specs.Admission.{Admission, pairs};
 
     ghost Value = { Admission };
 
@@ -62,12 +62,13 @@ impl<L: Ledger> Model for Controller<L> {
 }
 
 impl<L: Ledger> Controller<L> {
-    /// A controller whose target is the ceiling, with no slot lent and no sample, that accepts moments from 0 on.
+    /// Creates a controller whose target is the ceiling, with no slot lent and no sample, that accepts moments from 0
+    /// on.
     ///
     /// The target stays within the floor and the ceiling, 1 to 1,024 slots. It falls if the latency is over the
     /// threshold, in microseconds.
     ///
-    /// Refused: NoMemory. All the memory that a controller ever has is taken here.
+    /// Refused: NoMemory.
     pub fn new(
         blank: Blank,
         alloc: Global,
@@ -97,7 +98,7 @@ impl<L: Ledger> Controller<L> {
         })
     }
 
-    /// How many slots are lent, 0 to 1,024. It takes no memory.
+    /// Returns the number of slots lent, 0 to 1,024.
     pub fn lent(&self) -> u32
         ensures counted { result ≡ self.now.slots }
         ensures valid { IsAdmission self.now }
@@ -105,15 +106,15 @@ impl<L: Ledger> Controller<L> {
         self.lent
     }
 
-    /// How many slots could be lent now: those of the target that aren't. It takes no memory.
+    /// Returns the number of slots that could be lent now: the target without the slots lent.
     pub fn free(&self) -> u32
         ensures { result ≡ free_of self.now }
     {
         self.target.saturating_sub(self.lent)
     }
 
-    /// How many slots are lent or could be: the target, or what is lent if the target fell below that. It takes no
-    /// memory.
+    /// Returns the number of slots that are lent or could be: the target, or the slots lent if the target fell below
+    /// that number.
     pub fn allowance(&self) -> u32
         ensures value { result ≡ allowance_of self.now }
         ensures sum { result ≡ self.now.slots + free_of self.now }
@@ -121,16 +122,16 @@ impl<L: Ledger> Controller<L> {
         self.target.max(self.lent)
     }
 
-    /// How many slots there may be, from the floor to the ceiling. It takes no memory.
+    /// Returns the target: the maximum number of slots lent, from the floor to the ceiling.
     pub fn target(&self) -> u32
         ensures { result ≡ self.now.target }
     {
         self.target
     }
 
-    /// Lends a slot. The one who borrows it must give it back, since it can't be dropped. It takes no memory.
+    /// Lends a slot. The borrower must give it back, since it can't be dropped.
     ///
-    /// Refused: NoSlot (as many slots as the target, or more, are lent).
+    /// Refused: NoSlot (the slots lent reach or exceed the target).
     pub fn lend(&mut self) -> Result<Slot<L>, Refusal>
         ensures { ChangesAtOnce result self.old self.new (lend self.old) }
     {
@@ -143,7 +144,7 @@ impl<L: Ledger> Controller<L> {
         Ok(Slot { share })
     }
 
-    /// Takes a slot back. It takes no memory.
+    /// Takes a slot back.
     pub fn give_back(&mut self, slot: Slot<L>)
         ensures there { 1 ≤ self.old.slots }
         ensures back { self.new ≡ record self.old { slots = self.old.slots - 1 } }
@@ -155,7 +156,7 @@ impl<L: Ledger> Controller<L> {
         self.lent -= 1;
     }
 
-    /// Sets the target, from the floor to the ceiling. Slots that are lent stay so. It takes no memory.
+    /// Sets the target, from the floor to the ceiling. Slots that are lent stay lent.
     pub fn set_target(&mut self, target: u32)
         requires { (self.old.floor ≤ target) × (target ≤ self.old.ceiling) }
         ensures { self.new ≡ record self.old { target = target } }
@@ -163,7 +164,7 @@ impl<L: Ledger> Controller<L> {
         self.target = target;
     }
 
-    /// Makes a controller of which no slot is lent what `new` made it. It takes no memory.
+    /// Resets a controller with no slot lent to its state after `new`.
     pub fn reset(&mut self)
         requires { self.old.slots ≡ 0 }
         ensures { self.new ≡ fresh self.old.floor self.old.ceiling self.old.threshold }
@@ -173,10 +174,10 @@ impl<L: Ledger> Controller<L> {
         self.samples.clear();
     }
 
-    /// Keeps the latency of a reply of the foreground, in microseconds, with its moment in milliseconds, and returns
-    /// how many samples are kept: the last 1,024. It takes no memory.
+    /// Records the latency of a reply of the foreground, in microseconds, with its moment in milliseconds, and returns
+    /// the number of samples kept: the last 1,024.
     ///
-    /// Refused: ClockBack (a later moment was accepted before). The controller is then as it was.
+    /// Refused: ClockBack (a later moment was accepted before).
     #[tactic(auto, using(crate::proofs::Ranks::pairs_keep))]
     pub fn sample(&mut self, moment: u64, micros: u32) -> Result<u32, Refusal>
         ensures { DoesAtOnce result self.old self.new (sample self.old moment micros) }
@@ -190,13 +191,13 @@ impl<L: Ledger> Controller<L> {
     }
 
     /// Sets the target by the samples of the last 60,000 milliseconds, and returns their 99th percentile in
-    /// microseconds: the smallest that at least 99 of 100 are at most. Without such samples it returns `None` and
-    /// leaves the target. It takes no memory.
+    /// microseconds: the smallest latency that at least 99 of 100 don't exceed. Without such samples it returns `None`
+    /// and leaves the target unchanged.
     ///
     /// Over the threshold the target becomes half, rounded down, but not below the floor. At half of the threshold or
     /// less it rises by one, but not above the ceiling.
     ///
-    /// Refused: ClockBack (a later moment was accepted before). The controller is then as it was.
+    /// Refused: ClockBack (a later moment was accepted before).
     pub fn adjust(&mut self, now: u64) -> Result<Option<u32>, Refusal>
         ensures adjusts { DoesAtOnce result self.old self.new (adjust self.old now) }
         ensures fact { IfOk result (λ found. MatchOption found (window_of now self.old.samples ≡ []) (IsPercentile (window_of now self.old.samples))) }

@@ -1,14 +1,13 @@
 //! Latencies, and their percentile.
 ghost use Rattle.std.specs.Prelude.{◌≡◌, ◌+◌, ◌*◌, ◌<◌, ◌≤◌, length, [], ◌∷◌, ◌++◌, MatchOption, vec_capacity, vec_len};
-ghost use Rattle.admission.specs.Admission.{window_of, IsPercentile, percentile};
-ghost use Rattle.admission.specs.Samples.{pairs};
+ghost use Rattle.admission.specs.Admission.{window_of, IsPercentile, percentile, pairs};
 
 use circular_buffer::HeapCircularBuffer;
 
-/// How many samples are kept.
+/// The maximum number of samples kept.
 pub(crate) const MOST: usize = 1024;
 
-/// For how many milliseconds a sample counts.
+/// The age in milliseconds from which a sample no longer counts.
 const MINUTE: u64 = 60_000;
 
 /// A latency of a read or a write of the foreground, in microseconds, and the moment in milliseconds when it was
@@ -19,7 +18,7 @@ pub struct Sample {
     pub micros: u32,
 }
 
-/// Puts the latencies of the last 60,000 milliseconds in the room, oldest first. It takes no memory.
+/// Writes the latencies of the last 60,000 milliseconds to the room, oldest first.
 #[tactic(auto, using(crate::proofs::Ranks::window_more))]
 pub(crate) fn window(room: &mut Vec<u32>, samples: &HeapCircularBuffer<Sample>, now: u64)
     requires { (1024 ≤ vec_capacity room.old) × (samples.now.capacity ≡ 1024) }
@@ -36,7 +35,7 @@ pub(crate) fn window(room: &mut Vec<u32>, samples: &HeapCircularBuffer<Sample>, 
     }
 }
 
-/// Adds the latency of a sample of the last 60,000 milliseconds.
+/// Appends the latency of a sample if it is of the last 60,000 milliseconds.
 fn keep_new(room: &mut Vec<u32>, sample: &Sample, now: u64)
     requires { vec_len room.old < vec_capacity room.old }
     ensures items { room.new.items ≡ room.old.items ++ window_of now (pairs (sample.now ∷ [])) }
@@ -48,7 +47,7 @@ fn keep_new(room: &mut Vec<u32>, sample: &Sample, now: u64)
     }
 }
 
-/// The 99th percentile of the latencies in the room, which it sorts: `None` if the room is empty. It takes no memory.
+/// Returns the 99th percentile of the latencies in the room and sorts them, or returns `None` if the room is empty.
 pub(crate) fn percentile(room: &mut Vec<u32>) -> Option<u32>
     requires { vec_len room.old ≤ 1024 }
     ensures value { result ≡ percentile room.old.items }
@@ -61,7 +60,7 @@ pub(crate) fn percentile(room: &mut Vec<u32>) -> Option<u32>
     Some(ranked(room.as_mut_slice()))
 }
 
-/// The 99th percentile of a slice that isn't empty, which it sorts.
+/// Returns the 99th percentile of a slice that isn't empty, and sorts it.
 fn ranked(latencies: &mut [u32]) -> u32
     requires { (0 < length latencies.old) × (length latencies.old ≤ 1024) }
     ensures { IsPercentile latencies.old result }
@@ -70,7 +69,7 @@ fn ranked(latencies: &mut [u32]) -> u32
     latencies[place(latencies.len())]
 }
 
-/// The first place of so many in order at which at least 99 of 100 stand no later.
+/// Returns the smallest index, among `count` sorted latencies, with at least 99 of 100 at or before it.
 fn place(count: usize) -> usize
     requires { (0 < count) × (count ≤ 1024) }
     ensures within { result < count }

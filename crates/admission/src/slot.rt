@@ -5,8 +5,8 @@ use std::sync::ledger::{Ledger, Share};
 
 /// The right to do one piece of background work.
 ///
-/// It is one part of the ledger of its controller, and counts one there, so that no slot is made or counted twice, and
-/// no slot of one controller is given to another. It can't be dropped: one who borrows a slot must give it back.
+/// It is one part of the ledger of its controller, and counts as one there, so that no slot is made or counted twice,
+/// and no slot of one controller is given to another. It can't be dropped: its borrower must give it back.
 ///
 /// ```
 /// lent.reserve(1)?;

@@ -1,4 +1,4 @@
-// What ends the program before its work is done.
+//! What ends the program before its work is done.
 
 use thiserror::Error;
 

@@ -7,10 +7,11 @@ mod status;
 mod words;
 
 use clap::Error;
+use clap::error::ErrorKind;
 use fault::Fault;
 use outage_script::{LineFault, ScriptEnd, run_last_script};
 use progress::Teller;
-use ring_node::gate::OpenGate;
+use ring_node::OpenGate;
 use status::{code_of, code_of_refusal, code_of_storm, fault_code, usage_code};
 use std::env::Env;
 use std::io;
@@ -18,9 +19,8 @@ use std::io::BufWriter;
 use std::process::ExitCode;
 use std::sync::Wait;
 use std::thread::Threads;
-use storm::storm::{MOST_PUTS, StormEnd, run_storm};
-use storm::tally::Tallies;
-use vclock::refusal::Refusal;
+use storm::{MOST_PUTS, StormEnd, Tallies, run_storm};
+use vclock::Refusal;
 use words::{Task, task_in, words_of};
 
 fn main(rt: HostRuntime) -> ExitCode {
@@ -44,8 +44,21 @@ fn obey<R: Env + Input + Print + Eprint + AllocGlobal + Threads + Wait + Sync>(
     match task_in(rt.alloc(), words.as_slice()) {
         Ok(Task::Run) => run(rt),
         Ok(Task::Storm { puts, progress }) => storm(rt, puts, progress),
-        Err(refusal) => show(rt, &refusal),
+        Err(refusal) => {
+            let code = show(rt, &refusal)?;
+            if refusal.kind() == ErrorKind::UnknownArgument && is_run(words.as_slice()) {
+                let _ = eprintln!(rt;
+                    "  tip: a script comes from standard input: antientropy run < FILE"
+                );
+            }
+            Ok(code)
+        }
     }
+}
+
+/// Returns true if the first word after the program's name is `run`.
+fn is_run(words: &[String]) -> bool {
+    words.len() > 1 && words[1].as_str() == "run"
 }
 
 /// Runs the script of standard input.

@@ -1,12 +1,9 @@
-// How far a storm is, on standard error.
+//! How far a storm is, on standard error.
 ghost use Rattle.std.specs.Prelude.{◌≤◌};
 
-use ring_node::gate::Gate;
+use ring_node::{Gate, Step};
 use std::sync::{Mutex, Wait};
-use storm::tally::{Tallies, Tally};
-
-/// The step of a storm's gate after a put.
-const AFTER_A_PUT: u32 = 3;
+use storm::{Tallies, Tally};
 
 /// How often a storm tells how far it is, at the most, for each of its two writers.
 const TELLINGS: u64 = 10;
@@ -70,8 +67,8 @@ impl<'a, R: Eprint> Teller<'a, R> {
 }
 
 impl<'a, R: Eprint> Gate for Teller<'a, R> {
-    fn pass<W: Wait>(&self, rt: &W, step: u32) {
-        if step != AFTER_A_PUT {
+    fn pass<W: Wait>(&self, rt: &W, step: Step) {
+        if step != Step::Put {
             return;
         }
         if self.count(rt) % self.every == 0 {

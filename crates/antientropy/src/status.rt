@@ -1,4 +1,4 @@
-// Which status belongs to which end of the program.
+//! Which status belongs to which end of the program.
 ghost use Rattle.std.specs.Prelude.{◌≡◌, ◌≢◌, ℕ, Ok, Err, true, false, IsOkAnd, ◌⊎◌};
 ghost use Rattle.std.specs.Process.{exit_status};
 ghost use Rattle.clap.specs.Values.{kind_of};
@@ -8,8 +8,8 @@ use clap::Error;
 use clap::error::ErrorKind;
 use outage_script::ScriptEnd;
 use std::process::ExitCode;
-use storm::storm::StormEnd;
-use vclock::refusal::Refusal;
+use storm::StormEnd;
+use vclock::Refusal;
 
 /// All was read and answered, or the help was shown.
 const DONE: u8 = 0;

@@ -1,4 +1,4 @@
-// The words of the command line.
+//! The words of the command line.
 
 use crate::fault::Fault;
 use clap::{Arg, ArgAction, ArgMatches, Command, Error, value_parser};
@@ -6,7 +6,7 @@ use std::alloc::Global;
 use std::env;
 use std::env::Env;
 use std::io::ErrorKind;
-use storm::storm::MOST_PUTS;
+use storm::MOST_PUTS;
 
 /// What the program is.
 const ABOUT: &str =
@@ -100,11 +100,13 @@ pub(crate) fn words_of<R: Env + AllocGlobal>(rt: &R) -> Result<Option<Vec<String
 pub(crate) fn task_in(alloc: Global, words: &[String]) -> Result<Task, Error> {
     let run = Command::new(alloc, "run")
         .about("Runs a script from standard input, and answers on standard output")
-        .after_help(SCRIPTS);
+        .after_long_help(SCRIPTS);
     let command = Command::new(alloc, "antientropy")
         .version("0.1.0")
-        .about(ABOUT)
-        .after_help(SCRIPTS)
+        .about("Brings the replicas of a Dynamo ring together again, in one process and in memory.")
+        .long_about(ABOUT)
+        .after_help("`--help` shows the commands of a script.")
+        .after_long_help(SCRIPTS)
         .subcommand_required(true)
         .subcommand(run)?
         .subcommand(storm_command(alloc)?)?;

@@ -4,10 +4,9 @@ use Rattle.std.specs.Prelude.{Bool, true, false, Result}
 use Rattle.vclock.specs.declared.refusal.Refusal.{Refusal}
 use Rattle.range_state.specs.State.{State}
 use Rattle.antientropy_c.specs.Numbers.{code_of, Returns}
-use Rattle.antientropy_c.specs.Calls.{Calls, OnHeld}
+use Rattle.antientropy_c.specs.Calls.{Calls, OnHeld, Reads}
 use Rattle.antientropy_c.specs.Hands.{HandsOut, Gives}
 use Rattle.antientropy_c.specs.Merges.{HandsClock, GivesClock}
-use Rattle.antientropy_c.specs.Messages.{Reads}
 use Rattle.antientropy_c.specs.declared.pair.Pair.{Pair}
 use Rattle.vclock.specs.Clock.{Pairs}
 use Rattle.walk_messages.specs.Messages.{Decodes}

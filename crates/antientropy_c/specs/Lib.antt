@@ -1,11 +1,9 @@
-pub mod Counts
 pub mod Handles
 pub mod Numbers
 pub mod Hands
 pub mod Calls
 pub mod Makes
 pub mod Merges
-pub mod Messages
 pub mod Offers
 pub mod Pairs
 pub mod Publications

@@ -11,7 +11,7 @@ use Rattle.range_journal.specs.declared.journal.Source.TheVariants.{Copy}
 use Rattle.range_state.specs.State.{State, put, accept}
 use Rattle.range_state.specs.declared.event.Accepted.{Accepted}
 use Rattle.range_state.specs.declared.event.Accepted.TheVariants.{Taken, Known}
-use Rattle.antientropy_c.specs.declared.writing.PutReceipt.{PutReceipt}
+use Rattle.antientropy_c.specs.declared.puts.PutReceipt.{PutReceipt}
 
 -- why a number is no node's
 abbrev pub node_fault : ℕ → Option Refusal

@@ -17,7 +17,7 @@ use Rattle.range_state.specs.Sessions.{open_session, unknown_fault, TakesAnswer}
 use Rattle.range_state.specs.Syncs.{IsFirstOf}
 use Rattle.range_state.specs.declared.«record».Record.{Record}
 use Rattle.range_state.specs.declared.event.AnswerTaken.{AnswerTaken}
-use Rattle.antientropy_c.specs.declared.syncing.TakenReceipt.{TakenReceipt}
+use Rattle.antientropy_c.specs.declared.sessions.TakenReceipt.{TakenReceipt}
 
 -- a session is opened with what bytes decode to, if that is an offer
 abbrev pub Opens : State → ℕ → Result ℕ Refusal → State → Result Message Refusal → Type 0

@@ -10,11 +10,10 @@ ghost use Rattle.antientropy_c.specs.Sessions.{TellsNumber};
 
 use crate::numbers::code;
 use crate::pair::{Pair, clock_of};
-use crate::showing::copy_pairs;
-use crate::syncing::tell_number;
+use crate::sessions::tell_number;
+use crate::versions::copy_pairs;
 use std::alloc::Global;
-use vclock::clock::{Clock, ClockOrder};
-use vclock::refusal::Refusal;
+use vclock::{Clock, ClockOrder, Refusal};
 
 /// How two clocks compare: 0 the first is before the second, 1 after it, 2 equal, 3 neither has seen all that the other has.
 ///

@@ -2,18 +2,18 @@
 #![tactic(auto)]
 
 pub mod clocks;
-pub mod counting;
-mod handing;
-pub mod hashing;
-pub mod holding;
+pub mod counts;
+pub mod lifecycle;
 mod numbers;
-pub mod offering;
+pub mod offers;
+mod output;
 pub mod pair;
 mod place;
 pub mod publication;
 mod published;
-pub mod reading;
+pub mod puts;
 pub mod replica;
-pub mod showing;
-pub mod syncing;
-pub mod writing;
+pub mod rows;
+pub mod sessions;
+pub mod tree;
+pub mod versions;

@@ -2,7 +2,7 @@
 ghost use Rattle.std.specs.Prelude.{◌≡◌};
 ghost use Rattle.antientropy_c.specs.Numbers.{code_of};
 
-use vclock::refusal::Refusal;
+use vclock::Refusal;
 
 /// The caller's room is too small for what is copied.
 pub(crate) const SMALL: u32 = 33;

@@ -5,8 +5,7 @@ ghost use Rattle.vclock.specs.Clock.{pairs_fault, clock_of};
 ghost use Rattle.antientropy_c.specs.Pairs.{pairs_of};
 
 use std::alloc::{AllocError, Global};
-use vclock::clock::Clock;
-use vclock::refusal::Refusal;
+use vclock::{Clock, Refusal};
 
 /// A node with its counter.
 #[repr(C)]

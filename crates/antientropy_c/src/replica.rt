@@ -4,7 +4,7 @@ ghost use Rattle.range_state.specs.State.{State};
 ghost use Rattle.antientropy_c.specs.Handles.{replica_owns};
 
 use crate::place::Place;
-use range_state::state::RangeState;
+use range_state::RangeState;
 use std::alloc::Global;
 use std::marker::Model;
 use std::mem::replace;

@@ -1,10 +1,10 @@
-// The calls of a range in one thread, and how many of each were done in a second.
+//! The calls of a range in one thread, and how many of each were done in a second.
 //
-// Keys are put into a range, got, put again with the context of the first put, and brought to another replica as copies.
-// If a journal has no room for two versions of each, none is put again. Then come turns: one more key is put, the tree is
-// rehashed, a snapshot is made, and the other replica takes the key over by messages. Key and value of each call are made
-// in the time that is measured. What is told is how many of each there were; in the figures 0 stands for calls that were
-// not made.
+/// Keys are put into a range, got, put again with the context of the first put, and brought to another replica as copies.
+/// If a journal has no room for two versions of each, none is put again. Then come turns: one more key is put, the tree is
+/// rehashed, a snapshot is made, and the other replica takes the key over by messages. Key and value of each call are made
+/// in the time that is measured. What is told is how many of each there were; in the figures 0 stands for calls that were
+/// not made.
 mod pace;
 mod phase;
 pub(crate) mod plan;
@@ -17,7 +17,7 @@ use crate::ranges::new_range;
 use pace::Paces;
 use phase::Phase;
 use plan::CallPlan;
-use range_state::state::RangeState;
+use range_state::RangeState;
 use round::Round;
 use std::alloc::Global;
 use std::io;

@@ -1,10 +1,7 @@
-// The keys that are written, their values, and their versions.
+//! The keys that are written, their values, and their versions.
 use std::alloc::Global;
-use vclock::bytes::Bytes;
-use vclock::clock::Clock;
-use vclock::refusal::Refusal;
-use version_set::kind::Kind;
-use version_set::version::Version;
+use vclock::{Bytes, Clock, Refusal};
+use version_set::{Kind, Version};
 
 /// The key of a number, as a text. Refused: NoMemory.
 pub(crate) fn key(alloc: Global, number: u64) -> Result<String, Refusal> {

@@ -1,10 +1,9 @@
-// Ranges of format 1 with all keys.
+//! Ranges of format 1 with all keys.
 use crate::entries::{key, version};
-use range_journal::journal::Source;
-use range_state::config::RangeConfig;
-use range_state::state::RangeState;
+use range_journal::Source;
+use range_state::{RangeConfig, RangeState};
 use std::alloc::Global;
-use vclock::refusal::Refusal;
+use vclock::Refusal;
 
 /// How many entries a journal has at the most.
 pub(crate) const MOST_ENTRIES: u64 = 1_000_000;

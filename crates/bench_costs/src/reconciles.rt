@@ -1,11 +1,11 @@
-// Two replicas of a range that reconcile, turn by turn. What is told is how many nodes were asked and how many versions
-// came, of both and of all turns; the figures say how many leaves differed in all turns, and how long the calls of
-// `reconcile` took.
+//! Two replicas of a range that reconcile, turn by turn. What is told is how many nodes were asked and how many versions
+//! came, of both and of all turns; the figures say how many leaves differed in all turns, and how long the calls of
+//! `reconcile` took.
 mod pair;
 
 use crate::fault::Fault;
 use pair::Pair;
-use range_state::state::reconciling::Reconciled;
+use range_state::Reconciled;
 use std::alloc::Global;
 use std::io;
 use std::thread::Threads;

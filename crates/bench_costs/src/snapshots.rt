@@ -1,11 +1,11 @@
-// What is done with one range: snapshots, one after another, or its going over to format 2.
+//! What is done with one range: snapshots, one after another, or its going over to format 2.
 use crate::fault::Fault;
 use crate::ranges::{accept, new_range};
-use range_state::state::RangeState;
+use range_state::RangeState;
 use std::alloc::Global;
 use std::io;
 use std::thread::Threads;
-use vclock::refusal::Refusal;
+use vclock::Refusal;
 
 /// What is to be done.
 #[derive(Clone, Copy)]

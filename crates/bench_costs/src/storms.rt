@@ -1,4 +1,4 @@
-// A storm, and how long its puts took. What is told is how the storm ended.
+//! A storm, and how long its puts took. What is told is how the storm ended.
 mod latencies;
 mod watch;
 
@@ -8,8 +8,7 @@ use std::io;
 use std::sync::Wait;
 use std::thread::Threads;
 use std::time::{Clock, Duration, Instant};
-use storm::storm::{MOST_PUTS, StormEnd, run_storm};
-use storm::tally::Tallies;
+use storm::{MOST_PUTS, StormEnd, Tallies, run_storm};
 use watch::Watch;
 
 /// When the rehash and sync workers run.

@@ -1,8 +1,8 @@
-// Threads that put keys into ranges that they share, and get them again, and how many puts and gets were done in a second.
+//! Threads that put keys into ranges that they share, and get them again, and how many puts and gets were done in a second.
 //
-// All threads write one range, or each one of its own. Each has its part of the keys. It puts all of them, once all threads
-// have come so far, and gets all of them, once all have come so far. A phase lasts from the first start to the last end.
-// What is told is whether the ranges were closed.
+/// All threads write one range, or each one of its own. Each has its part of the keys. It puts all of them, once all threads
+/// have come so far, and gets all of them, once all have come so far. A phase lasts from the first start to the last end.
+/// What is told is whether the ranges were closed.
 mod calls;
 pub(crate) mod plan;
 mod ranges;

@@ -9,7 +9,7 @@ use Rattle.std.proofs.lemmas.Option.{slice_get_within}
 use Rattle.std.proofs.lemmas.Slice.Eq.{bytes_eq-Decides}
 use Rattle.version_set.specs.declared.version.Version.{Version}
 use Rattle.range_journal.specs.declared.journal.Entry.{Entry}
-use Rattle.caller_pass.specs.declared.by_key.ByKey.{ByKey}
+use Rattle.caller_pass.specs.declared.receipt_index.ByKey.{ByKey}
 use Rattle.caller_pass.specs.Locks.{is_missing, first_missing}
 use Rattle.caller_pass.specs.Indexes.{is_of, last_of, found_in, IsIndex}
 

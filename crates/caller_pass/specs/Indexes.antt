@@ -2,7 +2,7 @@
 use Rattle.std.specs.Prelude.{◌≡◌, ℕ, zero, suc, ◌<◌, ◌≤◌, Bool, false, List, length, Option, Some, None, slice_get, unwrap_or, bytes_eq, if◌then◌else◌}
 use Rattle.std.specs.HashMap.{get_by}
 use Rattle.range_journal.specs.declared.journal.Entry.{Entry}
-use Rattle.caller_pass.specs.declared.by_key.ByKey.{ByKey}
+use Rattle.caller_pass.specs.declared.receipt_index.ByKey.{ByKey}
 
 -- whether an entry, if there is one, is of a key
 abbrev pub is_of : Option Entry → List ℕ → Bool

@@ -3,14 +3,14 @@ ghost use Rattle.std.specs.Prelude.{◌≡◌, ◌+◌, ◌<◌, ◌≤◌, leng
 ghost use Rattle.vclock.specs.Answer.{Answers};
 ghost use Rattle.caller_pass.specs.Passes.{new_book, new_passes, counted, absorbed, receipts_of};
 
-use crate::by_key::ByKey;
 use crate::pass::Pass;
 use crate::reading::Reading;
-use range_state::event::Receipt;
+use crate::receipt_index::ByKey;
+use range_state::Receipt;
 use std::alloc::Global;
 use std::marker::Model;
 use std::sync::ledger::{self, Blank, Ledger, Share};
-use vclock::refusal::Refusal;
+use vclock::Refusal;
 
 /// The count of a range's entries, with the passes that came back. Its ledger ties it to the passes that were made with
 /// it, so a pass of another range does not compile in its place.

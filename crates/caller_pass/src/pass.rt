@@ -2,9 +2,9 @@
 ghost use Rattle.std.specs.Prelude.{◌≡◌};
 ghost use Rattle.caller_pass.specs.Passes.{IsPass};
 
-use crate::by_key::ByKey;
 use crate::reading::Reading;
-use range_state::event::Receipt;
+use crate::receipt_index::ByKey;
+use range_state::Receipt;
 use std::alloc::Global;
 use std::marker::Model;
 use std::sync::ledger::{Ledger, Share};

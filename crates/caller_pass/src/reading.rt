@@ -1,6 +1,6 @@
 //! What a caller was told that a key holds.
-use vclock::bytes::Bytes;
-use version_set::set::VersionSet;
+use vclock::Bytes;
+use version_set::VersionSet;
 
 /// What a caller was told that a key held, and the length of the journal then.
 #[derive(Debug, Drop)]

@@ -3,7 +3,7 @@ ghost use Rattle.std.specs.Prelude.{◌≡◌};
 
 use std::marker::{Model, PhantomData};
 use std::sync::ledger::Ledger;
-use vclock::refusal::Refusal;
+use vclock::Refusal;
 
 /// Why a read was refused. Only a read of the range of this ledger makes one, for the pass that it was lent.
 ///

@@ -1,15 +1,11 @@
-// What a client's thread does.
-use caller_pass::pass::Pass;
-use ring_node::range::SharedRange;
+//! What a client's thread does.
+use caller_pass::Pass;
+use ring_node::SharedRange;
 use std::alloc::Global;
 use std::sync::Wait;
 use std::sync::ledger::Ledger;
-use vclock::bytes::Bytes;
-use vclock::clock::Clock;
-use vclock::refusal::Refusal;
-use version_set::kind::Kind;
-use version_set::set::VersionSet;
-use version_set::version::Version;
+use vclock::{Bytes, Clock, Refusal};
+use version_set::{Kind, Version, VersionSet};
 
 /// The versions of a key. If there are several, they are concurrent. Refused: Behind, NoMemory.
 pub(crate) fn read<L: Ledger, R: Wait>(

@@ -1,8 +1,8 @@
-// How a replica is closed.
+//! How a replica is closed.
 use crate::replica::Replica;
 use std::alloc::Global;
 use std::sync::ledger::Ledger;
-use vclock::refusal::Refusal;
+use vclock::Refusal;
 
 impl<L: Ledger> Replica<L> {
     /// Closes a replica whose threads have ended, and returns how many entries its journal has: each has its receipt in a

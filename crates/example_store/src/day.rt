@@ -1,4 +1,4 @@
-// The day of a range, and what it prints.
+//! The day of a range, and what it prints.
 ghost use Rattle.std.specs.Prelude.{◌≡◌, ◌^◌, ◌<◌};
 
 use crate::client::{put, read, update};
@@ -9,19 +9,16 @@ use crate::replica::Replica;
 use crate::rounds::put_beside_rehash;
 use crate::routes::{homes_of, keys_in};
 use crate::slots::{open_slots, report_latency};
-use key_ring::ring::Ring;
-use range_state::config::RangeConfig;
-use ring_node::controller::SharedController;
-use ring_node::deed::Deed;
-use ring_node::syncer::SyncReport;
+use key_ring::Ring;
+use range_state::RangeConfig;
+use ring_node::{Deed, SharedController, SyncReport};
 use std::alloc::Global;
 use std::io;
 use std::marker::Brand;
 use std::sync::Wait;
 use std::sync::ledger::{Blank, Ledger};
 use std::thread::Threads;
-use vclock::clock::Clock;
-use vclock::refusal::Refusal;
+use vclock::{Clock, Refusal};
 
 /// The number of the format of both replicas.
 const FORMAT: u64 = 1;

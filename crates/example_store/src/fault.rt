@@ -1,8 +1,8 @@
-// What ends the program before its work is done.
+//! What ends the program before its work is done.
 use std::alloc::{AllocError, AllocFailed};
 use std::io;
 use thiserror::Error;
-use vclock::refusal::Refusal;
+use vclock::Refusal;
 
 /// Why the program could not do its work. Its text goes to standard error.
 #[derive(Debug, Drop, Error)]

@@ -1,14 +1,12 @@
-// How a version gets to the other replica.
+//! How a version gets to the other replica.
 use crate::replica::Replica;
-use range_journal::journal::Source;
-use ring_node::controller::SharedController;
-use ring_node::delivery::{DeliverReport, deliver};
+use range_journal::Source;
+use ring_node::{DeliverReport, SharedController, deliver};
 use std::alloc::Global;
 use std::sync::Wait;
 use std::sync::ledger::Ledger;
-use vclock::bytes::Bytes;
-use vclock::refusal::Refusal;
-use version_set::version::Version;
+use vclock::{Bytes, Refusal};
+use version_set::Version;
 
 /// How many hints a round delivers at the most.
 const MOST_HINTS: u64 = 1_000;
@@ -23,7 +21,7 @@ pub(crate) enum Health {
 impl<A: Ledger> Replica<A> {
     /// Sends a version to another replica, or keeps it as a hint while that one is down.
     ///
-    /// Refused as [`ring_node::range::SharedRange::copy`], or as [`SharedHints::keep`](ring_node::hints::SharedHints).
+    /// Refused as [`ring_node::SharedRange::copy`], or as [`SharedHints::keep`](ring_node::SharedHints).
     pub(crate) fn send<B: Ledger, R: Wait>(
         &self,
         rt: &R,

@@ -1,17 +1,12 @@
-// Links to the other replica.
+//! Links to the other replica.
 use crate::replica::Replica;
-use ring_node::channel::channel_link;
-use ring_node::controller::SharedController;
-use ring_node::deed::Deed;
-use ring_node::memory::MemoryLink;
-use ring_node::scripted::ScriptedLink;
-use ring_node::syncer::SyncReport;
+use ring_node::{Deed, MemoryLink, ScriptedLink, SharedController, SyncReport, channel_link};
 use std::alloc::Global;
 use std::sync::Wait;
 use std::sync::ledger::Ledger;
 use std::thread;
 use std::thread::Threads;
-use vclock::refusal::Refusal;
+use vclock::Refusal;
 
 /// Syncs a replica over a channel with another one, whose offers a thread serves meanwhile. Refused as [`Replica::sync`];
 /// LinkLost also if the thread can't be made.

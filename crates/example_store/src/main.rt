@@ -17,7 +17,7 @@ mod slots;
 
 use day::run_day;
 use fault::Fault;
-use key_ring::ring::Ring;
+use key_ring::Ring;
 use std::alloc::Global;
 use std::process::ExitCode;
 use std::sync::Wait;

@@ -1,16 +1,12 @@
-// A replica of a range.
+//! A replica of a range.
 ghost use Rattle.std.specs.Prelude.{◌≡◌, ◌≤◌};
 
-use caller_pass::book::open_passes;
-use caller_pass::pass::Pass;
-use range_state::config::RangeConfig;
-use range_state::state::RangeState;
-use ring_node::hints::SharedHints;
-use ring_node::offers::OfferPool;
-use ring_node::range::SharedRange;
+use caller_pass::{Pass, open_passes};
+use range_state::{RangeConfig, RangeState};
+use ring_node::{OfferPool, SharedHints, SharedRange};
 use std::alloc::Global;
 use std::sync::ledger::{Blank, Ledger};
-use vclock::refusal::Refusal;
+use vclock::Refusal;
 
 /// How many callers a replica has.
 const SEATS: u16 = 3;

@@ -1,21 +1,16 @@
-// Rounds of anti-entropy.
+//! Rounds of anti-entropy.
 use crate::client::update;
 use crate::replica::Replica;
-use caller_pass::pass::Pass;
-use hash_tree::hashed::Digest;
-use ring_node::controller::SharedController;
-use ring_node::gate::OpenGate;
-use ring_node::link::Link;
-use ring_node::range::SharedRange;
-use ring_node::rehasher::RehashReport;
-use ring_node::syncer::SyncReport;
+use caller_pass::Pass;
+use hash_tree::Digest;
+use ring_node::{Link, OpenGate, RehashReport, SharedController, SharedRange, SyncReport};
 use std::alloc::Global;
 use std::sync::Wait;
 use std::sync::ledger::Ledger;
 use std::thread;
 use std::thread::Threads;
-use vclock::refusal::Refusal;
-use walk_messages::message::Offer;
+use vclock::Refusal;
+use walk_messages::Offer;
 
 /// How many turns a rehash has at the most: more than a tree has nodes, which are 273, or 4,369 in format 2. The others
 /// are for nodes that a put makes dirty meanwhile.

@@ -1,9 +1,9 @@
-// Where keys go.
+//! Where keys go.
 ghost use Rattle.std.specs.Prelude.{◌^◌, ◌<◌, ◌≤◌};
 
-use key_ring::ring::Ring;
+use key_ring::Ring;
 use std::alloc::Global;
-use vclock::refusal::Refusal;
+use vclock::Refusal;
 
 /// The two nodes that keep a range, in the order of its preference list.
 #[derive(Clone, Copy, Debug)]

@@ -1,12 +1,12 @@
-// The slots of background work.
+//! The slots of background work.
 ghost use Rattle.std.specs.Prelude.{◌≡◌};
 
-use admission::controller::Controller;
-use ring_node::controller::SharedController;
+use admission::Controller;
+use ring_node::SharedController;
 use std::alloc::Global;
 use std::sync::Wait;
 use std::sync::ledger::{Blank, Ledger};
-use vclock::refusal::Refusal;
+use vclock::Refusal;
 
 /// How many slots there are at the least.
 const FLOOR: u32 = 1;

@@ -3,11 +3,11 @@ pub mod SearchLaws
 pub mod LeafLaws
 pub mod ChunkLaws
 pub mod ChunkPlaces
-pub mod KeySpots
+pub mod KeySpotLaws
 pub mod RowLengthLaws
 pub mod PlaceLaws
 pub mod PathLaws
-pub mod Strips
+pub mod StripLaws
 pub mod TextLaws
 pub mod TreeLaws
 pub mod ReadyLaws

@@ -6,7 +6,7 @@ use Rattle.std.specs.declared.cmp.Ordering.TheVariants.{Less, Equal, Greater}
 use Rattle.std.proofs.lemmas.Bool.{cases_Bool, or_left, or_right, both_ways}
 use Rattle.std.proofs.lemmas.Cmp.{tied_itself}
 use Rattle.std.proofs.lemmas.List.{length-append}
-use Rattle.vclock.specs.Keys.{key_fault}
+use Rattle.vclock.specs.Bytes.{key_fault}
 use Rattle.vclock.specs.declared.format.Format.{Format}
 use Rattle.version_set.specs.Kind.{value_fault}
 use Rattle.version_set.specs.declared.version.Version.{Version}

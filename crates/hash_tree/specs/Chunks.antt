@@ -29,33 +29,33 @@ pub record IsChunk (format : Format) (c : Bucket) : Type 0 where
   pub some : 1 ≤ length c.rows
   pub few : length c.rows ≤ 15
 
--- the chunks of a leaf: no more than 2^56, so that a number of rows fits its type
+-- the chunks of a leaf: at most 2^56, so that a number of rows fits its type
 pub record AreChunks (format : Format) (chunks : List Bucket) : Type 0 where
   pub each : AllByRecursion (IsChunk format) chunks
   pub few : length chunks ≤ 2 ^ 56
 
--- the place among all rows of one that stands in chunk i, at a place among the rows of the chunk
+-- the place among all rows of the row at `at` in chunk i
 abbrev pub place_in : List Bucket → ℕ → ℕ → ℕ
 place_in chunks i at = length (all_rows (take i chunks)) + at
 
--- the row of a place among all rows stands in chunk i, at a place among the rows of the chunk
+-- the row at `place` among all rows is in chunk i, at `at` among the chunk's rows
 pub record IsRowSpot (chunks : List Bucket) (place i at : ℕ) : Type 0 where
   pub chunk : i < length chunks
   pub before : length (all_rows (take i chunks)) + at ≡ place
   pub within : at < length (rows_of chunks i)
 
--- a row that is put into chunk i, at a place among the rows of the chunk, comes to stand at a place among all rows
+-- a row inserted into chunk i, at `at` among the chunk's rows, is then at `place` among all rows
 pub record IsGapSpot (chunks : List Bucket) (place i at : ℕ) : Type 0 where
   pub chunk : i < length chunks
   pub before : length (all_rows (take i chunks)) + at ≡ place
   pub within : at ≤ length (rows_of chunks i)
 
--- the key of the first row, or no byte
+-- the key of the first row, or no bytes
 abbrev pub first_key : List Row → List ℕ
 first_key [] = []
 first_key (r ∷ rows) = r.key
 
--- whether the first key of some rows is at most a key
+-- the first key of some rows is at most a key
 abbrev pub begin_by : List ℕ → List Row → Bool
 begin_by k [] = false
 begin_by k (r ∷ rows) = is_le (key_cmp r.key k)
@@ -66,13 +66,13 @@ versions_at [] i = []
 versions_at (r ∷ rows) zero = r.versions
 versions_at (r ∷ rows) (suc i) = versions_at rows i
 
--- the rows after a version was offered to the set of row i
+-- the rows after an offer of a version to the set of row i
 abbrev pub offered_at : List Row → ℕ → Version → List Row
 offered_at [] i v = []
 offered_at (r ∷ rows) zero v = record { key = r.key; versions = offered v r.versions } ∷ rows
 offered_at (r ∷ rows) (suc i) v = r ∷ offered_at rows i v
 
--- chunks after chunk i, of 15 rows, was parted into one of so many rows and one of the others
+-- the parts after a split of chunk i, which has 15 rows, into a chunk of cut rows and a chunk of the others
 pub record IsSplit (chunks : List Bucket) (i cut : ℕ) (parts : List Bucket) : Type 0 where
   pub rows : all_rows parts ≡ all_rows chunks
   pub more : length parts ≡ length chunks + 1

@@ -1,4 +1,4 @@
--- Rows in order of key, and the leaves that they are shared out to: the paper of 2007, section 4.7.
+-- Rows in order of key, and their distribution over leaves: the paper of 2007, section 4.7.
 use Rattle.std.specs.Prelude.{◌≡◌, ◌≢◌, ℕ, ◌<◌, ◌≤◌, ◌++◌, nat_eq, List, [], ◌∷◌, length, filter, take, drop, slice_index_or, slice_set, Option, Some, None, Result, Ok, Err}
 use Rattle.std.specs.List.{AllByRecursion, Contains}
 use Rattle.std.specs.declared.cmp.Ordering.{Ordering}
@@ -12,7 +12,7 @@ use Rattle.vclock.specs.declared.format.Format.{Format}
 use Rattle.row_bytes.specs.declared.row.Row.{Row}
 use Rattle.row_bytes.specs.Rows.{FitsText}
 
--- keys are ordered byte by byte
+-- the order of keys, byte by byte
 abbrev pub key_cmp : List ℕ → List ℕ → Ordering
 key_cmp = slice_cmp nat_cmp
 
@@ -20,7 +20,7 @@ key_cmp = slice_cmp nat_cmp
 abbrev pub AscendByKey : List Row → Type 0
 AscendByKey rows = Pairwise (λ (r x : Row). key_cmp r.key x.key ≡ Less) rows
 
--- the rows of a leaf, and the format that they are of
+-- the rows of a leaf, and their format
 pub record Bucket : Type 0 where
   pub format : Format
   pub rows : List Row
@@ -30,7 +30,7 @@ pub record IsBucket (b : Bucket) : Type 0 where
   pub ascending : AscendByKey b.rows
   pub each : AllByRecursion (FitsText b.format) b.rows
 
--- the rows of leaf i, where leaf says in which leaf a key is
+-- the rows of leaf i, if leaf gives the leaf of each key
 abbrev pub rows_at : (List ℕ → ℕ) → ℕ → List Row → List Row
 rows_at leaf i rows = filter (λ (r : Row). nat_eq (leaf r.key) i) rows
 
@@ -44,7 +44,7 @@ abbrev pub FindsRow : List Row → List ℕ → Option (List Version) → Type 0
 FindsRow rows k (Some versions) = Contains rows (record { key = k; versions = versions })
 FindsRow rows k None = (r : Row) → Contains rows r → r.key ≢ k
 
--- rows that follow each other among others, the first of which has the key
+-- consecutive rows among others, and the first of them has the key
 pub record IsRun (rows : List Row) (k : List ℕ) (run : List Row) : Type 0 where
   pub front : List Row
   pub first : Row
@@ -54,30 +54,30 @@ pub record IsRun (rows : List Row) (k : List ℕ) (run : List Row) : Type 0 wher
   pub run_is : run ≡ first ∷ more
   pub key : first.key ≡ k
 
--- a run from the row of a key on, if the rows have one
+-- a run from the row of a key, if the rows have a row of the key
 abbrev pub FindsRun : List Row → List ℕ → Option (List Row) → Type 0
 FindsRun rows k (Some run) = IsRun rows k run
 FindsRun rows k None = (r : Row) → Contains rows r → r.key ≢ k
 
--- the rows after a version was offered to the set of a key
+-- the rows after an offer of a version to the set of a key
 abbrev pub with_offer : List ℕ → Version → List Row → List Row
 with_offer k v [] = record { key = k; versions = offered v [] } ∷ []
 with_offer k v (r ∷ rows) = place_by (key_cmp k r.key) (record { key = k; versions = offered v [] } ∷ r ∷ rows) (record { key = r.key; versions = offered v r.versions } ∷ rows) (r ∷ with_offer k v rows)
 
--- the row of the key stands at i
+-- the row of the key is at i
 pub record IsAt (k : List ℕ) (rows : List Row) (i : ℕ) : Type 0 where
   pub within : i < length rows
   pub key : (d : Row) → (slice_index_or rows i d).key ≡ k
   pub offers : (v : Version) (d : Row) → with_offer k v rows ≡ slice_set rows i (record { key = (slice_index_or rows i d).key; versions = offered v (slice_index_or rows i d).versions })
   pub holds : (d : Row) → versions_in k rows ≡ (slice_index_or rows i d).versions
 
--- the key has no row, and one would stand at i
+-- the key has no row, and one would be inserted at i
 pub record IsBetween (k : List ℕ) (rows : List Row) (i : ℕ) : Type 0 where
   pub within : i ≤ length rows
   pub offers : (v : Version) → with_offer k v rows ≡ take i rows ++ record { key = k; versions = offered v [] } ∷ drop i rows
   pub holds : versions_in k rows ≡ []
 
--- where the row of a key stands, or else where one would stand
+-- the place of the row of a key, or the place at which one would be inserted
 abbrev pub IsPlace : List ℕ → List Row → Result ℕ ℕ → Type 0
 IsPlace k rows (Ok i) = IsAt k rows i
 IsPlace k rows (Err i) = IsBetween k rows i

@@ -5,17 +5,17 @@ use Rattle.std.specs.List.{list_any, list_all, range_with_len}
 use Rattle.vclock.specs.declared.format.Format.{Format}
 use Rattle.vclock.specs.declared.format.Format.TheVariants.{One, Two}
 
--- how deep the leaves lie
+-- the depth of the leaves
 abbrev pub tree_depth : Format → ℕ
 tree_depth One = 2
 tree_depth Two = 3
 
--- how many nodes lie above a depth
+-- the number of nodes above a depth
 abbrev pub nodes_above : ℕ → ℕ
 nodes_above zero = 0
 nodes_above (suc depth) = 16 * nodes_above depth + 1
 
--- how many nodes a tree has: 273, or 4,369 in format 2
+-- the number of nodes of a tree: 273, or 4,369 in format 2
 abbrev pub node_count : Format → ℕ
 node_count One = nodes_above 3
 node_count Two = nodes_above 4
@@ -24,20 +24,20 @@ node_count Two = nodes_above 4
 abbrev pub place_at : ℕ → ℕ → ℕ
 place_at depth index = nodes_above depth + index
 
--- a tree: its format, and by place the digest of each node that has one
+-- a tree: its format, and the digests of its clean nodes by place
 pub record Tree : Type 0 where
   pub format : Format
   pub digests : List (Option (List ℕ))
 
--- the digest of the node at a place: a node that has one is clean, any other is dirty
+-- the digest of the node at a place: a node with a digest is clean, any other is dirty
 abbrev pub digest_at : List (Option (List ℕ)) → ℕ → Option (List ℕ)
 digest_at digests place = slice_index_or digests place None
 
--- the digests of a node's children: none where it is a leaf
+-- the digests of a node's children: an empty list for a leaf
 abbrev pub children_of : List (Option (List ℕ)) → ℕ → List (Option (List ℕ))
 children_of digests place = take 16 (drop (16 * place + 1) digests)
 
--- whether all these nodes are clean
+-- all these nodes are clean
 abbrev pub are_clean : List (Option (List ℕ)) → Bool
 are_clean digests = list_all is_some digests
 
@@ -50,11 +50,11 @@ pub record IsTree (t : Tree) : Type 0 where
   pub all : length t.digests ≡ node_count t.format
   pub below : AreCleanBelow t.digests
 
--- how many nodes are dirty
+-- the number of dirty nodes
 abbrev pub dirty_count : List (Option (List ℕ)) → ℕ
 dirty_count digests = length (filter is_none digests)
 
--- whether a node can be hashed: it is dirty, and its children are clean
+-- a node can be hashed: it is dirty, and its children are clean
 abbrev pub is_ready : List (Option (List ℕ)) → ℕ → Bool
 is_ready digests place = is_none (digest_at digests place) && are_clean (children_of digests place)
 
@@ -67,15 +67,15 @@ abbrev pub path_of : ℕ → ℕ → List ℕ
 path_of zero index = 0 ∷ []
 path_of (suc depth) index = place_at (suc depth) index ∷ path_of depth (index / 16)
 
--- the index of the node of a height that is a leaf or lies above it
+-- the index of the ancestor at a height above the leaf: at height 0 the leaf itself
 abbrev pub ancestor_of : ℕ → ℕ → ℕ
 ancestor_of zero leaf = leaf
 ancestor_of (suc height) leaf = ancestor_of height leaf / 16
 
--- whether a place is a leaf's or lies above it
+-- a place is that of a leaf or of a node above it
 abbrev pub is_on_path : Format → ℕ → ℕ → Bool
 is_on_path format leaf place = list_any (nat_eq place) (path_of (tree_depth format) leaf)
 
--- the digests with a leaf and those above it dirty, and every other node as it was
+-- the digests after a leaf and the nodes above it become dirty: every other node is unchanged
 unfoldable pub dirtied : Format → ℕ → List (Option (List ℕ)) → List (Option (List ℕ))
 dirtied format leaf digests = map (λ place. if is_on_path format leaf place then None else digest_at digests place) (range_with_len 0 (length digests))

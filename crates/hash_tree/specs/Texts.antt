@@ -1,6 +1,6 @@
 -- The texts of the nodes of a tree, and their digests: the paper of 2007, section 4.7; digests are those of FIPS 180-4.
--- What stands in a text, this project's profile says. leaf says in which leaf a key is.
-use Rattle.std.specs.Prelude.{◌≡◌, ℕ, zero, suc, ◌+◌, ◌*◌, ◌^◌, ◌<◌, Option, Some, List, ◌∷◌, map}
+-- This project's profile defines the contents of texts. The parameter leaf gives the leaf of each key.
+use Rattle.std.specs.Prelude.{◌≡◌, ℕ, zero, suc, ◌+◌, ◌*◌, ◌^◌, ◌<◌, Option, Some, List, ◌∷◌, map, ◌++◌, None}
 use Rattle.std.specs.List.{flat_map, range_with_len}
 use Rattle.sha2.specs.Sha256.{sha256}
 use Rattle.vclock.specs.declared.format.Format.{Format}
@@ -28,7 +28,7 @@ leaf_text format rows = leaf_byte format ∷ flat_map (row_text format) rows
 unfoldable pub inner_text : Format → List (List ℕ) → List ℕ
 inner_text format digests = inner_byte format ∷ flat_map (λ d. d) digests
 
--- what f gives for each of the 16 children, in order
+-- the results of f for the 16 children, in order
 unfoldable pub per_child : (ℕ → List ℕ) → List (List ℕ)
 per_child f = map f (range_with_len 0 16)
 
@@ -37,7 +37,7 @@ unfoldable pub node_text : Format → (List ℕ → ℕ) → List Row → ℕ �
 node_text format leaf rows zero index = leaf_text format (rows_at leaf index rows)
 node_text format leaf rows (suc height) index = inner_text format (per_child (λ j. sha256 (node_text format leaf rows height (16 * index + j))))
 
--- its digest
+-- the digest of that text
 abbrev pub node_digest : Format → (List ℕ → ℕ) → List Row → ℕ → ℕ → List ℕ
 node_digest format leaf rows height index = sha256 (node_text format leaf rows height index)
 
@@ -45,7 +45,12 @@ node_digest format leaf rows height index = sha256 (node_text format leaf rows h
 unfoldable pub AreTrue : Format → (List ℕ → ℕ) → List Row → List (Option (List ℕ)) → Type 0
 AreTrue format leaf rows digests = (depth height index : ℕ) (d : List ℕ) → depth + height ≡ tree_depth format → index < 16 ^ depth → digest_at digests (place_at depth index) ≡ Some d → d ≡ node_digest format leaf rows height index
 
--- a tree that is right for rows
+-- a valid tree whose clean nodes have the digests of their texts over rows
 pub record IsTreeFor (leaf : List ℕ → ℕ) (rows : List Row) (t : Tree) : Type 0 where
   pub tree : IsTree t
   pub digests : AreTrue t.format leaf rows t.digests
+
+-- the rest after the front, or `None` if the text does not begin with the front
+abbrev pub Strips : {X : Type 0} → (X → List ℕ) → List ℕ → List ℕ → Option X → Type 0
+Strips view front text None = (rest : List ℕ) → text ≡ front ++ rest → ⊥
+Strips view front text (Some x) = text ≡ front ++ view x

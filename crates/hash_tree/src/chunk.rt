@@ -1,4 +1,4 @@
-//! Consecutive rows of a leaf, which several leaves may share.
+//! Consecutive rows of a leaf that several leaves may share.
 ghost use Rattle.std.specs.Prelude.{◌≡◌, ◌<◌, ◌≤◌, [], ◌∷◌, ⊤, None, Some, if◌then◌else◌, length, take, drop, slice_index_or, IfOk, OnOk, OnErr};
 ghost use Rattle.std.specs.List.{flat_map, insert};
 ghost use Rattle.vclock.specs.Answer.{Answers};
@@ -8,18 +8,16 @@ ghost use Rattle.row_bytes.specs.Rows.{row_text, FitsText};
 ghost use Rattle.row_bytes.specs.declared.row.Row.{Row};
 ghost use Rattle.hash_tree.specs.Chunks.{chunk_text, begin_by, versions_at, offered_at};
 
-use crate::written::WrittenRows;
-use row_bytes::row::Row;
+use crate::written_rows::WrittenRows;
+use row_bytes::Row;
 use std::alloc::Global;
 use std::marker::Model;
 use std::sync::Arc;
-use vclock::bytes::Bytes;
-use vclock::format::Format;
-use vclock::refusal::Refusal;
-use version_set::version::Version;
+use vclock::{Bytes, Format, Refusal};
+use version_set::Version;
 
 /// Some consecutive rows of a leaf, at least one. Copies of the leaf share them until one is changed. The first key is
-/// kept as well, so that a search among chunks looks at no row.
+/// stored in the chunk as well, so that a search among chunks reads no row. On error a chunk is unchanged.
 #[derive(Debug)]
 pub(crate) struct Chunk {
     first: Bytes,
@@ -40,7 +38,7 @@ impl Model for Chunk {
 }
 
 impl Chunk {
-    /// The chunk of one row. Refused: NoMemory.
+    /// Creates a chunk with one row. Refused: NoMemory.
     pub(crate) fn of_row(alloc: Global, format: Format, row: Row) -> Result<Chunk, Refusal>
         requires { FitsText format row }
         ensures { Answers result None (λ chunk. chunk ≡ record { format = format; rows = row ∷ [] }) }
@@ -54,28 +52,28 @@ impl Chunk {
         })
     }
 
-    /// The rows, in ascending order of key.
+    /// Returns the rows, in ascending order of key.
     pub(crate) fn rows(&self) -> &[Row]
         ensures { result.now ≡ self.now.rows }
     {
         self.held.rows()
     }
 
-    /// Whether the first key is at most a key. No row is looked at.
+    /// Returns true if the first key is at most `key`. Reads no row.
     pub(crate) fn begins_by(&self, key: &[u8]) -> bool
         ensures { result ≡ begin_by key.now self.now.rows }
     {
         self.first.as_slice().cmp(key).is_le()
     }
 
-    /// The texts of the rows, one after another.
+    /// Returns the texts of the rows, one after another.
     pub(crate) fn text(&self) -> &[u8]
         ensures { result.now ≡ chunk_text self.now }
     {
         self.held.text()
     }
 
-    /// The text of the row at a place.
+    /// Returns the text of the row at a place.
     pub(crate) fn row_text(&self, at: usize) -> &[u8]
         requires { at < length self.now.rows }
         ensures { (d : Row) → result.now ≡ row_text self.now.format (slice_index_or self.now.rows at d) }
@@ -83,7 +81,7 @@ impl Chunk {
         self.held.row_text(at)
     }
 
-    /// The texts of the rows from a place on, one after another.
+    /// Returns the texts of the rows from a place on, one after another.
     pub(crate) fn texts_from(&self, at: usize) -> &[u8]
         requires { at < length self.now.rows }
         ensures { result.now ≡ flat_map (row_text self.now.format) (drop at self.now.rows) }
@@ -91,7 +89,7 @@ impl Chunk {
         self.held.texts_from(at)
     }
 
-    /// One more owner of the rows. Refused: NoMemory. No row is copied.
+    /// Adds an owner to the rows, and returns its handle. Refused: NoMemory. Copies no row.
     pub(crate) fn share(&self) -> Result<Chunk, Refusal>
         ensures { Answers result None (λ shared. shared ≡ self.now) }
     {
@@ -101,7 +99,7 @@ impl Chunk {
         })
     }
 
-    /// Whether an offer of the version to the set of the row at a place is refused as Crowded.
+    /// Returns true if an offer of the version to the set of the row at a place is refused as Crowded.
     fn crowds(&self, at: usize, version: &Version) -> bool
         requires { at < length self.now.rows }
         ensures { offer_fault version.now (versions_at self.now.rows at)
@@ -112,7 +110,7 @@ impl Chunk {
 
     /// Offers a version to the set of the row at a place. If the rows have other owners, a copy of them is changed.
     ///
-    /// Refused, in order: Crowded (the set would have over 64 versions), NoMemory. The chunk is then as it was.
+    /// Refused, in order: Crowded (the set would have over 64 versions), NoMemory.
     pub(crate) fn offer(
         &mut self,
         alloc: Global,
@@ -131,8 +129,8 @@ impl Chunk {
         Arc::make_mut(&mut self.held)?.offer(alloc, at, version)
     }
 
-    /// Puts a row at a place among the rows. If they have other owners, a copy of them is changed. Refused: NoMemory.
-    /// The chunk is then as it was.
+    /// Inserts a row at a place among the rows. If the rows have other owners, a copy of them is changed. Refused:
+    /// NoMemory.
     pub(crate) fn insert(&mut self, alloc: Global, at: usize, row: Row) -> Result<(), Refusal>
         requires at { at ≤ length self.old.rows }
         requires fits { FitsText self.old.format row }
@@ -152,7 +150,7 @@ impl Chunk {
         Ok(())
     }
 
-    /// Splits off the rows from a place on. Refused: NoMemory. The chunk is then as it was.
+    /// Splits off the rows from a place on. Refused: NoMemory.
     pub(crate) fn split(&mut self, alloc: Global, at: usize) -> Result<Chunk, Refusal>
         requires some { 1 ≤ at }
         requires within { at < length self.old.rows }
@@ -163,8 +161,8 @@ impl Chunk {
     {
         let first = self.held.rows()[at].key.try_clone()?;
         let mut held = Arc::new(alloc, WrittenRows::none(alloc, self.held.format()))?;
-        // This always succeeds, since `held` has no other owner. The contract of `get_mut` doesn't say so: to a contract, an
-        // `Arc` is its value, and how many owners it has is no part of that.
+        // This always succeeds, since `held` has no other owner. The contract of `get_mut` doesn't say so: in a
+        // contract, an `Arc` is its value, without the number of its owners.
         let Some(back) = Arc::get_mut(&mut held) else {
             return Err(Refusal::NoMemory);
         };

@@ -1,4 +1,4 @@
-//! What the definitions of node texts say.
+//! Laws of node texts, proved from their definitions.
 ghost use Rattle.std.specs.Prelude.{◌≡◌, ◌≢◌, ℕ, List};
 ghost use Rattle.std.specs.List.{AllByRecursion};
 ghost use Rattle.vclock.specs.declared.format.Format.{Format};
@@ -9,7 +9,7 @@ ghost use Rattle.hash_tree.specs.Leaves.{AscendByKey, with_offer};
 ghost use Rattle.hash_tree.specs.Nodes.{ancestor_of};
 ghost use Rattle.hash_tree.specs.Texts.{leaf_text, node_text};
 
-/// A version of a key leaves the text of each node as it was that doesn't lie above the key's leaf.
+/// A version of a key leaves all node texts unchanged except those of the key's leaf and the nodes above it.
 pub fn other_nodes_keep_their_texts()
     ensures { (format : Format) (leaf : List ℕ → ℕ) (rows : List Row) (key : List ℕ) (v : Version) (height index : ℕ)
         → AscendByKey rows

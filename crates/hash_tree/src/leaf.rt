@@ -3,7 +3,7 @@ ghost use Rattle.std.specs.Prelude.{◌≡◌, ◌↔◌, ◌++◌, ◌+◌, ◌
 ghost use Rattle.std.specs.List.{flat_map};
 ghost use Rattle.std.specs.Vec.{vec_capacity};
 ghost use Rattle.vclock.specs.Answer.{Answers};
-ghost use Rattle.vclock.specs.Keys.{key_fault};
+ghost use Rattle.vclock.specs.Bytes.{key_fault};
 ghost use Rattle.version_set.specs.Kind.{value_fault};
 ghost use Rattle.version_set.specs.Version.{offer_fault, offered};
 ghost use Rattle.row_bytes.specs.Rows.{row_text};
@@ -12,19 +12,17 @@ ghost use Rattle.hash_tree.specs.Chunks.{all_rows, AreChunks};
 ghost use Rattle.hash_tree.specs.Texts.{leaf_text};
 
 use crate::chunk::Chunk;
-use crate::chunked::{Spot, chunk_of, insert_at, offer_at, share_chunks, text_len};
-use crate::comparing::is_chunked_text;
+use crate::chunks::{Spot, chunk_of, insert_at, offer_at, share_chunks, text_len};
+use crate::comparison::is_chunked_text;
 use crate::texts::put_chunks;
-use row_bytes::row::Row;
+use row_bytes::Row;
 use std::alloc::{AllocError, Global};
 use std::marker::Model;
-use vclock::bytes::Bytes;
-use vclock::format::Format;
-use vclock::refusal::Refusal;
-use version_set::set::VersionSet;
-use version_set::version::Version;
+use vclock::{Bytes, Format, Refusal};
+use version_set::{Version, VersionSet};
 
-/// Rows in ascending order of key, each key once, in chunks: what is put into a leaf moves the rows of one chunk only.
+/// Rows in ascending order of key, each key once, in chunks: an insertion moves the rows of one chunk only. On error a
+/// leaf is unchanged.
 #[derive(Debug)]
 pub(crate) struct Leaf {
     format: Format,
@@ -44,7 +42,7 @@ impl Model for Leaf {
 }
 
 impl Leaf {
-    /// A leaf without rows. It takes no memory.
+    /// Creates a leaf without rows.
     pub(crate) fn empty(alloc: Global, format: Format) -> Leaf
         ensures { result ≡ record { format = format; rows = [] } }
     {
@@ -54,15 +52,15 @@ impl Leaf {
         }
     }
 
-    /// How many bytes the text of the leaf has. No row is looked at, but each chunk.
+    /// Returns the length in bytes of the text of the leaf, from the lengths of its chunks.
     pub(crate) fn text_len(&self) -> u128
         ensures { result ≡ length (leaf_text self.now.format self.now.rows) }
     {
         text_len(&self.chunks)
     }
 
-    /// Appends the text of the leaf, without a look at its rows. It fails only if memory is needed beyond the room of
-    /// `out`, which is then as it was.
+    /// Appends the text of the leaf, copied from its chunks. Fails only if memory is needed beyond the room of `out`,
+    /// which is then unchanged.
     pub(crate) fn put_text(&self, out: &mut Vec<u8>) -> Result<(), AllocError>
         ensures ok { OnOk result (out.new.items ≡ out.old.items ++ leaf_text self.now.format self.now.rows) }
         ensures room { OnErr result (vec_capacity out.old < length out.old.items + length (leaf_text self.now.format self.now.rows)) }
@@ -73,14 +71,14 @@ impl Leaf {
         put_chunks(out, self.format, &self.chunks)
     }
 
-    /// Whether a text is that of the leaf. It takes no memory.
+    /// Returns true if `text` is the text of the leaf.
     pub(crate) fn is_text(&self, text: &[u8]) -> bool
         ensures { IsTrue result ↔ (text.now ≡ leaf_text self.now.format self.now.rows) }
     {
         is_chunked_text(self.format, text, &self.chunks)
     }
 
-    /// An equal leaf. Refused: NoMemory. It copies no row: both leaves share chunks until either changes one.
+    /// Returns an equal leaf. Refused: NoMemory. Copies no row: both leaves share chunks until either changes one.
     pub(crate) fn try_clone(&self, alloc: Global) -> Result<Leaf, Refusal>
         ensures { Answers result None (λ copy. copy ≡ self.now) }
     {
@@ -90,7 +88,7 @@ impl Leaf {
         })
     }
 
-    /// What is held for a key, if it has a row. It takes no memory: a binary search.
+    /// Returns the versions that are held for a key, if it has a row, by a binary search.
     pub(crate) fn find(&self, key: &[u8]) -> Option<&VersionSet>
         ensures found { unwrap_or (option_map (λ s. s.now) result) [] ≡ versions_in key.now self.now.rows }
         ensures valid { IsBucket self.now }
@@ -105,7 +103,7 @@ impl Leaf {
         }
     }
 
-    /// The row of a key, if it has one, with its text. It takes no memory: a binary search.
+    /// Returns the versions and the text of the row of a key, if it has one, by a binary search.
     pub(crate) fn find_row(&self, key: &[u8]) -> Option<(&VersionSet, &[u8])>
         ensures found { FindsRow self.now.rows key.now (option_map (λ x. x.0.now) result) }
         ensures text { MatchOption result ⊤ (λ x. x.1.now ≡ row_text self.now.format (record { key = key.now; versions = x.0.now })) }
@@ -120,8 +118,8 @@ impl Leaf {
         }
     }
 
-    /// The row of a key, if it has one, and some that follow it, with their texts, one after another. It takes no memory: a
-    /// binary search. How many follow is a matter of speed: those that the leaf keeps together.
+    /// Returns the row of a key, if it has one, and some rows that follow it, with their texts one after another, by a
+    /// binary search. The rows end with the chunk of the key.
     pub(crate) fn find_run(&self, key: &[u8]) -> Option<(&[Row], &[u8])>
         ensures found { FindsRun self.now.rows key.now (option_map (λ x. x.0.now) result) }
         ensures text { MatchOption result ⊤ (λ x. x.1.now ≡ flat_map (row_text self.now.format) x.0.now) }
@@ -139,7 +137,7 @@ impl Leaf {
         }
     }
 
-    /// Whether an offer of the version to the set of a key is refused as Crowded.
+    /// Returns true if an offer of the version to the set of a key is refused as Crowded.
     pub(crate) fn crowds(&self, key: &[u8], version: &Version) -> bool
         ensures { offer_fault version.now (versions_in key.now self.now.rows)
             ≡ (if result then Some Refusal.Crowded else None) }
@@ -150,9 +148,9 @@ impl Leaf {
         }
     }
 
-    /// Offers a version to the set of a key. The key has a row from then on.
+    /// Offers a version to the set of a key. If the key has no row, one is added.
     ///
-    /// Refused, in order: Crowded (the set would have over 64 versions), NoMemory. The leaf is then as it was.
+    /// Refused, in order: Crowded (the set would have over 64 versions), NoMemory.
     pub(crate) fn offer(
         &mut self,
         alloc: Global,
@@ -169,9 +167,9 @@ impl Leaf {
     }
 }
 
-/// Offers a version to the set of a key among the rows of chunks.
+/// Offers a version to the set of a key among the rows of chunks. On error the rows are unchanged.
 ///
-/// Refused, in order: Crowded (the set would have over 64 versions), NoMemory. The rows are then as they were.
+/// Refused, in order: Crowded (the set would have over 64 versions), NoMemory.
 fn offer_to_key(
     alloc: Global,
     format: Format,
@@ -203,7 +201,7 @@ fn offer_to_key(
     }
 }
 
-/// The row of a key that has no other version.
+/// Returns the row of a key with one version. Refused: NoMemory.
 fn row_of_one(alloc: Global, key: &[u8], version: Version) -> Result<Row, Refusal>
     ensures { Answers result None (λ row. row ≡ record { key = key.now; versions = offered version [] }) }
 {
@@ -213,7 +211,7 @@ fn row_of_one(alloc: Global, key: &[u8], version: Version) -> Result<Row, Refusa
     Ok(Row { key, versions })
 }
 
-/// The place of the row of a key, or else the place that it would have.
+/// Returns the place of the row of a key, or the place at which to insert one.
 fn find_place(rows: &[Row], key: &[u8]) -> Result<usize, usize>
     requires { AscendByKey rows.now }
     ensures { IsPlace key.now rows.now result }
@@ -221,7 +219,7 @@ fn find_place(rows: &[Row], key: &[u8]) -> Result<usize, usize>
     rows.binary_search_by(|row| row.key.as_slice().cmp(key))
 }
 
-/// Makes room for that many more bytes. It fails only if memory is needed.
+/// Makes room for `len` more bytes. Fails only if memory is needed.
 fn reserve(out: &mut Vec<u8>, len: u128) -> Result<(), AllocError>
     ensures items { out.new.items ≡ out.old.items }
     ensures capacity { vec_capacity out.old ≤ vec_capacity out.new }

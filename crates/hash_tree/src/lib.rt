@@ -1,23 +1,36 @@
-//! The tree of a range (the paper of 2007, section 4.7): its rows in leaves, and a digest for each node.
+//! The tree of a range (the paper of 2007, section 4.7): its rows in leaves, and a digest for each node. Use it to
+//! change leaves, to write the texts of nodes, and to record which nodes are clean.
 //!
-//! - [`shared`]: the rows of one leaf, in order of key, which a range shares with whoever looked at it. They stand in chunks,
-//!   which copies of a leaf share.
+//! - [`shared_leaf`]: the rows of one leaf, in order of key, with any number of owners.
 //! - [`node`]: nodes by depth and index.
-//! - [`text`], [`hashed`]: texts, and texts with their digests.
-//! - [`texts`], [`comparing`]: the texts of nodes, written, and compared in place.
-//! - [`marks`]: which nodes are clean, and their digests.
-//! - [`laws`]: what the definitions say.
+//! - [`text`], [`digest`]: texts, and texts with their digests.
+//! - [`texts`], [`comparison`]: writing the texts of nodes, and comparing them in place.
+//! - [`marks`]: the clean nodes, and their digests.
+//! - [`laws`]: laws proved from the definitions.
+//!
+//! ```
+//! let hashed = hash(Text::copy_of(alloc, b"abc")?);
+//! assert_eq!(rt; hashed.text(), b"abc".as_slice());
+//! ```
 #![tactic(auto)]
 
 mod chunk;
-mod chunked;
-pub mod comparing;
-pub mod hashed;
+mod chunks;
+pub mod comparison;
+pub mod digest;
 pub mod laws;
 mod leaf;
 pub mod marks;
 pub mod node;
-pub mod shared;
+pub mod shared_leaf;
 pub mod text;
 pub mod texts;
-mod written;
+mod written_rows;
+
+pub use comparison::is_inner_text;
+pub use digest::{Digest, Hashed, hash};
+pub use marks::Marks;
+pub use node::{NodeAt, tree_depth};
+pub use shared_leaf::SharedLeaf;
+pub use text::Text;
+pub use texts::{INNER_LEN, inner_byte, inner_text, leaf_byte, leaf_text, put_inner_text};

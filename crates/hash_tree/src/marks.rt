@@ -1,17 +1,16 @@
-//! Which nodes of a tree are clean, and their digests.
+//! The clean nodes of a tree, and their digests.
 ghost use Rattle.std.specs.Prelude.{◌≡◌, ◌+◌, ◌/◌, ◌<◌, ◌≤◌, ◌^◌, ◌∷◌, [], length, Option, Some, None, map, replicate, slice_set, false, if◌then◌else◌, IsTrue, MatchOption};
 ghost use Rattle.vclock.specs.Answer.{Answers};
 ghost use Rattle.hash_tree.specs.Nodes.{tree_depth, nodes_above, node_count, place_at, digest_at, children_of, are_clean, is_ready, ready_from, dirtied, dirty_count, IsTree};
 
-use crate::hashed::Digest;
+use crate::digest::Digest;
 use crate::node::{NodeAt, tree_depth};
 use std::alloc::Global;
 use std::marker::Model;
-use vclock::format::Format;
-use vclock::refusal::Refusal;
+use vclock::{Format, Refusal};
 
-/// The digests of the clean nodes of a tree; the other nodes are dirty, and have none. A new version makes its leaf and
-/// all nodes above it dirty, and a rehash makes them clean from the leaves up, so the children of a clean node are
+/// The digests of the clean nodes of a tree. The other nodes are dirty and have no digest. A new version makes its leaf
+/// and all nodes above it dirty, and a rehash makes them clean from the leaves up, so the children of a clean node are
 /// clean.
 pub struct Marks {
     format: Format,
@@ -29,7 +28,7 @@ impl Model for Marks {
 }
 
 impl Marks {
-    /// The marks of a tree whose nodes are all dirty: 273, or 4,369 in format 2. Refused: NoMemory.
+    /// Creates the marks of a tree whose nodes are all dirty: 273, or 4,369 in format 2. Refused: NoMemory.
     pub fn new(alloc: Global, format: Format) -> Result<Marks, Refusal>
         ensures { Answers result None
             (λ marks. marks ≡ record { format = format; digests = replicate (node_count format) None }) }
@@ -42,7 +41,7 @@ impl Marks {
         Ok(Marks { format, digests })
     }
 
-    /// The digest of a node: `None` if the node is dirty or the tree has no such node. It takes no memory.
+    /// Returns the digest of a node, or `None` if the node is dirty or isn't in the tree. Doesn't allocate.
     pub fn get(&self, node: NodeAt) -> Option<Digest>
         ensures digest { result ≡ digest_at self.now.digests (place_at node.depth node.index) }
         ensures valid { IsTree self.now }
@@ -53,7 +52,7 @@ impl Marks {
         }
     }
 
-    /// The digests of a node's children, if all are clean. It takes no memory.
+    /// Returns the digests of a node's children, if all are clean. Doesn't allocate.
     pub fn children(&self, node: NodeAt) -> Option<[Digest; 16]>
         requires { node.depth < tree_depth self.now.format }
         ensures { MatchOption result
@@ -71,8 +70,8 @@ impl Marks {
         Some(digests)
     }
 
-    /// The first node, in order of place, that can be hashed: it is dirty, and its children are clean. Nodes before the
-    /// place are passed over. It takes no memory.
+    /// Returns the first node, in order of place from `from` on, that can be hashed: it is dirty, and its children are
+    /// clean. Doesn't allocate.
     pub fn next_ready(&self, from: usize) -> Option<NodeAt>
         ensures { MatchOption result
             (ready_from self.now.digests from ≡ [])
@@ -87,7 +86,7 @@ impl Marks {
         None
     }
 
-    /// How many nodes can be hashed. It takes no memory.
+    /// Counts the nodes that can be hashed. Doesn't allocate.
     pub fn ready_count(&self) -> usize
         ensures { result ≡ length (ready_from self.now.digests 0) }
     {
@@ -100,7 +99,7 @@ impl Marks {
         count
     }
 
-    /// How many nodes are dirty. It takes no memory.
+    /// Counts the dirty nodes. Doesn't allocate.
     pub fn dirty_count(&self) -> usize
         ensures { result ≡ dirty_count self.now.digests }
     {
@@ -110,7 +109,7 @@ impl Marks {
             .count()
     }
 
-    /// The digests of all nodes, by place, if all are clean. Refused, in order: Dirty (some node has no digest), NoMemory.
+    /// Returns the digests of all nodes, by place. Refused, in order: Dirty (some node has no digest), NoMemory.
     pub fn digests(&self, alloc: Global) -> Result<Vec<Digest>, Refusal>
         ensures { Answers result (if are_clean self.now.digests then None else Some Refusal.Dirty)
             (λ digests. map Some digests.items ≡ self.now.digests) }
@@ -128,7 +127,7 @@ impl Marks {
         Ok(digests)
     }
 
-    /// Makes a leaf and every node above it dirty. It takes no memory.
+    /// Makes a leaf and every node above it dirty. Doesn't allocate.
     pub fn dirty(&mut self, leaf: u16)
         requires { leaf < 16 ^ tree_depth self.old.format }
         ensures path { self.new ≡ record self.old { digests = dirtied self.old.format leaf self.old.digests } }
@@ -137,7 +136,7 @@ impl Marks {
         dirty_up(self.format, leaf, &mut self.digests);
     }
 
-    /// Makes a node clean, which the tree has, and whose children are clean. It takes no memory.
+    /// Makes a node of the tree clean whose children are clean. Doesn't allocate.
     pub fn set(&mut self, node: NodeAt, digest: Digest)
         requires has { node.depth ≤ tree_depth self.old.format }
         requires children { IsTrue (are_clean (children_of self.old.digests (place_at node.depth node.index))) }
@@ -149,7 +148,7 @@ impl Marks {
     }
 }
 
-/// How many nodes a tree has.
+/// Returns the number of nodes of a tree.
 fn count_of(format: Format) -> usize
     ensures { result ≡ node_count format }
 {
@@ -159,7 +158,7 @@ fn count_of(format: Format) -> usize
     }
 }
 
-/// The children of the node at a place. A leaf has no children.
+/// Returns the children of the node at a place. A leaf has no children.
 fn children_at(digests: &[Option<Digest>], place: usize) -> &[Option<Digest>]
     requires { place < 2 ^ 32 }
     ensures { result.now ≡ children_of digests.now place }
@@ -169,7 +168,7 @@ fn children_at(digests: &[Option<Digest>], place: usize) -> &[Option<Digest>]
     &behind[..behind.len().min(16)]
 }
 
-/// Whether the node at a place can be hashed.
+/// Returns true if the node at a place can be hashed.
 fn is_ready(digests: &[Option<Digest>], place: usize) -> bool
     requires small { place < 2 ^ 32 }
     requires has { place < length digests.now }
@@ -178,14 +177,14 @@ fn is_ready(digests: &[Option<Digest>], place: usize) -> bool
     digests[place].is_none() && are_clean(children_at(digests, place))
 }
 
-/// Whether all these nodes are clean.
+/// Returns true if all these nodes are clean.
 fn are_clean(digests: &[Option<Digest>]) -> bool
     ensures { result ≡ are_clean digests.now }
 {
     digests.iter().all(|digest| digest.is_some())
 }
 
-/// The node at a place.
+/// Returns the node at a place.
 fn node_of(place: usize) -> NodeAt
     requires { place < nodes_above 4 }
     ensures { place_at result.depth result.index ≡ place }
@@ -218,7 +217,7 @@ fn dirty_up(format: Format, leaf: u16, digests: &mut [Option<Digest>])
     }
 }
 
-/// The node above a node, if it is not the root.
+/// Returns the node above a node, or `None` for the root.
 fn parent_of(node: NodeAt) -> Option<NodeAt>
     ensures { MatchOption result (node.depth ≡ 0) (λ n. (n.depth + 1 ≡ node.depth) × (n.index ≡ node.index / 16)) }
 {

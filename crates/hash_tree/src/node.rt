@@ -2,7 +2,7 @@
 ghost use Rattle.std.specs.Prelude.{◌≡◌, ◌+◌, ◌<◌, ◌≤◌, ◌^◌, ◌↔◌, IsSome, IfSome};
 ghost use Rattle.hash_tree.specs.Nodes.{nodes_above, place_at, tree_depth};
 
-use vclock::format::Format;
+use vclock::Format;
 
 /// A node of a tree, by its depth and its index there. The root is the only node of depth 0. The children of a node are
 /// the nodes of the next depth with 16 times its index, and the 15 after.
@@ -13,15 +13,15 @@ use vclock::format::Format;
 /// ```
 #[derive(Clone, Copy, Debug, PartialEq, Eq)]
 pub struct NodeAt {
-    /// How many nodes lie above it: 0 for the root, at most 3.
+    /// The number of nodes on the path above it: 0 for the root, at most 3.
     pub depth: u8,
-    /// Its number among the nodes of that depth, from 0: below 16^depth.
+    /// The index among the nodes of this depth, from 0: below 16^depth.
     pub index: u16,
     pub ghost shallow: { depth ≤ 3 },
     pub ghost within: { index < 16 ^ depth },
 }
 
-/// How deep the leaves of a tree lie: at 2, or 3 in format 2.
+/// Returns the depth of the leaves of a tree: 2, or 3 in format 2.
 pub fn tree_depth(format: Format) -> u8
     ensures { result ≡ tree_depth format }
 {
@@ -32,7 +32,7 @@ pub fn tree_depth(format: Format) -> u8
 }
 
 impl NodeAt {
-    /// The node of a depth and an index: `None` if the depth is over 3 or has no such index.
+    /// Returns the node with a depth and an index, or `None` if the depth is over 3 or the index isn't below 16^depth.
     pub fn new(depth: u8, index: u16) -> Option<NodeAt>
         ensures node { IsSome result ↔ ((depth ≤ 3) × (index < 16 ^ depth)) }
         ensures depth { IfSome result (λ n. n.depth ≡ depth) }
@@ -52,7 +52,7 @@ impl NodeAt {
         }
     }
 
-    /// How many nodes a tree has before this one, depth by depth.
+    /// Returns the number of nodes before this one in a tree, depth by depth.
     pub fn place(self) -> usize
         ensures place { result ≡ place_at self.depth self.index }
         ensures before { result < nodes_above (self.depth + 1) }

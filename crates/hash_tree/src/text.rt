@@ -4,7 +4,7 @@ ghost use Rattle.vclock.specs.Answer.{Answers};
 
 use std::alloc::Global;
 use std::marker::Model;
-use vclock::refusal::Refusal;
+use vclock::Refusal;
 
 /// The text of a node, of a row or of a message: bytes with one owner, in the allocation in which they were written.
 ///
@@ -26,7 +26,7 @@ impl Model for Text {
 }
 
 impl Text {
-    /// The text that a slice has. Refused: NoMemory.
+    /// Copies the bytes of a slice into a text. Refused: NoMemory.
     pub fn copy_of(alloc: Global, bytes: &[u8]) -> Result<Text, Refusal>
         ensures { Answers result None (λ copy. copy ≡ bytes.now) }
     {
@@ -35,7 +35,7 @@ impl Text {
         })
     }
 
-    /// The bytes in order.
+    /// Returns the bytes in order.
     pub fn as_slice(&self) -> &[u8]
         ensures { result.now ≡ self.now }
     {
@@ -55,7 +55,7 @@ impl From<Vec<u8>> for Text {
 
     ghost from_gives = { λ bytes text. text ≡ bytes.items };
 
-    /// The bytes of a vector, whose allocation is kept.
+    /// Wraps a vector and keeps its allocation.
     fn from(bytes: Vec<u8>) -> Text {
         Text { bytes }
     }

@@ -1,4 +1,4 @@
-//! The texts of nodes. What stands in them, this project's profile says.
+//! Writing the texts of nodes, as this project's profile defines them.
 ghost use Rattle.std.specs.Prelude.{◌≡◌, ◌++◌, ◌+◌, ◌<◌, ◌≤◌, ◌∷◌, length, None, OnOk, OnErr};
 ghost use Rattle.std.specs.List.{AllByRecursion, flat_map};
 ghost use Rattle.std.specs.Vec.{vec_capacity};
@@ -8,17 +8,15 @@ ghost use Rattle.hash_tree.specs.Chunks.{chunk_text};
 ghost use Rattle.hash_tree.specs.Texts.{leaf_byte, inner_byte, leaf_text, inner_text};
 
 use crate::chunk::Chunk;
-use crate::hashed::Digest;
-use row_bytes::row::Row;
-use row_bytes::writing::put_row;
+use crate::digest::Digest;
+use row_bytes::{Row, put_row};
 use std::alloc::{AllocError, Global};
-use vclock::format::Format;
-use vclock::refusal::Refusal;
+use vclock::{Format, Refusal};
 
-/// How many bytes the text of a node that is no leaf has: one, and the digests of its 16 children.
+/// The length in bytes of the text of an inner node: one byte, and the digests of its 16 children.
 pub const INNER_LEN: usize = 513;
 
-/// The first byte of a leaf's text.
+/// Returns the first byte of a leaf's text.
 pub fn leaf_byte(format: Format) -> u8
     ensures { result ≡ leaf_byte format }
 {
@@ -28,7 +26,7 @@ pub fn leaf_byte(format: Format) -> u8
     }
 }
 
-/// The first byte of the text of any other node.
+/// Returns the first byte of an inner node's text.
 pub fn inner_byte(format: Format) -> u8
     ensures { result ≡ inner_byte format }
 {
@@ -38,8 +36,8 @@ pub fn inner_byte(format: Format) -> u8
     }
 }
 
-/// Appends the text of a leaf with these chunks. It fails only if memory is needed beyond the room of `out`, and then
-/// some of the text stands at the end.
+/// Appends the text of a leaf with these chunks. Fails only if memory is needed beyond the room of `out`, and then part
+/// of the text may be at the end.
 pub(crate) fn put_chunks(
     out: &mut Vec<u8>,
     format: Format,
@@ -55,8 +53,8 @@ pub(crate) fn put_chunks(
     Ok(())
 }
 
-/// Appends the text of a node whose children have these digests. It fails only if memory is needed beyond the room of
-/// `out`, which is then as it was.
+/// Appends the text of a node whose children have these digests, in order. Fails only if memory is needed beyond the
+/// room of `out`, which is then unchanged.
 #[tactic(auto, unfolding(crate::specs::Texts::inner_text))]
 pub fn put_inner_text(
     out: &mut Vec<u8>,
@@ -86,7 +84,7 @@ fn put_digest(out: &mut Vec<u8>, digest: &Digest) -> Result<(), AllocError>
     Ok(())
 }
 
-/// The text of a leaf with these rows. Refused: NoMemory.
+/// Returns the text of a leaf with these rows. Refused: NoMemory.
 #[tactic(auto, unfolding(crate::specs::Texts::leaf_text))]
 pub fn leaf_text(alloc: Global, format: Format, rows: &[Row]) -> Result<Vec<u8>, Refusal>
     requires { AllByRecursion (FitsText format) rows.now }
@@ -100,7 +98,7 @@ pub fn leaf_text(alloc: Global, format: Format, rows: &[Row]) -> Result<Vec<u8>,
     Ok(text)
 }
 
-/// The text of a node whose children have these digests, in order. Refused: NoMemory.
+/// Returns the text of a node whose children have these digests, in order. Refused: NoMemory.
 pub fn inner_text(alloc: Global, format: Format, digests: &[Digest; 16]) -> Result<Vec<u8>, Refusal>
     ensures { Answers result None (λ text. text.items ≡ inner_text format digests.now) }
 {

@@ -1,4 +1,4 @@
--- Hinted handoff: the paper of 2007, section 4.6. A carrier's hints are a list: the hint of number n is its n-th.
+-- Hinted handoff: the paper of 2007, section 4.6. The hints of a carrier are a list: hint n is its n-th item.
 use Rattle.std.specs.Prelude.{◌≡◌, ℕ, ◌+◌, ◌-◌, ◌^◌, ◌<◌, ◌≤◌, Bool, true, false, ◌&&◌, List, [], ◌∷◌, ◌++◌, length, map, filter, find, nat_lt, nat_eq, slice_get, Option, Some, None, if◌then◌else◌}
 use Rattle.std.specs.Option.{option_map}
 use Rattle.std.specs.List.{list_any}
@@ -8,20 +8,19 @@ use Rattle.vclock.specs.declared.refusal.Refusal.{Refusal}
 use Rattle.vclock.specs.declared.refusal.Refusal.TheVariants.{HintsFull, UnknownHint}
 use Rattle.version_set.specs.declared.version.Version.{Version}
 use Rattle.version_set.specs.Version.{is_same}
-use Rattle.hint_store.specs.declared.store.TheConstants.{MOST_PENDING}
 use Rattle.hint_store.specs.declared.hint.Hint.{Hint}
 use Rattle.hint_store.specs.declared.hint.Delivery.{Delivery}
 use Rattle.hint_store.specs.declared.hint.Fate.{Fate}
 use Rattle.hint_store.specs.declared.hint.Fate.TheVariants.{Pending, Taken, Known}
 use Rattle.hint_store.specs.declared.hint.Kept.{Kept}
 
--- what an owner answered, if it did: whether the version was covered there
+-- the answer of an owner, if there was one: true if the version was covered there
 abbrev pub answer_of : Fate → Option Bool
 answer_of Pending = None
 answer_of Taken = Some false
 answer_of Known = Some true
 
--- whether the owner has not answered
+-- the owner has not answered
 abbrev pub is_open : Fate → Bool
 is_open Pending = true
 is_open Taken = false
@@ -30,7 +29,7 @@ is_open Known = false
 abbrev pub is_pending : Kept → Bool
 is_pending k = is_open k.fate
 
--- how many are pending
+-- the number of pending hints
 abbrev pub pending_count : List Kept → ℕ
 pending_count hints = length (filter is_pending hints)
 
@@ -42,45 +41,45 @@ AreNumberedFrom n (k ∷ ks) = (k.hint.id ≡ n) × AreNumberedFrom (n + 1) ks
 -- numbered from 1, at most 10,000 pending, and no number above 2^32 - 1
 pub record AreHints (hints : List Kept) : Type 0 where
   pub numbered : AreNumberedFrom 1 hints
-  pub few : pending_count hints ≤ MOST_PENDING
+  pub few : pending_count hints ≤ 10000
   pub small : length hints < 2 ^ 32
 
 -- the hint of a number
 abbrev pub kept_at : List Kept → ℕ → Option Kept
 kept_at hints id = if nat_eq id 0 then None else slice_get hints (id - 1)
 
--- why no hint can be kept
+-- the fault of keeping one more hint
 abbrev pub keep_fault : List Kept → Option Refusal
-keep_fault hints = if nat_lt (pending_count hints) MOST_PENDING && nat_lt (length hints + 1) (2 ^ 32) then None else Some HintsFull
+keep_fault hints = if nat_lt (pending_count hints) 10000 && nat_lt (length hints + 1) (2 ^ 32) then None else Some HintsFull
 
 -- the hints with one more, which is pending
 abbrev pub with_hint : List Kept → ℕ → List ℕ → Version → List Kept
 with_hint hints owner key version =
     hints ++ record { hint = record { id = length hints + 1; owner = owner; key = key; version = version }; fate = Pending } ∷ []
 
--- the next number, and the hints with one more of it
+-- the next number, and the hints with one more that has it
 abbrev pub keep : List Kept → ℕ → List ℕ → Version → Outcome ℕ (List Kept)
 keep hints owner key version = do
   keep_fault hints
   gives (length hints + 1) (with_hint hints owner key version)
 
--- whether a hint is pending, its number over `after`, its owner one of these
+-- a hint is pending, its number is over `after`, and its owner is one of owners
 abbrev pub is_due : List ℕ → ℕ → Kept → Bool
 is_due owners after k = is_pending k && nat_lt after k.hint.id && list_any (nat_eq k.hint.owner) owners
 
--- the pending hint of the least number over `after` whose owner is one of these
+-- the pending hint with the least number over `after` whose owner is one of owners
 abbrev pub next_hint : List ℕ → ℕ → List Kept → Option Hint
 next_hint owners after hints = option_map (λ k. k.hint) (find (is_due owners after) hints)
 
--- whether a delivery is of that hint: the same owner, key and version
+-- a delivery is that of a hint: owner, key and version are equal
 abbrev pub is_of : Delivery → Hint → Bool
 is_of d h = nat_eq h.owner d.owner && bytes_eq h.key d.key && is_same h.version d.version
 
--- whether a hint is pending, has that number, and the delivery is of it
+-- a hint is pending, has that number, and the delivery is that of the hint
 abbrev pub is_answered : ℕ → Delivery → Kept → Bool
 is_answered id d k = is_pending k && nat_eq k.hint.id id && is_of d k.hint
 
--- the same as equations: a pending hint of that number has the delivery's owner, key and version
+-- is_answered as equations: a pending hint with that number has the delivery's owner, key and version
 pub record IsAnswered (id : ℕ) (d : Delivery) (k : Kept) : Type 0 where
   pub is_pending : k.fate ≡ Pending
   pub same_id : k.hint.id ≡ id
@@ -88,11 +87,11 @@ pub record IsAnswered (id : ℕ) (d : Delivery) (k : Kept) : Type 0 where
   pub same_key : k.hint.key ≡ d.key
   pub same_version : k.hint.version ≡ d.version
 
--- what becomes of a hint by a delivery
+-- the fate of a hint after a delivery
 abbrev pub fate_of : Delivery → Fate
 fate_of d = if d.known then Known else Taken
 
--- the hint of that number with its fate, and every other hint as it is
+-- the hint with that number with its fate, and every other hint unchanged
 abbrev pub answered : ℕ → Delivery → Kept → Kept
 answered id d k = if nat_eq k.hint.id id then record k { fate = fate_of d } else k
 

@@ -8,11 +8,11 @@ use Rattle.hint_store.specs.Hints.{is_pending}
 abbrev pub IsBefore : Waiting → Waiting → Type 0
 IsBefore v w = (v.owner < w.owner) ⊎ ((v.owner ≡ w.owner) × (v.id < w.id))
 
--- whether an entry is the one of that owner and number, or before it
+-- an entry is that of the owner and the number, or before it
 abbrev pub is_up_to : ℕ → ℕ → Waiting → Bool
 is_up_to owner id w = nat_lt w.owner owner || (nat_eq w.owner owner && nat_le w.id id)
 
--- whether the owner and the number of a hint pass the test, and it is pending
+-- the owner and the number of a hint pass the test, and the hint is pending
 abbrev pub waits_by : (ℕ → ℕ → Bool) → Kept → Bool
 waits_by p k = p k.hint.owner k.hint.id && is_pending k
 
@@ -21,7 +21,7 @@ pub record AreWaiting (hints : List Kept) (index : List Waiting) : Type 0 where
   pub ascending : AllPairs IsBefore index
   pub all : (p : ℕ → ℕ → Bool) → count_by (λ w. p w.owner w.id) index ≡ count_by (waits_by p) hints
 
--- the lesser of two numbers, if there is one
+-- the lesser of two numbers, either of which may be missing
 abbrev pub lesser : Option ℕ → Option ℕ → Option ℕ
 lesser None b = b
 lesser (Some a) None = Some a

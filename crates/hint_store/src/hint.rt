@@ -1,19 +1,18 @@
-//! Hints, and what became of them.
+//! Hints, their deliveries and their fates.
 ghost use Rattle.std.specs.Prelude.{◌≡◌, None};
 ghost use Rattle.vclock.specs.Answer.{Answers};
 ghost use Rattle.hint_store.specs.Hints.{delivery_by};
 
 use std::alloc::Global;
-use vclock::bytes::Bytes;
-use vclock::refusal::Refusal;
-use version_set::version::Version;
+use vclock::{Bytes, Refusal};
+use version_set::Version;
 
-/// A version that a carrier keeps for a replica that is down, until that replica, its owner, has taken it.
+/// A version that a carrier keeps for a replica that is down, the hint's owner, until it is delivered.
 #[derive(Debug, Drop)]
 pub struct Hint {
     /// The number of the hint at its carrier, from 1.
     pub id: u32,
-    /// The replica that is to have it.
+    /// The replica for which the hint is kept.
     pub owner: u16,
     /// The key.
     pub key: Bytes,
@@ -22,7 +21,7 @@ pub struct Hint {
 }
 
 impl Hint {
-    /// An equal hint. Refused: NoMemory.
+    /// Returns an equal hint. Refused: NoMemory.
     pub fn try_clone(&self, alloc: Global) -> Result<Hint, Refusal>
         ensures { Answers result None (λ copy. copy ≡ self.now) }
     {
@@ -34,7 +33,7 @@ impl Hint {
         })
     }
 
-    /// The delivery of the hint to its owner, which knew the version or journaled it. It takes no memory.
+    /// Returns the delivery of the hint to its owner, which knew the version or journaled it. Doesn't allocate.
     pub fn into_delivery(self, known: bool) -> Delivery
         ensures { result ≡ delivery_by self known }
     {
@@ -53,7 +52,7 @@ impl Hint {
     }
 }
 
-/// What an owner did with a hint that it was offered: it journaled the version, or knew it.
+/// The delivery of a hint: its owner journaled the version, or knew it.
 ///
 /// ```
 /// Ok(Delivery {
@@ -71,14 +70,14 @@ pub struct Delivery {
     pub key: Bytes,
     /// The version.
     pub version: Version,
-    /// Whether the version was covered there already; else it was journaled.
+    /// True if the version was already covered there, false if it was journaled.
     pub known: bool,
 }
 
-/// What became of a hint: it waits for its owner, or was delivered.
+/// The fate of a hint: it waits for its owner, or was delivered.
 #[derive(Clone, Copy, Debug, PartialEq, Eq)]
 pub enum Fate {
-    /// Its owner has neither taken nor known it yet.
+    /// The hint isn't delivered yet.
     Pending,
     /// Its owner journaled the version.
     Taken,
@@ -86,11 +85,11 @@ pub enum Fate {
     Known,
 }
 
-/// A hint that was kept, and what became of it.
+/// A hint that was kept, and its fate.
 #[derive(Debug, Drop)]
 pub struct Kept {
     /// The hint.
     pub hint: Hint,
-    /// What became of it.
+    /// The fate of the hint.
     pub fate: Fate,
 }

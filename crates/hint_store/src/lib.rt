@@ -1,5 +1,19 @@
-//! Hinted handoff: the versions that a carrier keeps for replicas that are down, and what became of them.
+//! Hinted handoff (the paper of 2007, section 4.6): the versions that a carrier keeps for replicas that are down, and
+//! their fates. Use it to keep hints and to record their deliveries.
+//!
+//! - [`hint`]: a hint, its delivery and its fate.
+//! - [`store`]: the hints of a carrier.
+//!
+//! ```
+//! let mut store = HintStore::new(alloc);
+//! assert_eq!(rt; keep(alloc, &mut store, 2, 1)?, 1);
+//! let hint = store.next(alloc, 2, 0)?.ok_or("no hint for 2")?;
+//! assert_eq!(rt; (hint.id, hint.owner), (1, 2));
+//! ```
 #![tactic(auto)]
 
 pub mod hint;
 pub mod store;
+
+pub use hint::{Delivery, Fate, Hint, Kept};
+pub use store::HintStore;

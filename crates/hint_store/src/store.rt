@@ -12,14 +12,11 @@ use crate::hint::{Delivery, Fate, Hint, Kept};
 use std::alloc::Global;
 use std::cmp::Ordering;
 use std::marker::Model;
-use vclock::bytes::Bytes;
-use vclock::refusal::Refusal;
-use version_set::version::Version;
+use vclock::limits::PENDING_HINTS_MAX;
+use vclock::{Bytes, Refusal};
+use version_set::Version;
 
-/// How many hints can be pending.
-const MOST_PENDING: u32 = 10_000;
-
-/// The last number of a hint.
+/// The greatest number that a hint can have.
 const LAST_ID: usize = 0xffff_ffff;
 
 /// A pending hint in the index.
@@ -30,10 +27,10 @@ struct Waiting {
 }
 
 /// The hints that a carrier keeps for replicas that are down, as in section 4.6 of the Dynamo paper of 2007: each with
-/// its owner, its key and a version, and what became of it.
+/// its owner, its key, its version and its fate.
 ///
-/// Their ids count from 1 and go up to 2^32 - 1. At most 10,000 hints are pending. A hint that was delivered is kept for
-/// good, with its fate.
+/// Their ids count from 1 to 2^32 - 1. At most 10,000 hints are pending. A delivered hint is never removed, and keeps
+/// its fate. On error a store is unchanged.
 ///
 /// ```
 /// let mut store = HintStore::new(alloc);
@@ -61,7 +58,7 @@ impl Model for HintStore {
 }
 
 impl HintStore {
-    /// A store of no hint. It takes no memory.
+    /// Creates an empty store. Doesn't allocate.
     pub fn new(alloc: Global) -> HintStore
         ensures { result ≡ [] }
     {
@@ -71,7 +68,7 @@ impl HintStore {
         }
     }
 
-    /// How many hints are pending, at most 10,000.
+    /// Returns the number of pending hints, at most 10,000.
     pub fn pending(&self) -> u32
         ensures count { result ≡ pending_count self.now }
         ensures valid { AreHints self.now }
@@ -79,7 +76,7 @@ impl HintStore {
         self.pending.len() as u32
     }
 
-    /// How many hints were delivered.
+    /// Returns the number of delivered hints.
     #[tactic(auto, using(crate::proofs::WaitLaws::pending_count_le))]
     pub fn delivered(&self) -> u32
         ensures { result + pending_count self.now ≡ length self.now }
@@ -88,7 +85,7 @@ impl HintStore {
         self.len() as u32 - pending
     }
 
-    /// The hint of a number, pending or delivered: `None` for 0, and if no hint has the number yet.
+    /// Returns the hint with this id, pending or delivered, or `None` if the id is 0 or not used yet.
     pub fn get(&self, id: u32) -> Option<&Kept>
         ensures { option_copied result ≡ kept_at self.now id }
     {
@@ -98,11 +95,10 @@ impl HintStore {
         self.hints.get(id as usize - 1)
     }
 
-    /// Keeps a version for a replica that is down, and gives the hint's id, the one after the last: from 1 to 2^32 - 1.
-    /// A binary search, and a move of at most 10,000 small entries.
+    /// Keeps a version for a replica that is down, and returns the hint's id, the next one after the last: from 1 to
+    /// 2^32 - 1. Does a binary search, and moves at most 10,000 small entries.
     ///
-    /// Refused, in order: HintsFull (10,000 hints are pending, or the last id was used), NoMemory. The store is then as
-    /// it was.
+    /// Refused, in order: HintsFull (10,000 hints are pending, or the last id was used), NoMemory.
     pub fn keep(&mut self, owner: u16, key: Bytes, version: Version) -> Result<u32, Refusal>
         ensures { Does result self.old self.new (keep self.old owner key version) }
     {
@@ -126,20 +122,20 @@ impl HintStore {
         Ok(id)
     }
 
-    /// A copy of the pending hint of an owner with the least id over `after`. A binary search over the pending hints,
-    /// and the copy.
+    /// Returns a copy of the pending hint of an owner with the least id over `after`. Does a binary search over the
+    /// pending hints.
     ///
     /// Refused: NoMemory.
     pub fn next(&self, alloc: Global, owner: u16, after: u32) -> Result<Option<Hint>, Refusal>
         ensures { Answers result None (λ found. found ≡ next_hint (owner ∷ []) after self.now) }
     {
-        // Called for its clause `valid` alone: the ids count from 1.
+        // Called only for its clause `valid`: the ids count from 1.
         let _valid = self.pending();
         self.copy_of(alloc, self.first_of(owner, after))
     }
 
-    /// A copy of the pending hint with the least id over `after` whose owner is one of these. A binary search over the
-    /// pending hints for each owner, and the copy.
+    /// Returns a copy of the pending hint with the least id over `after` whose owner is one of `owners`. Does a binary
+    /// search over the pending hints for each owner.
     ///
     /// Refused: NoMemory.
     pub fn next_of(
@@ -150,7 +146,7 @@ impl HintStore {
     ) -> Result<Option<Hint>, Refusal>
         ensures { Answers result None (λ found. found ≡ next_hint owners.now after self.now) }
     {
-        // Called for its clause `valid` alone: the ids count from 1.
+        // Called only for its clause `valid`: the ids count from 1.
         let _valid = self.pending();
         let mut least = None;
         for owner in owners {
@@ -159,11 +155,10 @@ impl HintStore {
         self.copy_of(alloc, least)
     }
 
-    /// Records that the owner of a hint took it or knew it: the hint is pending no more, and has its fate. The delivery's
-    /// owner, key and version must be the hint's. A binary search, and a move of at most 10,000 small entries. It takes
-    /// no memory.
+    /// Records a delivery: the hint is no longer pending, and its fate is Taken or Known. The delivery's owner, key and
+    /// version must be the hint's. Does a binary search, and moves at most 10,000 small entries. Doesn't allocate.
     ///
-    /// Refused: UnknownHint (no pending hint has this id with this owner, key and version). The store is then as it was.
+    /// Refused: UnknownHint (no pending hint has this id with this owner, key and version).
     pub fn confirm(&mut self, id: u32, delivery: Delivery) -> Result<(), Refusal>
         ensures confirms { DoesAtOnce result self.old self.new (confirm self.old id delivery) }
         ensures fact { IsOk result ↔ Any (IsAnswered id delivery) self.old }
@@ -179,26 +174,26 @@ impl HintStore {
         Ok(())
     }
 
-    // How many hints there are.
+    /// Returns the number of hints.
     fn len(&self) -> usize
         ensures { result ≡ length self.now }
     {
         self.hints.len()
     }
 
-    // Whether no hint can be kept: 10,000 are pending, or the last id was used.
+    /// Returns true if no hint can be kept: 10,000 are pending, or the last id was used.
     #[tactic(auto, using(crate::proofs::HintLaws::full_of_pending, crate::proofs::HintLaws::full_of_ids))]
     fn is_full(&self) -> bool
         ensures { keep_fault self.now ≡ (if result then Some Refusal.HintsFull else None) }
     {
-        self.pending() >= MOST_PENDING || self.len() >= LAST_ID
+        self.pending() >= PENDING_HINTS_MAX || self.len() >= LAST_ID
     }
 
-    // Whether the delivery is of a pending hint of this id.
+    /// Returns true if the delivery is that of a pending hint with this id.
     fn awaits(&self, id: u32, delivery: &Delivery) -> bool
         ensures { result ≡ list_any (is_answered id delivery.now) self.now }
     {
-        // Called for its clause `valid` alone: the ids count from 1.
+        // Called only for its clause `valid`: the ids count from 1.
         let _valid = self.pending();
         match self.get(id) {
             Some(kept) => is_open(kept.fate) && is_delivery_of(delivery, &kept.hint),
@@ -206,7 +201,7 @@ impl HintStore {
         }
     }
 
-    // The least id over `after` of a pending hint of this owner.
+    /// Returns the least id over `after` of a pending hint of this owner.
     fn first_of(&self, owner: u16, after: u32) -> Option<u32>
         ensures { result ≡ option_map (λ h. h.id) (next_hint (owner ∷ []) after self.now) }
     {
@@ -214,7 +209,7 @@ impl HintStore {
         id_at(&self.pending, place, owner)
     }
 
-    // A copy of the hint of an id, if there is one.
+    /// Returns a copy of the hint with an id, if there is one. Refused: NoMemory.
     fn copy_of(&self, alloc: Global, id: Option<u32>) -> Result<Option<Hint>, Refusal>
         ensures { Answers result None (λ found. found ≡ option_map (λ k. k.hint) (option_and_then (kept_at self.now) id)) }
     {
@@ -228,7 +223,7 @@ impl HintStore {
     }
 }
 
-// The id of the entry at a place, if there is one and it is of this owner.
+/// Returns the id of the entry at a place, if there is one and it is of this owner.
 fn id_at(pending: &[Waiting], place: usize, owner: u16) -> Option<u32>
     ensures { result ≡ id_of owner (slice_get pending.now place) }
 {
@@ -244,7 +239,7 @@ fn id_at(pending: &[Waiting], place: usize, owner: u16) -> Option<u32>
     }
 }
 
-// How many entries are up to an owner and an id.
+/// Counts the entries up to an owner and an id.
 fn place_after(pending: &[Waiting], owner: u16, id: u32) -> usize
     requires { AllPairs IsBefore pending.now }
     ensures bound { result ≤ length pending.now }
@@ -253,14 +248,14 @@ fn place_after(pending: &[Waiting], owner: u16, id: u32) -> usize
     pending.partition_point(|waiting| is_at_most(waiting, owner, id))
 }
 
-// Whether an entry is the one of an owner and an id, or before it.
+/// Returns true if an entry is the one of an owner and an id, or before it.
 fn is_at_most(waiting: &Waiting, owner: u16, id: u32) -> bool
     ensures { result ≡ is_up_to owner id waiting.now }
 {
     waiting.owner < owner || (waiting.owner == owner && waiting.id <= id)
 }
 
-// Whether a fate is that of a pending hint.
+/// Returns true if a fate is that of a pending hint.
 fn is_open(fate: Fate) -> bool
     ensures { result ≡ is_open fate }
 {
@@ -270,7 +265,7 @@ fn is_open(fate: Fate) -> bool
     }
 }
 
-// What becomes of a hint by a delivery.
+/// Returns the fate of a hint after a delivery.
 fn fate_of(delivery: &Delivery) -> Fate
     ensures { result ≡ fate_of delivery.now }
 {
@@ -281,7 +276,7 @@ fn fate_of(delivery: &Delivery) -> Fate
     }
 }
 
-// Whether a delivery has the owner, the key and the version of a hint.
+/// Returns true if a delivery has the owner, the key and the version of a hint.
 fn is_delivery_of(delivery: &Delivery, hint: &Hint) -> bool
     ensures { result ≡ is_of delivery.now hint.now }
 {
@@ -290,7 +285,7 @@ fn is_delivery_of(delivery: &Delivery, hint: &Hint) -> bool
         && hint.version.text_order(&delivery.version) == Ordering::Equal
 }
 
-// The lesser of two ids, either of which may be missing.
+/// Returns the lesser of two ids, either of which may be missing.
 fn lesser(one: Option<u32>, other: Option<u32>) -> Option<u32>
     ensures { result ≡ lesser one other }
 {

@@ -1,4 +1,5 @@
--- Where a key lies: the paper of 2007, sections 4.2, 4.7 and 6.2 (equal ranges), by the number that its MD5 digest spells (RFC 1321).
+-- The range and the leaf of a key: the paper of 2007, sections 4.2, 4.7 and 6.2 (equal ranges), by the number that its
+-- MD5 digest spells (RFC 1321).
 use Rattle.std.specs.Prelude.{ℕ, ◌+◌, ◌-◌, ◌*◌, ◌/◌, ◌%◌, ◌^◌, List, [], ◌∷◌, length}
 use Rattle.md5.specs.Md5.{md5}
 use Rattle.vclock.specs.declared.format.Format.{Format}
@@ -17,7 +18,7 @@ key_number key = number_of (md5 key)
 unfoldable pub range_at : ℕ → List ℕ → ℕ
 range_at bits key = key_number key / 2 ^ (128 - bits)
 
--- how many bits a leaf has
+-- the number of bits of a leaf
 abbrev pub leaf_bits : Format → ℕ
 leaf_bits One = 8
 leaf_bits Two = 12

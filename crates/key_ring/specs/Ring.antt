@@ -1,10 +1,10 @@
--- Rings, and who keeps a range: the paper of 2007, sections 4.2, 4.3 and 6.2.
+-- Rings, and the nodes that keep each range: the paper of 2007, sections 4.2, 4.3 and 6.2.
 use Rattle.std.specs.Prelude.{ℕ, ◌%◌, ◌++◌, Bool, false, not, ◌&&◌, ◌||◌, ◌==◌, nat_lt, nat_le, List, [], ◌∷◌, length, take, drop, Option, Some, None, if◌then◌else◌}
 use Rattle.std.specs.List.{list_all, list_any}
 use Rattle.vclock.specs.declared.refusal.Refusal.{Refusal}
 use Rattle.vclock.specs.declared.refusal.Refusal.TheVariants.{BadRing}
 
--- 2^bits ranges, the nodes in the order of the ring, and how many of them keep a range
+-- the bits of 2^bits ranges, the nodes in the order of the ring, and the number of nodes that keep a range
 pub record Places : Type 0 where
   pub bits : ℕ
   pub nodes : List ℕ
@@ -14,7 +14,7 @@ pub record Places : Type 0 where
 abbrev pub is_node : ℕ → Bool
 is_node n = nat_lt 0 n && nat_lt n 65536
 
--- whether some number comes twice
+-- some number is listed twice
 abbrev pub has_repeat : List ℕ → Bool
 has_repeat [] = false
 has_repeat (n ∷ rest) = list_any (λ m. m == n) rest || has_repeat rest

@@ -1,9 +1,19 @@
-//! Which range and leaf a key is in, and which nodes keep it: the ring of equal ranges of the paper of 2007 (sections
-//! 4.2, 4.3 and 6.2), and the leaves of a range's tree.
+//! The ring of equal ranges (the paper of 2007, sections 4.2, 4.3 and 6.2): the range and the leaf of each key, and the
+//! nodes that keep each range. Use it to find the replicas of a key.
 //!
 //! - [`places`]: the range and the leaf of a key, by its MD5 digest.
 //! - [`ring`]: a ring, with its nodes and each range's preference list.
+//!
+//! ```
+//! let ring = Ring::new(rt.alloc(), 4, &[10, 20, 30, 40], 2)?;
+//! assert_eq!(rt; (ring.bits(), ring.ranges(), ring.copies()), (4, 16, 2));
+//! assert_eq!(rt; ring.nodes(), [10, 20, 30, 40].as_slice());
+//! assert_eq!(rt; ring.range_of(b"abc"), 9);
+//! ```
 #![tactic(auto)]
 
 pub mod places;
 pub mod ring;
+
+pub use places::{KeyPlace, place};
+pub use ring::Ring;

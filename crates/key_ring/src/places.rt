@@ -4,7 +4,7 @@ ghost use Rattle.std.specs.Prelude.{◌≡◌, ◌-◌, ◌/◌, ◌<◌, ◌≤
 ghost use Rattle.key_ring.specs.Places.{key_number, leaf_at, leaf_bits, range_at};
 
 use md5::{Digest, Md5};
-use vclock::format::Format;
+use vclock::Format;
 
 /// The range and the leaf of a key.
 #[derive(Clone, Copy, Debug, PartialEq, Eq)]
@@ -15,10 +15,10 @@ pub struct KeyPlace {
     pub leaf: u16,
 }
 
-/// The range and the leaf of a key, in a ring of 2^bits equal ranges, at most 256 of them.
+/// Returns the range and the leaf of a key, in a ring of 2^bits equal ranges, at most 256.
 ///
-/// The range is the first `bits` bits of the key's digest, and the leaf the next 8, or 12 in format 2. It takes no
-/// memory, and the key may have any length.
+/// The range is the first `bits` bits of the key's digest, and the leaf the next 8, or 12 in format 2. The key may have
+/// any length. Doesn't allocate.
 pub fn place(format: Format, bits: u8, key: &[u8]) -> KeyPlace
     requires { bits ≤ 8 }
     ensures range { result.range ≡ range_at bits key.now }
@@ -35,7 +35,7 @@ pub fn place(format: Format, bits: u8, key: &[u8]) -> KeyPlace
     KeyPlace { range, leaf }
 }
 
-// The first three bytes of a key's digest: a range and a leaf have at most 20 bits.
+/// Returns the first three bytes of a key's digest as a number: a range and a leaf have at most 20 bits.
 fn front(key: &[u8]) -> u32
     ensures front { result ≡ key_number key.now / 2 ^ 104 }
     ensures short { result < 2 ^ 24 }
@@ -44,7 +44,7 @@ fn front(key: &[u8]) -> u32
     u32::from_be_bytes([0, digest[0], digest[1], digest[2]])
 }
 
-// How many bits a leaf has.
+/// Returns the number of bits of a leaf.
 fn leaf_bits(format: Format) -> u32
     ensures { result ≡ leaf_bits format }
 {

@@ -1,4 +1,4 @@
-//! The ring: which nodes keep a range, and in what order (the paper of 2007, sections 4.2, 4.3 and 6.2).
+//! The ring: the nodes that keep each range, and their order (the paper of 2007, sections 4.2, 4.3 and 6.2).
 ghost use Rattle.std.specs.Prelude.{◌≡◌, ◌==◌, ◌<◌, ◌≤◌, ◌^◌, ◌&&◌, nat_le, nat_lt, not, length, slice_get, IsTrue, Some};
 ghost use Rattle.std.specs.List.{list_all, list_any};
 ghost use Rattle.std.specs.List.Sorted.{IsPermutation};
@@ -9,20 +9,11 @@ ghost use Rattle.key_ring.specs.Ring.{has_repeat, is_node, is_ring, preference_l
 use crate::places::place;
 use std::alloc::Global;
 use std::marker::Model;
-use vclock::format::Format;
-use vclock::refusal::Refusal;
+use vclock::limits::{NODE_MAX, RING_BITS_MAX, RING_NODES_MAX};
+use vclock::{Format, Refusal};
 
-/// How many bits a range's number has at the most.
-const MOST_BITS: u64 = 8;
-
-/// How many nodes a ring has at the most.
-const MOST_NODES: usize = 32;
-
-/// The greatest node number.
-const LAST_NODE: u64 = 65_535;
-
-/// The ring (the paper of 2007, sections 4.2, 4.3 and 6.2): the keys in 2^bits equal ranges by their digests, 1 to 256
-/// of them, the nodes in the order of the ring, 1 to 32 of them and each once, and how many nodes keep a range.
+/// A ring (the paper of 2007, sections 4.2, 4.3 and 6.2): 2^bits equal ranges of keys by their digests, 1 to 256; the
+/// nodes in the order of the ring, 1 to 32, each once; and the number of nodes that keep a range.
 ///
 /// ```
 /// let ring = Ring::new(rt.alloc(), 4, &[10, 20, 30, 40], 2)?;
@@ -49,11 +40,13 @@ impl Model for Ring {
 }
 
 impl Ring {
-    /// The ring of 2^bits ranges, at most 8 bits, with the nodes in this order, 1 to 32 of them from 1 to 65,535 and
-    /// each once, of which `copies`, from 1 to all of them, keep a range.
+    /// Creates a ring of 2^bits ranges.
     ///
-    /// Refused, in order: BadRing (any of these is not so), NoMemory. A list that is too long is refused by its length
-    /// alone.
+    /// `bits`: 0 to 8. `nodes`: 1 to 32 distinct numbers, each 1 to 65,535, in the order of the ring. `copies`: the
+    /// number of nodes that keep a range, 1 to `nodes.len()`.
+    ///
+    /// Refused, in order: BadRing (an argument is outside these limits), NoMemory. A list that is too long is refused
+    /// by its length alone.
     pub fn new(alloc: Global, bits: u64, nodes: &[u64], copies: u64) -> Result<Ring, Refusal>
         ensures { Answers result (ring_fault (record { bits = bits; nodes = nodes.now; copies = copies })) (λ ring. ring ≡ record { bits = bits; nodes = nodes.now; copies = copies }) }
     {
@@ -71,7 +64,7 @@ impl Ring {
         })
     }
 
-    /// The range of a key, from 0: the first bits of its MD5 digest (RFC 1321). It takes no memory.
+    /// Returns the range of a key, from 0: the first bits of its MD5 digest (RFC 1321). Doesn't allocate.
     pub fn range_of(&self, key: &[u8]) -> u16
         ensures place { result ≡ range_at self.now.bits key.now }
         ensures in_ring { result < 2 ^ self.now.bits }
@@ -80,20 +73,20 @@ impl Ring {
         if self.bits == 0 {
             return 0;
         }
-        // A key has the same range in each format.
+        // The range of a key is equal in both formats.
         place(Format::One, self.bits, key).range
     }
 
-    /// The leaf of a key in its range's tree, from 0: the 8 bits of its digest after those of the range, or 12 in
-    /// format 2. It takes no memory.
+    /// Returns the leaf of a key in its range's tree, from 0: the 8 bits of its digest after those of the range, or 12
+    /// in format 2. Doesn't allocate.
     pub fn leaf_of(&self, format: Format, key: &[u8]) -> u16
         ensures { result ≡ leaf_at format self.now.bits key.now }
     {
         place(format, self.bits, key).leaf
     }
 
-    /// The node at a place of a range's preference list, from 0, which has each node of the ring once: node number
-    /// `range` of the ring, counted round, and those after it. It takes no memory.
+    /// Returns the node at a place of a range's preference list, from 0. The list has each node of the ring once, from
+    /// node number `range` of the ring on, counted around the ring. Doesn't allocate.
     pub fn preference(&self, range: u16, place: usize) -> u16
         requires range { range < 2 ^ self.now.bits }
         requires place { place < length self.now.nodes }
@@ -104,28 +97,28 @@ impl Ring {
         self.nodes[(usize::from(range) + place) % self.nodes.len()]
     }
 
-    /// Whether a node is on the ring. Any number may be asked for.
+    /// Returns true if a node is on the ring. The number may be any.
     pub fn contains(&self, node: u64) -> bool
         ensures { result ≡ list_any (λ n. n == node) self.now.nodes }
     {
         self.nodes.iter().any(|&n| u64::from(n) == node)
     }
 
-    /// How many bits a range's number has, 0 to 8.
+    /// Returns the number of bits of a range's number, 0 to 8.
     pub fn bits(&self) -> u8
         ensures { result ≡ self.now.bits }
     {
         self.bits
     }
 
-    /// How many ranges there are, 1 to 256.
+    /// Returns the number of ranges, 1 to 256.
     pub fn ranges(&self) -> u16
         ensures { result ≡ 2 ^ self.now.bits }
     {
         1 << self.bits
     }
 
-    /// The nodes in the order of the ring, 1 to 32 of them.
+    /// Returns the nodes in the order of the ring, 1 to 32.
     pub fn nodes(&self) -> &[u16]
         ensures all { result.now ≡ self.now.nodes }
         ensures valid { IsTrue (is_ring self.now) }
@@ -133,7 +126,7 @@ impl Ring {
         self.nodes.as_slice()
     }
 
-    /// How many nodes keep a range, 1 to all of them.
+    /// Returns the number of nodes that keep a range, 1 to all of them.
     pub fn copies(&self) -> usize
         ensures { result ≡ self.now.copies }
     {
@@ -141,28 +134,28 @@ impl Ring {
     }
 }
 
-// Whether these are a ring's numbers.
+/// Returns true if these are the numbers of a ring.
 fn is_ring(bits: u64, nodes: &[u64], copies: u64) -> bool
     ensures { result ≡ is_ring (record { bits = bits; nodes = nodes.now; copies = copies }) }
 {
-    bits <= MOST_BITS && is_node_list(nodes) && 0 < copies && copies <= nodes.len() as u64
+    bits <= RING_BITS_MAX && is_node_list(nodes) && 0 < copies && copies <= nodes.len() as u64
 }
 
-// Whether these are a ring's nodes: not too few, not too many, and each once. Only a short list is searched.
+/// Returns true if these are the nodes of a ring: 1 to 32 nodes, each once. Only a short list is searched.
 fn is_node_list(nodes: &[u64]) -> bool
     ensures { result ≡ (nat_lt 0 (length nodes.now) && nat_le (length nodes.now) 32 && list_all is_node nodes.now && not (has_repeat nodes.now)) }
 {
-    !nodes.is_empty() && nodes.len() <= MOST_NODES && are_nodes(nodes) && !has_repeat(nodes)
+    !nodes.is_empty() && nodes.len() <= RING_NODES_MAX && are_nodes(nodes) && !has_repeat(nodes)
 }
 
-// Whether each number is a node's.
+/// Returns true if each number is that of a node.
 fn are_nodes(nodes: &[u64]) -> bool
     ensures { result ≡ list_all is_node nodes.now }
 {
-    nodes.iter().all(|&node| 0 < node && node <= LAST_NODE)
+    nodes.iter().all(|&node| 0 < node && node <= NODE_MAX)
 }
 
-// Whether some number comes twice. It takes time in proportion to the square of the length.
+/// Returns true if some number is listed twice. Takes time in proportion to the square of the length.
 fn has_repeat(nodes: &[u64]) -> bool
     ensures { result ≡ has_repeat nodes.now }
 {

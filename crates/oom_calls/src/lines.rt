@@ -1,6 +1,6 @@
 //! Lines of calls.
 use std::io;
-use vclock::refusal::Refusal;
+use vclock::Refusal;
 
 /// Prints what a call returned: a number that tells its result, or the name of its refusal.
 pub(crate) fn show(rt: &impl Print, call: &str, returned: Result<u64, Refusal>) -> io::Result<()> {

@@ -1,7 +1,5 @@
 //! Sessions, compared by all their readers.
-use sync_session::session::Session;
-use sync_session::state::SessionState;
-use sync_session::taken::Taken;
+use sync_session::{Session, SessionState, Taken};
 
 /// Whether two sessions are the same.
 pub(crate) fn is_same_session(session: &Session, other: &Session) -> bool {

@@ -1,10 +1,9 @@
 //! States of ranges, compared by all their readers.
 use crate::sessions::{is_cancelled, is_same_session};
-use hash_tree::node::NodeAt;
-use range_journal::journal::Entry;
-use range_state::record::Record;
-use range_state::state::RangeState;
-use version_set::version::Version;
+use hash_tree::NodeAt;
+use range_journal::Entry;
+use range_state::{RangeState, Record};
+use version_set::Version;
 
 /// How many nodes a tree has at a depth at the most.
 const MOST_NODES: u16 = 4_096;

@@ -8,8 +8,8 @@ use Rattle.std.specs.List.{list_all}
 use Rattle.outage_script.specs.declared.ScriptEnd.{ScriptEnd}
 use Rattle.outage_script.specs.declared.ScriptEnd.TheVariants.{Done, BadLine, Device, NoMemory}
 use Rattle.outage_script.specs.Lines.{lines_of, is_inside}
-use Rattle.script_cluster.specs.State.{State}
-use Rattle.script_commands.specs.Faults.{line_limit}
+use Rattle.outage_cluster.specs.State.{State}
+use Rattle.outage_commands.specs.Faults.{line_limit}
 use Rattle.outage_script.specs.Script.{Outcome, step, outcome_of, bad_line, preceded}
 use Rattle.outage_script.specs.Ends.{Begins}
 use Rattle.outage_script.specs.Moves.{Place, to_come, Moves, Stops, Ends, Spoils, KeepsLine, Feeds, Finishes}

@@ -5,7 +5,7 @@ use Rattle.std.specs.Io.KnownBytes.{Appends, Keeps, Consumes, IsAtEnd}
 use Rattle.outage_script.specs.declared.ScriptEnd.{ScriptEnd}
 use Rattle.outage_script.specs.declared.ScriptEnd.TheVariants.{Done, BadLine, Device, NoMemory}
 use Rattle.outage_script.specs.Script.{script_outcome, preceded}
-use Rattle.script_cluster.specs.State.{start}
+use Rattle.outage_cluster.specs.State.{start}
 use Rattle.outage_script.specs.Ends.{Begins, IsRight, IsAnswer, Runs}
 use Rattle.outage_script.specs.Moves.{Place, place_of, to_come, Moves, Ends, Spoils, Holds, Feeds, Finishes}
 use Rattle.outage_script.proofs.Known.{appends_both, appends_none}

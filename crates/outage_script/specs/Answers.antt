@@ -10,8 +10,8 @@ use Rattle.version_set.specs.declared.version.Version.{Version}
 use Rattle.vclock.specs.Refusal.{number_of, name_of}
 use Rattle.vclock.specs.declared.refusal.Refusal.{Refusal}
 use Rattle.vclock.specs.declared.refusal.Refusal.TheVariants as Refusals
-use Rattle.script_cluster.specs.declared.answer.Answer.{Answer}
-use Rattle.script_cluster.specs.declared.answer.Answer.TheVariants.{Ring, Put, Versions, Row, Rehash, Sync, Node, Up, Deliver, Slots, Adjusted, Sample, Refused, BadLine}
+use Rattle.outage_cluster.specs.declared.answer.Answer.{Answer}
+use Rattle.outage_cluster.specs.declared.answer.Answer.TheVariants.{Ring, Put, Versions, Row, Rehash, Sync, Node, Up, Deliver, Slots, Adjusted, Sample, Refused, BadLine}
 
 -- an item for each of a list
 abbrev pub items_of : {A : Type 0} → (A → Data) → List A → Items

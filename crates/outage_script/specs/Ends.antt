@@ -3,9 +3,9 @@ use Rattle.std.specs.Prelude.{◌≡◌, ℕ, List, [], ◌++◌, Option, Some, 
 use Rattle.std.specs.Io.KnownBytes.{Appends}
 use Rattle.outage_script.specs.declared.ScriptEnd.{ScriptEnd}
 use Rattle.outage_script.specs.declared.ScriptEnd.TheVariants.{Done, BadLine, Device, NoMemory}
-use Rattle.script_commands.specs.declared.fault.LineFault.{LineFault}
+use Rattle.outage_commands.specs.declared.fault.LineFault.{LineFault}
 use Rattle.outage_script.specs.Script.{Outcome, script_outcome}
-use Rattle.script_commands.specs.Faults.{IsExplained}
+use Rattle.outage_commands.specs.Faults.{IsExplained}
 
 -- they begin with these
 abbrev pub Begins : List ℕ → List ℕ → Type 0

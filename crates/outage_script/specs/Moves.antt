@@ -4,8 +4,8 @@ use Rattle.std.specs.Io.KnownBytes.{Appends}
 use Rattle.outage_script.specs.declared.ScriptEnd.{ScriptEnd}
 use Rattle.outage_script.specs.declared.ScriptEnd.TheVariants.{Done, BadLine, Device, NoMemory}
 use Rattle.outage_script.specs.Lines.{lines_of}
-use Rattle.script_cluster.specs.State.{State}
-use Rattle.script_commands.specs.Faults.{line_limit}
+use Rattle.outage_cluster.specs.State.{State}
+use Rattle.outage_commands.specs.Faults.{line_limit}
 use Rattle.outage_script.specs.Script.{Outcome, outcome_of, preceded, script_outcome}
 use Rattle.outage_script.specs.Ends.{Begins, IsBadAt}
 

@@ -2,15 +2,14 @@
 use Rattle.std.specs.Prelude.{◌≡◌, ℕ, ◌+◌, List, [], ◌∷◌, ◌++◌, length, nat_lt, if◌then◌else◌, Option, Some, None, option_map, option_and_then}
 use Rattle.std.specs.List.{list_all}
 use Rattle.outage_script.specs.Lines.{lines_of, is_space}
-use Rattle.script_cluster.specs.State.{State, start, left}
-use Rattle.script_commands.specs.Asks.{Ask}
-use Rattle.script_cluster.specs.Acts.{act, suits}
-use Rattle.script_cluster.specs.Replies.{replied}
+use Rattle.outage_cluster.specs.State.{State, start, left}
+use Rattle.outage_commands.specs.Asks.{Ask}
+use Rattle.outage_cluster.specs.Acts.{act, suits, replied}
 use Rattle.outage_script.specs.Answers.{answer_line}
-use Rattle.script_cluster.specs.declared.answer.Answer.TheVariants.{BadLine}
-use Rattle.script_commands.specs.Reading.{value_of}
-use Rattle.script_commands.specs.Commands.{command_of}
-use Rattle.script_commands.specs.Faults.{line_limit}
+use Rattle.outage_cluster.specs.declared.answer.Answer.TheVariants.{BadLine}
+use Rattle.outage_commands.specs.Reading.{value_of}
+use Rattle.outage_commands.specs.Commands.{command_of}
+use Rattle.outage_commands.specs.Faults.{line_limit}
 
 -- a line's answer and the state after it; None if it is a bad line
 abbrev pub Turn : Type 0

@@ -4,13 +4,12 @@ ghost use Rattle.outage_script.specs.Answers.{answer_data, answer_line, digest_d
 ghost use Rattle.outage_script.specs.Told.{part_data, tokens_of};
 
 use crate::part::{Part, write_object};
-use hash_tree::hashed::Digest;
+use hash_tree::Digest;
 use json::Writer;
-use range_state::state::syncing::Synced;
-use script_cluster::answer::{Answer, SlotCounts};
+use outage_cluster::{Answer, SlotCounts};
+use range_state::Synced;
 use std::alloc::{AllocError, Global};
-use vclock::clock::Clock;
-use vclock::refusal::Refusal;
+use vclock::{Clock, Refusal};
 
 /// For how many bytes a line has room at first.
 const LINE_ROOM: usize = 128;

@@ -22,5 +22,5 @@ mod session;
 mod write;
 
 pub use memory::{line_law, run_bytes};
+pub use outage_commands::LineFault;
 pub use run::{run_last_script, run_script};
-pub use script_commands::fault::LineFault;

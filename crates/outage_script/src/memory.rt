@@ -1,4 +1,4 @@
-// A script over memory, and what its lines are.
+//! A script over memory, and what its lines are.
 ghost use Rattle.std.specs.Prelude.{◌≡◌, ◌++◌, ◌∷◌, ℕ, List, IsTrue};
 ghost use Rattle.std.specs.List.{list_all};
 ghost use Rattle.outage_script.specs.Ends.{IsAnswer};

@@ -1,13 +1,12 @@
-// The members of an answer, and their text as JSON.
+//! The members of an answer, and their text as JSON.
 ghost use Rattle.std.specs.Prelude.{◌≡◌, ◌++◌, map, OnOk};
 ghost use Rattle.outage_script.specs.Answers.{bytes_data, clock_data, list_data, object_of, pair_data, value_data, version_data};
 ghost use Rattle.outage_script.specs.Told.{part_data, tokens_of};
 
 use json::Writer;
 use std::alloc::{AllocError, Global};
-use vclock::clock::Clock;
-use version_set::kind::Kind;
-use version_set::version::Version;
+use vclock::Clock;
+use version_set::{Kind, Version};
 
 /// The value of an answer's member.
 #[derive(Clone, Copy)]

@@ -1,14 +1,14 @@
-// A script from its reader to its writer.
+//! A script from its reader to its writer.
 ghost use Rattle.std.specs.Prelude.{false, ◌≡◌, ◌⊎◌, ◌+◌, [], vec_len, IfOk};
 ghost use Rattle.std.specs.Io.KnownBytes.{Keeps};
 ghost use Rattle.outage_script.specs.Ends.{Explains, Runs};
 ghost use Rattle.outage_script.specs.Moves.{Holds, place_of};
-ghost use Rattle.script_cluster.specs.State.{start};
+ghost use Rattle.outage_cluster.specs.State.{start};
 
 use crate::ScriptEnd;
 use crate::session::Session;
-use script_cluster::world::AtEnd;
-use script_commands::fault::LineFault;
+use outage_cluster::AtEnd;
+use outage_commands::LineFault;
 use std::alloc::{AllocError, Global};
 use std::io::{Read, Write};
 use std::marker::Brand;

@@ -1,4 +1,4 @@
-// A run in progress: the world, and what has come of the line that is not whole yet.
+//! A run in progress: the world, and what has come of the line that is not whole yet.
 ghost use Rattle.std.specs.Prelude.{Some, Option, ◌≡◌, ◌≤◌, ◌+◌, ◌^◌, ◌<◌, ◌∷◌, ◌++◌, [], ℕ, List, IsTrue, length, vec_len, false, IfOk, IfNone, option_map};
 ghost use Rattle.std.specs.List.{list_all};
 ghost use Rattle.std.specs.Io.KnownBytes.{Appends};
@@ -6,17 +6,15 @@ ghost use Rattle.outage_script.specs.Ends.{Explains};
 ghost use Rattle.outage_script.specs.Lines.{is_inside, is_space};
 ghost use Rattle.outage_script.specs.Moves.{Ends, Feeds, Finishes, Holds, place_of, to_come};
 ghost use Rattle.outage_script.specs.Script.{step, IsTurn, bad_line};
-ghost use Rattle.script_cluster.specs.State.{start};
+ghost use Rattle.outage_cluster.specs.State.{start};
 
 use crate::ScriptEnd;
 use crate::answer::answer_line;
 use crate::write::write_whole;
 use json::Scratch;
 use memchr::memchr;
-use script_cluster::answer::Answer;
-use script_cluster::world::{AtEnd, World};
-use script_commands::command::command_in;
-use script_commands::fault::{LineFault, fault_of};
+use outage_cluster::{Answer, AtEnd, World};
+use outage_commands::{LineFault, command_in, fault_of};
 use std::alloc::{AllocError, Global};
 use std::io::Write;
 use std::sync::ledger::{Blank, Ledger};

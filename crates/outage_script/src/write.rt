@@ -1,4 +1,4 @@
-// Writing all of some bytes; an error leaves a part of them written.
+//! Writing all of some bytes; an error leaves a part of them written.
 ghost use Rattle.std.specs.Prelude.{◌≡◌, List, ℕ, true};
 ghost use Rattle.std.specs.Io.KnownBytes.{Appends};
 ghost use Rattle.outage_script.specs.Ends.{Begins};

@@ -2,7 +2,7 @@
 
 use std::alloc::{AllocError, AllocFailed};
 use std::fmt;
-use vclock::refusal::Refusal;
+use vclock::Refusal;
 
 /// Why a list ends early.
 #[derive(Drop)]

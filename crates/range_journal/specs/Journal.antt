@@ -1,4 +1,4 @@
--- Journals, and what they say of keys: a put is a new version beside those of the paper of 2007, section 4.4.
+-- Journals, and the versions of keys in them: a put adds a new version to those of the paper of 2007, section 4.4.
 use Rattle.std.specs.Prelude.{◌≡◌, ℕ, ◌+◌, ◌-◌, false, List, [], ◌∷◌, ◌++◌, length, take, ◌≤◌, nat_lt, nat_eq, max, if◌then◌else◌}
 use Rattle.std.specs.Cmp.Lexicographic.{pointwise}
 use Rattle.vclock.specs.declared.refusal.Refusal.TheVariants.{JournalFull}
@@ -13,11 +13,11 @@ use Rattle.range_journal.specs.Log.{Log}
 abbrev pub with_entry : Log → Entry → Log
 with_entry log e = record { entries = log.entries ++ e ∷ []; limit = log.limit; room = log.room - 1 }
 
--- room for so many more entries, within the limit
+-- room for k more entries, within the limit
 abbrev pub reserve : Log → ℕ → Outcome (Unit {0}) Log
 reserve log k = if nat_lt log.limit (length log.entries + k) then refuses JournalFull else gives tt (record log { room = max log.room k })
 
--- the next number, and the journal with an entry of it
+-- the next number, and the journal with an entry of that number
 abbrev pub append : Log → ℕ → Source → List ℕ → Version → Outcome ℕ Log
 append log seat source key version =
     if nat_lt (length log.entries) log.limit then gives (length log.entries) (with_entry log (record { number = length log.entries; seat = seat; source = source; key = key; version = version })) else refuses JournalFull
@@ -35,7 +35,7 @@ accepted es key = set_from [] (versions_of es key)
 abbrev pub held : List Entry → List ℕ → List Version
 held es key = maximal (accepted es key)
 
--- the entries up to none of them hold more than 64 versions for a key
+-- no first part of the entries holds more than 64 versions for a key
 abbrev pub NeverCrowded : List Entry → List ℕ → Type 0
 NeverCrowded es key = (n : ℕ) → length (held (take n es) key) ≤ 64
 

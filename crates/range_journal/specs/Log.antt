@@ -2,7 +2,7 @@
 use Rattle.std.specs.Prelude.{◌≡◌, ℕ, ◌+◌, ◌<◌, ◌≤◌, ◌^◌, List, [], ◌∷◌, length}
 use Rattle.range_journal.specs.declared.journal.Entry.{Entry}
 
--- the entries, how many there may be, and how many can be added without memory
+-- the entries, the maximum number of entries, and the number of entries that can be added without allocating
 pub record Log : Type 0 where
   pub entries : List Entry
   pub limit : ℕ

@@ -8,18 +8,16 @@ ghost use Rattle.range_journal.specs.Journal.{append, reserve, with_entry, held,
 
 use std::alloc::Global;
 use std::marker::Model;
-use vclock::bytes::Bytes;
-use vclock::refusal::Refusal;
-use version_set::set::VersionSet;
-use version_set::version::Version;
+use vclock::{Bytes, Refusal};
+use version_set::{Version, VersionSet};
 
-/// How a version came to a range: by a client's put, as a copy from the node of the put, as a hint from its carrier, or
-/// from a partner in a sync.
+/// The source of an accepted version: a client's put, a copy from the node of the put, a hint from its carrier, or a
+/// partner in a sync.
 #[derive(Clone, Copy, Debug, PartialEq, Eq)]
 pub enum Source {
-    /// A client put it here.
+    /// A client put it at this range.
     Client,
-    /// The node that took a client's put sent a copy.
+    /// The node that accepted a client's put sent a copy.
     Copy,
     /// A carrier kept it as a hint while this replica was down.
     Hint,
@@ -27,7 +25,7 @@ pub enum Source {
     Partner,
 }
 
-/// A version that a range accepted, with its number and the seat of the caller that brought it.
+/// A version that a range accepted, with its number and the seat of the caller that delivered it.
 ///
 /// ```
 /// let entry = journal.get(0).ok_or("no entry 0")?;
@@ -38,11 +36,11 @@ pub enum Source {
 /// ```
 #[derive(Debug, Drop)]
 pub struct Entry {
-    /// The entry's place in the journal, from 0.
+    /// The index in the journal, from 0.
     pub number: u64,
-    /// The seat of the caller that brought it.
+    /// The seat of the caller that delivered it.
     pub seat: u16,
-    /// How it came here.
+    /// The source of the version.
     pub source: Source,
     /// The key. In a range's journal it has 1 to 255 bytes.
     pub key: Bytes,
@@ -51,7 +49,7 @@ pub struct Entry {
 }
 
 impl Entry {
-    /// Whether both entries are equal, in each field.
+    /// Returns true if both entries are equal in all fields.
     pub fn same(&self, other: &Entry) -> bool
         ensures { IsTrue result ↔ (self.now ≡ other.now) }
     {
@@ -63,8 +61,8 @@ impl Entry {
     }
 }
 
-/// The accepted versions in order, up to a limit. Entries are never changed, nor taken out, so the journal is the
-/// record by which a range's rows are checked and its callers' passes are settled.
+/// The accepted versions in order, up to a limit. Entries are never changed or removed, so the journal is the record by
+/// which a range's rows are checked and its callers' passes are settled. On error a journal is unchanged.
 ///
 /// ```
 /// let mut journal = Journal::new(alloc, 2);
@@ -93,7 +91,7 @@ impl Model for Journal {
 }
 
 impl Journal {
-    /// An empty journal that may have `limit` entries. It takes no memory.
+    /// Creates an empty journal for at most `limit` entries. Doesn't allocate.
     pub fn new(alloc: Global, limit: u64) -> Journal
         ensures { result ≡ record { entries = []; limit = limit; room = 0 } }
     {
@@ -104,7 +102,7 @@ impl Journal {
         }
     }
 
-    /// How many entries there are.
+    /// Returns the number of entries.
     pub fn len(&self) -> u64
         ensures count { result ≡ length self.now.entries }
         ensures valid { IsLog self.now }
@@ -112,21 +110,21 @@ impl Journal {
         self.entries.len() as u64
     }
 
-    /// How many entries can be added without memory.
+    /// Returns the number of entries that can be added without allocating.
     pub fn room(&self) -> u64
         ensures { result ≡ self.now.room }
     {
         self.room
     }
 
-    /// The entry of a number, which counts from 0.
+    /// Returns the entry with this number, from 0.
     pub fn get(&self, number: u64) -> Option<&Entry>
         ensures { option_copied result ≡ slice_get self.now.entries number }
     {
         self.entries.get(number as usize)
     }
 
-    /// The entries in order. It takes no memory.
+    /// Returns the entries in order. Doesn't allocate.
     pub fn entries(&self) -> &[Entry]
         ensures value { result.now ≡ self.now.entries }
         ensures valid { IsLog self.now }
@@ -134,9 +132,9 @@ impl Journal {
         &self.entries
     }
 
-    /// Makes room for that many more entries, so that adding them takes no memory.
+    /// Makes room for `entries` more entries, so that adding them doesn't allocate.
     ///
-    /// Refused, in order: JournalFull (they would pass the limit), NoMemory. The journal is then as it was.
+    /// Refused, in order: JournalFull (they would pass the limit), NoMemory.
     pub fn reserve(&mut self, entries: u64) -> Result<(), Refusal>
         ensures reserves { Does result self.old self.new (reserve self.old entries) }
         ensures roomy { entries ≤ self.old.room → IfErr result (λ e. ¬ (e ≡ Refusal.NoMemory)) }
@@ -151,9 +149,9 @@ impl Journal {
         Ok(())
     }
 
-    /// Adds an entry at the end, and gives its number.
+    /// Adds an entry at the end, and returns its number.
     ///
-    /// Refused, in order: JournalFull (the limit is reached), NoMemory. The journal is then as it was.
+    /// Refused, in order: JournalFull (the limit is reached), NoMemory.
     pub fn append(
         &mut self,
         seat: u16,
@@ -168,7 +166,7 @@ impl Journal {
         Ok(self.append_reserved(seat, source, key, version))
     }
 
-    /// Adds an entry at the end, for which room was made, and returns its number. It takes no memory.
+    /// Adds an entry at the end, in room that was made before, and returns its number. Doesn't allocate.
     pub fn append_reserved(
         &mut self,
         seat: u16,
@@ -194,8 +192,8 @@ impl Journal {
     }
 }
 
-/// The versions that some entries hold for a key: those accepted that are below no other. They are found by offering the
-/// accepted ones, in order, to an empty set.
+/// Returns the versions that entries hold for a key: the accepted versions that are below no other. It offers the
+/// versions of the key, in order, to an empty set.
 ///
 /// Refused: Crowded (the entries up to some number hold over 64 versions), NoMemory.
 pub fn held_in(alloc: Global, entries: &[Entry], key: &[u8]) -> Result<VersionSet, Refusal>

@@ -1,4 +1,4 @@
-//! What the definitions of journals say of one another.
+//! Laws of journals, proved from their definitions.
 ghost use Rattle.std.specs.Prelude.{◌≡◌, ◌↔◌, ◌++◌, ◌∷◌, [], List, ℕ, false, Any, Contains, if◌then◌else◌};
 ghost use Rattle.version_set.specs.declared.version.Version.{Version};
 ghost use Rattle.version_set.specs.Version.{covered, offered};
@@ -13,20 +13,21 @@ pub fn accepted_versions_are_the_entries()
         ↔ Any (λ e. (e.key ≡ key) × (e.version ≡ version)) entries }
 {}
 
-/// What the held versions of a key cover is what its accepted ones cover.
+/// The held versions of a key and its accepted versions cover the same versions.
 pub fn held_versions_cover_the_accepted()
     ensures { (entries : List Entry) (key : List ℕ) (version : Version)
         → covered version (held entries key) ≡ covered version (versions_of entries key) }
 {}
 
-/// A journal in which each entry was news stays so when an entry comes whose version is not covered.
+/// If each entry of a journal was news and the version of one more entry isn't covered, then each entry of the longer
+/// journal was news.
 pub fn news_stay_news()
     ensures { (entries : List Entry) (entry : Entry) → AreNews entries
         → covered entry.version (versions_of entries entry.key) ≡ false
         → AreNews (entries ++ entry ∷ []) }
 {}
 
-/// An entry more is an offer to the held versions of its key, and leaves those of every other key.
+/// One more entry offers its version to the held versions of its key, and leaves those of all other keys unchanged.
 pub fn held_versions_grow_by_an_offer()
     ensures { (entries : List Entry) (entry : Entry) (key : List ℕ)
         → held (entries ++ entry ∷ []) key

@@ -16,7 +16,7 @@ use Rattle.range_journal.specs.Log.{AreNumberedFrom}
 use Rattle.range_journal.proofs.JournalLaws.{AreNumberedFrom-push}
 use Rattle.row_bytes.specs.declared.row.Row.{Row}
 use Rattle.hash_tree.specs.Leaves.{Bucket, rows_at, versions_in, with_offer}
-use Rattle.range_state.specs.declared.state.preparing.Batch.{Batch}
+use Rattle.range_state.specs.declared.state.preparation.Batch.{Batch}
 use Rattle.range_state.specs.Config.{Config}
 use Rattle.range_state.specs.Rows.{rows_of}
 use Rattle.range_state.specs.State.{State, leaf_in, bucket_of, knows, entry_of, journaled, accept_step}

@@ -13,7 +13,7 @@ use Rattle.range_state.specs.Config.{Config}
 use Rattle.range_state.specs.State.{State, IsRight, rows_now}
 use Rattle.range_state.specs.Sessions.{taken_in, leaf_fault}
 use Rattle.range_state.specs.Syncs.{IsOfRange, Progress, known_in, leaves_between, offers_at, taken_leaves, unless_refused}
-use Rattle.range_state.specs.declared.state.reconciling.Reconciled.{Reconciled}
+use Rattle.range_state.specs.declared.state.reconciliation.Reconciled.{Reconciled}
 use Rattle.range_state.specs.Reconciles.{HasCaughtUp, Reconciles, HaveAskedAlike, HoldBoth, HaveEqualRoots}
 use Rattle.range_state.proofs.SyncStepLaws.{config_stays}
 use Rattle.range_state.proofs.QuietLaws.{pair_of, first_holds, second_holds, same_roots}

@@ -6,7 +6,7 @@ use Rattle.vclock.specs.declared.refusal.Refusal.{Refusal}
 use Rattle.hash_tree.specs.Nodes.{are_clean, dirty_count}
 use Rattle.snapshot.specs.RowMaps.{RowMap}
 use Rattle.range_state.specs.declared.«record».Record.{Record}
-use Rattle.range_state.specs.declared.state.syncing.Synced.{Synced}
+use Rattle.range_state.specs.declared.state.sync.Synced.{Synced}
 use Rattle.range_state.specs.State.{State}
 use Rattle.range_state.specs.Sessions.{cancel_record, cancel_session}
 use Rattle.range_state.specs.Syncs.{HasAskedAll, IsSyncedTo, IsPartWay}

@@ -9,7 +9,7 @@ use Rattle.std.proofs.lemmas.List.{take_all, take-append-le, length-append, get_
 use Rattle.std.specs.List.{AllByRecursion, list_any}
 use Rattle.vclock.specs.Answer.{first_fault}
 use Rattle.vclock.specs.Clock.{at_most, Pairs, Rises, IsClock}
-use Rattle.vclock.specs.Keys.{key_fault}
+use Rattle.vclock.specs.Bytes.{key_fault}
 use Rattle.vclock.proofs.ClockLaws.{at_most_itself}
 use Rattle.vclock.specs.declared.format.Format.{Format}
 use Rattle.vclock.specs.declared.format.Format.TheVariants.{One, Two}

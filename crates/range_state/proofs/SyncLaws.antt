@@ -28,7 +28,7 @@ use Rattle.sync_session.proofs.HonestLaws.{asked_is_differ, differ_is_asked, tru
 use Rattle.range_state.specs.Config.{Config}
 use Rattle.range_state.specs.declared.«record».Record.{Record}
 use Rattle.range_state.specs.declared.event.AnswerTaken.{AnswerTaken}
-use Rattle.range_state.specs.declared.state.syncing.Synced.{Synced}
+use Rattle.range_state.specs.declared.state.sync.Synced.{Synced}
 use Rattle.range_state.specs.Records.{IsKept, IsGoing}
 use Rattle.range_state.specs.State.{State, IsRight, dirty_fault, rows_now}
 use Rattle.vclock.specs.Outcome.{gives}

@@ -4,7 +4,7 @@ use Rattle.std.specs.List.{AllByRecursion}
 use Rattle.version_set.specs.declared.version.Version.{Version}
 use Rattle.range_journal.specs.Log.{AreNumberedFrom}
 use Rattle.row_bytes.specs.declared.row.Row.{Row}
-use Rattle.range_state.specs.declared.state.preparing.Batch.{Batch}
+use Rattle.range_state.specs.declared.state.preparation.Batch.{Batch}
 use Rattle.range_state.specs.Config.{Config}
 use Rattle.range_state.specs.State.{State, leaf_in, place_fault, bucket_of}
 use Rattle.range_state.specs.Sessions.{taken_in}

@@ -2,7 +2,6 @@
 use Rattle.std.specs.Prelude.{ℕ, ◌^◌, Bool, ◌&&◌, nat_le, nat_lt, Option, Some, None, option_and_then, if◌then◌else◌}
 use Rattle.vclock.specs.Format.{format_of}
 use Rattle.vclock.specs.declared.format.Format.{Format}
-use Rattle.range_state.specs.declared.config.TheConstants.{MOST_BITS, MOST_ENTRIES}
 
 -- the format of rows and tree, how many bits the range's number has, that number, and how many entries the journal may have
 pub record Config : Type 0 where
@@ -13,7 +12,7 @@ pub record Config : Type 0 where
 
 -- at most 8 bits, a range that the ring has, and 1 to 1,000,000 entries
 abbrev pub is_config : Config → Bool
-is_config c = nat_le c.bits MOST_BITS && nat_lt c.range (2 ^ c.bits) && nat_lt 0 c.limit && nat_le c.limit MOST_ENTRIES
+is_config c = nat_le c.bits 8 && nat_lt c.range (2 ^ c.bits) && nat_lt 0 c.limit && nat_le c.limit 1000000
 
 -- the configuration of these numbers, if they are one's; formats are counted from 1
 abbrev pub checked : Config → Option Config

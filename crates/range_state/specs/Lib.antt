@@ -1,4 +1,3 @@
-pub mod Sent
 pub mod Config
 pub mod Rows
 pub mod Records

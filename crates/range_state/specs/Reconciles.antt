@@ -10,8 +10,8 @@ use Rattle.snapshot.specs.RowMaps.{RowMap}
 use Rattle.sync_session.specs.TreeNodes.{Node}
 use Rattle.sync_session.specs.Differing.{differ}
 use Rattle.range_state.specs.declared.«record».Record.{Record}
-use Rattle.range_state.specs.declared.state.reconciling.Reconciled.{Reconciled}
-use Rattle.range_state.specs.declared.state.syncing.Synced.{Synced}
+use Rattle.range_state.specs.declared.state.reconciliation.Reconciled.{Reconciled}
+use Rattle.range_state.specs.declared.state.sync.Synced.{Synced}
 use Rattle.range_state.specs.State.{State, IsRight, rows_now, dirty_fault}
 use Rattle.range_state.specs.Sessions.{standings, crowd_fault, cancel_session}
 use Rattle.range_state.specs.Syncs.{HasAskedAll, IsSyncedTo, IsPartWay}

@@ -21,7 +21,6 @@ use Rattle.sync_session.specs.declared.state.SessionState.{SessionState}
 use Rattle.range_state.specs.Config.{Config}
 use Rattle.range_state.specs.Records.{is_open_state}
 use Rattle.range_state.specs.declared.«record».Record.{Record}
-use Rattle.range_state.specs.declared.state.sessions.TheConstants.{MOST_OPEN, MOST_RECORDS}
 use Rattle.range_state.specs.declared.event.AnswerTaken.{AnswerTaken}
 use Rattle.range_state.specs.State.{State, rows_now, dirty_fault, accept_step}
 
@@ -37,7 +36,7 @@ standings records = map (λ (r : Record). r.session.state) records
 
 -- why no session can be opened beside those that stand so: 64 are open, or there are 1,024
 abbrev pub crowd_fault : List SessionState → Option Refusal
-crowd_fault states = if nat_le MOST_OPEN (length (filter is_open_state states)) || nat_le MOST_RECORDS (length states) then Some refusals.SessionsFull else None
+crowd_fault states = if nat_le 64 (length (filter is_open_state states)) || nat_le 1024 (length states) then Some refusals.SessionsFull else None
 
 -- the state with one more record: a session that compares the rows now with those of an offered root
 abbrev pub opened : State → ℕ → Offer → State

@@ -1,13 +1,13 @@
 -- The range machine: its state, which has no rows, and what its calls answer and change. Trees are those of the paper of 2007,
 -- section 4.7.
-use Rattle.std.specs.Prelude.{◌≡◌, Any, Contains, ℕ, ◌<◌, ◌≤◌, ◌-◌, ◌^◌, Bool, ◌==◌, ◌&&◌, nat_eq, nat_le, nat_lt, ◌++◌, List, [], ◌∷◌, length, map, take, replicate, slice_index_or, slice_set, IsTrue, Option, Some, None, if◌then◌else◌}
+use Rattle.std.specs.Prelude.{◌≡◌, Any, Contains, ℕ, ◌<◌, ◌≤◌, ◌-◌, ◌^◌, Bool, ◌==◌, ◌&&◌, nat_eq, nat_le, nat_lt, ◌++◌, List, [], ◌∷◌, length, map, take, replicate, slice_index_or, slice_set, IsTrue, Option, Some, None, if◌then◌else◌, true, false}
 use Rattle.std.specs.List.{list_any, AllByRecursion}
 use Rattle.std.specs.Cmp.Lexicographic.{pointwise}
 use Rattle.sha2.specs.Sha256.{sha256}
 use Rattle.vclock.specs.Answer.{first_fault}
 use Rattle.vclock.specs.Outcome.{Outcome, gives, refuses, ◌>>=◌, ◌>>◌}
 use Rattle.vclock.specs.Clock.{at_most, raised, raise_fault, Pairs}
-use Rattle.vclock.specs.Keys.{key_fault}
+use Rattle.vclock.specs.Bytes.{key_fault}
 use Rattle.vclock.specs.declared.format.Format.{Format}
 use Rattle.vclock.specs.declared.refusal.Refusal.{Refusal}
 use Rattle.vclock.specs.declared.refusal.Refusal.TheVariants.{OtherRange, JournalFull, Stale, StaleContext, Dirty}
@@ -17,7 +17,7 @@ use Rattle.version_set.specs.declared.kind.Kind.{Kind}
 use Rattle.version_set.specs.declared.version.Version.{Version}
 use Rattle.range_journal.specs.declared.journal.Entry.{Entry}
 use Rattle.range_journal.specs.declared.journal.Source.{Source}
-use Rattle.range_journal.specs.declared.journal.Source.TheVariants.{Client, Partner}
+use Rattle.range_journal.specs.declared.journal.Source.TheVariants.{Client, Partner, Copy, Hint}
 use Rattle.range_journal.specs.Journal.{accepted, held, AreNews, NeverCrowded}
 use Rattle.key_ring.specs.Places.{range_at, leaf_at, leaf_bits}
 use Rattle.row_bytes.specs.Rows.{IsRow, AreRows}
@@ -29,7 +29,6 @@ use Rattle.hash_tree.specs.declared.node.NodeAt.{NodeAt}
 use Rattle.rehash.specs.Jobs.{NodeText}
 use Rattle.snapshot.specs.RowMaps.{RowMap}
 use Rattle.range_state.specs.declared.«record».Record.{Record}
-use Rattle.range_state.specs.declared.state.sessions.TheConstants.{MOST_OPEN, MOST_RECORDS}
 use Rattle.range_state.specs.declared.event.Accepted.{Accepted}
 use Rattle.range_state.specs.declared.event.Accepted.TheVariants.{Taken, Known}
 use Rattle.range_state.specs.Config.{Config, is_config}
@@ -211,8 +210,8 @@ pub record IsRight (s : State) : Type 0 where
   pub rows : AllByRecursion (IsRow s.config.format) (rows_of s.entries)
   pub marks : IsTreeFor (leaf_in s.config) (rows_of s.entries) (tree_of s)
   pub records : AllByRecursion (IsKept s.config s.entries) s.records
-  pub few : length s.records ≤ MOST_RECORDS
-  pub few_open : open_count s.records ≤ MOST_OPEN
+  pub few : length s.records ≤ 1024
+  pub few_open : open_count s.records ≤ 64
   pub partners : AllByRecursion (λ (e : Entry). e.source ≡ Partner → IsFromPartner s e) s.entries
 
 -- the rows of a leaf
@@ -223,3 +222,10 @@ bucket_of c entries leaf = record { format = c.format; rows = rows_at (leaf_in c
 pub record AreLeaves (c : Config) (entries : List Entry) (leaves : List Bucket) : Type 0 where
   pub all : length leaves ≡ leaf_count c
   pub each : (i : ℕ) (d : Bucket) → i < leaf_count c → slice_index_or leaves i d ≡ bucket_of c entries i
+
+-- as a copy or as a hint
+abbrev pub is_sent : Source → Bool
+is_sent Client = false
+is_sent Copy = true
+is_sent Hint = true
+is_sent Partner = false

@@ -4,13 +4,8 @@ ghost use Rattle.range_state.specs.Config.{config_of, is_config};
 ghost use Rattle.range_state.specs.Migrates.{config_in_two};
 
 use std::marker::Model;
-use vclock::format::Format;
-
-/// How many bits the number of a range has at the most.
-const MOST_BITS: u64 = 8;
-
-/// How many entries a journal has at the most.
-const MOST_ENTRIES: u64 = 1_000_000;
+use vclock::Format;
+use vclock::limits::{ENTRIES_MAX, RING_BITS_MAX};
 
 /// Which range a state is of, in which format, and how many entries its journal may have. Replicas of a range have
 /// equal formats, ring bits and ranges; their limits may differ.
@@ -48,7 +43,7 @@ impl RangeConfig {
         ensures { result ≡ config_of format bits range limit }
     {
         let format = Format::of_number(format)?;
-        if bits > MOST_BITS || range >= 1 << bits || limit == 0 || limit > MOST_ENTRIES {
+        if bits > RING_BITS_MAX || range >= 1 << bits || limit == 0 || limit > ENTRIES_MAX {
             return None;
         }
         Some(RangeConfig {

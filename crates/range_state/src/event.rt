@@ -1,22 +1,17 @@
 //! The calls of a range as events, and what they return.
 ghost use Rattle.std.specs.Prelude.{◌≤◌, IsTrue};
-ghost use Rattle.range_state.specs.Sent.{is_sent};
+ghost use Rattle.range_state.specs.State.{is_sent};
 
-use hash_tree::hashed::Hashed;
-use hash_tree::node::NodeAt;
-use range_journal::journal::{Entry, Source};
-use rehash::job::Job;
-use snapshot::snapshot::Snapshot;
+use hash_tree::{Hashed, NodeAt};
+use range_journal::{Entry, Source};
+use rehash::Job;
+use snapshot::Snapshot;
 use std::alloc::Global;
 use std::sync::Arc;
-use sync_session::state::SessionState;
-use vclock::bytes::Bytes;
-use vclock::clock::Clock;
-use vclock::refusal::Refusal;
-use version_set::kind::Kind;
-use version_set::set::VersionSet;
-use version_set::version::Version;
-use walk_messages::message::Offer;
+use sync_session::SessionState;
+use vclock::{Bytes, Clock, Refusal};
+use version_set::{Kind, Version, VersionSet};
+use walk_messages::Offer;
 
 /// What a range tells a caller whose version it journaled: the entry.
 pub type Receipt = Entry;

@@ -18,3 +18,14 @@ pub mod record;
 pub mod replay;
 pub mod run;
 pub mod state;
+
+pub use config::RangeConfig;
+pub use event::{
+    AcceptEvent, Accepted, AnswerCounted, AnswerEvent, AnswerTaken, Event, InstallEvent, OpenEvent,
+    PutEvent, Receipt, Reply,
+};
+pub use record::Record;
+pub use replay::Replay;
+pub use state::RangeState;
+pub use state::reconciliation::{Reconciled, reconcile};
+pub use state::sync::Synced;

@@ -1,7 +1,7 @@
 //! Records of sessions.
 ghost use Rattle.std.specs.Prelude.{◌≡◌};
 
-use sync_session::session::Session;
+use sync_session::Session;
 
 /// A session of a range, and its partner. Its number is its place among the records, from 0. Records are never taken
 /// out, so what a session compared and took can be looked up for good.

@@ -8,13 +8,13 @@ ghost use Rattle.range_state.specs.Replays.{IsReplay};
 
 use crate::config::RangeConfig;
 use crate::state::{RangeState, empty_leaves};
-use hash_tree::shared::SharedLeaf;
-use key_ring::places::place;
-use range_journal::journal::Entry;
+use hash_tree::SharedLeaf;
+use key_ring::place;
+use range_journal::Entry;
 use std::alloc::Global;
 use std::marker::Model;
-use vclock::refusal::Refusal;
-use version_set::set::VersionSet;
+use vclock::Refusal;
+use version_set::VersionSet;
 
 /// The rows that a range had when its journal was shorter: they begin empty, and take in entries as they are asked for.
 #[derive(Drop)]

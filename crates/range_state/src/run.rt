@@ -9,7 +9,7 @@ use crate::event::{
 };
 use crate::state::RangeState;
 use std::alloc::Global;
-use vclock::refusal::Refusal;
+use vclock::Refusal;
 
 impl RangeState {
     /// Runs events in order, and returns the reply of each. A refused event is its reply, and changes nothing; the

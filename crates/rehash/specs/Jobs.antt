@@ -10,12 +10,12 @@ pub record NodeText : Type 0 where
   pub node : NodeAt
   pub text : List ℕ
 
--- the text that is written from a leaf, or from the digests of the children
+-- the text from a source: a leaf, or the digests of the children
 abbrev pub source_text : Source → List ℕ
 source_text (Leaf bucket) = leaf_text bucket.format bucket.rows
 source_text (Children format digests) = inner_text format digests
 
--- how many bytes it has: that of a node with children has one, and a digest of 32 for each of the 16
+-- the length in bytes of that text: one byte and 16 digests of 32 bytes for a node with children
 abbrev pub source_len : Source → ℕ
 source_len (Leaf bucket) = length (leaf_text bucket.format bucket.rows)
 source_len (Children format digests) = 513

@@ -1,19 +1,19 @@
-//! Many jobs at once.
+//! Hashing many jobs.
 ghost use Rattle.std.specs.Prelude.{◌≡◌, None, map};
 ghost use Rattle.vclock.specs.Answer.{Answers};
 
 use crate::job::{Job, run_job};
-use hash_tree::hashed::Hashed;
+use hash_tree::Hashed;
 use rayon::prelude::*;
 use std::alloc::Global;
 use std::thread::Threads;
-use vclock::refusal::Refusal;
+use vclock::Refusal;
 
-/// How many bytes a thread is to write and hash at the least, so that it is worth starting.
+/// The least number of bytes that a thread is to write and hash, so that it is worth starting.
 const PIECE_LEN: usize = 65_536;
 
-/// What `run_job` gives for each job, in order: in several threads if there is enough to hash. Refused: NoMemory, and
-/// then the jobs are lost.
+/// Runs `run_job` for each job, in several threads if there is enough to hash, and returns the results in order.
+/// Refused: NoMemory; the jobs are then lost.
 pub fn hash_all(
     rt: &(impl Threads + Sync),
     alloc: Global,
@@ -34,7 +34,7 @@ pub fn hash_all(
     Ok(hashed)
 }
 
-/// How many jobs a thread runs at the least: as many as have `PIECE_LEN` bytes, by their mean.
+/// Returns the least number of jobs that a thread runs: as many as have `PIECE_LEN` bytes, by their mean.
 fn least_piece(jobs: &[Job]) -> usize {
     let bytes = jobs
         .iter()

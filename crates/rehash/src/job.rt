@@ -4,20 +4,14 @@ ghost use Rattle.vclock.specs.Answer.{Answers};
 ghost use Rattle.hash_tree.specs.Texts.{leaf_text, inner_text};
 
 use crate::source::Source;
-use hash_tree::hashed::{Digest, Hashed, hash};
-use hash_tree::node::NodeAt;
-use hash_tree::shared::SharedLeaf;
-use hash_tree::text::Text;
-use hash_tree::texts::{INNER_LEN, put_inner_text};
+use hash_tree::{Digest, Hashed, INNER_LEN, NodeAt, SharedLeaf, Text, hash, put_inner_text};
 use std::alloc::Global;
 use std::marker::Model;
-use vclock::format::Format;
-use vclock::refusal::Refusal;
+use vclock::{Format, Refusal};
 
-/// A node whose text is to be hashed. It carries what the text is written from, and the room for it, so a range makes
-/// jobs under its lock in little time, and their texts are written and hashed without it. The result is installed in
-/// the range, which refuses it as Stale if the node has changed since.
-///
+/// A node whose text is to be hashed, with the source of the text and the room for it. A range makes jobs under its
+/// lock in little time, and their texts are written and hashed without the lock. The result is installed in the range,
+/// which refuses it as Stale if the node has changed since.
 /// ```
 /// let job = job_at(rt, alloc, state, depth, index)?;
 /// let node = job.node();
@@ -43,7 +37,7 @@ impl Model for Job {
 }
 
 impl Job {
-    /// The job of a leaf. Refused: NoMemory.
+    /// Creates the job of a leaf. Refused: NoMemory.
     pub fn of_leaf(alloc: Global, node: NodeAt, leaf: SharedLeaf) -> Result<Job, Refusal>
         ensures { Answers result None (λ job. job ≡ record { node = node; text = leaf_text leaf.format leaf.rows }) }
     {
@@ -57,7 +51,7 @@ impl Job {
         })
     }
 
-    /// The job of a node whose children have these digests, in order. Refused: NoMemory.
+    /// Creates the job of a node whose children have these digests, in order. Refused: NoMemory.
     pub fn of_children(
         alloc: Global,
         format: Format,
@@ -73,19 +67,19 @@ impl Job {
         })
     }
 
-    /// The node.
+    /// Returns the node.
     pub fn node(&self) -> NodeAt
         ensures { result ≡ self.now.node }
     {
         self.node
     }
 
-    /// How many bytes its room has, as many as its text or a few more.
+    /// Returns the capacity of its room in bytes: the length of its text or a few more.
     pub(crate) fn room(&self) -> usize {
         self.room.capacity()
     }
 
-    /// Writes the text into its room. It takes no memory.
+    /// Writes the text into its room. Doesn't allocate.
     fn into_text(self) -> Vec<u8>
         ensures { result.items ≡ self.text }
     {
@@ -100,7 +94,7 @@ impl Job {
     }
 }
 
-/// Writes the text of a job, and hashes it. It takes no memory.
+/// Writes the text of a job and hashes it. Doesn't allocate.
 pub fn run_job(job: Job) -> Hashed
     ensures { result ≡ job.text }
 {

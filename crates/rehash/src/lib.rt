@@ -1,9 +1,19 @@
-//! Hashing the nodes of trees, outside the locks of their ranges.
+//! Hashing the nodes of trees, outside the locks of their ranges. Use it to write and hash the texts of dirty nodes,
+//! one at a time or in several threads.
 //!
-//! - [`job`]: a node and what its text is written from; one job hashed.
-//! - [`bulk`]: many jobs hashed in several threads.
+//! - [`job`]: a node and the source of its text; hashing one job.
+//! - [`bulk`]: hashing many jobs in several threads.
+//!
+//! ```
+//! let job = job_at(rt, alloc, state, depth, index)?;
+//! let node = job.node();
+//! Ok(state.install(node, &run_job(job))?)
+//! ```
 #![tactic(auto)]
 
 pub mod bulk;
 pub mod job;
 mod source;
+
+pub use bulk::hash_all;
+pub use job::{Job, run_job};

@@ -1,12 +1,11 @@
-//! What the text of a node is written from.
-use hash_tree::hashed::Digest;
-use hash_tree::shared::SharedLeaf;
-use vclock::format::Format;
+//! The source of a node's text.
+use hash_tree::{Digest, SharedLeaf};
+use vclock::Format;
 
-/// What the text of a node is written from.
+/// The source of a node's text.
 #[derive(Debug, Drop)]
 pub(crate) enum Source {
-    /// A leaf, as it was when the job was taken.
+    /// A leaf, shared when the job was made.
     Leaf(SharedLeaf),
     /// The digests of the node's children.
     Children(Format, [Digest; 16]),

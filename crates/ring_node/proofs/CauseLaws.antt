@@ -2,7 +2,7 @@
 use Rattle.std.proofs.Common.{◌≡◌, ◌⊎◌, inl, inr, ℕ, Bool, true, false, cond, List, Option, Some, None, refl}
 use Rattle.vclock.specs.Answer.{first_fault}
 use Rattle.vclock.specs.Clock.{raise_fault, Pairs}
-use Rattle.vclock.specs.Keys.{key_fault}
+use Rattle.vclock.specs.Bytes.{key_fault}
 use Rattle.vclock.specs.declared.format.Format.{Format}
 use Rattle.vclock.specs.declared.format.Format.TheVariants.{One, Two}
 use Rattle.vclock.specs.declared.refusal.Refusal.{Refusal}

@@ -12,8 +12,8 @@ use Rattle.walk_messages.specs.declared.message.Message.TheVariants as messages
 use Rattle.ring_node.specs.Moments.{FoundAtSomeMoment}
 use Rattle.ring_node.specs.Offers.{Offered, AreOffers, kept_under, text_fault, serve_fault, IsAnswerIn}
 use Rattle.ring_node.specs.Replies.{RepliesAsk, IsEncoded, IsGoneIn}
-use Rattle.ring_node.specs.declared.serving.Reply.{Reply}
-use Rattle.ring_node.specs.declared.serving.Reply.TheVariants.{Bytes, Gone, Refused}
+use Rattle.ring_node.specs.declared.server.Reply.{Reply}
+use Rattle.ring_node.specs.declared.server.Reply.TheVariants.{Bytes, Gone, Refused}
 use Rattle.ring_node.proofs.CauseLaws.{where_fails}
 
 -- an ask is too deep for the tree that was offered

@@ -4,6 +4,7 @@ use Rattle.std.specs.Prelude.{IfOk, IfErr, OnErr, nat_eq}
 use Rattle.std.specs.List.{AllByRecursion}
 use Rattle.std.proofs.lemmas.Bool.{eqb-true}
 use Rattle.std.proofs.lemmas.List.{append-nil, append_cancel_left}
+use Rattle.vclock.specs.Outcome.{Does, through}
 use Rattle.vclock.specs.declared.refusal.Refusal.{Refusal}
 use Rattle.vclock.specs.declared.refusal.Refusal.TheVariants.{Crowded, JournalFull, UnknownSession, NotAsked, WrongDigest, NotCanonical, LinkLost, NoMemory}
 use Rattle.version_set.specs.declared.version.Version.{Version}
@@ -15,13 +16,15 @@ use Rattle.range_state.specs.declared.«record».Record.{Record}
 use Rattle.range_state.specs.declared.event.AnswerTaken.{AnswerTaken}
 use Rattle.range_state.specs.declared.event.AnswerCounted.{AnswerCounted}
 use Rattle.range_state.specs.State.{State, knows, journaled, entry_of, accept_step}
-use Rattle.range_state.specs.Sessions.{offers_of, taken_in, Refuses, TakesInner, TakesLeaf, TakesFor}
+use Rattle.range_state.specs.Sessions.{offers_of, open_session, taken_in, Refuses, TakesInner, TakesLeaf, TakesFor}
 use Rattle.caller_pass.specs.Passes.{PassView, with_receipts, seen_after}
-use Rattle.caller_pass.specs.Locks.{Locked, IsToldOf, TellsAnswer}
+use Rattle.caller_pass.specs.Locks.{Locked, moved, IsToldOf, TellsAnswer}
 use Rattle.caller_pass.proofs.PassLaws.{seen_rises}
 use Rattle.ring_node.specs.Gains.{IsGain, Gains, GainsSome}
 use Rattle.ring_node.specs.Links.{IsLostExactly}
-use Rattle.ring_node.specs.Walks.{IsOpenRefusal, IsTakeRefusal}
+use Rattle.ring_node.specs.Moments.{ChangedAtSomeMoment}
+use Rattle.ring_node.specs.Walks.{IsOpening, IsOpenRefusal, IsTakeRefusal}
+use Rattle.walk_messages.specs.declared.message.Offer.{Offer}
 use Rattle.ring_node.proofs.GainLaws.{still, both, some_same}
 
 -- ---- the entries that a text brings
@@ -147,6 +150,11 @@ open_keeps T before after e is same = same
 pub take_keeps : (T : Type 0) (before after : ℕ) (e : Refusal) → IsTakeRefusal e → after ≡ before → IsLostExactly {T = T} before after (Err e)
 take_keeps T before after LinkLost none same = absurd none
 take_keeps T before after e is same = same
+
+-- ---- with whom a session is opened
+
+pub session_opened : (Right : Locked → Type 0) (partner id : ℕ) (offer : Offer) → ChangedAtSomeMoment Right (λ before after. Does (Ok id) before after (through (moved before) (open_session before.state partner offer))) → ChangedAtSomeMoment Right (IsOpening id partner)
+session_opened Right partner id offer m = record { before = m.before; after = m.after; right = m.right; step = (offer, m.step) }
 
 -- ---- how many came
 

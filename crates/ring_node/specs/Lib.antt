@@ -1,5 +1,4 @@
 pub mod Moments
-pub mod Counts
 pub mod Passes
 pub mod Reports
 pub mod Gains
@@ -9,3 +8,4 @@ pub mod Links
 pub mod Replies
 pub mod Deeds
 pub mod Walks
+pub mod Steps

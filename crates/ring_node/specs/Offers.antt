@@ -12,7 +12,6 @@ use Rattle.walk_messages.specs.declared.message.Ask.{Ask}
 use Rattle.walk_messages.specs.declared.message.Offer.{Offer}
 use Rattle.snapshot.specs.RowMaps.{RowMap, IsRowMap, text_at, root_of}
 use Rattle.snapshot.specs.Snapshots.{answer_fault}
-use Rattle.ring_node.specs.declared.offers.TheConstants.{MOST_KEPT}
 
 -- the rows of a snapshot that was published, with the number of its offer
 pub record Offered : Type 0 where
@@ -26,7 +25,7 @@ pub record Offers : Type 0 where
 
 -- What holds whenever the lock is free: no more are kept than that, and the rows of each are right.
 pub record AreOffers (o : Offers) : Type 0 where
-  pub few : length o.kept ≤ MOST_KEPT
+  pub few : length o.kept ≤ 16
   pub right : AllByRecursion (λ (p : Offered). IsRowMap p.rows) o.kept
 
 -- nothing was published yet
@@ -43,7 +42,7 @@ number_fault o = if nat_lt o.last (2 ^ 32 - 1) then None else Some SessionsFull
 
 -- what is kept without the oldest, if no more can be kept
 abbrev pub with_room : List Offered → List Offered
-with_room kept = if nat_lt (length kept) MOST_KEPT then kept else drop 1 kept
+with_room kept = if nat_lt (length kept) 16 then kept else drop 1 kept
 
 -- rows are published under the next number
 abbrev pub publish : Offers → RowMap → Outcome Offer Offers

@@ -1,7 +1,7 @@
 -- What a pass is told through a lock, and why it is told nothing, as far as the pass and what the call is lent tell it.
 use Rattle.std.specs.Prelude.{◌≡◌, ℕ, ◌+◌, ◌<◌, ◌≤◌, List, [], ◌∷◌, Some, None, MatchOption}
 use Rattle.vclock.specs.Clock.{raise_fault, Pairs}
-use Rattle.vclock.specs.Keys.{key_fault}
+use Rattle.vclock.specs.Bytes.{key_fault}
 use Rattle.vclock.specs.declared.format.Format.{Format}
 use Rattle.vclock.specs.declared.refusal.Refusal.{Refusal}
 use Rattle.vclock.specs.declared.refusal.Refusal.TheVariants.{BadKey, BadValue, OtherRange, ClockFull, CounterFull, StaleContext, Crowded, JournalFull, Behind, NoMemory}

@@ -7,8 +7,8 @@ use Rattle.walk_messages.specs.declared.message.Message.{Message}
 use Rattle.walk_messages.specs.declared.message.Message.TheVariants as messages
 use Rattle.ring_node.specs.Moments.{FoundAtSomeMoment}
 use Rattle.ring_node.specs.Offers.{Offers, AreOffers, latest, kept_under, IsAnswerIn}
-use Rattle.ring_node.specs.declared.serving.Reply.{Reply}
-use Rattle.ring_node.specs.declared.serving.Reply.TheVariants.{Bytes, Gone, Refused}
+use Rattle.ring_node.specs.declared.server.Reply.{Reply}
+use Rattle.ring_node.specs.declared.server.Reply.TheVariants.{Bytes, Gone, Refused}
 
 -- the message of the newest offer, or Gone if there is none
 abbrev pub RepliesOffer : Reply → Type 0

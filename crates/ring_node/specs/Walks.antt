@@ -1,10 +1,14 @@
 -- Sync workers: why they are refused, and what they report.
 use Rattle.std.specs.Prelude.{◌≡◌, ◌≢◌, ℕ, length, slice_get, List, Some}
+use Rattle.vclock.specs.Outcome.{gives, through}
 use Rattle.vclock.specs.declared.refusal.Refusal.{Refusal}
 use Rattle.vclock.specs.declared.refusal.Refusal.TheVariants.{Crowded, JournalFull, OtherRange, Dirty, UnknownSession, NotAsked, WrongDigest, NotCanonical, OtherFormat, SessionsFull, Gone, LinkLost, BadMessage, NoMemory}
 use Rattle.sync_session.specs.declared.state.SessionState.{SessionState}
 use Rattle.sync_session.specs.declared.state.SessionState.TheVariants.{Open}
+use Rattle.walk_messages.specs.declared.message.Offer.{Offer}
+use Rattle.range_state.specs.Sessions.{open_session}
 use Rattle.range_state.specs.declared.«record».Record.{Record}
+use Rattle.caller_pass.specs.Locks.{Locked, moved}
 
 -- why a partner's offer is not reached
 abbrev pub IsOfferRefusal : Refusal → Type 0
@@ -50,6 +54,10 @@ IsWalkRefusal Crowded = Unit {0}
 IsWalkRefusal JournalFull = Unit {0}
 IsWalkRefusal NoMemory = Unit {0}
 IsWalkRefusal e = ⊥
+
+-- a session with that partner is opened under that number, by some offer
+abbrev pub IsOpening : ℕ → ℕ → Locked → Locked → Type 0
+IsOpening id partner before after = (offer : Offer) × (through (moved before) (open_session before.state partner offer) ≡ gives id after)
 
 -- some records have one of that number that stands so, with so many nodes asked, and it is not open
 pub record IsEndIn (records : List Record) (id : ℕ) (state : SessionState) (asked : ℕ) : Type 0 where

@@ -4,11 +4,11 @@ ghost use Rattle.ring_node.specs.Links.{IsCounted};
 
 use crate::link::{Link, Reached, lose};
 use crate::offers::OfferPool;
-use crate::serving::Reply;
+use crate::server::Reply;
 use crossbeam_channel::{Receiver, Sender, bounded};
 use std::alloc::Global;
 use std::sync::Wait;
-use vclock::refusal::Refusal;
+use vclock::Refusal;
 
 /// How many messages a channel holds.
 const CAPACITY: usize = 16;

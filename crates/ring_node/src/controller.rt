@@ -3,13 +3,12 @@ ghost use Rattle.std.specs.Prelude.{◌≡◌, ◌+◌};
 ghost use Rattle.vclock.specs.Outcome.{DoesAtOnce, ChangesAtOnce};
 ghost use Rattle.admission.specs.Admission.{IsAdmission, lend, sample, adjust};
 ghost use Rattle.ring_node.specs.Moments.{FoundAtSomeMoment, ChangedAtSomeMoment};
-ghost use Rattle.ring_node.specs.Counts.{AreCounts};
+ghost use Rattle.ring_node.specs.Reports.{AreCounts};
 
-use admission::controller::Controller;
-use admission::slot::Slot;
+use admission::{Controller, Slot};
 use std::sync::ledger::Ledger;
 use std::sync::{Mutex, Wait};
-use vclock::refusal::Refusal;
+use vclock::Refusal;
 
 /// How many slots there were at one moment.
 #[derive(Clone, Copy, Debug, PartialEq, Eq)]

@@ -2,7 +2,7 @@
 ghost use Rattle.std.specs.Prelude.{◌≡◌};
 ghost use Rattle.ring_node.specs.Deeds.{done_to, renumbered};
 
-use hash_tree::node::NodeAt;
+use hash_tree::NodeAt;
 
 /// What a scripted link does in one call.
 ///

@@ -8,16 +8,16 @@ ghost use Rattle.ring_node.specs.Gains.{Gains, GainsSome};
 
 use crate::hints::SharedHints;
 use crate::range::SharedRange;
-use admission::slot::Slot;
-use caller_pass::pass::Pass;
-use hint_store::hint::{Delivery, Hint};
-use range_journal::journal::Source;
-use range_state::event::Accepted;
+use admission::Slot;
+use caller_pass::Pass;
+use hint_store::{Delivery, Hint};
+use range_journal::Source;
+use range_state::Accepted;
 use std::alloc::Global;
 use std::sync::Wait;
 use std::sync::ledger::Ledger;
-use vclock::refusal::Refusal;
-use version_set::version::Version;
+use vclock::Refusal;
+use version_set::Version;
 
 /// What became of the hints of a delivery: how many were taken, known and left pending.
 ///

@@ -1,16 +1,46 @@
-//! Gates, at which a worker may be held.
+//! Gates, at which a test holds a worker.
+ghost use Rattle.std.specs.Prelude.{◌≡◌};
+ghost use Rattle.ring_node.specs.Steps.{step_number};
+
 use std::sync::Wait;
+
+/// A point of a worker's turn, at which it passes a gate.
+#[derive(Clone, Copy, Debug, PartialEq, Eq)]
+pub enum Step {
+    /// A rehash worker took a job.
+    Taken,
+    /// A rehash worker hashed the text of its job.
+    Hashed,
+    /// A storm's writer put a version.
+    Put,
+    /// A storm's sync worker begins a round.
+    Round,
+}
+
+impl Step {
+    /// The number of the step, from 1, in the order above.
+    pub fn number(self) -> u32
+        ensures { result ≡ step_number self }
+    {
+        match self {
+            Step::Taken => 1,
+            Step::Hashed => 2,
+            Step::Put => 3,
+            Step::Round => 4,
+        }
+    }
+}
 
 /// A gate that a worker passes between its steps, with no lock held. It may make the worker wait.
 pub trait Gate {
-    /// Passes the gate. The step is 1 after a job was taken, and 2 after it was hashed.
-    fn pass<R: Wait>(&self, rt: &R, step: u32);
+    /// Passes the gate after a step. At [`Step::Round`], passes it before the round.
+    fn pass<R: Wait>(&self, rt: &R, step: Step);
 }
 
-/// A gate that holds no worker: the one for use. Others are for tests, which decide by a gate how threads meet.
+/// A gate that holds no worker: the one for production. Tests write their own, and decide by them how threads meet.
 #[derive(Clone, Copy, Debug, PartialEq, Eq)]
 pub struct OpenGate;
 
 impl Gate for OpenGate {
-    fn pass<R: Wait>(&self, _rt: &R, _step: u32) {}
+    fn pass<R: Wait>(&self, _rt: &R, _step: Step) {}
 }

@@ -5,13 +5,11 @@ ghost use Rattle.vclock.specs.Outcome.{Does, DoesAtOnce};
 ghost use Rattle.hint_store.specs.Hints.{AreHints, keep, next_hint, confirm};
 ghost use Rattle.ring_node.specs.Moments.{FoundAtSomeMoment, ChangedAtSomeMoment};
 
-use hint_store::hint::{Delivery, Hint};
-use hint_store::store::HintStore;
+use hint_store::{Delivery, Hint, HintStore};
 use std::alloc::Global;
 use std::sync::{Mutex, Wait};
-use vclock::bytes::Bytes;
-use vclock::refusal::Refusal;
-use version_set::version::Version;
+use vclock::{Bytes, Refusal};
+use version_set::Version;
 
 /// The hints of a carrier, that threads share: a [`HintStore`] in a lock.
 ///

@@ -9,17 +9,14 @@ ghost use Rattle.snapshot.specs.RowMaps.{root_of};
 ghost use Rattle.ring_node.specs.Moments.{FoundAtSomeMoment, ChangedAtSomeMoment};
 ghost use Rattle.ring_node.specs.Offers.{Offered, AreOffers, unpublished, publish, latest, kept_under, serve_fault, IsAnswerIn};
 
-use hash_tree::node::tree_depth;
-use hash_tree::text::Text;
-use snapshot::snapshot::Snapshot;
+use hash_tree::{Text, tree_depth};
+use snapshot::Snapshot;
 use std::alloc::Global;
 use std::marker::Model;
 use std::sync::{Arc, Mutex, Wait};
-use vclock::refusal::Refusal;
-use walk_messages::message::{Answer, Ask, Offer};
-
-/// How many offers are kept.
-const MOST_KEPT: usize = 16;
+use vclock::Refusal;
+use vclock::limits::OFFERS_MAX;
+use walk_messages::{Answer, Ask, Offer};
 
 /// A snapshot with the number of its offer.
 #[derive(Drop)]
@@ -78,7 +75,7 @@ impl Offers {
         if self.last == u32::MAX {
             return Err(Refusal::SessionsFull);
         }
-        if self.kept.len() < MOST_KEPT {
+        if self.kept.len() < OFFERS_MAX {
             self.kept.reserve(1)?;
         } else {
             *oldest = Some(self.kept.remove(0));

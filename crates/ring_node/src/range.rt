@@ -3,35 +3,25 @@ ghost use Rattle.std.specs.Prelude.{◌≡◌, ◌⊎◌, ◌≤◌, [], None, I
 ghost use Rattle.std.specs.Arc.{arc_value};
 ghost use Rattle.vclock.specs.Answer.{Answers};
 ghost use Rattle.vclock.specs.Clock.{raise_fault};
-ghost use Rattle.vclock.specs.Keys.{key_fault};
+ghost use Rattle.vclock.specs.Bytes.{key_fault};
 ghost use Rattle.vclock.specs.Outcome.{Does, DoesOrNoMemory, through};
 ghost use Rattle.range_state.specs.Migrates.{migrate};
-ghost use Rattle.range_state.specs.Sent.{is_sent};
-ghost use Rattle.range_state.specs.State.{put_version, dirty_fault, rows_now};
+ghost use Rattle.range_state.specs.State.{is_sent, put_version, dirty_fault, rows_now};
 ghost use Rattle.caller_pass.specs.Closings.{AllThere, IsSettled, IsUnclosed};
 ghost use Rattle.caller_pass.specs.Locks.{IsLocked, moved, put_in, accept_in, get_in, plainly};
 ghost use Rattle.ring_node.specs.Moments.{FoundAtSomeMoment, ChangedAtSomeMoment};
 ghost use Rattle.ring_node.specs.Passes.{IsReceiptOf, IsToldOf, IsSent, IsPutRefusal, IsSentRefusal, IsRead, IsBehind};
 
-use caller_pass::book::Book;
-use caller_pass::closing::{Closed, Unclosed};
-use caller_pass::locked::LockedRange;
-use caller_pass::pass::Pass;
-use caller_pass::unread::Unread;
-use range_journal::journal::Source;
-use range_state::event::{Accepted, Receipt};
-use range_state::state::RangeState;
-use snapshot::snapshot::Snapshot;
+use caller_pass::{Book, Closed, LockedRange, Pass, Unclosed, Unread};
+use range_journal::Source;
+use range_state::{Accepted, RangeState, Receipt};
+use snapshot::Snapshot;
 use std::alloc::Global;
 use std::marker::Model;
 use std::sync::ledger::Ledger;
 use std::sync::{Arc, Mutex, Wait};
-use vclock::bytes::Bytes;
-use vclock::clock::Clock;
-use vclock::refusal::Refusal;
-use version_set::kind::Kind;
-use version_set::set::VersionSet;
-use version_set::version::Version;
+use vclock::{Bytes, Clock, Refusal};
+use version_set::{Kind, Version, VersionSet};
 
 /// A range of which a node is a replica, that threads share: a [`LockedRange`] in a lock.
 ///

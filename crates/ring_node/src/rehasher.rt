@@ -6,14 +6,14 @@ ghost use Rattle.caller_pass.specs.Locks.{IsLocked};
 ghost use Rattle.ring_node.specs.Moments.{FoundAtSomeMoment};
 ghost use Rattle.ring_node.specs.Reports.{IsRehashReport};
 
-use crate::gate::Gate;
+use crate::gate::{Gate, Step};
 use crate::range::SharedRange;
-use admission::slot::Slot;
-use rehash::job::{Job, run_job};
+use admission::Slot;
+use rehash::{Job, run_job};
 use std::alloc::Global;
 use std::sync::Wait;
 use std::sync::ledger::Ledger;
-use vclock::refusal::Refusal;
+use vclock::Refusal;
 
 /// What a rehash worker did.
 #[derive(Clone, Copy, Debug, PartialEq, Eq)]
@@ -31,8 +31,8 @@ impl<L: Ledger> SharedRange<L> {
     /// or until the turns are used. `skip` is as in [`LockedRange::take_job`], so that workers take different nodes.
     ///
     /// A node's text is written and hashed with no lock held, so puts go on meanwhile. A digest that comes too late is
-    /// counted, and its node is hashed again in a later turn. The worker passes the gate after it took a job (step 1)
-    /// and after it hashed the text (step 2), with no lock held. The slot is the leave to do so.
+    /// counted, and its node is hashed again in a later turn. The worker passes the gate after it took a job
+    /// ([`Step::Taken`]) and after it hashed the text ([`Step::Hashed`]), with no lock held.
     ///
     /// Refused: NoMemory. What was installed until then stays.
     pub fn rehash_worker<R: Wait, C: Ledger, G: Gate>(
@@ -81,10 +81,10 @@ impl<L: Ledger> SharedRange<L> {
 
     /// Hashes the text of a job, and installs its digest unless it is too late: whether it was installed.
     fn hash<R: Wait, G: Gate>(&self, rt: &R, gate: &G, job: Job) -> bool {
-        gate.pass(rt, 1);
+        gate.pass(rt, Step::Taken);
         let node = job.node();
         let hashed = run_job(job);
-        gate.pass(rt, 2);
+        gate.pass(rt, Step::Hashed);
         let installed = self.range.lock(rt).install(node, &hashed);
         installed.is_ok()
     }

@@ -10,24 +10,21 @@ ghost use Rattle.caller_pass.specs.Locks.{IsLocked, moved, TellsAnswer};
 ghost use Rattle.ring_node.specs.Gains.{Gains, GainsSome};
 ghost use Rattle.ring_node.specs.Links.{IsLostExactly};
 ghost use Rattle.ring_node.specs.Moments.{FoundAtSomeMoment, ChangedAtSomeMoment};
-ghost use Rattle.ring_node.specs.Walks.{IsOfferRefusal, IsOpenRefusal, IsAskRefusal, IsTakeRefusal, IsWalkRefusal, IsEndIn};
+ghost use Rattle.ring_node.specs.Walks.{IsOfferRefusal, IsOpenRefusal, IsAskRefusal, IsTakeRefusal, IsWalkRefusal, IsEndIn, IsOpening};
 
 use crate::link::{Link, Reached};
 use crate::range::SharedRange;
-use admission::slot::Slot;
-use caller_pass::pass::Pass;
-use hash_tree::hashed::hash;
-use hash_tree::node::NodeAt;
-use range_journal::journal::Source;
-use range_state::event::AnswerCounted;
+use admission::Slot;
+use caller_pass::Pass;
+use hash_tree::{NodeAt, hash};
+use range_journal::Source;
+use range_state::AnswerCounted;
 use std::alloc::Global;
 use std::sync::Wait;
 use std::sync::ledger::Ledger;
-use sync_session::state::SessionState;
-use vclock::refusal::Refusal;
-use walk_messages::decoding::decode;
-use walk_messages::encoding::encode;
-use walk_messages::message::{Answer, Ask, Message, Offer};
+use sync_session::SessionState;
+use vclock::Refusal;
+use walk_messages::{Answer, Ask, Message, Offer, decode, encode};
 
 /// What a sync worker did.
 ///
@@ -103,7 +100,7 @@ impl<L: Ledger> SharedRange<L> {
     /// Refused, in order: LinkLost (the link failed), Gone (the partner has no such offer), BadMessage (no offer came),
     /// OtherFormat, OtherRange, SessionsFull, Dirty (some node of the own tree has no digest), UnknownSession (no run
     /// meets it), Crowded, JournalFull, NoMemory. What was taken until then stays, and the session is cancelled.
-    #[tactic(auto, using(crate::proofs::GainLaws::some_none, crate::proofs::GainLaws::some_same, crate::proofs::WalkLaws::gains_grow, crate::proofs::WalkLaws::gains_counted, crate::proofs::WalkLaws::open_keeps))]
+    #[tactic(auto, using(crate::proofs::GainLaws::some_none, crate::proofs::GainLaws::some_same, crate::proofs::WalkLaws::gains_grow, crate::proofs::WalkLaws::gains_counted, crate::proofs::WalkLaws::open_keeps, crate::proofs::WalkLaws::session_opened))]
     pub fn sync_worker<R: Wait, C: Ledger, K: Link>(
         &self,
         rt: &R,
@@ -116,6 +113,7 @@ impl<L: Ledger> SharedRange<L> {
     ) -> Result<SyncReport, Refusal>
         ensures gains { IfOk result (λ report. Gains pass.old pass.new Source.Partner report.accepted) }
         ensures turns { IfOk result (λ report. report.bad ≤ turns) }
+        ensures opened { IfOk result (λ report. ChangedAtSomeMoment (IsLocked L.parts) (IsOpening report.id partner)) }
         ensures end { IfOk result (λ report. FoundAtSomeMoment (IsLocked L.parts)
             (λ locked. IsEndIn locked.state.records report.id report.state report.asked)) }
         ensures some { OnErr result (GainsSome pass.old pass.new Source.Partner) }

@@ -6,4 +6,4 @@ pub mod Laws
 pub mod RowSetLaws
 pub mod RowLaws
 pub mod Heads
-pub mod ManyRows
+pub mod ManyRowLaws

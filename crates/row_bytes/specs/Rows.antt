@@ -5,7 +5,7 @@ use Rattle.std.specs.Int.{w16, to_be_bytes}
 use Rattle.std.specs.Ordering.{nat_cmp, is_lt}
 use Rattle.std.specs.Cmp.Lexicographic.{slice_cmp}
 use Rattle.vclock.specs.Clock.{IsClock}
-use Rattle.vclock.specs.Keys.{key_fault}
+use Rattle.vclock.specs.Bytes.{key_fault}
 use Rattle.vclock.specs.declared.format.Format.{Format}
 use Rattle.version_set.specs.Kind.{value_fault}
 use Rattle.version_set.specs.Order.{Pairwise}
@@ -13,16 +13,16 @@ use Rattle.version_set.specs.Version.{is_below, version_text}
 use Rattle.version_set.specs.declared.version.Version.{Version}
 use Rattle.row_bytes.specs.declared.row.Row.{Row}
 
--- the text of a row: how long the key is, the key, how many versions there are, the versions
+-- the text of a row: the length of the key, the key, the number of versions, the versions
 unfoldable pub row_text : Format → Row → List ℕ
 row_text format r = to_be_bytes w16 (length r.key) ++ r.key ++ to_be_bytes w16 (length r.versions) ++ flat_map (version_text format) r.versions
 
--- the text begins with a key, as that of a row does
+-- the text begins with a key, as the text of a row does
 pub record BeginsWithKey (text key rest : List ℕ) : Type 0 where
   pub fits : key_fault key ≡ None
   pub text_is : text ≡ to_be_bytes w16 (length key) ++ key ++ rest
 
--- whether a stands before b, byte by byte
+-- a is less than b, byte by byte
 abbrev pub is_before : List ℕ → List ℕ → Bool
 is_before a b = is_lt (slice_cmp nat_cmp a b)
 
@@ -40,11 +40,11 @@ AreAscending format last (v ∷ vs) = IsTrue (is_before last (version_text forma
 abbrev pub is_apart : Version → Version → Bool
 is_apart u v = not (is_below u v) && not (is_below v u)
 
--- no version is below one before it, or above it
+-- no version is below one before it, or above one before it
 abbrev pub AreApart : List Version → Type 0
 AreApart vs = Pairwise (λ v u. IsTrue (is_apart v u)) vs
 
--- a row of a format: what has a text
+-- a row of a format: it has a text
 pub record IsRow (format : Format) (r : Row) : Type 0 where
   pub key : key_fault r.key ≡ None
   pub some : 1 ≤ length r.versions
@@ -63,7 +63,7 @@ pub record AreRows (format : Format) (rows : List Row) : Type 0 where
   pub each : AllByRecursion (IsRow format) rows
   pub ascending : KeysAscend [] rows
 
--- what a row within its type must meet besides to have a text of a format
+-- the conditions under which a row of the type Row has a text of a format
 pub record FitsText (format : Format) (r : Row) : Type 0 where
   pub key : key_fault r.key ≡ None
   pub some : 1 ≤ length r.versions

@@ -1,4 +1,4 @@
-// The fields that texts are made of, read from the left.
+//! The fields of texts, read from the left. A function that reads a field returns it with the bytes after it.
 ghost use Rattle.std.specs.Prelude.{◌≡◌, [], ⊤, nat_lt, nat_le, ◌&&◌};
 ghost use Rattle.std.specs.Int.{w8, w16, w32, w64};
 ghost use Rattle.row_bytes.specs.Reading.{Gives, number_at, field_at, bytes_at, pair_at, pairs_at, kind_at, longest_value};
@@ -6,11 +6,11 @@ ghost use Rattle.row_bytes.specs.Reading.{Gives, number_at, field_at, bytes_at, 
 use crate::fault::ReadError;
 use smallvec::SmallVec;
 use std::alloc::Global;
-use vclock::clock::ClockPairs;
-use vclock::format::Format;
-use version_set::kind::Kind;
+use vclock::limits::PAIRS_MAX;
+use vclock::{ClockPairs, Format};
+use version_set::Kind;
 
-/// A number of one byte.
+/// Reads a number of one byte.
 fn u8_at(bytes: &[u8]) -> Result<(u8, &[u8]), ReadError>
     ensures { Gives ⊥ (λ x. (x.0, x.1.now)) result (number_at w8 bytes.now) }
 {
@@ -21,7 +21,7 @@ fn u8_at(bytes: &[u8]) -> Result<(u8, &[u8]), ReadError>
     Ok((front[0], rest))
 }
 
-/// A number of two bytes.
+/// Reads a number of two bytes.
 fn u16_at(bytes: &[u8]) -> Result<(u16, &[u8]), ReadError>
     ensures { Gives ⊥ (λ x. (x.0, x.1.now)) result (number_at w16 bytes.now) }
 {
@@ -32,7 +32,7 @@ fn u16_at(bytes: &[u8]) -> Result<(u16, &[u8]), ReadError>
     Ok((u16::from_be_bytes([front[0], front[1]]), rest))
 }
 
-/// A number of four bytes.
+/// Reads a number of four bytes.
 fn u32_at(bytes: &[u8]) -> Result<(u32, &[u8]), ReadError>
     ensures { Gives ⊥ (λ x. (x.0, x.1.now)) result (number_at w32 bytes.now) }
 {
@@ -44,7 +44,7 @@ fn u32_at(bytes: &[u8]) -> Result<(u32, &[u8]), ReadError>
     Ok((number, rest))
 }
 
-/// A number of eight bytes.
+/// Reads a number of eight bytes.
 fn u64_at(bytes: &[u8]) -> Result<(u64, &[u8]), ReadError>
     ensures { Gives ⊥ (λ x. (x.0, x.1.now)) result (number_at w64 bytes.now) }
 {
@@ -58,7 +58,7 @@ fn u64_at(bytes: &[u8]) -> Result<(u64, &[u8]), ReadError>
     Ok((number, rest))
 }
 
-/// That many bytes.
+/// Reads `len` bytes.
 pub(crate) fn slice_of(len: usize, bytes: &[u8]) -> Result<(&[u8], &[u8]), ReadError>
     ensures { Gives ⊥ (λ x. (x.0.now, x.1.now)) result (bytes_at len bytes.now) }
 {
@@ -69,18 +69,18 @@ pub(crate) fn slice_of(len: usize, bytes: &[u8]) -> Result<(&[u8], &[u8]), ReadE
     Ok((front, rest))
 }
 
-/// How many pairs a clock has.
+/// Reads the number of pairs of a clock.
 pub(crate) fn pair_count_of(bytes: &[u8]) -> Result<(u8, &[u8]), ReadError>
     ensures { Gives ⊥ (λ x. (x.0, x.1.now)) result (field_at w8 (λ n. nat_le n 32) bytes.now) }
 {
     let (count, rest) = u8_at(bytes)?;
-    if count > 32 {
+    if usize::from(count) > PAIRS_MAX {
         return Err(ReadError::Left(bytes.len()));
     }
     Ok((count, rest))
 }
 
-/// The length of a value, at most so long.
+/// Reads the length of a value, at most `most` bytes.
 pub(crate) fn value_len_of(most: usize, bytes: &[u8]) -> Result<(u32, &[u8]), ReadError>
     ensures { Gives ⊥ (λ x. (x.0, x.1.now)) result (field_at w32 (λ n. nat_le n most) bytes.now) }
 {
@@ -91,7 +91,7 @@ pub(crate) fn value_len_of(most: usize, bytes: &[u8]) -> Result<(u32, &[u8]), Re
     Ok((len, rest))
 }
 
-/// The kind of a version. Only format 2 has a byte for it.
+/// Reads the kind of a version. Only format 2 has a byte for it.
 #[tactic(auto, unfolding(crate::specs::Reading::kind_at))]
 pub(crate) fn kind_of(format: Format, bytes: &[u8]) -> Result<(Kind, &[u8]), ReadError>
     ensures { Gives ⊥ (λ x. (x.0, x.1.now)) result (kind_at format bytes.now) }
@@ -102,7 +102,7 @@ pub(crate) fn kind_of(format: Format, bytes: &[u8]) -> Result<(Kind, &[u8]), Rea
     }
 }
 
-/// The byte of a kind.
+/// Reads the byte of a kind.
 #[tactic(auto, unfolding(crate::specs::Reading::kind_at))]
 fn kind_byte_of(bytes: &[u8]) -> Result<(Kind, &[u8]), ReadError>
     ensures { Gives ⊥ (λ x. (x.0, x.1.now)) result (kind_at Format.Two bytes.now) }
@@ -115,7 +115,7 @@ fn kind_byte_of(bytes: &[u8]) -> Result<(Kind, &[u8]), ReadError>
     }
 }
 
-/// How long the value of a kind may be.
+/// Returns the maximum length of a value of this kind, in bytes.
 pub(crate) fn longest_value(format: Format, kind: Kind) -> usize
     ensures { result ≡ longest_value format kind }
 {
@@ -125,7 +125,7 @@ pub(crate) fn longest_value(format: Format, kind: Kind) -> usize
     }
 }
 
-/// A length or a count, from 1 up to the most.
+/// Reads a length or a count, from 1 to `most`.
 pub(crate) fn count_of(most: u16, bytes: &[u8]) -> Result<(u16, &[u8]), ReadError>
     ensures { Gives ⊥ (λ x. (x.0, x.1.now)) result (field_at w16 (λ n. nat_le 1 n && nat_le n most) bytes.now) }
 {
@@ -136,7 +136,7 @@ pub(crate) fn count_of(most: u16, bytes: &[u8]) -> Result<(u16, &[u8]), ReadErro
     Ok((count, rest))
 }
 
-/// A node above another.
+/// Reads a node greater than `above`.
 fn node_of(above: u16, bytes: &[u8]) -> Result<(u16, &[u8]), ReadError>
     ensures { Gives ⊥ (λ x. (x.0, x.1.now)) result (field_at w16 (nat_lt above) bytes.now) }
 {
@@ -147,7 +147,7 @@ fn node_of(above: u16, bytes: &[u8]) -> Result<(u16, &[u8]), ReadError>
     Ok((node, rest))
 }
 
-/// A counter.
+/// Reads a counter.
 fn counter_of(bytes: &[u8]) -> Result<(u64, &[u8]), ReadError>
     ensures { Gives ⊥ (λ x. (x.0, x.1.now)) result (field_at w64 (nat_lt 0) bytes.now) }
 {
@@ -158,7 +158,7 @@ fn counter_of(bytes: &[u8]) -> Result<(u64, &[u8]), ReadError>
     Ok((counter, rest))
 }
 
-/// A node above another, and its counter.
+/// Reads a node greater than `above`, and its counter.
 #[tactic(auto, unfolding(crate::specs::Reading::pair_at))]
 fn pair_of(above: u16, bytes: &[u8]) -> Result<((u16, u64), &[u8]), ReadError>
     ensures { Gives ⊥ (λ x. (x.0, x.1.now)) result (pair_at above bytes.now) }
@@ -168,7 +168,7 @@ fn pair_of(above: u16, bytes: &[u8]) -> Result<((u16, u64), &[u8]), ReadError>
     Ok(((node, counter), rest))
 }
 
-/// That many pairs, by rising node.
+/// Reads `count` pairs, by ascending node.
 pub(crate) fn pairs_of(
     alloc: Global,
     count: u8,

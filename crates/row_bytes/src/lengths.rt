@@ -1,14 +1,14 @@
-//! How long texts are.
+//! The lengths of texts, in bytes.
 ghost use Rattle.std.specs.Prelude.{◌≡◌, ◌≤◌, length, None};
 ghost use Rattle.version_set.specs.Kind.{value_fault};
 ghost use Rattle.version_set.specs.Version.{plain_text, version_text};
 ghost use Rattle.row_bytes.specs.Rows.{row_text, FitsText};
 
 use crate::row::Row;
-use vclock::format::Format;
-use version_set::version::Version;
+use vclock::Format;
+use version_set::Version;
 
-/// How many bytes stand for a version in both formats, without its kind: at most 65,861.
+/// Returns the length in bytes of a version without its kind, in both formats: at most 65,861.
 #[tactic(auto, using(crate::proofs::TextLengthLaws::text_lengths))]
 fn plain_len(version: &Version) -> u64
     requires { length version.now.value ≤ 65536 }
@@ -19,7 +19,7 @@ fn plain_len(version: &Version) -> u64
     1 + pairs_len + 4 + version.value.as_slice().len() as u64
 }
 
-/// How many bytes the text of a version has: at most 65,862.
+/// Returns the length in bytes of the text of a version: at most 65,862.
 #[tactic(auto, using(crate::proofs::LimitLaws::value_short))]
 pub fn version_len(format: Format, version: &Version) -> u64
     requires { value_fault format version.now.kind version.now.value ≡ None }
@@ -32,8 +32,8 @@ pub fn version_len(format: Format, version: &Version) -> u64
     }
 }
 
-/// How many bytes the text of a row has: at most 4,215,427. It takes time in proportion to the versions of the row, and
-/// no memory.
+/// Returns the length in bytes of the text of a row: at most 4,215,427. Takes time in proportion to the versions of the
+/// row, and doesn't allocate.
 #[tactic(auto, using(crate::proofs::LimitLaws::key_short))]
 pub fn row_len(format: Format, row: &Row) -> u64
     requires { FitsText format row.now }

@@ -1,9 +1,26 @@
-//! Rows as bytes, and back: the texts that replicas must agree on byte for byte.
+//! The texts of rows, which replicas must agree on byte for byte: reading, writing and measuring them. Use it to read
+//! and write rows by this project's profile.
+//!
+//! - [`row`]: a row, and a list of rows.
+//! - [`reader`]: reading rows from texts.
+//! - [`writer`]: writing texts of rows.
+//! - [`lengths`]: the lengths of texts.
+//!
+//! ```
+//! let (row, _) = read_row(alloc, format, text)?;
+//! a_held_set_is_a_row();
+//! Ok((write_row(alloc, format, &row)?, row.versions.len()))
+//! ```
 #![tactic(auto)]
 
 mod fault;
 mod fields;
 pub mod lengths;
-pub mod reading;
+pub mod reader;
 pub mod row;
-pub mod writing;
+pub mod writer;
+
+pub use lengths::{row_len, version_len};
+pub use reader::{a_held_set_is_a_row, a_row_has_one_text, key_at, read_row, read_rows};
+pub use row::{Row, RowList};
+pub use writer::{put_row, write_row};

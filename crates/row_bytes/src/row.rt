@@ -4,11 +4,11 @@ ghost use Rattle.std.specs.Slice.Iter.{iter_rest};
 
 use std::marker::Model;
 use std::slice::Iter;
-use vclock::bytes::Bytes;
-use version_set::set::VersionSet;
+use vclock::Bytes;
+use version_set::VersionSet;
 
-/// A key with the versions that are held for it: what a leaf of the tree consists of, and what the text of a leaf
-/// spells.
+/// A key with the versions that are held for it. A leaf of the tree consists of rows, and its text contains their
+/// texts.
 ///
 /// ```
 /// let (row, _) = read_row(alloc, format, text)?;
@@ -17,13 +17,13 @@ use version_set::set::VersionSet;
 /// ```
 #[derive(Debug, Drop)]
 pub struct Row {
-    /// The key. Only a row with a key of 1 to 255 bytes has a text.
+    /// The key. The row has a text only if the key has 1 to 255 bytes.
     pub key: Bytes,
-    /// The versions. Only a row with 1 to 64 versions has a text.
+    /// The versions. The row has a text only if there are 1 to 64 of them.
     pub versions: VersionSet,
 }
 
-/// Rows that were read from one text.
+/// The rows that were read from one text.
 ///
 /// ```
 /// let answer = read_rows(alloc, Format::One, &twice);
@@ -44,28 +44,28 @@ impl Model for RowList {
 }
 
 impl RowList {
-    /// The rows in order.
+    /// Returns the rows in order.
     pub fn as_slice(&self) -> &[Row]
         ensures { result.now ≡ self.now }
     {
         &self.rows
     }
 
-    /// The rows in order, one by one.
+    /// Returns an iterator over the rows in order.
     pub fn iter(&self) -> Iter<'_, Row>
         ensures { iter_rest result ≡ self.now }
     {
         self.rows.iter()
     }
 
-    /// How many rows there are.
+    /// Returns the number of rows.
     pub fn len(&self) -> usize
         ensures { result ≡ length self.now }
     {
         self.rows.len()
     }
 
-    /// Whether there is no row.
+    /// Returns true if the list is empty.
     pub fn is_empty(&self) -> bool
         ensures { IsTrue result ↔ (self.now ≡ []) }
     {
@@ -78,7 +78,7 @@ impl From<Vec<Row>> for RowList {
 
     ghost from_gives = { λ rows kept. kept ≡ rows.items };
 
-    /// The rows of a vector, which is taken as it is.
+    /// Wraps a vector of rows.
     fn from(rows: Vec<Row>) -> RowList {
         RowList { rows }
     }

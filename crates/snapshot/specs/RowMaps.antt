@@ -17,7 +17,7 @@ pub record RowMap : Type 0 where
   pub range : ℕ
   pub rows : List Row
 
--- in ascending order of key, each key once; each row has a text of the format, and lies in the range
+-- in ascending order of key, each key once; each row has a text of the format and is in the range
 pub record IsRowMap (m : RowMap) : Type 0 where
   pub few : m.bits ≤ 8
   pub range : m.range < 2 ^ m.bits

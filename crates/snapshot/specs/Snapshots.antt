@@ -13,7 +13,7 @@ use Rattle.hash_tree.specs.Texts.{AreTrue}
 use Rattle.hash_tree.specs.declared.node.NodeAt.{NodeAt}
 use Rattle.snapshot.specs.RowMaps.{RowMap, IsRowMap, leaf_in}
 
--- ascending rows with one more
+-- ascending rows and one more
 abbrev pub with_row : Row → List Row → List Row
 with_row r rows = inserted (λ (r x : Row). key_cmp r.key x.key) r rows
 
@@ -22,11 +22,11 @@ unfoldable pub in_order : List Row → List Row
 in_order [] = []
 in_order (r ∷ rows) = with_row r (in_order rows)
 
--- the leaves of a row map, by rising index
+-- the leaves of a row map, by ascending index
 unfoldable pub leaves_of : RowMap → List Bucket
 leaves_of m = map (λ i. record { format = m.format; rows = rows_at (leaf_in m) i m.rows }) (range_with_len 0 (2 ^ leaf_bits m.format))
 
--- the row map that leaves make
+-- the row map of leaves
 abbrev pub map_of : Format → ℕ → ℕ → List Bucket → RowMap
 map_of format bits range leaves = record { format = format; bits = bits; range = range; rows = in_order (flat_map (λ (b : Bucket). b.rows) leaves) }
 
@@ -37,6 +37,6 @@ pub record IsSnapshot (m : RowMap) (leaves : List Bucket) (digests : List (List 
   pub all : length digests ≡ node_count m.format
   pub right : AreTrue m.format (leaf_in m) m.rows (map Some digests)
 
--- why a node's text is not answered: the tree has no such node
+-- the fault of an ask for a node's text: the tree has no such node
 abbrev pub answer_fault : RowMap → NodeAt → Option Refusal
 answer_fault m node = if nat_le node.depth (tree_depth m.format) then None else Some BadMessage

@@ -10,21 +10,16 @@ ghost use Rattle.hash_tree.specs.Texts.{inner_text, leaf_text};
 ghost use Rattle.snapshot.specs.RowMaps.{IsRowMap, leaf_in, text_at, digest_at, root_of};
 ghost use Rattle.snapshot.specs.Snapshots.{IsSnapshot, map_of, answer_fault};
 
-use hash_tree::hashed::{Digest, Hashed};
-use hash_tree::node::{NodeAt, tree_depth};
-use hash_tree::shared::SharedLeaf;
-use hash_tree::text::Text;
-use hash_tree::texts::inner_text;
+use hash_tree::{Digest, Hashed, NodeAt, SharedLeaf, Text, inner_text, tree_depth};
 use std::alloc::Global;
 use std::marker::Model;
 use std::sync::Arc;
-use vclock::format::Format;
-use vclock::refusal::Refusal;
-use walk_messages::message::{Ask, Offer};
+use vclock::{Format, Refusal};
+use walk_messages::{Ask, Offer};
 
 /// All rows of a range at one moment, with the digest of each node of the tree over them. It shares the leaves with the
-/// range, which copies a leaf before it changes one that is shared, so a snapshot stays as it was made. A node offers a
-/// snapshot to its partners, and answers their asks from it while writes go on.
+/// range, which copies a shared leaf before changing it, so a snapshot never changes. A node offers a snapshot to its
+/// partners and answers their asks from it while writes continue. Only `new`, `answer` and `hashed_answer` allocate.
 ///
 /// ```
 /// let snapshot = clean_range(&rt, alloc)?.snapshot(alloc)?;
@@ -52,8 +47,8 @@ impl Model for Snapshot {
 }
 
 impl Snapshot {
-    /// The snapshot of a range in a ring of 2^bits ranges: its leaves by rising index, and the digests of all nodes, by
-    /// depth and then by index. Refused: NoMemory.
+    /// Creates the snapshot of a range in a ring of 2^bits ranges: its leaves by ascending index, and the digests of
+    /// all nodes, by depth and then by index. Refused: NoMemory.
     pub fn new(
         alloc: Global,
         format: Format,
@@ -75,7 +70,7 @@ impl Snapshot {
         Ok(Arc::new(alloc, snapshot)?)
     }
 
-    /// The format of the rows and of the tree. It takes no memory, like each of these calls but `new` and `answer`.
+    /// Returns the format of the rows and of the tree.
     pub fn format(&self) -> Format
         ensures format { result ≡ self.now.format }
         ensures valid { IsRowMap self.now }
@@ -83,28 +78,28 @@ impl Snapshot {
         self.format
     }
 
-    /// How many bits the number of a range has, at most 8.
+    /// Returns the number of bits of a range's number, at most 8.
     pub fn bits(&self) -> u8
         ensures { result ≡ self.now.bits }
     {
         self.bits
     }
 
-    /// The number of the range.
+    /// Returns the number of the range.
     pub fn range(&self) -> u16
         ensures { result ≡ self.now.range }
     {
         self.range
     }
 
-    /// The digest of the root.
+    /// Returns the digest of the root.
     pub fn root(&self) -> Digest
         ensures { result ≡ root_of self.now }
     {
         self.digests[0]
     }
 
-    /// What a replica that has these rows offers to another one, with the number that tells its offers apart.
+    /// Returns the offer of these rows to another replica. The replica's offers differ by `number`.
     pub fn offer(&self, number: u32) -> Offer
         ensures number { result.offer ≡ number }
         ensures format { result.format ≡ number_of self.now.format }
@@ -120,7 +115,7 @@ impl Snapshot {
         }
     }
 
-    /// The digest of a node, which the tree has.
+    /// Returns the digest of a node of the tree.
     pub fn digest_at(&self, node: NodeAt) -> Digest
         requires { node.depth ≤ tree_depth self.now.format }
         ensures { result ≡ digest_at self.now node.depth node.index }
@@ -128,7 +123,7 @@ impl Snapshot {
         self.digests[node.place()]
     }
 
-    /// A leaf: its rows in ascending order of key, and their text.
+    /// Returns a leaf: its rows in ascending order of key, and their text.
     pub fn rows(&self, leaf: u16) -> &SharedLeaf
         requires { leaf < 2 ^ leaf_bits self.now.format }
         ensures { result.now ≡ record { format = self.now.format; rows = rows_at (leaf_in self.now) leaf self.now.rows } }
@@ -136,7 +131,7 @@ impl Snapshot {
         &self.leaves[usize::from(leaf)]
     }
 
-    /// The text of the node that is asked for (this project's profile).
+    /// Returns the text of the node in an ask (this project's profile).
     ///
     /// Refused, in order: BadMessage (the tree has no such node), NoMemory.
     pub fn answer(&self, alloc: Global, ask: Ask) -> Result<Vec<u8>, Refusal>
@@ -153,7 +148,8 @@ impl Snapshot {
         inner_text(alloc, self.format, self.children(node))
     }
 
-    /// The same text with its digest, which is not computed again. Refused as by `answer`.
+    /// Returns the text of the node in an ask with its digest, which isn't computed again. Refused, in order:
+    /// BadMessage (the tree has no such node), NoMemory.
     pub fn hashed_answer(&self, alloc: Global, ask: Ask) -> Result<Hashed, Refusal>
         ensures { Answers result (answer_fault self.now ask.node)
             (λ text. text ≡ text_at self.now ask.node.depth ask.node.index) }
@@ -163,7 +159,7 @@ impl Snapshot {
         Ok(Hashed::known(Text::from(text), self.digest_at(at)))
     }
 
-    /// The digests of the children of a node that is no leaf, in order.
+    /// Returns the digests of the children of a node that isn't a leaf, in order.
     fn children(&self, node: NodeAt) -> &[Digest; 16]
         requires { node.depth < tree_depth self.now.format }
         ensures { inner_text self.now.format result.now ≡ text_at self.now node.depth node.index }
@@ -176,7 +172,7 @@ impl Snapshot {
     }
 }
 
-/// The text of a leaf. Refused: NoMemory.
+/// Returns the text of a leaf. Refused: NoMemory.
 fn text_of(alloc: Global, leaf: &SharedLeaf) -> Result<Vec<u8>, Refusal>
     ensures { Answers result None (λ text. text.items ≡ leaf_text leaf.now.format leaf.now.rows) }
 {

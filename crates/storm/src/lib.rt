@@ -8,3 +8,6 @@ pub mod storm;
 pub mod tally;
 mod workers;
 mod writer;
+
+pub use storm::{MOST_PUTS, StormEnd, run_storm};
+pub use tally::{SharedTally, Tallies, Tally};

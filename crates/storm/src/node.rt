@@ -1,27 +1,19 @@
-// A node of a storm, and its threads.
+//! A node of a storm, and its threads.
 ghost use Rattle.std.specs.Prelude.{◌≡◌, ◌≤◌};
 
 use crate::tally::SharedTally;
 use crate::workers::{rehash_rounds, sync_rounds};
 use crate::writer::write;
-use caller_pass::book::open_passes;
-use caller_pass::pass::Pass;
-use range_state::config::RangeConfig;
-use range_state::state::RangeState;
-use ring_node::channel::{ChannelLink, ChannelServer};
-use ring_node::controller::SharedController;
-use ring_node::gate::Gate;
-use ring_node::offers::OfferPool;
-use ring_node::range::SharedRange;
+use caller_pass::{Pass, open_passes};
+use range_state::{RangeConfig, RangeState};
+use ring_node::{ChannelLink, ChannelServer, Gate, OfferPool, SharedController, SharedRange};
 use std::alloc::Global;
 use std::sync::Wait;
 use std::sync::ledger::{Blank, Ledger};
 use std::thread;
 use std::thread::Threads;
-use vclock::refusal::Refusal;
-
-/// How many entries a journal takes.
-const LIMIT: u64 = 1_000_000;
+use vclock::Refusal;
+use vclock::limits::ENTRIES_MAX;
 
 /// A node: its replica of the one range, the offers of its snapshots, what it has done, and the number of the other node.
 pub(crate) struct Node<'a, L: Ledger> {
@@ -65,7 +57,7 @@ impl<'a, L: Ledger> Node<'a, L> {
         requires ledger { (blank.name ≡ L.name) × (blank.parts ≡ L.parts) × (blank.parts ≡ 2) }
         requires number { 1 ≤ number }
     {
-        let config = RangeConfig::new(1, 0, 0, LIMIT).ok_or(Refusal::BadRing)?;
+        let config = RangeConfig::new(1, 0, 0, ENTRIES_MAX).ok_or(Refusal::BadRing)?;
         let state = RangeState::new(alloc, config)?;
         let (book, mut passes) = open_passes::<L>(blank, alloc, 2)?;
         let syncer = passes.pop().ok_or(Refusal::Stranger)?;

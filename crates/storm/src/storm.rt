@@ -4,20 +4,16 @@ ghost use Rattle.std.specs.Prelude.{◌≡◌, ◌*◌, ◌≤◌, IfOk};
 use crate::node::{Ends, Node, Passes, Plan, run_node};
 use crate::tally::Tallies;
 use crate::workers::{rehash, sync};
-use admission::controller::Controller;
-use caller_pass::pass::Pass;
-use ring_node::channel::channel_link;
-use ring_node::controller::SharedController;
-use ring_node::gate::Gate;
-use ring_node::memory::MemoryLink;
-use ring_node::offers::OfferPool;
+use admission::Controller;
+use caller_pass::Pass;
+use ring_node::{Gate, MemoryLink, OfferPool, SharedController, channel_link};
 use std::alloc::Global;
 use std::marker::Brand;
 use std::sync::Wait;
 use std::sync::ledger::{Blank, Ledger};
 use std::thread;
 use std::thread::Threads;
-use vclock::refusal::Refusal;
+use vclock::Refusal;
 
 /// How many puts a writer does at the most.
 pub const MOST_PUTS: u64 = 10_000;

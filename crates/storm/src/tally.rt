@@ -1,10 +1,9 @@
 //! What the threads of a storm have done so far.
 ghost use Rattle.std.specs.Prelude.{◌≡◌};
 
-use ring_node::rehasher::RehashReport;
-use ring_node::syncer::SyncReport;
+use ring_node::{RehashReport, SyncReport};
 use std::sync::{Mutex, Wait};
-use sync_session::state::SessionState;
+use sync_session::SessionState;
 
 /// How much the threads of a node have done. The counts stop at 2^64 - 1.
 #[derive(Clone, Copy, Debug, PartialEq, Eq)]

@@ -1,24 +1,18 @@
-// Rehash and sync workers.
+//! Rehash and sync workers.
 use crate::node::{Node, Plan};
-use admission::slot::Slot;
-use caller_pass::pass::Pass;
-use ring_node::channel::ChannelLink;
-use ring_node::controller::SharedController;
-use ring_node::gate::Gate;
-use ring_node::link::Link;
+use admission::Slot;
+use caller_pass::Pass;
+use ring_node::{ChannelLink, Gate, Link, SharedController, Step};
 use std::alloc::Global;
 use std::sync::Wait;
 use std::sync::ledger::Ledger;
-use vclock::refusal::Refusal;
+use vclock::Refusal;
 
 /// How many turns a rehash worker has: enough for the 273 nodes of a tree, and for finding it clean.
 const REHASH_TURNS: u64 = 300;
 
 /// How many turns a sync worker has: enough to ask for each node twice.
 const SYNC_TURNS: u64 = 600;
-
-/// The step of the gate before a sync worker's round.
-const BEFORE_A_SYNC: u32 = 4;
 
 /// How many rounds a worker has at the most.
 const MOST_ROUNDS: u64 = 100;
@@ -38,7 +32,7 @@ pub(crate) fn rehash_rounds<L: Ledger, C: Ledger, R: Wait, G: Gate>(
 }
 
 /// Syncs a node over a link, in as many rounds as there are puts, at most 100, and stops the link. Refused as
-/// [`ring_node::range::SharedRange::sync_worker`], but that NoSlot, Dirty, Gone and LinkLost are passed over.
+/// [`ring_node::SharedRange::sync_worker`], but that NoSlot, Dirty, Gone and LinkLost are passed over.
 pub(crate) fn sync_rounds<L: Ledger, C: Ledger, R: Wait, G: Gate>(
     rt: &R,
     alloc: Global,
@@ -51,7 +45,7 @@ pub(crate) fn sync_rounds<L: Ledger, C: Ledger, R: Wait, G: Gate>(
     let mut link = link;
     let mut ended = Ok(());
     for _ in 0..plan.puts.min(MOST_ROUNDS) {
-        plan.gate.pass(rt, BEFORE_A_SYNC);
+        plan.gate.pass(rt, Step::Round);
         ended = pass_over(sync(rt, alloc, node, plan, &mut link, &mut pass));
         if ended.is_err() {
             break;
@@ -87,7 +81,7 @@ pub(crate) fn rehash<L: Ledger, C: Ledger, R: Wait, G: Gate>(
 }
 
 /// Takes over a link, with a slot, what the other node has and this one lacks. Refused: NoSlot, or as
-/// [`ring_node::range::SharedRange::sync_worker`].
+/// [`ring_node::SharedRange::sync_worker`].
 pub(crate) fn sync<L: Ledger, C: Ledger, R: Wait, G: Gate, K: Link>(
     rt: &R,
     alloc: Global,

@@ -1,20 +1,15 @@
-// Writers.
+//! Writers.
 use crate::node::{Node, Plan};
-use caller_pass::pass::Pass;
-use ring_node::gate::Gate;
+use caller_pass::Pass;
+use ring_node::{Gate, Step};
 use std::alloc::Global;
 use std::sync::Wait;
 use std::sync::ledger::Ledger;
-use vclock::bytes::Bytes;
-use vclock::clock::Clock;
-use vclock::refusal::Refusal;
-use version_set::kind::Kind;
-
-/// The step of the gate after a put.
-const AFTER_A_PUT: u32 = 3;
+use vclock::{Bytes, Clock, Refusal};
+use version_set::Kind;
 
 /// Puts the keys `w-0`, `w-1` and so on at a node, w being its number, each with its own number as the value, and passes
-/// the gate after each. Refused as [`ring_node::range::SharedRange::put`].
+/// the gate after each. Refused as [`ring_node::SharedRange::put`].
 pub(crate) fn write<L: Ledger, C: Ledger, R: Wait, G: Gate>(
     rt: &R,
     alloc: Global,
@@ -39,7 +34,7 @@ pub(crate) fn write<L: Ledger, C: Ledger, R: Wait, G: Gate>(
             value,
         )?;
         node.tally.count_put(rt);
-        plan.gate.pass(rt, AFTER_A_PUT);
+        plan.gate.pass(rt, Step::Put);
     }
     Ok(pass)
 }

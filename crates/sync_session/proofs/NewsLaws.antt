@@ -23,7 +23,7 @@ use Rattle.row_bytes.proofs.TextLengthLaws.{row_text_len, row_short}
 use Rattle.hash_tree.specs.Leaves.{Bucket, AscendByKey, rows_at, versions_in, key_cmp}
 use Rattle.hash_tree.specs.Texts.{leaf_byte, leaf_text}
 use Rattle.hash_tree.proofs.KeyLaws.{all_get}
-use Rattle.hash_tree.proofs.KeySpots.{ascend_middle}
+use Rattle.hash_tree.proofs.KeySpotLaws.{ascend_middle}
 use Rattle.hash_tree.proofs.LeafLaws.{held_by_row}
 use Rattle.snapshot.specs.RowMaps.{RowMap, IsRowMap, leaf_in}
 use Rattle.sync_session.specs.TreeNodes.{Node}

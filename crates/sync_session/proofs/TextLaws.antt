@@ -10,7 +10,7 @@ use Rattle.sha2.specs.Sha256.{sha256}
 use Rattle.sha2.proofs.Facts256.{length-sha256}
 use Rattle.vclock.specs.declared.format.Format.{Format}
 use Rattle.vclock.specs.declared.format.Format.TheVariants.{One, Two}
-use Rattle.vclock.specs.Keys.{key_fault}
+use Rattle.vclock.specs.Bytes.{key_fault}
 use Rattle.version_set.proofs.ListLaws.{all-filter, Pairwise-filter}
 use Rattle.key_ring.specs.Places.{leaf_at}
 use Rattle.row_bytes.specs.declared.row.Row.{Row}

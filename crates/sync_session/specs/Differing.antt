@@ -1,4 +1,4 @@
--- Where two trees differ.
+-- The nodes at which two trees differ.
 use Rattle.std.specs.Prelude.{◌≡◌, ℕ, zero, suc, ◌+◌, ◌/◌, ◌^◌, ◌<◌, ◌≤◌, Bool, true, ◌&&◌, not, bytes_eq, map, if◌then◌else◌, List, [], ◌∷◌, ◌++◌}
 use Rattle.std.specs.List.{filter, AllByRecursion}
 use Rattle.vclock.specs.declared.format.Format.{Format}
@@ -22,20 +22,20 @@ nodes_above_depth (suc depth) = nodes_above_depth depth ++ first_of_level depth 
 abbrev pub all_nodes : Format → List Node
 all_nodes f = nodes_above_depth (suc (tree_depth f))
 
--- whether two trees have different digests at a node
+-- two trees have different digests at a node
 abbrev pub is_unlike : RowMap → RowMap → Node → Bool
 is_unlike own other n = not (bytes_eq (digest_of own n) (digest_of other n))
 
--- whether they have different digests at a node and at each node above it
+-- two trees have different digests at a node and at each node above it
 abbrev pub differs_at : RowMap → RowMap → ℕ → ℕ → Bool
 differs_at own other zero i = is_unlike own other (record { depth = zero; index = i })
 differs_at own other (suc depth) i = differs_at own other depth (i / 16) && is_unlike own other (record { depth = suc depth; index = i })
 
--- the nodes where they differ so
+-- the nodes for which differs_at is true, by depth and then by index
 abbrev pub differ : RowMap → RowMap → List Node
 differ own other = filter (λ n. differs_at own other n.depth n.index) (all_nodes own.format)
 
--- how often a list has a node
+-- the number of times that a list has a node
 abbrev pub times : Node → List Node → ℕ
 times n [] = 0
 times n (m ∷ nodes) = (if is_node n m then 1 else 0) + times n nodes
@@ -43,24 +43,25 @@ times n (m ∷ nodes) = (if is_node n m then 1 else 0) + times n nodes
 abbrev pub nodes_of : List TakenText → List Node
 nodes_of taken = map (λ t. t.node) taken
 
--- Each node was asked once at most, and each that was asked is taken or outstanding, and not both.
+-- Each node was asked at most once, and each node that was asked is either taken or outstanding.
 pub record IsOrderly (w : Walk) : Type 0 where
   pub shared : (n : Node) → times n w.asked ≡ times n (nodes_of w.taken) + times n w.outstanding
   pub once : (n : Node) → times n w.asked ≤ 1
 
--- What stays true of a walk however it ends: each text that was taken can be its node's and had the digest that was
--- expected there; the nodes asked are those that the texts ask, each once; and only nodes that were asked were taken.
+-- The facts of a walk that stay true however it ends: each taken text is one that its node can have and had the digest
+-- that was expected there; the nodes asked are those that the texts ask, each once; and only nodes that were asked were
+-- taken.
 pub record IsTraced (w : Walk) : Type 0 where
   pub texts : AllByRecursion (IsRightlyTaken w) w.taken
   pub asked : w.asked ≡ asked_by w.own w.root w.taken
   pub took : (n : Node) → times n (nodes_of w.taken) ≤ times n w.asked
   pub once : (n : Node) → times n w.asked ≤ 1
 
--- each text that was taken is the partner's own
+-- each taken text is that of the partner
 abbrev pub IsHonest : Walk → RowMap → Type 0
 IsHonest w other = AllByRecursion (λ t. t.text ≡ text_of other t.node) w.taken
 
--- nothing is left, or leaves alone
+-- only leaves are outstanding, or nothing
 abbrev pub IsNearlyDone : Walk → Type 0
 IsNearlyDone w = (n : Node) → has_node n w.outstanding ≡ true → n.depth ≡ tree_depth w.own.format
 

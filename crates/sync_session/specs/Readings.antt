@@ -1,4 +1,4 @@
--- What a text would give, without taking it.
+-- The rows of a text, read without taking it.
 use Rattle.std.specs.Prelude.{◌≡◌, ◌⊎◌, ◌<◌, ℕ, ◌+◌, ◌++◌, Option, Some, None, Result, Ok, Err, List, [], ◌∷◌, length}
 use Rattle.std.specs.List.{Contains, flat_map, sum_by}
 use Rattle.vclock.specs.declared.refusal.Refusal.{Refusal}
@@ -15,7 +15,7 @@ use Rattle.sync_session.specs.TreeNodes.{Node}
 use Rattle.sync_session.specs.Walks.{TakenText, Walk, AreSpelled, IsInnerText}
 use Rattle.sync_session.specs.Steps.{IsDue, IsTakeFault}
 
--- whether a text is awaited, or why not
+-- a text is awaited, or the fault of a text that is not
 abbrev pub Awaits : Walk → TakenText → Result (Unit {0}) Refusal → Type 0
 Awaits w t (Ok ok) = IsDue w t
 Awaits w t (Err e) = IsTakeFault w t e
@@ -26,27 +26,28 @@ ReadsLeaf m n text (Ok rows) = AreSpelled m n text rows
 ReadsLeaf m n text (Err refusals.NotCanonical) = (rows : List Row) → AreSpelled m n text rows → ⊥
 ReadsLeaf m n text (Err e) = e ≡ refusals.NoMemory
 
--- the rows that taking a text would give, none for an inner one; or why it would be refused
+-- the rows in a text that is due, [] for an inner one; or the fault of the text
 abbrev pub Shows : Walk → TakenText → Result (List Row) Refusal → Type 0
 Shows w t (Ok rows) = IsDue w t × (((t.node.depth < tree_depth w.own.format) × IsInnerText w.own.format t.text × (rows ≡ [])) ⊎ ((t.node.depth ≡ tree_depth w.own.format) × AreSpelled w.own t.node t.text rows))
 Shows w t (Err e) = IsTakeFault w t e
 
--- ---- a leaf's text beside the own rows
+-- ---- the rows of a leaf's text that the local rows lack
 
--- The rows of a text, of which the own rows have some as they are: the others, in order, and how many versions the former have.
+-- The rows of a text, compared with own rows: others are those that own does not contain, in order, and known is the
+-- number of versions of the rest.
 abbrev pub AreNews : List Row → List Row → List Row → ℕ → Type 0
 AreNews own [] others known = (others ≡ []) × (known ≡ 0)
 AreNews own (r ∷ rows) others known =
     ((Contains own r → ⊥) × ((more : List Row) × (others ≡ r ∷ more) × AreNews own rows more known))
     ⊎ (Contains own r × ((n : ℕ) × (known ≡ length r.versions + n) × AreNews own rows others n))
 
--- the rows of a leaf's text beside the own ones
+-- the news in a leaf's text
 abbrev pub ReadsNews : RowMap → Node → List ℕ → Result News Refusal → Type 0
 ReadsNews m n text (Ok news) = (rows : List Row) × AreSpelled m n text rows × AreNews m.rows rows news.rows.items news.known
 ReadsNews m n text (Err refusals.NotCanonical) = (rows : List Row) → AreSpelled m n text rows → ⊥
 ReadsNews m n text (Err e) = e ≡ refusals.NoMemory
 
--- the rows that taking a text would give beside the own ones, none for an inner one; or why it would be refused
+-- the news in a text that is due, no rows for an inner one; or the fault of the text
 abbrev pub Tells : Walk → TakenText → Result News Refusal → Type 0
 Tells w t (Ok news) =
     IsDue w t
@@ -54,22 +55,23 @@ Tells w t (Ok news) =
     ⊎ ((t.node.depth ≡ tree_depth w.own.format) × ((rows : List Row) × AreSpelled w.own t.node t.text rows × AreNews w.own.rows rows news.rows.items news.known)))
 Tells w t (Err e) = IsTakeFault w t e
 
--- a key lies in the range, and in this leaf
+-- a key is in the range, and in this leaf
 pub record LiesIn (m : RowMap) (leaf : ℕ) (key : List ℕ) : Type 0 where
   pub range : range_at m.bits key ≡ m.range
   pub leaf_is : leaf_in m key ≡ leaf
 
--- the row at the front of a text, and what follows it, if a row of this leaf stands there
+-- the row at the front of a text and the rest after it; None if the text does not begin with a row of this leaf
 abbrev pub FrontRow : RowMap → ℕ → List ℕ → Option (Row × List ℕ) → Type 0
 FrontRow m leaf text (Some x) = IsRow m.format x.0 × LiesIn m leaf x.0.key × (text ≡ row_text m.format x.0 ++ x.1)
 FrontRow m leaf text None = (r : Row) (rest : List ℕ) → IsRow m.format r → LiesIn m leaf r.key → text ≡ row_text m.format r ++ rest → ⊥
 
--- how many versions the row of a key has, and what follows its text, if a text begins with that
+-- the number of versions of the row of a key, and the rest after its text, if a text begins with it
 abbrev pub FrontOwn : Bucket → List ℕ → List ℕ → Option (ℕ × List ℕ) → Type 0
 FrontOwn b key text (Some x) = (r : Row) × Contains b.rows r × (r.key ≡ key) × (length r.versions ≡ x.0) × (text ≡ row_text b.format r ++ x.1)
 FrontOwn b key text None = (r : Row) (rest : List ℕ) → Contains b.rows r → r.key ≡ key → text ≡ row_text b.format r ++ rest → ⊥
 
--- the own rows that a text begins with, from that of a key on: how many versions they have, the last key, and what follows
+-- the local rows with which a text begins, from that of a key on: the number of their versions, the last key, and the
+-- rest
 pub record FrontRun (b : Bucket) (key text : List ℕ) (versions : ℕ) (last after : List ℕ) : Type 0 where
   pub run : List Row
   pub is : IsRun b.rows key run

@@ -25,7 +25,7 @@ top = record { depth = 0; index = 0 }
 abbrev pub child : Node → ℕ → Node
 child n j = record { depth = suc n.depth; index = 16 * n.index + j }
 
--- the node above, where there is one
+-- the node above, if there is one
 abbrev pub parent_at : ℕ → ℕ → Option Node
 parent_at zero i = None
 parent_at (suc depth) i = Some (record { depth = depth; index = i / 16 })
@@ -33,15 +33,15 @@ parent_at (suc depth) i = Some (record { depth = depth; index = i / 16 })
 abbrev pub parent_of : Node → Option Node
 parent_of n = parent_at n.depth n.index
 
--- whether two nodes are the same
+-- two nodes are equal
 abbrev pub is_node : Node → Node → Bool
 is_node m n = nat_eq m.depth n.depth && nat_eq m.index n.index
 
--- whether a list has the node
+-- a list has the node
 abbrev pub has_node : Node → List Node → Bool
 has_node n nodes = list_any (is_node n) nodes
 
--- how many nodes lie before it, by depth and then by index
+-- the number of nodes before it, by depth and then by index
 abbrev pub place_of : Node → ℕ
 place_of n = place_at n.depth n.index
 

@@ -1,5 +1,5 @@
--- Walks: what a session records, and when that is right. Sessions are those of the paper of 2007, section 4.7: two trees
--- are compared from the root down, and the leaves that differ are handed over.
+-- Walks: the record of a session, and the conditions for it to be right. Sessions are those of the paper of 2007,
+-- section 4.7: two trees are compared from the root down, and the leaves that differ are handed over.
 use Rattle.std.specs.Prelude.{◌≡◌, ℕ, zero, suc, ◌+◌, ◌*◌, ◌/◌, ◌%◌, ◌⊎◌, true, IsTrue, is_some, bytes_eq, Option, Some, None, option_map, List, [], ◌∷◌, ◌++◌, take, drop, length, if◌then◌else◌, nat_lt, slice_index, ◌<◌}
 use Rattle.std.specs.List.{flat_map, AllByRecursion, Contains}
 use Rattle.sha2.specs.Sha256.{sha256}
@@ -21,8 +21,8 @@ pub record TakenText : Type 0 where
   pub node : Node
   pub text : List ℕ
 
--- the own rows, the root that the partner offered, all nodes that were asked, those that are not answered, the texts
--- that were taken, each list in order, and how the session stands
+-- the local rows, the root that the partner offered, all nodes that were asked, those that are not answered, the texts
+-- that were taken, each list in order, and the state of the session
 pub record Walk : Type 0 where
   pub own : RowMap
   pub root : List ℕ
@@ -31,17 +31,17 @@ pub record Walk : Type 0 where
   pub taken : List TakenText
   pub state : SessionState
 
--- the text that was taken for a node, if one was
+-- the text that was taken for a node, if any
 abbrev pub taken_at : List TakenText → Node → Option (List ℕ)
 taken_at [] n = None
 taken_at (t ∷ ts) n = if is_node t.node n then Some t.text else taken_at ts n
 
--- the digest of child j in the text of a node with children
+-- the digest of child j in the text of an inner node
 abbrev pub child_digest : List ℕ → ℕ → List ℕ
 child_digest text j = take 32 (drop (32 * j + 1) text)
 
--- the digest that is expected at a node: at the root the offered one, else the one at its place in the text that was
--- taken for its parent
+-- the digest that is expected at a node: at the root the offered one, otherwise the one at its place in the text that
+-- was taken for its parent
 abbrev pub expected_at : List ℕ → List TakenText → ℕ → ℕ → Option (List ℕ)
 expected_at offered taken zero i = Some offered
 expected_at offered taken (suc depth) i = option_map (λ text. child_digest text (i % 16)) (taken_at taken (record { depth = depth; index = i / 16 }))
@@ -49,7 +49,7 @@ expected_at offered taken (suc depth) i = option_map (λ text. child_digest text
 abbrev pub expected : List ℕ → List TakenText → Node → Option (List ℕ)
 expected offered taken n = expected_at offered taken n.depth n.index
 
--- the first k children whose digests in the text are not the own ones, by rising index
+-- the first k children whose digests in the text differ from the local ones, by ascending index
 unfoldable pub differing : RowMap → Node → List ℕ → ℕ → List Node
 differing own n text zero = []
 differing own n text (suc k) = differing own n text k ++ (if bytes_eq (child_digest text k) (digest_of own (child n k)) then [] else child n k ∷ [])
@@ -58,7 +58,7 @@ differing own n text (suc k) = differing own n text k ++ (if bytes_eq (child_dig
 abbrev pub asks : RowMap → TakenText → List Node
 asks own t = if nat_lt t.node.depth (tree_depth own.format) then differing own t.node t.text 16 else []
 
--- the first node that is asked: none where the roots are equal
+-- the first node that is asked: no node if the roots are equal
 abbrev pub first_asked : RowMap → List ℕ → List Node
 first_asked own offered = if bytes_eq offered (root_of own) then [] else top ∷ []
 
@@ -66,7 +66,7 @@ first_asked own offered = if bytes_eq offered (root_of own) then [] else top ∷
 abbrev pub asked_by : RowMap → List ℕ → List TakenText → List Node
 asked_by own offered taken = first_asked own offered ++ flat_map (asks own) taken
 
--- each version of the rows is held for its key, or is below one that is
+-- each version of the rows is held for its key, or is below a held version
 abbrev pub Held : List Row → (List ℕ → List Version) → Type 0
 Held rows held = AllByRecursion (λ (r : Row). AllByRecursion (λ (v : Version). IsTrue (covered v (held r.key))) r.versions) rows
 
@@ -77,12 +77,12 @@ pub record AreSpelled (m : RowMap) (n : Node) (text : List ℕ) (rows : List Row
   pub range : AllByRecursion (λ (r : Row). range_at m.bits r.key ≡ m.range) rows
   pub leaf : AllByRecursion (λ (r : Row). leaf_in m r.key ≡ n.index) rows
 
--- the form of the text of a node with children
+-- the form of the text of an inner node
 pub record IsInnerText (format : Format) (text : List ℕ) : Type 0 where
   pub size : length text ≡ 513
   pub mark : slice_index text 0 ≡ inner_byte format
 
--- a text that the node can have over some rows of the range, in the format, the ring's bits and the range of the own ones
+-- a text that the node can have over some rows of the format, the ring's bits and the range of the local ones
 abbrev pub IsCanonical : RowMap → Node → List ℕ → Type 0
 IsCanonical m n text = ((n.depth < tree_depth m.format) × IsInnerText m.format text) ⊎ ((n.depth ≡ tree_depth m.format) × ((rows : List Row) × AreSpelled m n text rows))
 
@@ -95,9 +95,9 @@ pub record IsRightlyTaken (w : Walk) (t : TakenText) : Type 0 where
 abbrev pub IsLeafHeld : RowMap → (List ℕ → List Version) → TakenText → Type 0
 IsLeafHeld own held t = t.node.depth ≡ tree_depth own.format → (rows : List Row) → AreRows own.format rows → t.text ≡ leaf_text own.format rows → Held rows held
 
--- A record that is right for what is held now: the own rows are held, and so are those of each taken leaf; each taken
--- text can be its node's and has the digest that was expected there; the nodes asked are those that the texts ask; each
--- has its text or is outstanding; and a finished session has nothing outstanding.
+-- A record that is right for the versions held now: the local rows are held, and so are those of each taken leaf; each
+-- taken text is one that its node can have and has the digest that was expected there; the nodes asked are those that
+-- the texts ask; each of them has its text or is outstanding; and a finished session has nothing outstanding.
 pub record Walked (held : List ℕ → List Version) (w : Walk) : Type 0 where
   pub map : IsRowMap w.own
   pub own_held : Held w.own.rows held
@@ -114,11 +114,11 @@ IsCompared own other taken text =
     ⊎ (((n : Node) × IsNode (tree_depth other.format) n × (text ≡ text_of other n))
     ⊎ ((t : TakenText) × Contains taken t × (text ≡ t.text)))
 
--- no two different texts that are compared have one digest
+-- no two different texts that are compared have the same digest
 abbrev pub NoTwoShareADigest : RowMap → RowMap → List TakenText → Type 0
 NoTwoShareADigest own other taken = (x y : List ℕ) → IsCompared own other taken x → IsCompared own other taken y → sha256 x ≡ sha256 y → x ≡ y
 
--- rows of the format, the ring's bits and the range of the own ones, with the root that was offered
+-- rows of the format, the ring's bits and the range of the local ones, with the root that was offered
 pub record IsPartners (w : Walk) (other : RowMap) : Type 0 where
   pub format : other.format ≡ w.own.format
   pub bits : other.bits ≡ w.own.bits

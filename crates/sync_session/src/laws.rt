@@ -1,4 +1,4 @@
-//! What the definitions say of sessions.
+//! Laws of sessions, proved from their definitions.
 ghost use Rattle.std.specs.Prelude.{◌≡◌, ℕ, List, true};
 ghost use Rattle.row_bytes.specs.declared.row.Row.{Row};
 ghost use Rattle.version_set.specs.declared.version.Version.{Version};
@@ -9,15 +9,15 @@ ghost use Rattle.sync_session.specs.Walks.{TakenText, Walk, Walked, Held, IsLeaf
 ghost use Rattle.sync_session.specs.Steps.{started, after, failed, cancelled_by, IsDue, Grows};
 ghost use Rattle.sync_session.specs.Differing.{differ, IsOrderly, IsTraced, IsHonest, IsNearlyDone, IsInTurn, Ascends};
 
-/// After a finished session each version of the partner's rows is held or is below one that is: of any rows of the same
-/// format, ring bits and range whose root is the one that was offered, provided that no two different texts among those
-/// compared share a digest. Nothing is supposed of the answers.
+/// After a finished session each version of the partner's rows is held or is below a held version. The partner's rows
+/// are any rows of the local format, ring bits and range whose root is the offered one. The law assumes that no two
+/// different texts among those compared share a digest, and nothing about the answers.
 pub fn a_finished_session_is_held()
     ensures { (held : List ℕ → List Version) (w : Walk) (other : RowMap) → Walked held w → w.state ≡ Finished
         → IsPartners w other → NoTwoShareADigest w.own other w.taken → Held other.rows held }
 {}
 
-/// A record stays right, whatever is accepted and whatever is taken.
+/// The record of a walk stays right as versions are accepted and as texts are taken.
 pub fn a_walk_stays_right()
     ensures started { (held : List ℕ → List Version) (own : RowMap) (offered : List ℕ) → IsRowMap own
         → Held own.rows held → Walked held (started own offered) }
@@ -28,24 +28,24 @@ pub fn a_walk_stays_right()
         → AreSpelled own t.node t.text rows → Held rows held → IsLeafHeld own held t }
 {}
 
-/// A session asks no node twice, and a node that was asked is taken or outstanding, whatever is taken.
+/// A session asks no node twice, and each node asked is either taken or outstanding, after each text taken.
 pub fn a_walk_stays_orderly()
     ensures started { (own : RowMap) (offered : List ℕ) → IsOrderly (started own offered) }
     ensures taken { (held : List ℕ → List Version) (w : Walk) (t : TakenText) → Walked held w → IsOrderly w → IsDue w t
         → IsOrderly (after w t) }
 {}
 
-/// What a session took and asked stays with it when it ends, by a text that no node can have or by a cancel.
+/// A session that fails or is cancelled keeps the nodes it asked and the texts it took.
 pub fn a_walk_leaves_a_trace()
     ensures going { (held : List ℕ → List Version) (w : Walk) → Walked held w → IsOrderly w → IsTraced w }
     ensures failed { (w : Walk) → IsTraced w → IsTraced (failed w) }
     ensures cancelled { (w : Walk) → IsTraced w → IsTraced (cancelled_by w w.state) }
 {}
 
-/// If each text that was taken is the partner's own, a session asks nodes where the trees differ and no others, however it
-/// ends; all of them, once no node with children is outstanding; and the partner's text of an outstanding node is never
-/// refused. Texts that are taken in the order of the asks leave the nodes asked by depth, and then by index, whoever
-/// answers.
+/// A session whose taken texts are all the partner's asks only nodes at which the trees differ, however it ends. Such a
+/// session has asked all of them once no inner node is outstanding, and the partner's text of an outstanding node has
+/// the expected digest and is canonical. If any session takes texts in the order of its asks, the nodes asked are in
+/// order of depth and then of index. Two trees of one format differ at the same nodes, whichever of them is local.
 pub fn a_session_asks_where_the_trees_differ()
     ensures only { (w : Walk) (other : RowMap) → IsTraced w → IsPartners w other → IsHonest w other
         → (n : Node) → has_node n w.asked ≡ true → has_node n (differ w.own other) ≡ true }

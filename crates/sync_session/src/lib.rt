@@ -1,17 +1,31 @@
-//! Sessions of anti-entropy (the paper of 2007, section 4.7): a walk of two trees from the root down, which ends with all
-//! that the partner held.
+//! Sessions of anti-entropy (the paper of 2007, section 4.7): a walk of a partner's tree from the root down to the
+//! leaves that differ from the local ones. Use it to find the rows of a partner that the local snapshot lacks.
 //!
-//! - [`session`]: one walk: what is asked, and what the answers are worth.
-//! - [`news`]: what a leaf's text has beside the own rows.
-//! - [`state`]: how a session stands.
-//! - [`taken`]: texts that a session took.
-//! - [`laws`]: what the definitions say: a finished session holds what the partner's rows had.
+//! - [`session`]: one walk: the nodes asked, and the texts taken.
+//! - [`news`]: the rows of a leaf's text that the local snapshot lacks.
+//! - [`state`]: the state of a session.
+//! - [`taken_text`]: a text that a session took.
+//! - [`laws`]: laws proved from the definitions. After a finished session all versions of the partner's rows are held
+//!   or below held ones, if no two different texts share a digest.
+//!
+//! ```
+//! let node = first(session)?;
+//! match session.take(alloc, node, text_of(alloc, partner, node)?)? {
+//!     Answered::Inner => Ok(None),
+//!     Answered::Leaf(rows) => Ok(Some(rows.len())),
+//! }
+//! ```
 #![tactic(auto)]
 
-mod asking;
 pub mod laws;
 pub mod news;
-mod reading;
+mod node_list;
 pub mod session;
 pub mod state;
-pub mod taken;
+pub mod taken_text;
+mod text_reader;
+
+pub use news::News;
+pub use session::{Answered, Session};
+pub use state::SessionState;
+pub use taken_text::Taken;

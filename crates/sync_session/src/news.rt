@@ -1,4 +1,4 @@
-//! What a partner's leaf has beside the own rows.
+//! The rows of a partner's leaf that the local snapshot lacks.
 ghost use Rattle.std.specs.Prelude.{◌≡◌, ◌<◌, ◌^◌, ⊤, [], None, length, MatchOption, option_map};
 ghost use Rattle.std.specs.List.{sum_by};
 ghost use Rattle.vclock.specs.Answer.{Answers};
@@ -8,28 +8,25 @@ ghost use Rattle.hash_tree.specs.Nodes.{tree_depth};
 ghost use Rattle.sync_session.specs.TreeNodes.{node_of};
 ghost use Rattle.sync_session.specs.Readings.{ReadsNews, FrontRow, FrontOwn, FrontRun};
 
-use crate::reading::{body_of, is_here};
-use hash_tree::node::NodeAt;
-use hash_tree::shared::SharedLeaf;
-use hash_tree::texts::leaf_byte;
-use row_bytes::reading::{key_at, read_row};
-use row_bytes::row::Row;
-use snapshot::snapshot::Snapshot;
+use crate::text_reader::{body_of, is_here};
+use hash_tree::{NodeAt, SharedLeaf, leaf_byte};
+use row_bytes::{Row, key_at, read_row};
+use snapshot::Snapshot;
 use std::alloc::Global;
-use vclock::refusal::Refusal;
+use vclock::Refusal;
 
-/// What a leaf's text has beside the own rows. A row that the own snapshot has, byte by byte, is counted and not read, so
-/// most of a text costs no more than comparing it.
+/// The rows of a leaf's text that the local snapshot lacks. A row that the local snapshot has, byte by byte, is counted
+/// and not read, so most of a text costs no more than comparing it.
 #[derive(Debug)]
 pub struct News {
-    /// The rows that the own snapshot does not have as they are, in ascending order of key.
+    /// The rows of the text that aren't rows of the local snapshot, in ascending order of key.
     pub rows: Vec<Row>,
-    /// How many versions the other rows have together.
+    /// The number of versions of the other rows of the text.
     pub known: u64,
 }
 
 impl News {
-    /// No rows at all. It takes no memory.
+    /// Returns no news: no rows, and no known versions.
     pub(crate) fn none(alloc: Global) -> News
         ensures rows { result.rows.items ≡ [] }
         ensures known { result.known ≡ 0 }
@@ -41,8 +38,8 @@ impl News {
     }
 }
 
-/// The news in a leaf's text. Refused: NotCanonical (no rows of the range give the leaf this text), NoMemory, which may
-/// stand in place of NotCanonical.
+/// Returns the news in a leaf's text. Refused: NotCanonical (no rows of the range give the leaf this text), NoMemory,
+/// which may replace NotCanonical.
 pub(crate) fn leaf_news(
     alloc: Global,
     own: &Snapshot,
@@ -90,19 +87,19 @@ pub(crate) fn leaf_news(
     Ok(news)
 }
 
-/// Own rows that a text begins with, one after another.
+/// Local rows with which a text begins, one after another.
 #[derive(Clone, Copy)]
 struct Run<'a> {
-    /// How many versions they have together.
+    /// The number of their versions.
     versions: u64,
-    /// The key of the last one.
+    /// The key of the last row.
     last: &'a [u8],
-    /// What follows their texts.
+    /// The bytes after their texts.
     after: &'a [u8],
 }
 
-/// The run of a leaf's rows from that of a key on, if the bytes begin with the texts of all of it. Most of a text is skipped
-/// so, a run at a time.
+/// Returns the run of a leaf's rows from that of a key on, if the bytes begin with the texts of all of it. Most of a
+/// text is skipped in this way, one run at a time.
 fn front_run<'a>(leaf: &'a SharedLeaf, key: &[u8], text: &'a [u8]) -> Option<Run<'a>>
     ensures { MatchOption result ⊤ (λ x. FrontRun leaf.now key.now text.now x.versions x.last.now x.after.now) }
 {
@@ -116,7 +113,7 @@ fn front_run<'a>(leaf: &'a SharedLeaf, key: &[u8], text: &'a [u8]) -> Option<Run
     })
 }
 
-/// How many versions rows have together.
+/// Counts the versions of rows.
 fn version_count(rows: &[Row]) -> u64
     requires { sum_by (λ (r : Row). length r.versions) rows.now < 2 ^ 64 }
     ensures { result ≡ sum_by (λ (r : Row). length r.versions) rows.now }
@@ -124,7 +121,8 @@ fn version_count(rows: &[Row]) -> u64
     rows.iter().map(|row| row.versions.len() as u64).sum()
 }
 
-/// How many versions the row of a key has in a leaf, and what follows its text, if the bytes begin with that.
+/// Returns the number of versions of the row of a key in a leaf, and the bytes after its text, if the bytes begin with
+/// that text.
 fn front_own<'a>(leaf: &SharedLeaf, key: &[u8], text: &'a [u8]) -> Option<(u64, &'a [u8])>
     requires { AscendByKey leaf.now.rows }
     ensures { FrontOwn leaf.now key.now text.now (option_map (λ x. (x.0, x.1.now)) result) }
@@ -134,7 +132,8 @@ fn front_own<'a>(leaf: &SharedLeaf, key: &[u8], text: &'a [u8]) -> Option<(u64, 
     Some((versions.len() as u64, after))
 }
 
-/// The row at the front, and what follows it, if a row of this leaf stands there. Refused: NoMemory.
+/// Returns the row at the front and the bytes after it, or `None` if the bytes don't begin with a row of this leaf.
+/// Refused: NoMemory.
 fn front_row<'a>(
     alloc: Global,
     own: &Snapshot,

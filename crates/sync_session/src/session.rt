@@ -1,4 +1,4 @@
-//! One walk of two trees.
+//! A walk of two trees.
 ghost use Rattle.std.specs.Prelude.{◌≡◌, ◌<◌, ◌↔◌, ⊤, None, [], IsTrue, OnOk, OnErr, map};
 ghost use Rattle.std.specs.Arc.{arc_value};
 ghost use Rattle.vclock.specs.Answer.{Answers};
@@ -10,30 +10,31 @@ ghost use Rattle.sync_session.specs.Readings.{Shows, Tells, Awaits};
 
 use crate::news::{News, leaf_news};
 use crate::state::SessionState;
-use crate::taken::Taken;
-use crate::{asking, reading};
-use hash_tree::hashed::{Digest, Hashed};
-use hash_tree::node::{NodeAt, tree_depth};
-use row_bytes::row::RowList;
-use snapshot::snapshot::Snapshot;
+use crate::taken_text::Taken;
+use crate::{node_list, text_reader};
+use hash_tree::{Digest, Hashed, NodeAt, tree_depth};
+use row_bytes::RowList;
+use snapshot::Snapshot;
 use std::alloc::Global;
 use std::marker::Model;
 use std::sync::Arc;
-use vclock::refusal::Refusal;
+use vclock::Refusal;
 
-/// What kind of text a session took.
+/// The kind of a text that a session took.
 #[derive(Debug, Drop)]
 pub enum Answered {
-    /// That of a node with children: those that differ are asked from then on.
+    /// The text of an inner node: its children that differ are now asked.
     Inner,
-    /// That of a leaf, with its rows.
+    /// The text of a leaf, with its rows.
     Leaf(RowList),
 }
 
-/// A walk of two trees: the own rows, as a snapshot has them, are compared with those of a partner, of which only the
-/// root is known at first. It asks for the root's text, then for the children whose digests differ, down to the leaves
-/// that differ, and no others. The partner is not trusted: each text must have the digest that was expected at its
-/// node.
+/// A walk of two trees: the rows of the local snapshot are compared with those of a partner, of whom only the root is
+/// known at first. It asks for the root's text, then for the children whose digests differ, down to the leaves that
+/// differ, and no others. The partner isn't trusted: each text must have the digest that is expected at its node.
+///
+/// Only `start`, `rows_of`, `news_of`, `take` and `take_leaf` allocate. On error a session is unchanged, unless `take`
+/// refuses a text as NotCanonical: then the session has failed.
 ///
 /// ```
 /// let node = first(session)?;
@@ -70,8 +71,8 @@ impl Model for Session {
 }
 
 impl Session {
-    /// A new session, which compares a snapshot with a partner's root. If the roots are equal it is finished, and
-    /// nothing is asked; else the root's text is asked. Refused: NoMemory.
+    /// Starts a session that compares a snapshot with a partner's root. If the roots are equal, it is finished and asks
+    /// nothing; otherwise it asks for the root's text. Refused: NoMemory.
     pub fn start(
         alloc: Global,
         own: Arc<Snapshot, Global>,
@@ -82,8 +83,8 @@ impl Session {
         let mut asked = Vec::new(alloc);
         let mut outstanding = Vec::new(alloc);
         if root != own.root() {
-            asked.push(asking::root())?;
-            outstanding.push(asking::root())?;
+            asked.push(node_list::root())?;
+            outstanding.push(node_list::root())?;
         }
         let state = state_by(&outstanding);
         Ok(Session {
@@ -96,82 +97,81 @@ impl Session {
         })
     }
 
-    /// The own snapshot. It takes no memory, like each of these calls but `start`, `rows_of`, `take` and
-    /// `take_leaf`.
+    /// Returns the local snapshot.
     pub fn own(&self) -> &Arc<Snapshot, Global>
         ensures { arc_value result.now ≡ self.now.own }
     {
         &self.own
     }
 
-    /// The root that the partner offered.
+    /// Returns the root that the partner offered.
     pub fn root(&self) -> Digest
         ensures { result ≡ self.now.root }
     {
         self.root
     }
 
-    /// The nodes that were asked and are not answered, in the order in which they are to be answered.
+    /// Returns the nodes that were asked and aren't answered, in the order in which they are to be answered.
     pub fn outstanding(&self) -> &[NodeAt]
         ensures { map node_of result.now ≡ self.now.outstanding }
     {
         &self.outstanding
     }
 
-    /// All nodes that were ever asked, in order.
+    /// Returns all nodes that were ever asked, in order.
     pub fn asked(&self) -> &[NodeAt]
         ensures { map node_of result.now ≡ self.now.asked }
     {
         &self.asked
     }
 
-    /// The texts that were taken, in order.
+    /// Returns the texts that were taken, in order.
     pub fn taken(&self) -> &[Taken]
         ensures { result.now ≡ self.now.taken }
     {
         &self.taken
     }
 
-    /// How it stands.
+    /// Returns the state of the session.
     pub fn state(&self) -> SessionState
         ensures { result ≡ self.now.state }
     {
         self.state
     }
 
-    /// Whether this text is awaited for the node. Refused, in order: NotAsked (the node is not outstanding), WrongDigest (the
-    /// text has not the digest that is expected at the node).
+    /// Checks that this text is awaited for the node. Refused, in order: NotAsked (the node isn't outstanding),
+    /// WrongDigest (the text's digest isn't the one expected at the node).
     fn expects(&self, node: NodeAt, text: &Hashed) -> Result<(), Refusal>
         ensures { Awaits self.now (record { node = node_of node; text = text.now }) result }
     {
-        if !asking::has(&self.outstanding, node) {
+        if !node_list::has(&self.outstanding, node) {
             return Err(Refusal::NotAsked);
         }
-        if !asking::is_expected(&self.root, &self.taken, node, &text.digest()) {
+        if !node_list::is_expected(&self.root, &self.taken, node, &text.digest()) {
             return Err(Refusal::WrongDigest);
         }
         Ok(())
     }
 
-    /// Whether a node has children, and a text the form of such a node's.
+    /// Returns true if the node is inner and the text has the form of an inner node's.
     fn is_inner(&self, node: NodeAt, text: &Hashed) -> bool
         ensures { IsTrue result ↔ ((node.depth < tree_depth self.now.own.format) × IsInnerText self.now.own.format text.now) }
     {
         let format = self.own.format();
-        node.depth < tree_depth(format) && reading::is_inner(format, text.text())
+        node.depth < tree_depth(format) && text_reader::is_inner(format, text.text())
     }
 
-    /// The rows that taking this text would give. A node with children gives no rows. The session stays as it is.
+    /// Returns the rows in a text that is due, without taking it. The text of an inner node has no rows.
     ///
-    /// Refused, in order: NotAsked (the node is not outstanding), WrongDigest (the text has not the digest that is
-    /// expected at the node), NotCanonical (no rows of the range give the node this text), NoMemory. Reading a leaf takes
-    /// memory, so at a leaf NoMemory may stand in place of NotCanonical.
-    fn rows_of(&self, alloc: Global, node: NodeAt, text: &Hashed) -> Result<RowList, Refusal>
+    /// Refused, in order: NotAsked (the node isn't outstanding), WrongDigest (the text's digest isn't the one expected
+    /// at the node), NotCanonical (no rows of the range give the node this text), NoMemory. Reading a leaf allocates,
+    /// so at a leaf NoMemory may replace NotCanonical.
+    pub fn rows_of(&self, alloc: Global, node: NodeAt, text: &Hashed) -> Result<RowList, Refusal>
         ensures { Shows self.now (record { node = node_of node; text = text.now }) result }
     {
         self.expects(node, text)?;
         if node.depth == tree_depth(self.own.format()) {
-            reading::leaf_rows(alloc, &self.own, node, text.text())
+            text_reader::leaf_rows(alloc, &self.own, node, text.text())
         } else if self.is_inner(node, text) {
             Ok(RowList::from(Vec::new(alloc)))
         } else {
@@ -179,11 +179,11 @@ impl Session {
         }
     }
 
-    /// The rows that taking this text would give, beside the own ones: a row that the own snapshot has is counted and not
-    /// read. A node with children gives none. The session stays as it is.
+    /// Returns the rows in a text that is due and that the local snapshot lacks, without taking the text. A row that
+    /// the local snapshot has is counted and not read. The text of an inner node has no rows.
     ///
-    /// Refused as by `take`: in order NotAsked, WrongDigest, NotCanonical, NoMemory. It takes memory only for rows that the
-    /// own snapshot does not have, and then NoMemory may stand in place of NotCanonical.
+    /// Refused, in order: NotAsked, WrongDigest, NotCanonical and NoMemory, as `rows_of` is. Memory is needed only for
+    /// rows that the local snapshot lacks, and NoMemory may then replace NotCanonical.
     pub fn news_of(&self, alloc: Global, node: NodeAt, text: &Hashed) -> Result<News, Refusal>
         ensures { Tells self.now (record { node = node_of node; text = text.now }) result }
     {
@@ -197,19 +197,19 @@ impl Session {
         leaf_news(alloc, &self.own, node, text.text())
     }
 
-    /// Takes a text for a node. A node with children asks each child whose digest in the text is not the own snapshot's,
-    /// by rising index, at the end of those outstanding; a leaf gives its rows. With nothing outstanding the session is
-    /// finished.
+    /// Takes a text for a node. At an inner node, the children whose digests in the text differ from the local
+    /// snapshot's are asked, by ascending index, after the nodes already outstanding; at a leaf, its rows are returned.
+    /// If nothing is outstanding afterwards, the session is finished.
     ///
-    /// Refused, in order: NotAsked, WrongDigest, NotCanonical and NoMemory, as by `rows_of`. After NotCanonical the
-    /// session has failed, with nothing outstanding; after any other it is as it was.
+    /// Refused, in order: NotAsked, WrongDigest, NotCanonical and NoMemory, as `rows_of` is. After NotCanonical the
+    /// session has failed and nothing is outstanding.
     pub fn take(&mut self, alloc: Global, node: NodeAt, text: Hashed) -> Result<Answered, Refusal>
         ensures { Takes self.old (record { node = node_of node; text = text }) result self.new }
     {
         match self.rows_of(alloc, node, &text) {
             Ok(rows) => {
                 if node.depth < tree_depth(self.own.format()) {
-                    let new = asking::differing(alloc, &self.own, node, text.text())?;
+                    let new = node_list::differing(alloc, &self.own, node, text.text())?;
                     self.record(node, text, &new)?;
                     Ok(Answered::Inner)
                 } else {
@@ -225,8 +225,8 @@ impl Session {
         }
     }
 
-    /// Takes the text of a leaf that `rows_of` has read, without reading it again. With nothing outstanding the session is
-    /// finished. Refused: NoMemory. The session is then as it was.
+    /// Takes the text of a leaf that `rows_of` or `news_of` has read, without reading it again. If nothing is
+    /// outstanding afterwards, the session is finished. Refused: NoMemory.
     pub fn take_leaf(&mut self, node: NodeAt, text: Hashed) -> Result<(), Refusal>
         requires due { IsDue self.old (record { node = node_of node; text = text }) }
         requires leaf { node.depth ≡ tree_depth self.old.own.format }
@@ -238,7 +238,7 @@ impl Session {
         self.record(node, text, &[])
     }
 
-    /// Keeps a text, and asks these nodes.
+    /// Records a text, and asks these nodes.
     fn record(&mut self, node: NodeAt, text: Hashed, new: &[NodeAt]) -> Result<(), Refusal>
         requires { map node_of new.now ≡ asks self.old.own (record { node = node_of node; text = text }) }
         ensures answers { Answers result None (λ _. ⊤) }
@@ -248,14 +248,14 @@ impl Session {
         self.asked.reserve(new.len())?;
         self.outstanding.reserve(new.len())?;
         self.taken.push(Taken::new(node, text))?;
-        asking::remove(&mut self.outstanding, node);
-        asking::append(&mut self.asked, new);
-        asking::append(&mut self.outstanding, new);
+        node_list::remove(&mut self.outstanding, node);
+        node_list::append(&mut self.asked, new);
+        node_list::append(&mut self.outstanding, new);
         self.state = state_by(&self.outstanding);
         Ok(())
     }
 
-    /// Ends a session by a text that it awaits and that the node cannot have: it has failed.
+    /// Ends a session as failed, after a text that is due but that its node can't have.
     pub fn fail(&mut self)
         requires { (t : TakenText) × IsDue self.old t × (IsCanonical self.old.own t.node t.text → ⊥) }
         ensures { self.new ≡ failed self.old }
@@ -263,7 +263,7 @@ impl Session {
         self.end(SessionState::Failed);
     }
 
-    /// Ends a session that is open; another stays as it is.
+    /// Cancels the session if it is open; otherwise leaves it unchanged.
     pub fn cancel(&mut self)
         ensures { self.new ≡ cancelled_by self.old self.old.state }
     {
@@ -272,7 +272,7 @@ impl Session {
         }
     }
 
-    /// Awaits no text any more.
+    /// Removes all outstanding nodes, and sets the state.
     fn end(&mut self, state: SessionState)
         ensures { self.new ≡ record self.old { outstanding = []; state = state } }
     {
@@ -281,7 +281,7 @@ impl Session {
     }
 }
 
-/// The state of a session that goes on: open, or finished if nothing is outstanding.
+/// Returns the state of a session that isn't ended: finished if nothing is outstanding, otherwise open.
 fn state_by(outstanding: &[NodeAt]) -> SessionState
     ensures { result ≡ state_by (map node_of outstanding.now) }
 {

@@ -1,14 +1,14 @@
-//! How a session stands.
+//! The state of a session.
 
-/// The state of a session. A session that is not open has nothing outstanding, and stays as it is.
+/// The state of a session. A session that isn't open has nothing outstanding and never changes.
 #[derive(Clone, Copy, Debug, PartialEq, Eq)]
 pub enum SessionState {
     /// Some node is outstanding.
     Open,
     /// Every node that was asked is answered.
     Finished,
-    /// A text had the digest that was expected, and can be no node's text.
+    /// A text had the expected digest, but its node can't have that text.
     Failed,
-    /// It was ended before it was finished.
+    /// The session was ended before it was finished.
     Cancelled,
 }

@@ -1,10 +1,7 @@
-// Clocks, bytes, keys and refusals.
+//! Clocks, bytes, keys and refusals.
 use std::alloc::{AllocError, Global};
 use std::test::Fail;
-use vclock::bytes::Bytes;
-use vclock::clock::{Clock, ClockOrder};
-use vclock::key::check_key;
-use vclock::refusal::{Clocks, PassPart, Refusal};
+use vclock::{Bytes, Clock, ClockOrder, Clocks, PassPart, Refusal, check_key};
 
 /// A pair with the counter 1 for each node from the first up to the last.
 fn pairs_of(alloc: Global, first: u64, last: u64) -> Result<Vec<(u64, u64)>, AllocError> {

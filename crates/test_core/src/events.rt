@@ -1,21 +1,15 @@
-// Sessions as events of a range.
-use hash_tree::hashed::{Hashed, hash};
-use hash_tree::node::NodeAt;
-use hash_tree::text::Text;
-use range_state::config::RangeConfig;
-use range_state::event::{AnswerEvent, Event, OpenEvent, Reply};
-use range_state::state::RangeState;
-use snapshot::snapshot::Snapshot;
+//! Sessions as events of a range.
+use hash_tree::{Hashed, NodeAt, Text, hash};
+use range_state::{AnswerEvent, Event, OpenEvent, RangeConfig, RangeState, Reply};
+use snapshot::Snapshot;
 use std::alloc::Global;
 use std::process::Abort;
 use std::sync::Arc;
 use std::test::Fail;
 use std::thread::Threads;
-use vclock::bytes::Bytes;
-use vclock::clock::Clock;
-use vclock::refusal::Refusal;
-use version_set::kind::Kind;
-use walk_messages::message::{Ask, Offer};
+use vclock::{Bytes, Clock, Refusal};
+use version_set::Kind;
+use walk_messages::{Ask, Offer};
 
 /// A range of format 1 without rows, whose nodes are all clean.
 fn empty_range(rt: &(impl Threads + Sync), alloc: Global) -> Result<RangeState, Fail> {

@@ -1,14 +1,12 @@
-// Hints: versions that are kept for replicas that are down.
+//! Hints: versions that are kept for replicas that are down.
 use crate::versions::version;
-use hint_store::hint::{Delivery, Fate};
-use hint_store::store::HintStore;
+use hint_store::{Delivery, Fate, HintStore};
 use std::alloc::Global;
 use std::cmp::Ordering;
 use std::process::Abort;
 use std::test::Fail;
-use vclock::bytes::Bytes;
-use vclock::refusal::Refusal;
-use version_set::kind::Kind;
+use vclock::{Bytes, Refusal};
+use version_set::Kind;
 
 /// Keeps the version that node 1 has counted so often.
 fn keep(alloc: Global, store: &mut HintStore, owner: u16, count: u64) -> Result<u32, Refusal> {

@@ -1,11 +1,10 @@
-// Journals.
+//! Journals.
 use crate::versions::version;
-use range_journal::journal::{Journal, Source, held_in};
+use range_journal::{Journal, Source, held_in};
 use std::alloc::Global;
 use std::test::Fail;
-use vclock::bytes::Bytes;
-use vclock::refusal::Refusal;
-use version_set::kind::Kind;
+use vclock::{Bytes, Refusal};
+use version_set::Kind;
 
 /// Appends a version of `a` that node 1 has counted so often.
 fn append(alloc: Global, journal: &mut Journal, count: u64) -> Result<u64, Refusal> {

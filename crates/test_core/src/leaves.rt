@@ -1,13 +1,10 @@
-// Leaves of more rows than a chunk has. The digest was made by another program from the definition.
+//! Leaves of more rows than a chunk has. The digest was made by another program from the definition.
 use crate::versions::version;
-use hash_tree::hashed::hash;
-use hash_tree::shared::SharedLeaf;
-use hash_tree::text::Text;
+use hash_tree::{SharedLeaf, Text, hash};
 use std::alloc::Global;
 use std::test::Fail;
-use vclock::format::Format;
-use vclock::key::check_key;
-use version_set::kind::Kind;
+use vclock::{Format, check_key};
+use version_set::Kind;
 
 /// The digest of a leaf of format 1 with 300 rows: the keys are the numbers from 0 to 299 as two bytes each, and each has
 /// the value `x` with node 1 counted once.

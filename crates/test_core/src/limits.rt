@@ -1,11 +1,9 @@
-// A row at all its limits: a key of 255 bytes, and 64 versions with clocks of 32 pairs and the longest values.
-use row_bytes::reading::{a_held_set_is_a_row, read_row};
-use row_bytes::writing::write_row;
+//! A row at all its limits: a key of 255 bytes, and 64 versions with clocks of 32 pairs and the longest values.
+use row_bytes::{a_held_set_is_a_row, read_row, write_row};
 use std::alloc::Global;
 use std::process::Abort;
 use std::test::Fail;
-use vclock::format::Format;
-use vclock::refusal::Refusal;
+use vclock::{Format, Refusal};
 
 /// The text of a key of 255 bytes with 64 versions, none below another: the clock of each counts one node more than once,
 /// and each value has so many bytes.

@@ -1,14 +1,11 @@
-// Messages of a session, written and read, byte by byte.
+//! Messages of a session, written and read, byte by byte.
 
-use hash_tree::node::NodeAt;
-use hash_tree::text::Text;
+use hash_tree::{NodeAt, Text};
 use std::alloc::Global;
 use std::process::Abort;
 use std::test::Fail;
-use vclock::refusal::Refusal;
-use walk_messages::decoding::decode;
-use walk_messages::encoding::encode;
-use walk_messages::message::{Answer, Ask, Message, Offer};
+use vclock::Refusal;
+use walk_messages::{Answer, Ask, Message, Offer, decode, encode};
 
 /// Asserts that a message has these bytes, and that what is read from them has them too.
 fn expect_bytes(

@@ -1,21 +1,16 @@
-// A range that goes over to format 2.
+//! A range that goes over to format 2.
 use crate::refusals::is_refused;
-use hash_tree::node::NodeAt;
-use range_state::config::RangeConfig;
-use range_state::event::{Event, Reply};
-use range_state::state::RangeState;
-use rehash::job::run_job;
+use hash_tree::NodeAt;
+use range_state::{Event, RangeConfig, RangeState, Reply};
+use rehash::run_job;
 use std::alloc::Global;
 use std::process::Abort;
 use std::test::Fail;
 use std::thread::Threads;
-use sync_session::state::SessionState;
-use vclock::bytes::Bytes;
-use vclock::clock::Clock;
-use vclock::format::Format;
-use vclock::refusal::Refusal;
-use version_set::kind::Kind;
-use walk_messages::message::Offer;
+use sync_session::SessionState;
+use vclock::{Bytes, Clock, Format, Refusal};
+use version_set::Kind;
+use walk_messages::Offer;
 
 /// A range of format 1 that holds a value of `a`.
 fn range(alloc: Global) -> Result<RangeState, Fail> {

@@ -2,12 +2,10 @@
 
 ghost use Rattle.std.specs.Prelude.{◌≤◌};
 
-use key_ring::places::place;
-use key_ring::ring::Ring;
+use key_ring::{Ring, place};
 use std::process::Abort;
 use std::test::Fail;
-use vclock::format::Format;
-use vclock::refusal::Refusal;
+use vclock::{Format, Refusal};
 
 /// Asserts where a key lies.
 fn expect_place(rt: &impl Abort, format: Format, bits: u8, key: &[u8], range: u16, leaf: u16)

@@ -1,22 +1,16 @@
-// Sessions of ranges with their partners.
+//! Sessions of ranges with their partners.
 use crate::refusals::is_refused;
-use hash_tree::hashed::{Digest, Hashed, hash};
-use hash_tree::node::NodeAt;
-use hash_tree::text::Text;
-use range_state::config::RangeConfig;
-use range_state::event::AnswerTaken;
-use range_state::state::RangeState;
-use snapshot::snapshot::Snapshot;
+use hash_tree::{Digest, Hashed, NodeAt, Text, hash};
+use range_state::{AnswerTaken, RangeConfig, RangeState};
+use snapshot::Snapshot;
 use std::alloc::Global;
 use std::process::Abort;
 use std::test::Fail;
 use std::thread::Threads;
-use sync_session::state::SessionState;
-use vclock::bytes::Bytes;
-use vclock::clock::Clock;
-use vclock::refusal::Refusal;
-use version_set::kind::Kind;
-use walk_messages::message::{Ask, Offer};
+use sync_session::SessionState;
+use vclock::{Bytes, Clock, Refusal};
+use version_set::Kind;
+use walk_messages::{Ask, Offer};
 
 /// A range without rows.
 fn new_range(alloc: Global, format: u64) -> Result<RangeState, Fail> {

@@ -1,20 +1,15 @@
-// Range states.
+//! Range states.
 ghost use Rattle.std.specs.Prelude.{◌<◌};
 
 use crate::refusals::is_refused;
 use crate::versions::{members, version};
-use range_journal::journal::Source;
-use range_state::config::RangeConfig;
-use range_state::event::{AcceptEvent, Accepted, Event, PutEvent, Reply};
-use range_state::state::RangeState;
+use range_journal::Source;
+use range_state::{AcceptEvent, Accepted, Event, PutEvent, RangeConfig, RangeState, Reply};
 use std::alloc::Global;
 use std::process::Abort;
 use std::test::Fail;
-use vclock::bytes::Bytes;
-use vclock::clock::Clock;
-use vclock::format::Format;
-use vclock::refusal::Refusal;
-use version_set::kind::Kind;
+use vclock::{Bytes, Clock, Format, Refusal};
+use version_set::Kind;
 
 /// A range of a ring with one range.
 fn range(alloc: Global, format: u64, limit: u64) -> Result<RangeState, Fail> {

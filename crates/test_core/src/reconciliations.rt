@@ -1,20 +1,16 @@
-// Two replicas that are reconciled.
+//! Two replicas that are reconciled.
 ghost use Rattle.std.specs.Prelude.{◌≤◌};
 
 use crate::refusals::is_refused;
-use hash_tree::hashed::Digest;
-use range_state::config::RangeConfig;
-use range_state::state::RangeState;
-use range_state::state::reconciling::{Reconciled, reconcile};
+use hash_tree::Digest;
+use range_state::{RangeConfig, RangeState, Reconciled, reconcile};
 use std::alloc::Global;
 use std::process::Abort;
 use std::test::Fail;
 use std::thread::Threads;
-use sync_session::state::SessionState;
-use vclock::bytes::Bytes;
-use vclock::clock::Clock;
-use vclock::refusal::Refusal;
-use version_set::kind::Kind;
+use sync_session::SessionState;
+use vclock::{Bytes, Clock, Refusal};
+use version_set::Kind;
 
 /// A range without rows.
 fn range(alloc: Global, format: u64, limit: u64) -> Result<RangeState, Fail> {

@@ -1,5 +1,5 @@
 //! Calls that are refused.
-use vclock::refusal::Refusal;
+use vclock::Refusal;
 
 /// Whether a call was refused, and for this cause.
 pub fn is_refused<T: Drop>(answer: Result<T, Refusal>, cause: Refusal) -> bool {

@@ -1,12 +1,10 @@
 //! Row texts, written and read, byte by byte.
 
-use row_bytes::reading::{a_held_set_is_a_row, read_row, read_rows};
-use row_bytes::writing::write_row;
+use row_bytes::{a_held_set_is_a_row, read_row, read_rows, write_row};
 use std::alloc::Global;
 use std::process::Abort;
 use std::test::Fail;
-use vclock::format::Format;
-use vclock::refusal::Refusal;
+use vclock::{Format, Refusal};
 
 /// The text of key `a` with the version of clock (1,1) and value `x`, in format 1.
 const ONE_VERSION: &[u8] =

@@ -1,24 +1,18 @@
-// Sessions: two trees compared, and what is taken of the partner's answers.
+//! Sessions: two trees compared, and what is taken of the partner's answers.
 use crate::checks::expect;
 use crate::refusals::is_refused;
-use hash_tree::hashed::{Digest, Hashed, hash};
-use hash_tree::node::NodeAt;
-use hash_tree::text::Text;
-use range_state::config::RangeConfig;
-use range_state::state::RangeState;
-use snapshot::snapshot::Snapshot;
+use hash_tree::{Digest, Hashed, NodeAt, Text, hash};
+use range_state::{RangeConfig, RangeState};
+use snapshot::Snapshot;
 use std::alloc::Global;
 use std::process::Abort;
 use std::sync::Arc;
 use std::test::Fail;
 use std::thread::Threads;
-use sync_session::session::{Answered, Session};
-use sync_session::state::SessionState;
-use vclock::bytes::Bytes;
-use vclock::clock::Clock;
-use vclock::refusal::Refusal;
-use version_set::kind::Kind;
-use walk_messages::message::Ask;
+use sync_session::{Answered, Session, SessionState};
+use vclock::{Bytes, Clock, Refusal};
+use version_set::Kind;
+use walk_messages::Ask;
 
 /// Puts a value under `a`, which lies in leaf 12.
 fn put(alloc: Global, state: &mut RangeState) -> Result<(), Refusal> {
@@ -78,7 +72,7 @@ fn answer_first(
     }
 }
 
-/// The partner's text of the first outstanding node would give so many rows, each of them new.
+/// The partner's text of the first outstanding node gives so many rows, each of them new.
 fn expect_news(
     alloc: Global,
     session: &Session,
@@ -87,9 +81,11 @@ fn expect_news(
 ) -> Result<(), Fail> {
     let node = first(session)?;
     let text = text_of(alloc, partner, node)?;
+    expect(
+        session.rows_of(alloc, node, &text)?.len() == rows,
+        "the rows",
+    )?;
     let news = session.news_of(alloc, node, &text)?;
-    // (to be enabled: `Session::rows_of` is about to be public)
-    // expect(session.rows_of(alloc, node, &text)?.len() == rows, "the rows")?;
     expect(news.rows.len() == rows && news.known == 0, "the news")
 }
 

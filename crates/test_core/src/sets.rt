@@ -1,12 +1,10 @@
-// Versions and sets of them.
+//! Versions and sets of them.
 use crate::versions::{members, version};
 use std::alloc::Global;
 use std::process::Abort;
 use std::test::Fail;
-use vclock::format::Format;
-use vclock::refusal::Refusal;
-use version_set::kind::Kind;
-use version_set::set::{Offered, VersionSet};
+use vclock::{Format, Refusal};
+use version_set::{Kind, Offered, VersionSet};
 
 /// Offers a version that node 1 has counted so often, and asserts the answer and the members then.
 fn expect_offered(

@@ -1,14 +1,13 @@
-// Slots and latencies.
+//! Slots and latencies.
 ghost use Rattle.std.specs.Prelude.{◌≡◌};
 
-use admission::controller::Controller;
-use admission::slot::Slot;
+use admission::{Controller, Slot};
 use std::alloc::Global;
 use std::marker::Brand;
 use std::process::Abort;
 use std::sync::ledger::{Blank, Ledger};
 use std::test::Fail;
-use vclock::refusal::Refusal;
+use vclock::Refusal;
 
 /// What a controller shows: its target, and how many slots are lent, free and allowed.
 fn shown<L: Ledger>(controller: &Controller<L>) -> (u32, u32, u32, u32) {

@@ -1,29 +1,21 @@
-// Snapshots.
+//! Snapshots.
 ghost use Rattle.std.specs.Prelude.{◌≡◌, ◌∷◌, ◌++◌, [], replicate, IfOk};
 ghost use Rattle.sha2.specs.Sha256.{sha256};
 ghost use Rattle.hash_tree.specs.Texts.{inner_text};
 
 use crate::refusals::is_refused;
-use hash_tree::hashed::Digest;
-use hash_tree::node::NodeAt;
-use hash_tree::shared::SharedLeaf;
-use hash_tree::texts::{inner_text, leaf_text};
-use range_state::config::RangeConfig;
-use range_state::event::{Event, Reply};
-use range_state::state::RangeState;
-use rehash::job::{Job, run_job};
+use hash_tree::{Digest, NodeAt, SharedLeaf, inner_text, leaf_text};
+use range_state::{Event, RangeConfig, RangeState, Reply};
+use rehash::{Job, run_job};
 use sha2::{Digest as _, Sha256};
-use snapshot::snapshot::Snapshot;
+use snapshot::Snapshot;
 use std::alloc::Global;
 use std::process::Abort;
 use std::test::Fail;
 use std::thread::Threads;
-use vclock::bytes::Bytes;
-use vclock::clock::Clock;
-use vclock::format::Format;
-use vclock::refusal::Refusal;
-use version_set::kind::Kind;
-use walk_messages::message::{Ask, Offer};
+use vclock::{Bytes, Clock, Format, Refusal};
+use version_set::Kind;
+use walk_messages::{Ask, Offer};
 
 /// A range of a ring with one range, in format 1.
 fn range(alloc: Global) -> Result<RangeState, Fail> {

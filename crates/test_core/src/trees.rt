@@ -1,27 +1,16 @@
-// Trees: node texts, marks, jobs and rehashes. The digests were made by another program from the definition.
+//! Trees: node texts, marks, jobs and rehashes. The digests were made by another program from the definition.
 use crate::refusals::is_refused;
 use crate::versions::version;
-use hash_tree::comparing::is_inner_text;
-use hash_tree::hashed::{Digest, Hashed, hash};
-use hash_tree::marks::Marks;
-use hash_tree::node::NodeAt;
-use hash_tree::text::Text;
-use hash_tree::texts::{inner_text, leaf_text};
-use range_journal::journal::Source;
-use range_state::config::RangeConfig;
-use range_state::event::{Event, InstallEvent, Reply};
-use range_state::state::RangeState;
-use rehash::bulk::hash_all;
-use rehash::job::{Job, run_job};
+use hash_tree::{Digest, Hashed, Marks, NodeAt, Text, hash, inner_text, is_inner_text, leaf_text};
+use range_journal::Source;
+use range_state::{Event, InstallEvent, RangeConfig, RangeState, Reply};
+use rehash::{Job, hash_all, run_job};
 use std::alloc::Global;
 use std::process::Abort;
 use std::test::Fail;
 use std::thread::Threads;
-use vclock::bytes::Bytes;
-use vclock::clock::Clock;
-use vclock::format::Format;
-use vclock::refusal::Refusal;
-use version_set::kind::Kind;
+use vclock::{Bytes, Clock, Format, Refusal};
+use version_set::Kind;
 
 /// The digest of the empty leaf in format 1: the SHA-256 of the byte 0.
 const EMPTY_LEAF: &str = "6e340b9cffb37a989ca544e6bb780a2c78901d3fb33738768511a30617afa01d";

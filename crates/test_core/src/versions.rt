@@ -2,12 +2,8 @@
 use std::alloc::Global;
 use std::fmt::Write;
 use std::test::Fail;
-use vclock::bytes::Bytes;
-use vclock::clock::Clock;
-use vclock::refusal::Refusal;
-use version_set::kind::Kind;
-use version_set::set::VersionSet;
-use version_set::version::Version;
+use vclock::{Bytes, Clock, Refusal};
+use version_set::{Kind, Version, VersionSet};
 
 /// The version with a clock of one pair.
 pub fn version(

@@ -1,4 +1,4 @@
-// Scripts over readers and writers that fail.
+//! Scripts over readers and writers that fail.
 use crate::handoffs::WAITING;
 use crate::outages::FORK;
 use crate::syncs::ONE_KEY;

@@ -1,4 +1,4 @@
-// Scripts with nodes that are down, hints, slots and samples.
+//! Scripts with nodes that are down, hints, slots and samples.
 use crate::scripts::{expect, expect_answers};
 use outage_script::ScriptEnd;
 use std::fmt::Write;

@@ -4,8 +4,6 @@
 #[cfg(test)]
 mod devices;
 #[cfg(test)]
-mod faults;
-#[cfg(test)]
 mod handoffs;
 #[cfg(test)]
 mod outages;

@@ -1,4 +1,4 @@
-// Scripts over rings of several nodes.
+//! Scripts over rings of several nodes.
 use crate::scripts::{expect, expect_answers};
 use outage_script::ScriptEnd;
 use std::fmt::Write;

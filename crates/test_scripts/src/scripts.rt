@@ -1,4 +1,4 @@
-// Scripts over memory.
+//! Scripts over memory.
 use outage_script::{ScriptEnd, run_bytes};
 use std::alloc::{AllocError, Global};
 use std::fmt::Write;

@@ -1,4 +1,4 @@
-// Scripts in which a replica takes what another has.
+//! Scripts in which a replica takes what another has.
 use crate::scripts::expect_answers;
 use std::test::Fail;
 

@@ -1,4 +1,4 @@
-// Scripts that rehash trees and show their digests, which were made by another program from the definition.
+//! Scripts that rehash trees and show their digests, which were made by another program from the definition.
 use crate::scripts::{expect, expect_answers};
 use outage_script::ScriptEnd;
 use std::test::Fail;

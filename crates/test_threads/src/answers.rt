@@ -1,15 +1,11 @@
-// Answers of partners, true and forged.
+//! Answers of partners, true and forged.
 ghost use Rattle.std.specs.Prelude.{◌≡◌};
 
 use crate::locked::range;
-use caller_pass::locked::LockedRange;
-use caller_pass::pass::Pass;
-use hash_tree::hashed::{Digest, Hashed, hash};
-use hash_tree::node::NodeAt;
-use hash_tree::text::Text;
-use range_state::config::RangeConfig;
-use range_state::state::RangeState;
-use snapshot::snapshot::Snapshot;
+use caller_pass::{LockedRange, Pass};
+use hash_tree::{Digest, Hashed, NodeAt, Text, hash};
+use range_state::{RangeConfig, RangeState};
+use snapshot::Snapshot;
 use std::alloc::Global;
 use std::marker::Brand;
 use std::process::Abort;
@@ -17,13 +13,11 @@ use std::sync::Arc;
 use std::sync::ledger::{Blank, Ledger};
 use std::test::Fail;
 use std::thread::Threads;
-use sync_session::state::SessionState;
+use sync_session::SessionState;
 use test_core::refusals::is_refused;
-use vclock::bytes::Bytes;
-use vclock::clock::Clock;
-use vclock::refusal::Refusal;
-use version_set::kind::Kind;
-use walk_messages::message::{Ask, Offer};
+use vclock::{Bytes, Clock, Refusal};
+use version_set::Kind;
+use walk_messages::{Ask, Offer};
 
 /// Puts the row of `a` at node 1, and makes all nodes clean.
 fn fill(rt: &(impl Threads + Sync), alloc: Global, state: &mut RangeState) -> Result<(), Refusal> {

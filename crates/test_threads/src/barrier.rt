@@ -1,5 +1,5 @@
 //! A barrier that holds a thread until another one opens it.
-use ring_node::gate::Gate;
+use ring_node::{Gate, Step};
 use std::sync::Wait;
 use std::sync::atomic::{AtomicU64, Ordering};
 use std::thread;
@@ -10,7 +10,7 @@ const MOST_LOOKS: u64 = 10_000_000;
 /// What holds a thread until it is opened. As a gate it holds a worker at one step.
 #[derive(Drop)]
 pub struct Barrier {
-    step: u32,
+    step: Step,
     arrived: AtomicU64,
     opened: AtomicU64,
     gave_up: AtomicU64,
@@ -18,7 +18,7 @@ pub struct Barrier {
 
 impl Barrier {
     /// A closed barrier, which nobody has come to.
-    pub fn new(step: u32) -> Barrier {
+    pub fn new(step: Step) -> Barrier {
         Barrier {
             step,
             arrived: AtomicU64::new(0),
@@ -61,7 +61,7 @@ impl Barrier {
 }
 
 impl Gate for Barrier {
-    fn pass<R: Wait>(&self, _rt: &R, step: u32) {
+    fn pass<R: Wait>(&self, _rt: &R, step: Step) {
         if step == self.step {
             self.hold();
         }

@@ -1,10 +1,8 @@
-// Links over channels.
+//! Links over channels.
 ghost use Rattle.std.specs.Prelude.{◌≡◌};
 
 use crate::partners::{Synced, pool_of, sync_over};
-use ring_node::channel::{ChannelLink, ChannelServer, channel_link};
-use ring_node::link::{Link, Reached};
-use ring_node::offers::OfferPool;
+use ring_node::{ChannelLink, ChannelServer, Link, OfferPool, Reached, channel_link};
 use std::alloc::Global;
 use std::marker::Brand;
 use std::sync::Wait;
@@ -12,7 +10,7 @@ use std::sync::ledger::{Blank, Ledger};
 use std::test::Fail;
 use std::thread;
 use std::thread::Threads;
-use sync_session::state::SessionState;
+use sync_session::SessionState;
 
 /// Syncs over a channel, and stops its server.
 fn sync_and_stop<L: Ledger, C: Ledger, R: Threads + Wait + Sync>(

@@ -1,11 +1,10 @@
-// Deliveries of hints.
+//! Deliveries of hints.
 ghost use Rattle.std.specs.Prelude.{◌≡◌};
 
 use crate::fixtures::{counted, last_pass, open_range, open_slots, value};
 use crate::nodes::Node;
-use range_state::config::RangeConfig;
-use ring_node::delivery::{DeliverReport, deliver};
-use ring_node::hints::SharedHints;
+use range_state::RangeConfig;
+use ring_node::{DeliverReport, SharedHints, deliver};
 use std::alloc::Global;
 use std::marker::Brand;
 use std::sync::Wait;
@@ -13,9 +12,8 @@ use std::sync::ledger::{Blank, Ledger};
 use std::test::Fail;
 use test_core::checks::expect;
 use test_core::versions::version;
-use vclock::bytes::Bytes;
-use vclock::refusal::Refusal;
-use version_set::kind::Kind;
+use vclock::{Bytes, Refusal};
+use version_set::Kind;
 
 /// What came of a delivery of one hint.
 #[derive(Drop)]

@@ -1,19 +1,14 @@
 //! Shared ranges and slots for tests.
 ghost use Rattle.std.specs.Prelude.{◌≡◌, ◌≤◌};
 
-use admission::controller::Controller;
-use caller_pass::book::open_passes;
-use caller_pass::pass::Pass;
-use range_state::config::RangeConfig;
-use range_state::state::RangeState;
-use ring_node::controller::SharedController;
-use ring_node::range::SharedRange;
+use admission::Controller;
+use caller_pass::{Pass, open_passes};
+use range_state::{RangeConfig, RangeState};
+use ring_node::{SharedController, SharedRange};
 use std::alloc::Global;
 use std::sync::ledger::{Blank, Ledger};
 use std::test::Fail;
-use vclock::bytes::Bytes;
-use vclock::clock::Clock;
-use vclock::refusal::Refusal;
+use vclock::{Bytes, Clock, Refusal};
 
 /// A range of format 1 with all keys at node 1, whose journal takes so many entries, and the passes of its seats.
 pub fn open_range<L: Ledger>(

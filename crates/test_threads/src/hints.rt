@@ -1,14 +1,13 @@
-// Shared hints.
-use hint_store::hint::Delivery;
-use ring_node::hints::SharedHints;
+//! Shared hints.
+use hint_store::Delivery;
+use ring_node::SharedHints;
 use std::alloc::Global;
 use std::process::Abort;
 use std::sync::Wait;
 use std::test::Fail;
 use test_core::versions::version;
-use vclock::bytes::Bytes;
-use vclock::refusal::Refusal;
-use version_set::kind::Kind;
+use vclock::{Bytes, Refusal};
+use version_set::Kind;
 
 /// Keeps for node 2 the version of `a` that node 1 has counted once.
 fn keep<R: Wait>(rt: &R, alloc: Global, hints: &SharedHints) -> Result<u32, Refusal> {

@@ -1,16 +1,12 @@
-// Syncs that are held while something else is done at their range.
+//! Syncs that are held while something else is done at their range.
 ghost use Rattle.std.specs.Prelude.{◌≡◌};
 
 use crate::barrier::Barrier;
 use crate::fixtures::{counted, open_range, open_slots, value};
 use crate::partners::{close, pool_of, rehash, sync};
 use crate::syncs::finished;
-use caller_pass::pass::Pass;
-use ring_node::controller::SharedController;
-use ring_node::link::{Link, Reached};
-use ring_node::memory::MemoryLink;
-use ring_node::range::SharedRange;
-use ring_node::syncer::SyncReport;
+use caller_pass::Pass;
+use ring_node::{Link, MemoryLink, Reached, SharedController, SharedRange, Step, SyncReport};
 use std::alloc::Global;
 use std::marker::Brand;
 use std::process::Abort;
@@ -19,9 +15,9 @@ use std::sync::ledger::{Blank, Ledger};
 use std::test::Fail;
 use std::thread;
 use std::thread::Threads;
-use sync_session::state::SessionState;
-use vclock::refusal::Refusal;
-use version_set::kind::Kind;
+use sync_session::SessionState;
+use vclock::Refusal;
+use version_set::Kind;
 
 /// A link that is held at a barrier before each ask.
 #[derive(Drop)]
@@ -127,7 +123,7 @@ fn hold_a_sync<L: Ledger + Send + Sync, C: Ledger + Send + Sync, R: Threads + Wa
     let (second, others) = passes.split_last_mut().ok_or("no pass")?;
     let first = others.first_mut().ok_or("one pass")?;
     let pool = pool_of(rt, alloc, &[b"a".as_slice()])?;
-    let barrier = Barrier::new(0);
+    let barrier = Barrier::new(Step::Taken);
     let held = Held {
         link: MemoryLink::new(alloc, &pool),
         barrier: &barrier,

@@ -1,15 +1,9 @@
-// Sync workers whose links lie or fail.
+//! Sync workers whose links lie or fail.
 ghost use Rattle.std.specs.Prelude.{◌≡◌};
 
 use crate::partners::{Synced, expect_asked, expect_counts, expect_report, pool_of, sync_over};
-use hash_tree::hashed::hash;
-use hash_tree::node::NodeAt;
-use hash_tree::text::Text;
-use ring_node::deed::Deed;
-use ring_node::link::{Link, Reached};
-use ring_node::memory::MemoryLink;
-use ring_node::scripted::ScriptedLink;
-use ring_node::syncer::SyncReport;
+use hash_tree::{NodeAt, Text, hash};
+use ring_node::{Deed, Link, MemoryLink, Reached, ScriptedLink, SyncReport};
 use std::alloc::Global;
 use std::marker::Brand;
 use std::process::Abort;
@@ -17,12 +11,10 @@ use std::sync::Wait;
 use std::sync::ledger::{Blank, Ledger};
 use std::test::Fail;
 use std::thread::Threads;
-use sync_session::state::SessionState;
+use sync_session::SessionState;
 use test_core::checks::expect;
-use vclock::refusal::Refusal;
-use walk_messages::decoding::decode;
-use walk_messages::encoding::encode;
-use walk_messages::message::{Answer, Message, Offer};
+use vclock::Refusal;
+use walk_messages::{Answer, Message, Offer, decode, encode};
 
 /// Syncs a range that has nothing with a partner that has these keys, over a link that does the deeds, in so many turns.
 fn sync_by<L: Ledger, C: Ledger, R: Threads + Wait + Sync>(

@@ -1,11 +1,8 @@
-// A range with two passes.
+//! A range with two passes.
 ghost use Rattle.std.specs.Prelude.{◌≡◌, [], IfOk};
 
-use caller_pass::book::open_passes;
-use caller_pass::locked::LockedRange;
-use caller_pass::pass::Pass;
-use range_state::config::RangeConfig;
-use range_state::state::RangeState;
+use caller_pass::{LockedRange, Pass, open_passes};
+use range_state::{RangeConfig, RangeState};
 use std::alloc::Global;
 use std::sync::ledger::{Blank, Ledger};
 use std::test::Fail;

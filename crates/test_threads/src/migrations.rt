@@ -1,14 +1,10 @@
-// Two nodes that write, rehash and sync in threads, and go over to format 2 half-way.
+//! Two nodes that write, rehash and sync in threads, and go over to format 2 half-way.
 ghost use Rattle.std.specs.Prelude.{◌≡◌};
 
 use crate::fixtures::{open_range, open_slots};
 use crate::partners;
-use caller_pass::pass::Pass;
-use ring_node::controller::SharedController;
-use ring_node::gate::OpenGate;
-use ring_node::memory::MemoryLink;
-use ring_node::offers::OfferPool;
-use ring_node::range::SharedRange;
+use caller_pass::Pass;
+use ring_node::{MemoryLink, OfferPool, OpenGate, SharedController, SharedRange};
 use std::alloc::Global;
 use std::marker::Brand;
 use std::sync::Wait;
@@ -16,11 +12,8 @@ use std::sync::ledger::{Blank, Ledger};
 use std::test::Fail;
 use std::thread;
 use std::thread::Threads;
-use vclock::bytes::Bytes;
-use vclock::clock::Clock;
-use vclock::format::Format;
-use vclock::refusal::Refusal;
-use version_set::kind::Kind;
+use vclock::{Bytes, Clock, Format, Refusal};
+use version_set::Kind;
 
 /// How many puts each node does.
 const PUTS: u64 = 100;

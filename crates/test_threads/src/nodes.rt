@@ -1,27 +1,20 @@
-// Nodes, each of one range.
+//! Nodes, each of one range.
 ghost use Rattle.std.specs.Prelude.{◌≡◌};
 
 use crate::fixtures::{last_pass, open_slots};
 use crate::partners;
-use caller_pass::book::open_passes;
-use caller_pass::pass::Pass;
-use range_journal::journal::Source;
-use range_state::config::RangeConfig;
-use range_state::event::Accepted;
-use range_state::state::RangeState;
-use ring_node::controller::SharedController;
-use ring_node::delivery::{DeliverReport, deliver};
-use ring_node::hints::SharedHints;
-use ring_node::link::Link;
-use ring_node::range::SharedRange;
-use ring_node::syncer::SyncReport;
+use caller_pass::{Pass, open_passes};
+use range_journal::Source;
+use range_state::{Accepted, RangeConfig, RangeState};
+use ring_node::{
+    DeliverReport, Link, SharedController, SharedHints, SharedRange, SyncReport, deliver,
+};
 use std::alloc::Global;
 use std::sync::Wait;
 use std::sync::ledger::{Blank, Ledger};
 use std::test::Fail;
-use vclock::bytes::Bytes;
-use vclock::refusal::Refusal;
-use version_set::version::Version;
+use vclock::{Bytes, Refusal};
+use version_set::Version;
 
 /// Node 1 with a range of one seat: its pass, its slots, and the hints that it keeps. Its methods promise nothing, so that
 /// a test that calls them carries no facts about them.

@@ -1,18 +1,15 @@
-// Whole rehashes and syncs, with a put answered at each of their points.
+//! Whole rehashes and syncs, with a put answered at each of their points.
 ghost use Rattle.std.specs.Prelude.{◌≡◌};
 
 use crate::fixtures::{counted, open_range, open_slots, value};
 use crate::partners::{close, pool_of, rehash, sync};
 use crate::relay::Relay;
 use crate::syncs::finished;
-use caller_pass::pass::Pass;
-use range_state::event::Receipt;
-use ring_node::controller::SharedController;
-use ring_node::link::{Link, Reached};
-use ring_node::memory::MemoryLink;
-use ring_node::range::SharedRange;
-use ring_node::rehasher::RehashReport;
-use ring_node::syncer::SyncReport;
+use caller_pass::Pass;
+use range_state::Receipt;
+use ring_node::{
+    Link, MemoryLink, Reached, RehashReport, SharedController, SharedRange, SyncReport,
+};
 use std::alloc::Global;
 use std::marker::Brand;
 use std::sync::Wait;
@@ -21,8 +18,8 @@ use std::test::Fail;
 use std::thread;
 use std::thread::Threads;
 use test_core::checks::expect;
-use vclock::refusal::Refusal;
-use version_set::kind::Kind;
+use vclock::Refusal;
+use version_set::Kind;
 
 /// More points than a worker has.
 const MOST_POINTS: u64 = 10_000;

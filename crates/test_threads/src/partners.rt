@@ -1,29 +1,23 @@
-// Partners, and syncs with what links give.
+//! Partners, and syncs with what links give.
 ghost use Rattle.std.specs.Prelude.{◌≡◌};
 
 use crate::fixtures::{open_range, open_slots};
-use caller_pass::pass::Pass;
-use hash_tree::node::NodeAt;
-use range_journal::journal::Source;
-use range_state::config::RangeConfig;
-use range_state::state::RangeState;
-use ring_node::controller::SharedController;
-use ring_node::gate::OpenGate;
-use ring_node::link::Link;
-use ring_node::offers::OfferPool;
-use ring_node::range::SharedRange;
-use ring_node::syncer::SyncReport;
-use snapshot::snapshot::Snapshot;
+use caller_pass::Pass;
+use hash_tree::NodeAt;
+use range_journal::Source;
+use range_state::{RangeConfig, RangeState};
+use ring_node::{Link, OfferPool, OpenGate, SharedController, SharedRange, SyncReport};
+use snapshot::Snapshot;
 use std::alloc::Global;
 use std::process::Abort;
 use std::sync::ledger::{Blank, Ledger};
 use std::sync::{Arc, Wait};
 use std::test::Fail;
 use std::thread::Threads;
-use sync_session::state::SessionState;
+use sync_session::SessionState;
 use test_core::versions::{members, version};
-use vclock::refusal::Refusal;
-use version_set::kind::Kind;
+use vclock::Refusal;
+use version_set::Kind;
 
 /// Has a range take a version of that clock and value for each key, and makes all its nodes clean.
 fn fill(

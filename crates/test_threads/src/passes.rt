@@ -1,13 +1,10 @@
-// Passes, from their opening to the close of their range.
+//! Passes, from their opening to the close of their range.
 ghost use Rattle.std.specs.Prelude.{◌≡◌};
 
 use crate::locked::range;
-use caller_pass::book::{Book, open_passes};
-use caller_pass::closing::Unclosed;
-use caller_pass::locked::LockedRange;
-use caller_pass::pass::Pass;
-use range_journal::journal::Source;
-use range_state::event::Accepted;
+use caller_pass::{Book, LockedRange, Pass, Unclosed, open_passes};
+use range_journal::Source;
+use range_state::Accepted;
 use std::alloc::Global;
 use std::marker::Brand;
 use std::process::Abort;
@@ -16,10 +13,8 @@ use std::test::Fail;
 use std::thread::Threads;
 use test_core::checks::expect;
 use test_core::versions::version;
-use vclock::bytes::Bytes;
-use vclock::clock::Clock;
-use vclock::refusal::Refusal;
-use version_set::kind::Kind;
+use vclock::{Bytes, Clock, Refusal};
+use version_set::Kind;
 
 /// A book takes back its two passes, whose seats are 0 and 1.
 fn expect_absorbed<L: Ledger>(

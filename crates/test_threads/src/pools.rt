@@ -1,16 +1,16 @@
-// Pools of offers.
+//! Pools of offers.
 
 use crate::partners::snapshot_of;
-use hash_tree::node::NodeAt;
-use ring_node::offers::OfferPool;
-use snapshot::snapshot::Snapshot;
+use hash_tree::NodeAt;
+use ring_node::OfferPool;
+use snapshot::Snapshot;
 use std::alloc::Global;
 use std::process::Abort;
 use std::sync::{Arc, Wait};
 use std::test::Fail;
 use test_core::refusals::is_refused;
-use vclock::refusal::Refusal;
-use walk_messages::message::Ask;
+use vclock::Refusal;
+use walk_messages::Ask;
 
 /// The text that a pool answers for the first leaf of an offer.
 fn leaf_of<R: Wait>(

@@ -1,11 +1,11 @@
-// Calls of a shared range, in one thread.
+//! Calls of a shared range, in one thread.
 ghost use Rattle.std.specs.Prelude.{◌≡◌};
 
 use crate::fixtures::{counted, last_pass, open_range, value};
-use caller_pass::pass::Pass;
-use range_journal::journal::Source;
-use range_state::event::Accepted;
-use ring_node::range::{NotClosed, SharedRange};
+use caller_pass::Pass;
+use range_journal::Source;
+use range_state::Accepted;
+use ring_node::{NotClosed, SharedRange};
 use std::alloc::Global;
 use std::marker::Brand;
 use std::process::Abort;
@@ -13,8 +13,8 @@ use std::sync::Wait;
 use std::sync::ledger::{Blank, Ledger};
 use std::test::Fail;
 use test_core::versions::{members, version};
-use vclock::refusal::Refusal;
-use version_set::kind::Kind;
+use vclock::Refusal;
+use version_set::Kind;
 
 /// Takes in a copy of `a`, and returns its number, or `None` if it is known.
 fn copy_of_a<L: Ledger, R: Wait>(

@@ -1,14 +1,11 @@
-// Rehash workers, and puts that pass them.
+//! Rehash workers, and puts that pass them.
 ghost use Rattle.std.specs.Prelude.{◌≡◌};
 
 use crate::barrier::Barrier;
 use crate::fixtures::{counted, last_pass, open_range, open_slots, value};
-use caller_pass::pass::Pass;
-use range_state::event::Receipt;
-use ring_node::controller::SharedController;
-use ring_node::gate::{Gate, OpenGate};
-use ring_node::range::SharedRange;
-use ring_node::rehasher::RehashReport;
+use caller_pass::Pass;
+use range_state::Receipt;
+use ring_node::{Gate, OpenGate, RehashReport, SharedController, SharedRange, Step};
 use std::alloc::Global;
 use std::marker::Brand;
 use std::sync::Wait;
@@ -16,8 +13,8 @@ use std::sync::ledger::{Blank, Ledger};
 use std::test::Fail;
 use std::thread;
 use std::thread::Threads;
-use vclock::refusal::Refusal;
-use version_set::kind::Kind;
+use vclock::Refusal;
+use version_set::Kind;
 
 /// Puts `a` with a context in which node 1 has counted so often.
 fn put_a<L: Ledger, R: Wait>(
@@ -76,7 +73,7 @@ fn put_at_a_gate<
     M: Ledger + Send + Sync,
     C: Ledger + Send + Sync,
     R: Threads + Wait + Sync,
->(rt: &R, alloc: Global, blanks: (Blank, Blank, Blank), step: u32) -> Result<Passed, Fail>
+>(rt: &R, alloc: Global, blanks: (Blank, Blank, Blank), step: Step) -> Result<Passed, Fail>
     requires one { (blanks.0.name ≡ L.name) × (blanks.0.parts ≡ L.parts) × (blanks.0.parts ≡ 1) }
     requires other { (blanks.1.name ≡ M.name) × (blanks.1.parts ≡ M.parts) × (blanks.1.parts ≡ 1) }
     requires slots { (blanks.2.name ≡ C.name) × (blanks.2.parts ≡ C.parts) × (blanks.2.parts ≡ 1024) }
@@ -115,7 +112,12 @@ fn ended(installed: u64, stale: u64) -> RehashReport {
 #[test]
 fn a_write_passes_a_rehash_at_step_1(rt: HostRuntime) -> Result<(), Fail> {
     let blanks = (Blank::new(1), Blank::new(1), Blank::new(1024));
-    let passed = put_at_a_gate::<Brand, Brand, Brand, HostRuntime>(&rt, rt.alloc(), blanks, 1)?;
+    let passed = put_at_a_gate::<Brand, Brand, Brand, HostRuntime>(
+        &rt,
+        rt.alloc(),
+        blanks,
+        Step::Taken,
+    )?;
     assert!(rt; !passed.gave_up);
     assert_eq!(rt; passed.first, ended(273, 0));
     assert_eq!(rt; passed.numbers, (1, 0));
@@ -126,7 +128,12 @@ fn a_write_passes_a_rehash_at_step_1(rt: HostRuntime) -> Result<(), Fail> {
 #[test]
 fn a_write_passes_a_rehash_at_step_2(rt: HostRuntime) -> Result<(), Fail> {
     let blanks = (Blank::new(1), Blank::new(1), Blank::new(1024));
-    let passed = put_at_a_gate::<Brand, Brand, Brand, HostRuntime>(&rt, rt.alloc(), blanks, 2)?;
+    let passed = put_at_a_gate::<Brand, Brand, Brand, HostRuntime>(
+        &rt,
+        rt.alloc(),
+        blanks,
+        Step::Hashed,
+    )?;
     assert!(rt; !passed.gave_up);
     assert_eq!(rt; passed.numbers, (1, 0));
     assert_eq!(rt; passed.report, ended(3, 1));

@@ -1,5 +1,5 @@
-// A relay between a worker and a thread that answers it.
-use ring_node::gate::Gate;
+//! A relay between a worker and a thread that answers it.
+use ring_node::{Gate, Step};
 use std::sync::Wait;
 use std::sync::atomic::{AtomicU64, Ordering};
 use std::thread;
@@ -76,7 +76,7 @@ impl Relay {
 }
 
 impl Gate for Relay {
-    fn pass<R: Wait>(&self, _rt: &R, _step: u32) {
+    fn pass<R: Wait>(&self, _rt: &R, _step: Step) {
         self.hold();
     }
 }

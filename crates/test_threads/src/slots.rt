@@ -1,16 +1,15 @@
-// A shared controller of slots.
+//! A shared controller of slots.
 ghost use Rattle.std.specs.Prelude.{◌≡◌};
 
-use admission::controller::Controller;
-use admission::slot::Slot;
-use ring_node::controller::{Counts, SharedController};
+use admission::{Controller, Slot};
+use ring_node::{Counts, SharedController};
 use std::alloc::Global;
 use std::marker::Brand;
 use std::process::Abort;
 use std::sync::Wait;
 use std::sync::ledger::{Blank, Ledger};
 use std::test::Fail;
-use vclock::refusal::Refusal;
+use vclock::Refusal;
 
 /// Borrows a slot.
 fn borrow_one<L: Ledger, R: Wait>(

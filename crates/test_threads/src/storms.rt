@@ -1,12 +1,11 @@
-// Storms, and gates that have their threads meet.
+//! Storms, and gates that have their threads meet.
 
-use ring_node::gate::{Gate, OpenGate};
+use ring_node::{Gate, OpenGate, Step};
 use std::sync::Wait;
 use std::sync::atomic::{AtomicU64, Ordering};
 use std::test::Fail;
 use std::thread;
-use storm::storm::run_storm;
-use storm::tally::Tallies;
+use storm::{Tallies, run_storm};
 
 /// How often a thread looks whether it may go on.
 const MOST_LOOKS: u64 = 10_000_000;
@@ -47,17 +46,17 @@ impl Overlap {
 }
 
 impl Gate for Overlap {
-    fn pass<R: Wait>(&self, _rt: &R, step: u32) {
+    fn pass<R: Wait>(&self, _rt: &R, step: Step) {
         match step {
-            1 => {
+            Step::Taken => {
                 self.jobs.store(1, Ordering::SeqCst);
                 self.wait_for(&self.puts);
             }
-            3 => {
+            Step::Put => {
                 self.puts.store(1, Ordering::SeqCst);
                 self.wait_for(&self.jobs);
             }
-            _ => {}
+            Step::Hashed | Step::Round => {}
         }
     }
 }
@@ -144,20 +143,20 @@ impl<'a> Meeting<'a> {
 }
 
 impl<'a> Gate for Meeting<'a> {
-    fn pass<R: Wait>(&self, rt: &R, step: u32) {
+    fn pass<R: Wait>(&self, rt: &R, step: Step) {
         match step {
-            1 => {
+            Step::Taken => {
                 self.jobs.fetch_add(1, Ordering::SeqCst);
                 self.wait_for(&self.held, 2);
             }
-            3 => {
+            Step::Put => {
                 self.wait_for(&self.jobs, 2);
                 if self.is_time(rt) && !self.is_synced(rt) {
                     self.hold_writer(rt);
                 }
             }
-            4 => self.hold_syncer(rt),
-            _ => {}
+            Step::Round => self.hold_syncer(rt),
+            Step::Hashed => {}
         }
     }
 }

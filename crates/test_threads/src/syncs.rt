@@ -1,4 +1,4 @@
-// Sync workers whose partners answer truly.
+//! Sync workers whose partners answer truly.
 ghost use Rattle.std.specs.Prelude.{◌≡◌};
 
 use crate::nodes::Node;
@@ -6,23 +6,20 @@ use crate::partners::{
     expect_asked, expect_counts, expect_held, expect_report, pool_in, pool_of, snapshot_of,
     sync_over,
 };
-use range_state::config::RangeConfig;
-use ring_node::link::{Link, Reached};
-use ring_node::memory::MemoryLink;
-use ring_node::offers::OfferPool;
-use ring_node::syncer::SyncReport;
-use snapshot::snapshot::Snapshot;
+use range_state::RangeConfig;
+use ring_node::{Link, MemoryLink, OfferPool, Reached, SyncReport};
+use snapshot::Snapshot;
 use std::alloc::Global;
 use std::marker::Brand;
 use std::sync::ledger::{Blank, Ledger};
 use std::sync::{Arc, Wait};
 use std::test::Fail;
 use std::thread::Threads;
-use sync_session::state::SessionState;
+use sync_session::SessionState;
 use test_core::checks::expect;
 use test_core::versions::version;
-use vclock::refusal::Refusal;
-use version_set::kind::Kind;
+use vclock::Refusal;
+use version_set::Kind;
 
 /// The report of the first session of a range, if it knew no version and met no lie.
 pub(crate) fn finished(asked: u64, accepted: u64) -> SyncReport {

@@ -1,10 +1,10 @@
-// Eight threads that write and read one range.
+//! Eight threads that write and read one range.
 ghost use Rattle.std.specs.Prelude.{◌≡◌};
 
 use crate::fixtures::{counted, open_range, value};
-use caller_pass::pass::Pass;
-use range_journal::journal::Source;
-use ring_node::range::SharedRange;
+use caller_pass::Pass;
+use range_journal::Source;
+use ring_node::SharedRange;
 use std::alloc::Global;
 use std::marker::Brand;
 use std::process::Abort;
@@ -14,8 +14,8 @@ use std::test::Fail;
 use std::thread;
 use std::thread::Threads;
 use test_core::versions::version;
-use vclock::refusal::Refusal;
-use version_set::kind::Kind;
+use vclock::Refusal;
+use version_set::Kind;
 
 /// How often each thread puts its key and sends a copy of the common one.
 const ROUNDS: u32 = 100;

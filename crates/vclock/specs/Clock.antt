@@ -19,24 +19,24 @@ counter ((m, c) ∷ rest) n = if m == n then c else counter rest n
 abbrev pub IsAtMost : Pairs → Pairs → Type 0
 IsAtMost a b = (n : ℕ) → counter a n ≤ counter b n
 
--- the same as a test of each pair of a
+-- the test of IsAtMost by each pair of a
 abbrev pub at_most : Pairs → Pairs → Bool
 at_most [] b = true
 at_most ((m, c) ∷ rest) b = nat_le c (counter b m) && at_most rest b
 
--- how two clocks lie, where le says that the first is at most the second, and ge that the second is at most the first
+-- the order of two clocks: le says that the first is at most the second, ge that the second is at most the first
 abbrev pub order_of : Bool → Bool → ClockOrder
 order_of true true = Equal
 order_of true false = Before
 order_of false true = After
 order_of false false = Apart
 
--- nodes above low that rise, below 2^16, with counters of at least 1, below 2^64
+-- ascending nodes above low and below 2^16, with counters of at least 1 and below 2^64
 abbrev pub Rises : ℕ → Pairs → Type 0
 Rises low [] = Unit {0}
 Rises low ((m, c) ∷ rest) = (low < m) × (m < 2 ^ 16) × (0 < c) × (c < 2 ^ 64) × Rises m rest
 
--- at most 32 pairs, whose nodes rise from 1
+-- at most 32 pairs, with ascending nodes from 1
 pub record IsClock (ps : Pairs) : Type 0 where
   pub rising : Rises 0 ps
   pub short : length ps ≤ 32
@@ -50,28 +50,28 @@ with_counter ((m, c) ∷ rest) n d = if nat_lt m n then (m, c) ∷ with_counter 
 abbrev pub raised : Pairs → ℕ → Pairs
 raised ps n = with_counter ps n (counter ps n + 1)
 
--- why a node's counter cannot be raised
+-- the fault of raising a node's counter
 abbrev pub raise_fault : Pairs → ℕ → Option Refusal
 raise_fault ps n = if counter ps n == 0 && nat_le 32 (length ps) then Some ClockFull else if counter ps n == 18446744073709551615 then Some CounterFull else None
 
--- whether a pair has the node
+-- a pair has the node
 abbrev pub has_node : Pairs → ℕ → Bool
 has_node ps n = list_any (λ p. p.0 == n) ps
 
--- whether a pair is none of a clock: node 0 or above 65,535, or counter 0
+-- the pair cannot be in a clock: node 0 or above 65,535, or counter 0
 abbrev pub is_bad_pair : ℕ × ℕ → Bool
 is_bad_pair p = p.0 == 0 || nat_lt 65535 p.0 || p.1 == 0
 
--- whether some node comes twice
+-- some node is in two pairs
 abbrev pub has_repeat : Pairs → Bool
 has_repeat [] = false
 has_repeat (p ∷ rest) = has_node rest p.0 || has_repeat rest
 
--- whether some pair is none of a clock, or some node comes twice
+-- some pair cannot be in a clock, or some node is in two pairs
 abbrev pub is_bad : Pairs → Bool
 is_bad ps = list_any is_bad_pair ps || has_repeat ps
 
--- why pairs make no clock
+-- the fault of making a clock of pairs
 abbrev pub pairs_fault : Pairs → Option Refusal
 pairs_fault ps = if is_bad ps then Some BadClock else if nat_lt 32 (length ps) then Some ClockFull else None
 
@@ -80,11 +80,11 @@ abbrev pub clock_of : Pairs → Pairs
 clock_of [] = []
 clock_of ((m, c) ∷ rest) = with_counter (clock_of rest) m c
 
--- the map with the greater counter of each node in two
+-- the map with the greater of both counters for each node
 abbrev pub merged : Pairs → Pairs → Pairs
 merged a [] = a
 merged a ((m, c) ∷ rest) = with_counter (merged a rest) m (max c (counter a m))
 
--- why two clocks cannot be merged: they have over 32 nodes together
+-- the fault of merging two clocks: they have over 32 nodes together
 abbrev pub merge_fault : Pairs → Pairs → Option Refusal
 merge_fault a b = if nat_lt 32 (length a + length (filter (λ p. counter a p.0 == 0) b)) then Some ClockFull else None

@@ -1,9 +1,9 @@
--- What the two formats fix.
+-- Numbers of the two formats.
 use Rattle.std.specs.Prelude.{ℕ, ◌==◌, Option, Some, None, if◌then◌else◌}
 use Rattle.vclock.specs.declared.format.Format.{Format}
 use Rattle.vclock.specs.declared.format.Format.TheVariants.{One, Two}
 
--- how many bytes a value has at the most
+-- the maximum length of a value, in bytes
 abbrev pub value_limit : Format → ℕ
 value_limit One = 4096
 value_limit Two = 65536

@@ -2,6 +2,5 @@ pub mod Answer
 pub mod Bytes
 pub mod Clock
 pub mod Format
-pub mod Keys
 pub mod Outcome
 pub mod Refusal

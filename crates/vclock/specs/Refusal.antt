@@ -1,4 +1,4 @@
--- What a refusal is called, and its number.
+-- The numbers and names of refusals.
 use Rattle.std.specs.Prelude.{ℕ, List, codes}
 use Rattle.vclock.specs.declared.refusal.Refusal.{Refusal}
 use Rattle.vclock.specs.declared.refusal.Refusal.TheVariants.{BadClock, ClockFull, CounterFull, BadKey, BadValue, StaleContext, Crowded, JournalFull, OtherRange, Dirty, Stale, UnknownSession, NotAsked, WrongDigest, NotCanonical, OtherFormat, SessionsFull, NoSlot, ClockBack, UnknownHint, HintsFull, Gone, Behind, Unsettled, Stranger, LinkLost, BadRing, Down, BadLine, RowBroken, BadMessage, NoMemory}

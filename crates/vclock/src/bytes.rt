@@ -1,4 +1,4 @@
-//! Bytes that are kept: a key or a value.
+//! The bytes of a key or a value.
 ghost use Rattle.std.specs.Prelude.{◌≡◌, None, []};
 ghost use Rattle.vclock.specs.Answer.{Answers};
 
@@ -9,14 +9,15 @@ use std::fmt;
 use std::marker::Model;
 use std::sync::Arc;
 
-/// How many bytes are stored inline: most keys fit, so a search among rows touches no other memory.
+/// The maximum number of bytes stored inline. Most keys fit, so a search among rows reads no other memory.
 const SHORT_LEN: usize = 14;
 
-/// How many bytes a shared block has room for itself: it takes 64 bytes of memory with them, and many a value fits.
+/// The number of bytes stored in a shared block itself. With them the block takes 64 bytes of memory, and many values
+/// fit.
 const BLOCK_LEN: usize = 32;
 
-/// A list of bytes that never changes: a key or a value. Up to 14 bytes are stored inline. Longer ones lie in a block
-/// that all clones share, in any thread: a value that a row, a journal and a snapshot hold is there once.
+/// A list of bytes that never changes: a key or a value. Up to 14 bytes are stored inline. More bytes are stored in a
+/// block that all clones share, across threads: a value held by a row, a journal and a snapshot is in memory once.
 ///
 /// ```
 /// let bytes = Bytes::copy_of(alloc, &[0x78])?;
@@ -26,12 +27,12 @@ pub struct Bytes {
     kept: Kept,
 }
 
-/// Where the bytes lie.
+/// The place of the bytes.
 #[derive(Drop)]
 enum Kept {
-    /// The first so many of these.
+    /// Inline: the number of bytes, and the array that begins with them.
     Short(u8, [u8; SHORT_LEN]),
-    /// In a block of several owners.
+    /// In a block with several owners.
     Shared(Arc<SmallVec<u8, BLOCK_LEN>>),
 }
 
@@ -47,7 +48,7 @@ impl Model for Bytes {
 }
 
 impl Bytes {
-    /// No bytes.
+    /// Creates an empty list. Doesn't allocate.
     pub fn new() -> Bytes
         ensures { result ≡ [] }
     {
@@ -56,7 +57,7 @@ impl Bytes {
         }
     }
 
-    /// The bytes of a slice. Refused: NoMemory.
+    /// Copies the bytes of a slice. Refused: NoMemory.
     pub fn copy_of(alloc: Global, bytes: &[u8]) -> Result<Bytes, Refusal>
         ensures { Answers result None (λ copy. copy ≡ bytes.now) }
     {
@@ -70,7 +71,7 @@ impl Bytes {
         Ok(Bytes { kept })
     }
 
-    /// Equal bytes, which copies none of a block. Refused: NoMemory.
+    /// Returns equal bytes. A block is shared, not copied. Refused: NoMemory.
     pub fn try_clone(&self) -> Result<Bytes, Refusal>
         ensures { Answers result None (λ copy. copy ≡ self.now) }
     {
@@ -81,7 +82,7 @@ impl Bytes {
         Ok(Bytes { kept })
     }
 
-    /// The bytes in order.
+    /// Returns the bytes in order.
     pub fn as_slice(&self) -> &[u8]
         ensures { result.now ≡ self.now }
     {

@@ -4,40 +4,35 @@ ghost use Rattle.vclock.specs.Clock.{counter, at_most, IsAtMost, IsClock, Pairs,
 ghost use Rattle.std.specs.List.{list_any, filter};
 ghost use Rattle.vclock.specs.Answer.{Answers};
 
+use crate::limits::{NODE_MAX, PAIRS_MAX};
 use crate::refusal::Refusal;
 use smallvec::SmallVec;
 use std::alloc::{AllocError, Global};
 use std::marker::Model;
 
-/// How many pairs a clock has at the most.
-const MOST_PAIRS: usize = 32;
-
-/// How many pairs are stored inline: a clock of one node allocates nothing.
+/// The number of pairs stored inline: a clock of one node allocates nothing.
 const FEW_PAIRS: usize = 1;
 
-/// Pairs of node and counter, which lie inline while they are few.
+/// Pairs of node and counter. A single pair is stored inline.
 pub type ClockPairs = SmallVec<(u16, u64), FEW_PAIRS>;
 
-/// The greatest node number.
-const LAST_NODE: u64 = 65_535;
-
-/// How one clock compares with another. Versions whose clocks are `Apart` are concurrent: neither writer had seen the
-/// other's version, and a store keeps both.
+/// The order of two clocks. Versions whose clocks are `Apart` are concurrent: neither writer had seen the other's
+/// version, and a store keeps both.
 #[derive(Clone, Copy, Debug, PartialEq, Eq)]
 pub enum ClockOrder {
     /// Each counter is at most the other's, and the clocks differ.
     Before,
     /// Each counter is at least the other's, and the clocks differ.
     After,
-    /// The same counters.
+    /// All counters are equal.
     Equal,
-    /// Neither has seen all that the other has.
+    /// Each clock has a counter greater than the other's.
     Apart,
 }
 
 /// A vector clock (the paper of 2007, section 4.4): a finite map from nodes, 1 to 65,535, to counters, 1 to 2^64 - 1.
-/// An absent node has the counter 0. There are at most 32 pairs. A version carries the clock under which it was put,
-/// and a put hands in the clocks that its client has read as its context.
+/// An absent node has counter 0. There are at most 32 pairs. A version has the clock under which it was put; the
+/// context of a put is the clocks that its client has read.
 ///
 /// ```
 /// let clock = Clock::from_pairs(alloc, &[(2, 1), (1, 3)])?;
@@ -61,10 +56,10 @@ impl Model for Clock {
 }
 
 impl Clock {
-    /// The clock of pairs of node and counter, in any order.
+    /// Creates a clock from pairs of node and counter, in any order.
     ///
     /// Refused, in order: BadClock (node 0 or over 65,535, counter 0, or a node twice), ClockFull (over 32 pairs),
-    /// NoMemory. It takes time in proportion to the pairs.
+    /// NoMemory. Takes time in proportion to the number of pairs.
     pub fn from_pairs(alloc: Global, pairs: &[(u64, u64)]) -> Result<Clock, Refusal>
         ensures answers { Answers result (pairs_fault pairs.now) (λ c. c ≡ clock_of pairs.now) }
         ensures counters { IfOk result (λ c. (n : ℕ) → counter c n ≡ counter pairs.now n) }
@@ -72,7 +67,7 @@ impl Clock {
         if has_bad_pair(pairs) || has_repeat(pairs) {
             return Err(Refusal::BadClock);
         }
-        if pairs.len() > MOST_PAIRS {
+        if pairs.len() > PAIRS_MAX {
             return Err(Refusal::ClockFull);
         }
         let mut kept = SmallVec::with_capacity(alloc, pairs.len())?;
@@ -83,8 +78,8 @@ impl Clock {
         Ok(Clock { pairs: kept })
     }
 
-    /// The clock of pairs that are already in order: by rising node, each node once, at most 32 pairs. It takes no
-    /// memory.
+    /// Creates a clock from pairs that are already in order: by ascending node, each node once, at most 32 pairs.
+    /// Doesn't allocate.
     pub fn of_ascending(pairs: ClockPairs) -> Clock
         requires { IsClock pairs.items }
         ensures { result ≡ pairs.items }
@@ -92,7 +87,7 @@ impl Clock {
         Clock { pairs }
     }
 
-    /// The clock with the counter of a node, 1 to 65,535, raised by one.
+    /// Returns the clock with the counter of a node, 1 to 65,535, raised by one.
     ///
     /// Refused, in order: ClockFull (a 33rd pair), CounterFull (the counter is 2^64 - 1), NoMemory.
     pub fn raise(&self, alloc: Global, node: u16) -> Result<Clock, Refusal>
@@ -102,7 +97,7 @@ impl Clock {
         ensures others { IfOk result (λ c. (n : ℕ) → n ≢ node → counter c n ≡ counter self.now n) }
     {
         let counter = self.get(node);
-        if (counter == 0) & (self.pairs.len() >= MOST_PAIRS) {
+        if (counter == 0) & (self.pairs.len() >= PAIRS_MAX) {
             return Err(Refusal::ClockFull);
         }
         if counter == u64::MAX {
@@ -114,7 +109,7 @@ impl Clock {
         Ok(Clock { pairs: raised })
     }
 
-    /// The pairs of node and counter, by rising node.
+    /// Returns the pairs of node and counter, by ascending node.
     pub fn pairs(&self) -> &[(u16, u64)]
         ensures all { result.now ≡ self.now }
         ensures valid { IsClock self.now }
@@ -122,7 +117,7 @@ impl Clock {
         self.pairs.as_slice()
     }
 
-    /// The counter of a node: 0 if the node is absent.
+    /// Returns the counter of a node, or 0 if the node is absent.
     pub fn get(&self, node: u16) -> u64
         ensures { result ≡ counter self.now node }
     {
@@ -134,7 +129,7 @@ impl Clock {
         0
     }
 
-    /// An equal clock. Refused: NoMemory.
+    /// Returns an equal clock. Refused: NoMemory.
     pub fn try_clone(&self) -> Result<Clock, Refusal>
         ensures { Answers result None (λ copy. copy ≡ self.now) }
     {
@@ -142,8 +137,8 @@ impl Clock {
         Ok(Clock { pairs })
     }
 
-    /// The least clock that has seen what either has: for each node the greater of both counters. A client merges the
-    /// clocks of the versions that it has read into the context of its next put.
+    /// Returns the least clock that has seen all that either has: for each node, the greater of both counters. A client
+    /// merges the clocks of the versions it has read into the context of its next put.
     ///
     /// Refused, in order: ClockFull (over 32 pairs), NoMemory.
     pub fn merge(&self, alloc: Global, other: &Clock) -> Result<Clock, Refusal>
@@ -152,7 +147,7 @@ impl Clock {
     {
         let others = other.pairs.as_slice();
         let len = self.pairs.len() + self.count_absent(others);
-        if len > MOST_PAIRS {
+        if len > PAIRS_MAX {
             return Err(Refusal::ClockFull);
         }
         let mut merged = copy_with_room(alloc, self.pairs.as_slice(), len)?;
@@ -163,7 +158,7 @@ impl Clock {
         Ok(Clock { pairs: merged })
     }
 
-    // How many of the pairs have a node that is absent here.
+    /// Counts the pairs whose node is absent from this clock.
     fn count_absent(&self, pairs: &[(u16, u64)]) -> usize
         ensures count { result ≡ length (filter (λ p. counter self.now p.0 == 0) pairs.now) }
         ensures bound { result ≤ length pairs.now }
@@ -171,7 +166,7 @@ impl Clock {
         pairs.iter().filter(|pair| self.get(pair.0) == 0).count()
     }
 
-    /// How the clock compares with another, by the counters of all nodes.
+    /// Compares the clock with another, by the counters of all nodes.
     #[tactic(auto, using(crate::proofs::CompareRules::compare_rules))]
     pub fn compare(&self, other: &Clock) -> ClockOrder
         ensures order { result ≡ order_of (at_most self.now other.now) (at_most other.now self.now) }
@@ -195,7 +190,7 @@ impl Drop for Clock {
     }
 }
 
-// Whether each counter of the first is at most the second's, and the other way round.
+/// Returns whether each counter of `a` is at most `b`'s, and whether each counter of `b` is at most `a`'s.
 fn walk(a: &[(u16, u64)], b: &[(u16, u64)]) -> (bool, bool)
     requires first { Rises 0 a.now }
     requires second { Rises 0 b.now }
@@ -223,7 +218,7 @@ fn walk(a: &[(u16, u64)], b: &[(u16, u64)]) -> (bool, bool)
     (le & (i == a.len()), ge & (j == b.len()))
 }
 
-// The same pairs, with room for that many in all.
+/// Copies the pairs into a list with room for `len` pairs in all.
 fn copy_with_room(alloc: Global, pairs: &[(u16, u64)], len: usize) -> Result<ClockPairs, AllocError>
     ensures { IfOk result (λ copy. copy.items ≡ pairs.now) }
 {
@@ -232,7 +227,7 @@ fn copy_with_room(alloc: Global, pairs: &[(u16, u64)], len: usize) -> Result<Clo
     Ok(copy)
 }
 
-// Sets the counter of a node.
+/// Sets the counter of a node.
 fn put(pairs: &mut ClockPairs, node: u16, counter: u64) -> Result<(), AllocError>
     ensures ok { OnOk result (pairs.new.items ≡ with_counter pairs.old.items node counter) }
     ensures err { OnErr result (pairs.new.items ≡ pairs.old.items) }
@@ -249,27 +244,29 @@ fn put(pairs: &mut ClockPairs, node: u16, counter: u64) -> Result<(), AllocError
     Ok(())
 }
 
-// Whether some pair can't be in a clock.
+/// Returns true if some pair can't be in a clock.
 fn has_bad_pair(pairs: &[(u64, u64)]) -> bool
     ensures { result ≡ list_any is_bad_pair pairs.now }
 {
     pairs
         .iter()
-        .any(|pair| pair.0 == 0 || pair.0 > LAST_NODE || pair.1 == 0)
+        .any(|pair| pair.0 == 0 || pair.0 > NODE_MAX || pair.1 == 0)
 }
 
-// Whether some node comes twice. Few pairs are compared with one another; for more, a table records which nodes came.
+/// Returns true if some node is in two pairs. Few pairs are compared with one another; for more, a table records the
+/// nodes.
 fn has_repeat(pairs: &[(u64, u64)]) -> bool
     requires { list_any is_bad_pair pairs.now ≡ false }
     ensures { result ≡ has_repeat pairs.now }
 {
-    if pairs.len() <= MOST_PAIRS {
+    if pairs.len() <= PAIRS_MAX {
         return has_repeat_among_few(pairs);
     }
     let mut seen = [false; 65_536];
     has_repeat_by_table(pairs, &mut seen)
 }
 
+/// Returns true if some node is in two pairs, by comparing the pairs with one another.
 fn has_repeat_among_few(pairs: &[(u64, u64)]) -> bool
     ensures { result ≡ has_repeat pairs.now }
 {
@@ -281,13 +278,14 @@ fn has_repeat_among_few(pairs: &[(u64, u64)]) -> bool
     false
 }
 
+/// Returns true if some pair has the node.
 fn contains_node(pairs: &[(u64, u64)], node: u64) -> bool
     ensures { result ≡ has_node pairs.now node }
 {
     pairs.iter().any(|pair| pair.0 == node)
 }
 
-// The same by a table of the nodes that came, which is empty at first.
+/// Returns true if some node is in two pairs, by a table of the nodes seen, which is empty at first.
 fn has_repeat_by_table(pairs: &[(u64, u64)], seen: &mut [bool]) -> bool
     requires good { list_any is_bad_pair pairs.now ≡ false }
     requires empty { seen.old ≡ replicate 65536 false }

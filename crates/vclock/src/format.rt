@@ -1,12 +1,12 @@
 //! The two formats of rows, trees and messages.
 
-/// A format: what rows, trees and messages look like, and how long a value may be. Replicas of a range sync only if
-/// their formats are equal. A range of format 1 can be migrated to format 2, but not back.
+/// The format of rows, trees and messages, which also sets the maximum length of a value. Replicas of a range sync only
+/// if their formats are equal. A range of format 1 can be migrated to format 2, but not back.
 #[derive(Clone, Copy, Debug, PartialEq, Eq)]
 pub enum Format {
-    /// Live versions alone, and a tree of depth 2 with 256 leaves.
+    /// Live versions only, and a tree of depth 2 with 256 leaves.
     One,
-    /// Tombstones too, longer values, and a tree of depth 3 with 4,096 leaves.
+    /// Tombstones as well, longer values, and a tree of depth 3 with 4,096 leaves.
     Two,
 }
 
@@ -14,7 +14,8 @@ impl Format {
     ghost use Rattle.std.specs.Prelude.{◌≡◌};
     ghost use Rattle.vclock.specs.Format.{format_of, number_of, value_limit};
 
-    /// The format of a number, 1 or 2, as it stands in a ring's line and in an offer.
+    /// Returns the format with this number, 1 or 2, as written in a ring's line and in an offer; `None` for other
+    /// numbers.
     pub fn of_number(number: u64) -> Option<Format>
         ensures { result ≡ format_of number }
     {
@@ -25,7 +26,7 @@ impl Format {
         }
     }
 
-    /// The number of the format, 1 or 2.
+    /// Returns the number of the format, 1 or 2.
     pub fn number(self) -> u8
         ensures { result ≡ number_of self }
     {
@@ -35,7 +36,7 @@ impl Format {
         }
     }
 
-    /// How many bytes a value has at the most: 4,096, or 65,536 in format 2.
+    /// Returns the maximum length of a value, in bytes: 4,096, or 65,536 in format 2.
     pub fn value_limit(self) -> usize
         ensures { result ≡ value_limit self }
     {

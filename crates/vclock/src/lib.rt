@@ -1,8 +1,30 @@
-//! The words of the service: vector clocks, plain bytes, the two formats, and why a call is refused.
+//! Vector clocks (the paper of 2007, section 4.4) and the basic types that all other crates share: keys and values, the
+//! two formats and the one error type. Use it to make, raise, merge and compare clocks, and to read why a call was
+//! refused.
+//!
+//! - [`clock`]: clocks and their order.
+//! - [`bytes`], [`key`]: the bytes of a key or a value, and the check of a key.
+//! - [`format`]: the two formats.
+//! - [`limits`]: the limits of the service.
+//! - [`refusal`]: the causes of a refusal.
+//!
+//! ```
+//! let clock = Clock::from_pairs(alloc, &[(2, 1), (1, 3)])?;
+//! let raised = clock.raise(alloc, 2)?;
+//! assert_eq!(rt; raised.pairs(), [(1, 3), (2, 2)].as_slice());
+//! assert_eq!(rt; clock.compare(&raised), ClockOrder::Before);
+//! ```
 #![tactic(auto)]
 
 pub mod bytes;
 pub mod clock;
 pub mod format;
 pub mod key;
+pub mod limits;
 pub mod refusal;
+
+pub use bytes::Bytes;
+pub use clock::{Clock, ClockOrder, ClockPairs};
+pub use format::Format;
+pub use key::check_key;
+pub use refusal::{Clocks, PassPart, Refusal};

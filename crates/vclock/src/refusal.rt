@@ -1,4 +1,4 @@
-//! Why a call was refused.
+//! The causes of a refusal.
 ghost use Rattle.std.specs.Prelude.{◌≡◌, [], ◌∷◌, ◌++◌, OnOk, OnErr};
 
 use crate::clock::Clock;
@@ -23,7 +23,7 @@ impl Model for Clocks {
 }
 
 impl Clocks {
-    /// A list of no clock. It takes no memory.
+    /// Creates an empty list. Doesn't allocate.
     pub fn new(alloc: Global) -> Clocks
         ensures { result ≡ [] }
     {
@@ -32,7 +32,7 @@ impl Clocks {
         }
     }
 
-    /// Adds a clock at the end.
+    /// Adds a clock at the end. On error the list is unchanged.
     pub fn push(&mut self, clock: Clock) -> Result<(), AllocError>
         ensures ok { OnOk result (self.new ≡ self.old ++ clock ∷ []) }
         ensures err { OnErr result (self.new ≡ self.old) }
@@ -41,7 +41,7 @@ impl Clocks {
         Ok(())
     }
 
-    /// The clocks in order.
+    /// Returns the clocks in order.
     pub fn as_slice(&self) -> &[Clock]
         ensures { result.now ≡ self.now }
     {
@@ -49,21 +49,22 @@ impl Clocks {
     }
 }
 
-/// Which part of a caller's pass differs from the journal, in [`Refusal::Unsettled`].
+/// The part of a caller's pass that differs from the journal, in [`Refusal::Unsettled`].
 #[derive(Clone, Copy, Debug, PartialEq, Eq)]
 pub enum PassPart {
-    /// What the caller was told that the journal has.
+    /// A receipt: an entry of the journal that was reported to the caller.
     Receipt,
-    /// What the caller was told that a key holds.
+    /// A reading: a set of versions that was reported to the caller for a key.
     Reading,
 }
 
-/// Why a call was refused, in the order of the numbers that scripts print, 1 to 32. It is the one error type of all
-/// crates, so a caller passes it on by `?`. docs/EMBEDDING.md has what each asks of the caller.
+/// The cause of a refusal, in the order of the numbers that scripts print, 1 to 32. It is the one error type of all
+/// crates, so a caller passes it on by `?`. docs/FORMATS.md lists the causes and what to do about each.
 ///
-/// A call tests its causes in the order that its own page lists, returns the first that is present, and leaves its value
-/// as it was, with three exceptions that docs/FORMATS.md names: a session that refuses a text as `NotCanonical` has failed,
-/// and a rehash or a whole sync that runs out of memory keeps what it has done so far.
+/// A call tests its causes in the order listed in its doc comment, returns the first that is present, and leaves its
+/// value unchanged, with four exceptions: a session that refuses a text as `NotCanonical` has failed; a rehash or a
+/// whole sync that runs out of memory keeps the work done so far; and a `reconcile` that is refused part of the way
+/// cancels that session and keeps the versions it accepted.
 ///
 /// ```
 /// let full = Clock::from_pairs(alloc, &pairs)?;
@@ -71,7 +72,7 @@ pub enum PassPart {
 /// ```
 #[derive(Debug, Drop)]
 pub enum Refusal {
-    /// A pair has node 0, a node over 65,535 or counter 0, or a node comes twice.
+    /// A pair has node 0, a node over 65,535 or counter 0, or a node is in two pairs.
     BadClock,
     /// The clock would have more than 32 pairs.
     ClockFull,
@@ -81,80 +82,81 @@ pub enum Refusal {
     BadKey,
     /// The value is too long for the format, a tombstone has a value, or the format has no tombstones.
     BadValue,
-    /// Some held version has seen the put's clock: the clocks that are held, in the order of the set.
+    /// Some held version has seen the put's clock. Contains the clocks that the key holds, in the order of its set.
     StaleContext(Clocks),
     /// A key's set would have over 64 versions.
     Crowded,
     /// The entries would not fit the journal's limit.
     JournalFull,
-    /// The key, offer or command is of a range that is not held here.
+    /// The key, offer or command belongs to a range that isn't held here.
     OtherRange,
     /// Some node of the tree has no digest.
     Dirty,
-    /// The node is not in the tree, a child of it is dirty, or its text differs now.
+    /// The node isn't in the tree, a child of it is dirty, or its text has changed since.
     Stale,
     /// No record has this id.
     UnknownSession,
-    /// The node is not outstanding.
+    /// The node isn't outstanding.
     NotAsked,
-    /// The text's digest is not the expected one.
+    /// The text's digest isn't the expected one.
     WrongDigest,
-    /// The digest is right, and the text is no node text of that node.
+    /// The digest is right, but the text isn't a text of that node.
     NotCanonical,
-    /// The offer's format is not the range's.
+    /// The offer's format differs from the range's.
     OtherFormat,
     /// There are 64 open sessions or 1,024 records, or the last offer number was used.
     SessionsFull,
     /// No slot is free.
     NoSlot,
-    /// A moment before the greatest accepted one.
+    /// The moment is before the greatest accepted one.
     ClockBack,
-    /// No pending hint has this id with this owner, key and version.
+    /// No pending hint has this id together with this owner, key and version.
     UnknownHint,
     /// 10,000 hints are pending, or the last id was used.
     HintsFull,
     /// The pool has no such offer.
     Gone,
-    /// The journal is shorter than what the caller saw, or a receipt of the caller is not covered.
+    /// The journal is shorter than the caller saw, or a receipt of the caller isn't covered.
     Behind {
-        /// The length of the journal that the caller saw.
+        /// The length of the journal when the caller saw it.
         seen: u64,
         /// The length of the journal now.
         held: u64,
-        /// The number of the receipt that is not covered.
+        /// The number of the receipt that isn't covered.
         missing: Option<u64>,
     },
-    /// A caller's pass and the journal differ: the first difference.
+    /// A caller's pass and the journal differ. Contains the first difference.
     Unsettled {
         /// The seat of the pass.
         seat: u16,
-        /// Whether a receipt or a reading differs.
+        /// The part that differs: a receipt or a reading.
         part: PassPart,
-        /// Which of them, from 0.
+        /// The index of the receipt or reading, from 0.
         place: u64,
     },
-    /// A seat is missing at the close, or the owner of a hint is not the range's node.
+    /// A seat is missing at the close, or the owner of a hint isn't the range's node.
     Stranger,
     /// The link failed in this call.
     LinkLost,
-    /// The ring or the journal's limit is outside the limits, a node comes twice, or a named node is not on the ring.
+    /// The ring or the journal's limit is outside the limits, a node is listed twice, or a named node isn't on the
+    /// ring.
     BadRing,
     /// A named node is down.
     Down,
-    /// A script line is no command.
+    /// A script line isn't a command.
     BadLine,
-    /// A row's text is broken: the offset of the first byte of the field that is wrong.
+    /// The text of a row is broken. Contains the offset of the first byte of the wrong field.
     RowBroken(u64),
-    /// The bytes are no message, the message is of the wrong kind, or the tree has no such node.
+    /// The bytes aren't a message, the message is of the wrong kind, or the tree has no such node.
     BadMessage,
-    /// A growth was refused.
+    /// A request for memory was refused.
     NoMemory,
 }
 
 impl Refusal {
     ghost use Rattle.vclock.specs.Refusal.{number_of, name_of};
 
-    /// The number that scripts print, 1 to 32.
+    /// Returns the number that scripts print, 1 to 32.
     pub fn number(&self) -> u64
         ensures { result ≡ number_of self.now }
     {
@@ -194,7 +196,7 @@ impl Refusal {
         }
     }
 
-    /// The name that scripts print.
+    /// Returns the name that scripts print.
     pub fn name(&self) -> &'static str
         ensures { result.now ≡ name_of self.now }
     {

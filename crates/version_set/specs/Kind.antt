@@ -8,12 +8,13 @@ use Rattle.vclock.specs.declared.refusal.Refusal.TheVariants.{BadValue}
 use Rattle.version_set.specs.declared.kind.Kind.{Kind}
 use Rattle.version_set.specs.declared.kind.Kind.TheVariants.{Live, Tombstone}
 
--- the byte that stands for a kind in texts
+-- the byte that represents a kind in texts
 abbrev pub kind_byte : Kind → ℕ
 kind_byte Live = 0
 kind_byte Tombstone = 1
 
--- why a version of that kind cannot have the value: it is too long; format 1 has no tombstones, and in format 2 theirs is empty
+-- the fault of a version with this kind and value: the value is too long; format 1 has no tombstones; in format 2 the
+-- value of a tombstone is empty
 abbrev pub value_fault : Format → Kind → List ℕ → Option Refusal
 value_fault format Live value = if nat_lt (value_limit format) (length value) then Some BadValue else None
 value_fault One Tombstone value = Some BadValue

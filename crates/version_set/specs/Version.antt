@@ -20,7 +20,7 @@ use Rattle.version_set.specs.declared.version.Version.{Version}
 abbrev pub is_below : Version → Version → Bool
 is_below v w = at_most v.clock w.clock && not (at_most w.clock v.clock)
 
--- the same in terms of all nodes: each counter of v is at most w's, and the clocks differ
+-- each counter of v is at most w's, and the clocks differ
 pub record IsBelow (v w : Version) : Type 0 where
   pub at_most : IsAtMost v.clock w.clock
   pub differ : v.clock ≢ w.clock
@@ -33,14 +33,14 @@ IsCovered v S = Any (λ w. (v ≡ w) ⊎ IsBelow v w) S
 abbrev pub pair_cmp : ℕ × ℕ → ℕ × ℕ → Ordering
 pair_cmp p q = ordering_then (nat_cmp p.0 q.0) (nat_cmp p.1 q.1)
 
--- the order of the texts: kind, number of pairs, pairs, length of the value, value
+-- the order of texts: kind, number of pairs, pairs, length of the value, value
 abbrev pub version_cmp : Version → Version → Ordering
 version_cmp v w = ordering_then (ordering_then (ordering_then (ordering_then (nat_cmp (kind_byte v.kind) (kind_byte w.kind)) (nat_cmp (length v.clock) (length w.clock))) (slice_cmp pair_cmp v.clock w.clock)) (nat_cmp (length v.value) (length w.value))) (slice_cmp nat_cmp v.value w.value)
 
 abbrev pub is_same : Version → Version → Bool
 is_same v w = is_eq (version_cmp v w)
 
--- whether the version is in the set or below a member
+-- the version is in the set or below a member
 abbrev pub covered : Version → List Version → Bool
 covered v S = list_any (λ w. is_same v w || is_below v w) S
 
@@ -48,11 +48,11 @@ covered v S = list_any (λ w. is_same v w || is_below v w) S
 abbrev pub maximal : List Version → List Version
 maximal S = filter (λ v. not (list_any (is_below v) S)) S
 
--- the set with a version in its place
+-- the set and a version in its place
 abbrev pub with_version : Version → List Version → List Version
 with_version v S = inserted version_cmp v S
 
--- the set after a version was offered: as it was where the version is covered, else the maximal members of the set with it
+-- the set after an offer: unchanged if it covers the version, otherwise the maximal members of the set with the version
 abbrev pub offered : Version → List Version → List Version
 offered v S = if covered v S then S else maximal (with_version v S)
 
@@ -74,7 +74,7 @@ pub record IsVersionSet (S : List Version) : Type 0 where
   pub short : length S ≤ 64
   pub valid : AllByRecursion (λ v. IsClock v.clock) S
 
--- why a version cannot be offered: the set would have more than 64
+-- the fault of an offer: the set would have more than 64 members
 abbrev pub offer_fault : Version → List Version → Option Refusal
 offer_fault v S = if covered v S then None else if nat_lt 64 (length (maximal (with_version v S))) then Some Crowded else None
 
@@ -87,7 +87,8 @@ set_from S (v ∷ vs) = set_from (with_version v S) vs
 abbrev pub pair_text : ℕ × ℕ → List ℕ
 pair_text p = to_be_bytes w16 p.0 ++ to_be_bytes w64 p.1
 
--- the text of a version but for its kind: how many pairs, the pairs, the length of the value in four bytes, the value
+-- the text of a version without its kind: the number of pairs, the pairs, the length of the value in four bytes, the
+-- value
 abbrev pub plain_text : Version → List ℕ
 plain_text v = length v.clock ∷ (flat_map pair_text v.clock ++ (to_be_bytes w32 (length v.value) ++ v.value))
 
@@ -96,11 +97,11 @@ abbrev pub version_text : Format → Version → List ℕ
 version_text One v = plain_text v
 version_text Two v = kind_byte v.kind ∷ plain_text v
 
--- how the texts of two versions compare, byte by byte
+-- the order of the texts of two versions, byte by byte
 abbrev pub text_cmp : Format → Version → Version → Ordering
 text_cmp format v w = slice_cmp nat_cmp (version_text format v) (version_text format w)
 
--- what has a text: the clock is one, and the length of the value fits its field
+-- a version that has a text: its clock is valid, and the length of its value fits its field
 pub record HasText (v : Version) : Type 0 where
   pub clock : IsClock v.clock
   pub value : length v.value < 2 ^ 32

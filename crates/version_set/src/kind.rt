@@ -3,20 +3,19 @@ ghost use Rattle.std.specs.Prelude.{◌≡◌, ⊤};
 ghost use Rattle.vclock.specs.Answer.{AnswersAtOnce};
 ghost use Rattle.version_set.specs.Kind.{kind_byte, value_fault};
 
-use vclock::format::Format;
-use vclock::refusal::Refusal;
+use vclock::{Format, Refusal};
 
-/// Whether a version has a value or deletes the key.
+/// The kind of a version: it has a value or deletes the key.
 #[derive(Clone, Copy, Debug, PartialEq, Eq)]
 pub enum Kind {
     /// A value that was put.
     Live,
-    /// The key was deleted: the value is empty. Format 1 has no tombstones.
+    /// A deletion of the key: the value is empty. Format 1 has no tombstones.
     Tombstone,
 }
 
 impl Kind {
-    /// The byte that stands for the kind in texts: 0 for a live version, 1 for a tombstone.
+    /// Returns the byte that represents the kind in texts: 0 for a live version, 1 for a tombstone.
     pub fn byte(self) -> u8
         ensures { result ≡ kind_byte self }
     {
@@ -26,8 +25,8 @@ impl Kind {
         }
     }
 
-    /// Whether a version of this kind may have the value: a live one up to the format's limit, a tombstone of
-    /// format 2 the empty one. Refused: BadValue.
+    /// Checks that a version of this kind may have the value: up to the format's limit if it is live; the empty value
+    /// if it is a tombstone of format 2. Refused: BadValue.
     pub fn check_value(self, format: Format, value: &[u8]) -> Result<(), Refusal>
         ensures { AnswersAtOnce result (value_fault format self value.now) (λ _. ⊤) }
     {

@@ -11,25 +11,21 @@ use std::alloc::{AllocError, Global};
 use std::cmp::Ordering;
 use std::marker::Model;
 use std::slice::Iter;
-use vclock::clock::ClockOrder;
-use vclock::format::Format;
-use vclock::refusal::{Clocks, Refusal};
+use vclock::limits::VERSIONS_MAX;
+use vclock::{ClockOrder, Clocks, Format, Refusal};
 
-/// How many versions a set has at the most.
-const MOST_VERSIONS: usize = 64;
-
-/// What became of an offered version: whether it was new to the set.
+/// The outcome of offering a version: new to the set, or known.
 #[derive(Clone, Copy, Debug, PartialEq, Eq)]
 pub enum Offered {
     /// The version is a member now.
     Added,
-    /// The version was a member or below one: the set is as it was.
+    /// The version was a member or below one: the set is unchanged.
     Known,
 }
 
 /// The maximal versions of those that were offered: no member is below another. More than one member means that writers
 /// were concurrent, and a client resolves them by a put whose context has all their clocks. There are at most 64
-/// members, in ascending order of their texts, so equal sets look alike on each replica.
+/// members, in ascending order of their texts, so equal sets look alike on all replicas. On error a set is unchanged.
 ///
 /// ```
 /// let mut set = VersionSet::empty(alloc);
@@ -58,7 +54,7 @@ impl Model for VersionSet {
 }
 
 impl VersionSet {
-    /// The set with no member. It takes no memory.
+    /// Creates an empty set. Doesn't allocate.
     pub fn empty(alloc: Global) -> VersionSet
         ensures { result ≡ [] }
     {
@@ -67,8 +63,8 @@ impl VersionSet {
         }
     }
 
-    /// The set of versions that already form one: in ascending order of their texts, no version below another, at most
-    /// 64. It takes no memory.
+    /// Creates a set from versions that already form one: in ascending order of their texts, no version below another,
+    /// at most 64. Doesn't allocate.
     pub fn of_ascending(members: Vec<Version>) -> VersionSet
         requires { IsVersionSet members.items }
         ensures { result ≡ members.items }
@@ -76,7 +72,7 @@ impl VersionSet {
         VersionSet { versions: members }
     }
 
-    /// The members, in ascending order of their texts. No member is below another.
+    /// Returns an iterator over the members, in ascending order of their texts. No member is below another.
     pub fn iter(&self) -> Iter<'_, Version>
         ensures all { iter_rest result ≡ self.now }
         ensures valid { IsVersionSet self.now }
@@ -88,7 +84,7 @@ impl VersionSet {
         self.versions.iter()
     }
 
-    /// The members in the same order, as a slice.
+    /// Returns the members as a slice, in ascending order of their texts.
     pub fn as_slice(&self) -> &[Version]
         ensures all { result.now ≡ self.now }
         ensures valid { IsVersionSet self.now }
@@ -96,21 +92,21 @@ impl VersionSet {
         self.versions.as_slice()
     }
 
-    /// How many members there are, at most 64.
+    /// Returns the number of members, at most 64.
     pub fn len(&self) -> usize
         ensures { result ≡ length self.now }
     {
         self.versions.len()
     }
 
-    /// Whether there is no member.
+    /// Returns true if the set is empty.
     pub fn is_empty(&self) -> bool
         ensures { IsTrue result ↔ (self.now ≡ []) }
     {
         self.versions.is_empty()
     }
 
-    /// An equal set. Refused: NoMemory.
+    /// Returns an equal set. Refused: NoMemory.
     pub fn try_clone(&self, alloc: Global) -> Result<VersionSet, Refusal>
         ensures { Answers result None (λ copy. copy ≡ self.now) }
     {
@@ -121,7 +117,7 @@ impl VersionSet {
         Ok(VersionSet { versions })
     }
 
-    /// The clocks of the members, in order: one for each member. Refused: NoMemory.
+    /// Returns the clocks of the members, one for each, in the order of the members. Refused: NoMemory.
     pub fn clocks(&self, alloc: Global) -> Result<Clocks, Refusal>
         ensures { Answers result None (λ clocks. clocks ≡ map (λ v. v.clock) self.now) }
     {
@@ -132,40 +128,40 @@ impl VersionSet {
         Ok(clocks)
     }
 
-    /// Whether both sets have the same members.
+    /// Returns true if both sets have equal members.
     pub fn same(&self, other: &VersionSet) -> bool
         ensures { IsTrue result ↔ (self.now ≡ other.now) }
     {
         are_same(&self.versions, &other.versions)
     }
 
-    /// Whether the version is a member or below one.
+    /// Returns true if the version is a member or below one.
     pub fn covers(&self, version: &Version) -> bool
         ensures test { result ≡ covered version.now self.now }
         ensures fact { IsTrue result ↔ IsCovered version.now self.now }
     {
-        // The call brings the prover the fact that the version's clock is one.
+        // The call gives the prover the fact that the version's clock is valid.
         let _valid = version.clock.pairs();
         is_covered(&self.versions, version)
     }
 
-    /// Whether an offer of the version is refused as Crowded: the set would have over 64 members.
+    /// Returns true if an offer of the version is refused as Crowded: the set would have over 64 members.
     pub fn crowds(&self, version: &Version) -> bool
         ensures { offer_fault version.now self.now ≡ (if result then Some Refusal.Crowded else None) }
     {
         // Most sets have so few members that there is room for any version.
-        if self.versions.len() < MOST_VERSIONS {
+        if self.versions.len() < VERSIONS_MAX {
             return false;
         }
         if is_covered(&self.versions, version) {
             return false;
         }
-        count_kept(&self.versions, version) >= MOST_VERSIONS
+        count_kept(&self.versions, version) >= VERSIONS_MAX
     }
 
-    /// Takes a version into the set, unless it is covered: then the members below it leave.
+    /// Adds a version to the set and removes the members below it, unless the set covers the version.
     ///
-    /// Refused, in order: Crowded (the set would have over 64 members), NoMemory. The set is then as it was.
+    /// Refused, in order: Crowded (the set would have over 64 members), NoMemory.
     pub fn offer(&mut self, version: Version) -> Result<Offered, Refusal>
         ensures answers { Answers result (offer_fault version self.old) (λ offered. (offered ≡ Offered.Known) ↔ IsTrue (covered version self.old)) }
         ensures set { OnOk result (self.new ≡ offered version self.old) }
@@ -177,7 +173,7 @@ impl VersionSet {
             return Ok(Offered::Known);
         }
         let kept = count_kept(&self.versions, &version);
-        if kept >= MOST_VERSIONS {
+        if kept >= VERSIONS_MAX {
             return Err(Refusal::Crowded);
         }
         make_room(&mut self.versions, kept)?;
@@ -187,7 +183,7 @@ impl VersionSet {
     }
 }
 
-// Whether two lists have equal versions, in the same order.
+/// Returns true if two lists have equal versions, in equal order.
 fn are_same(versions: &[Version], others: &[Version]) -> bool
     ensures { IsTrue result ↔ (versions.now ≡ others.now) }
 {
@@ -202,13 +198,14 @@ fn are_same(versions: &[Version], others: &[Version]) -> bool
     true
 }
 
+/// Returns true if a version is one of `versions` or below one.
 fn is_covered(versions: &[Version], version: &Version) -> bool
     ensures { result ≡ covered version.now versions.now }
 {
     versions.iter().any(|held| is_covered_by(version, held))
 }
 
-// Whether a version is the held one or below it.
+/// Returns true if a version equals the held one or is below it.
 fn is_covered_by(version: &Version, held: &Version) -> bool
     ensures { result ≡ (is_same version.now held.now || is_below version.now held.now) }
 {
@@ -219,7 +216,7 @@ fn is_covered_by(version: &Version, held: &Version) -> bool
     }
 }
 
-// How many are not below the version.
+/// Counts the versions that aren't below `version`.
 fn count_kept(versions: &[Version], version: &Version) -> usize
     ensures count { result ≡ length (filter (λ w. not (is_below w version.now)) versions.now) }
     ensures bound { result ≤ length versions.now }
@@ -230,7 +227,7 @@ fn count_kept(versions: &[Version], version: &Version) -> usize
         .count()
 }
 
-// Makes room for one more version, and no more than that: most sets have one version.
+/// Reserves room for exactly one more version if all versions are kept: most sets have one version.
 fn make_room(versions: &mut Vec<Version>, kept: usize) -> Result<(), AllocError>
     requires { kept ≤ length versions.old.items }
     ensures items { versions.new.items ≡ versions.old.items }
@@ -242,7 +239,7 @@ fn make_room(versions: &mut Vec<Version>, kept: usize) -> Result<(), AllocError>
     Ok(())
 }
 
-// Keeps those that are not below the version.
+/// Keeps the versions that aren't below `version`.
 fn drop_below(versions: &mut Vec<Version>, version: &Version)
     ensures kept { versions.new.items ≡ filter (λ w. not (is_below w version.now)) versions.old.items }
     ensures room { vec_capacity versions.new ≡ vec_capacity versions.old }
@@ -251,7 +248,7 @@ fn drop_below(versions: &mut Vec<Version>, version: &Version)
     versions.retain(|held| !held.is_below(version));
 }
 
-// Puts a version into its place. No member has its text.
+/// Inserts a version in the order of texts, unless an equal one is there.
 fn insert(versions: &mut Vec<Version>, version: Version)
     requires { vec_len versions.old < vec_capacity versions.old }
     ensures { versions.new.items ≡ with_version version versions.old.items }

@@ -5,10 +5,7 @@ ghost use Rattle.version_set.specs.Version.{is_below, IsBelow, version_cmp, text
 
 use crate::kind::Kind;
 use std::cmp::Ordering;
-use vclock::bytes::Bytes;
-use vclock::clock::{Clock, ClockOrder};
-use vclock::format::Format;
-use vclock::refusal::Refusal;
+use vclock::{Bytes, Clock, ClockOrder, Format, Refusal};
 
 /// A value or a tombstone, with the clock under which it was put. One version is below another if its clock is before
 /// the other's: the other writer had seen it. Equal clocks with different values are two versions, and both are kept.
@@ -22,16 +19,16 @@ use vclock::refusal::Refusal;
 /// ```
 #[derive(Debug, Drop)]
 pub struct Version {
-    /// What the version has seen.
+    /// The clock: all puts that the version has seen.
     pub clock: Clock,
-    /// Whether there is a value.
+    /// The kind: a value or a tombstone.
     pub kind: Kind,
     /// The value, which is empty for a tombstone.
     pub value: Bytes,
 }
 
 impl Version {
-    /// An equal version. Refused: NoMemory.
+    /// Returns an equal version. Refused: NoMemory.
     pub fn try_clone(&self) -> Result<Version, Refusal>
         ensures { Answers result None (λ copy. copy ≡ self.now) }
     {
@@ -42,19 +39,19 @@ impl Version {
         })
     }
 
-    /// Whether both versions are equal: clock, kind and value.
+    /// Returns true if both versions have equal clocks, kinds and values.
     pub fn same(&self, other: &Version) -> bool
         ensures { IsTrue result ↔ (self.now ≡ other.now) }
     {
         self.text_order(other).is_eq()
     }
 
-    /// Whether the other's clock is later: each counter is at most the other's, and the clocks differ.
+    /// Returns true if the other's clock is later: each counter is at most the other's, and the clocks differ.
     pub fn is_below(&self, other: &Version) -> bool
         ensures test { result ≡ is_below self.now other.now }
         ensures fact { IsTrue result ↔ IsBelow self.now other.now }
     {
-        // The calls bring the prover the fact that both clocks are clocks.
+        // The calls give the prover the fact that both clocks are valid.
         let _valid = self.clock.pairs();
         let _other_valid = other.clock.pairs();
         match self.clock.compare(&other.clock) {
@@ -63,8 +60,8 @@ impl Version {
         }
     }
 
-    /// How the texts of two versions lie: the kind, the number of pairs, the pairs, the length of the value, the
-    /// value. For live versions that is the order of format 1's texts too, which have no kind.
+    /// Compares the texts of two versions: the kind, the number of pairs, the pairs, the length of the value, the
+    /// value. For live versions that is also the order of the texts in format 1, which have no kind.
     pub fn text_order(&self, other: &Version) -> Ordering
         ensures fields { result ≡ version_cmp self.now other.now }
         ensures text { HasText self.now → HasText other.now → result ≡ text_cmp Format.Two self.now other.now }

@@ -18,13 +18,15 @@ message_text (messages.Offer o) = 1 ∷ to_be_bytes w32 o.offer ++ o.format ∷ 
 message_text (messages.Ask a) = 2 ∷ to_be_bytes w32 a.offer ++ node_text a.node
 message_text (messages.Answer a) = 3 ∷ to_be_bytes w32 a.offer ++ node_text a.node ++ to_be_bytes w64 (length a.text) ++ a.text
 
--- a message whose offer number and digest have their widths; the format and the range of an offer are bytes by their types
+-- a message whose offer number and digest have their widths; the format and the range of an offer are bytes by their
+-- types
 abbrev pub IsMessage : Message → Type 0
 IsMessage (messages.Offer o) = (o.offer < 2 ^ 32) × (length o.root ≡ 32)
 IsMessage (messages.Ask a) = a.offer < 2 ^ 32
 IsMessage (messages.Answer a) = a.offer < 2 ^ 32
 
--- What decoding answers: the message with these bytes; BadMessage where there is none; NoMemory only where it is an answer.
+-- The result of decoding: the message with these bytes; BadMessage if no message has them; NoMemory only if an answer
+-- has them.
 abbrev pub Decodes : List ℕ → Result Message Refusal → Type 0
 Decodes bytes (Ok m) = IsMessage m × (message_text m ≡ bytes)
 Decodes bytes (Err refusals.BadMessage) = (m : Message) → IsMessage m → message_text m ≡ bytes → ⊥

@@ -1,4 +1,4 @@
-// The fields that messages are made of, read from the left.
+//! The fields of messages, read from the left.
 ghost use Rattle.std.specs.Prelude.{◌≡◌, ◌<◌, ℕ, List, ◌∷◌, ◌++◌, length, MatchOption};
 ghost use Rattle.std.specs.Int.{w32, w64, to_be_bytes};
 ghost use Rattle.hash_tree.specs.declared.node.NodeAt.{NodeAt};
@@ -9,10 +9,9 @@ ghost use Rattle.walk_messages.specs.declared.message.Message.TheVariants as mes
 ghost use Rattle.walk_messages.specs.Messages.{node_text, message_text, IsMessage};
 
 use crate::message::{Ask, Offer};
-use hash_tree::hashed::Digest;
-use hash_tree::node::NodeAt;
+use hash_tree::{Digest, NodeAt};
 
-/// The number of an offer, and what follows it: `None` if there are fewer than four bytes.
+/// Returns the number of an offer and the bytes after it, or `None` if there are fewer than four bytes.
 fn offer_number_at(bytes: &[u8]) -> Option<(u32, &[u8])>
     ensures { MatchOption result (length bytes.now < 4) (λ x. bytes.now ≡ to_be_bytes w32 x.0 ++ x.1.now) }
 {
@@ -20,7 +19,7 @@ fn offer_number_at(bytes: &[u8]) -> Option<(u32, &[u8])>
     Some((u32::from_be_bytes(*number), rest))
 }
 
-/// A node, and what follows it: `None` if the bytes begin with no node.
+/// Returns a node and the bytes after it, or `None` if the bytes don't begin with a node.
 fn node_at(bytes: &[u8]) -> Option<(NodeAt, &[u8])>
     ensures { MatchOption result ((n : NodeAt) (rest : List ℕ) → bytes.now ≡ node_text n ++ rest → ⊥) (λ x. bytes.now ≡ node_text x.0 ++ x.1.now) }
 {
@@ -29,8 +28,8 @@ fn node_at(bytes: &[u8]) -> Option<(NodeAt, &[u8])>
     Some((node, rest))
 }
 
-/// The number of an offer and a node, with which an ask and an answer begin, and what follows them: `None` if the bytes
-/// do not begin so.
+/// Returns the number of an offer and a node, with which an ask and an answer begin, and the bytes after them, or
+/// `None` if the bytes don't begin with these.
 fn head_at(bytes: &[u8]) -> Option<(Ask, &[u8])>
     ensures { MatchOption result ((a : Ask) (rest : List ℕ) → bytes.now ≡ to_be_bytes w32 a.offer ++ node_text a.node ++ rest → ⊥) (λ x. bytes.now ≡ to_be_bytes w32 x.0.offer ++ node_text x.0.node ++ x.1.now) }
 {
@@ -39,7 +38,7 @@ fn head_at(bytes: &[u8]) -> Option<(Ask, &[u8])>
     Some((Ask { offer, node }, rest))
 }
 
-/// The offer with these fields: `None` if no offer has them.
+/// Returns the offer with these fields, or `None` if no offer has them.
 #[tactic(auto, unfolding(crate::specs::Messages::message_text))]
 pub(crate) fn offer_of(fields: &[u8]) -> Option<Offer>
     ensures { MatchOption result ((o : Offer) → IsMessage (messages.Offer o) → message_text (messages.Offer o) ≡ 1 ∷ fields.now → ⊥) (λ o. IsMessage (messages.Offer o) × (message_text (messages.Offer o) ≡ 1 ∷ fields.now)) }
@@ -54,7 +53,7 @@ pub(crate) fn offer_of(fields: &[u8]) -> Option<Offer>
     })
 }
 
-/// The ask with these fields: `None` if no ask has them.
+/// Returns the ask with these fields, or `None` if no ask has them.
 #[tactic(auto, unfolding(crate::specs::Messages::message_text))]
 pub(crate) fn ask_of(fields: &[u8]) -> Option<Ask>
     ensures { MatchOption result ((a : Ask) → message_text (messages.Ask a) ≡ 2 ∷ fields.now → ⊥) (λ a. IsMessage (messages.Ask a) × (message_text (messages.Ask a) ≡ 2 ∷ fields.now)) }
@@ -63,7 +62,7 @@ pub(crate) fn ask_of(fields: &[u8]) -> Option<Ask>
     if rest.is_empty() { Some(ask) } else { None }
 }
 
-/// The length of a text, and what follows it: `None` if there are fewer than eight bytes.
+/// Returns the length of a text and the bytes after it, or `None` if there are fewer than eight bytes.
 fn text_len_at(bytes: &[u8]) -> Option<(u64, &[u8])>
     ensures { MatchOption result (length bytes.now < 8) (λ x. bytes.now ≡ to_be_bytes w64 x.0 ++ x.1.now) }
 {
@@ -71,7 +70,7 @@ fn text_len_at(bytes: &[u8]) -> Option<(u64, &[u8])>
     Some((u64::from_be_bytes(*number), rest))
 }
 
-/// The text after its length: `None` if the length is not that of the text.
+/// Returns the text after its length, or `None` if the length isn't that of the text.
 fn text_of(bytes: &[u8]) -> Option<&[u8]>
     ensures { MatchOption result ((text : List ℕ) → bytes.now ≡ to_be_bytes w64 (length text) ++ text → ⊥) (λ text. bytes.now ≡ to_be_bytes w64 (length text.now) ++ text.now) }
 {
@@ -83,7 +82,7 @@ fn text_of(bytes: &[u8]) -> Option<&[u8]>
     }
 }
 
-/// The offer's number, the node and the text of an answer with these fields: `None` if no answer has them.
+/// Returns the offer's number, the node and the text of an answer with these fields, or `None` if no answer has them.
 #[tactic(auto, unfolding(crate::specs::Messages::message_text))]
 pub(crate) fn answer_parts_of(fields: &[u8]) -> Option<(Ask, &[u8])>
     ensures { MatchOption result ((a : Answer) → message_text (messages.Answer a) ≡ 3 ∷ fields.now → ⊥) (λ x. let answer = messages.Answer (record { offer = x.0.offer; node = x.0.node; text = x.1.now }) in IsMessage answer × (message_text answer ≡ 3 ∷ fields.now)) }

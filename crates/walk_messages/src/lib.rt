@@ -1,12 +1,23 @@
-//! What two replicas say to each other in a session of anti-entropy (the paper of 2007, section 4.7), as bytes.
+//! The messages of a session of anti-entropy (the paper of 2007, section 4.7) between two replicas, as bytes. Use it to
+//! write and read offers, asks and answers.
 //!
 //! - [`message`]: offers of a root, asks for a node's text, and answers.
-//! - [`encoding`], [`decoding`]: messages as bytes, and back.
-//! - [`laws`]: what the definitions say.
+//! - [`encoder`], [`decoder`]: writing messages as bytes, and reading them.
+//! - [`laws`]: a law proved from the definitions.
+//!
+//! ```
+//! assert_eq!(rt; encode(alloc, message)?.as_slice(), bytes);
+//! let read = decode(alloc, bytes)?;
+//! assert_eq!(rt; encode(alloc, &read)?.as_slice(), bytes);
+//! ```
 #![tactic(auto)]
 
-pub mod decoding;
-pub mod encoding;
+pub mod decoder;
+pub mod encoder;
 mod fields;
 pub mod laws;
 pub mod message;
+
+pub use decoder::decode;
+pub use encoder::encode;
+pub use message::{Answer, Ask, Message, Offer};

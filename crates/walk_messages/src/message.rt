@@ -1,10 +1,8 @@
-//! Messages. What their bytes are, this project's profile says.
-use hash_tree::hashed::Digest;
-use hash_tree::node::NodeAt;
-use hash_tree::text::Text;
+//! Messages, whose bytes this project's profile defines.
+use hash_tree::{Digest, NodeAt, Text};
 
-/// A replica's tree, by the digest of its root: the first message of a sync. A partner whose own root differs opens a
-/// session with it.
+/// The offer of a replica's tree, by the digest of its root: the first message of a sync. A partner with another root
+/// opens a session with it.
 ///
 /// ```
 /// let offer = Message::Offer(Offer {
@@ -16,7 +14,7 @@ use hash_tree::text::Text;
 /// ```
 #[derive(Clone, Copy, Debug)]
 pub struct Offer {
-    /// The number that the replica gave it. A pool of offers counts from 1.
+    /// The number of the offer at its replica. A pool of offers counts from 1.
     pub offer: u32,
     /// The format's number as received; it may be unknown.
     pub format: u8,
@@ -26,7 +24,7 @@ pub struct Offer {
     pub root: Digest,
 }
 
-/// Asks for the text of a node of an offered tree: a session sends one for each of its outstanding nodes.
+/// An ask for the text of a node of an offered tree. A session sends one for each of its outstanding nodes.
 ///
 /// ```
 /// let node = NodeAt::new(2, 12).ok_or("no such node")?;
@@ -40,8 +38,8 @@ pub struct Ask {
     pub node: NodeAt,
 }
 
-/// What a replica claims to be the text of a node. It is not trusted: a session takes it only if it has the digest that
-/// the session expects.
+/// The text that a replica claims for a node. It isn't trusted: a session takes it only if it has the digest that the
+/// session expects.
 ///
 /// ```
 /// let answer = Message::Answer(Answer {
@@ -60,7 +58,7 @@ pub struct Answer {
     pub text: Text,
 }
 
-/// A message between two replicas, as bytes on a wire: see `encode` and `decode`.
+/// A message between two replicas, written by `encode` and read by `decode`.
 ///
 /// ```
 /// assert_eq!(rt; encode(alloc, message)?.as_slice(), bytes);
@@ -69,10 +67,10 @@ pub struct Answer {
 /// ```
 #[derive(Debug, Drop)]
 pub enum Message {
-    /// A tree to compare with.
+    /// An offer of a tree to compare with.
     Offer(Offer),
-    /// A question for the text of a node.
+    /// An ask for the text of a node.
     Ask(Ask),
-    /// The answer to one.
+    /// An answer to an ask.
     Answer(Answer),
 }

@@ -1,4 +1,4 @@
-// How fast calls were.
+//! How fast calls were.
 use std::time::Duration;
 
 /// How many calls there were, and how many nanoseconds they took together.

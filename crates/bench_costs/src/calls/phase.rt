@@ -1,15 +1,14 @@
-// Calls that are made for all keys, one after another.
+//! Calls that are made for all keys, one after another.
 use crate::calls::pace::Pace;
 use crate::calls::round::Round;
 use crate::entries::{key, value};
 use crate::fault::Fault;
-use range_journal::journal::Source;
-use range_state::state::RangeState;
+use range_journal::Source;
+use range_state::RangeState;
 use std::alloc::Global;
 use std::time::{Clock, Instant};
-use vclock::refusal::Refusal;
-use version_set::kind::Kind;
-use version_set::version::Version;
+use vclock::Refusal;
+use version_set::{Kind, Version};
 
 /// The node at which keys are put.
 const NODE: u16 = 1;

@@ -1,4 +1,4 @@
-// What is to be done.
+//! What is to be done.
 use crate::calls::round::Round;
 use crate::ranges::MOST_ENTRIES;
 

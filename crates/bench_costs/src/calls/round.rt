@@ -1,7 +1,6 @@
-// Which version of each key is written.
+//! Which version of each key is written.
 use std::alloc::Global;
-use vclock::clock::Clock;
-use vclock::refusal::Refusal;
+use vclock::{Clock, Refusal};
 
 /// Which version of each key is written, at node 1.
 #[derive(Clone, Copy, Debug, PartialEq, Eq)]

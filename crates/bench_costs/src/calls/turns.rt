@@ -1,12 +1,12 @@
-// Turns, in each of which one key goes from one replica to the other.
+//! Turns, in each of which one key goes from one replica to the other.
 use crate::calls::pace::Paces;
 use crate::calls::phase::put;
 use crate::calls::plan::{CallPlan, TURNS};
 use crate::calls::round::Round;
 use crate::calls::walk::{Walk, sync};
 use crate::fault::Fault;
-use range_state::state::RangeState;
-use snapshot::snapshot::Snapshot;
+use range_state::RangeState;
+use snapshot::Snapshot;
 use std::alloc::Global;
 use std::sync::Arc;
 use std::thread::Threads;

@@ -1,16 +1,11 @@
-// A sync by messages, whose bytes go over memory.
-use hash_tree::hashed::hash;
-use hash_tree::node::NodeAt;
-use hash_tree::text::Text;
-use range_state::event::AnswerTaken;
-use range_state::state::RangeState;
-use snapshot::snapshot::Snapshot;
+//! A sync by messages, whose bytes go over memory.
+use hash_tree::{NodeAt, Text, hash};
+use range_state::{AnswerTaken, RangeState};
+use snapshot::Snapshot;
 use std::alloc::Global;
-use sync_session::state::SessionState;
-use vclock::refusal::Refusal;
-use walk_messages::decoding::decode;
-use walk_messages::encoding::encode;
-use walk_messages::message::{Answer, Ask, Message};
+use sync_session::SessionState;
+use vclock::Refusal;
+use walk_messages::{Answer, Ask, Message, decode, encode};
 
 /// The number of the node that offers.
 const PARTNER: u16 = 1;

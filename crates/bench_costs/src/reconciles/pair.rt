@@ -1,10 +1,9 @@
-// Two replicas of a range.
+//! Two replicas of a range.
 use crate::ranges::{accept, new_range};
-use range_state::state::RangeState;
-use range_state::state::reconciling::{Reconciled, reconcile};
+use range_state::{RangeState, Reconciled, reconcile};
 use std::alloc::Global;
 use std::thread::Threads;
-use vclock::refusal::Refusal;
+use vclock::Refusal;
 
 /// How deep the leaves lie in format 1.
 const LEAF_DEPTH: u8 = 2;

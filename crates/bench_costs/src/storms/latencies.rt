@@ -1,4 +1,4 @@
-// How long the puts of two writers took.
+//! How long the puts of two writers took.
 use std::alloc::{AllocError, Global};
 use std::time::Instant;
 

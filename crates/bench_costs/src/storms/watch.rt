@@ -1,15 +1,12 @@
-// A gate that looks at the clock.
+//! A gate that looks at the clock.
 use crate::storms::latencies::Latencies;
 use crate::storms::{StormPlan, Workers};
-use ring_node::gate::Gate;
+use ring_node::{Gate, Step};
 use std::alloc::{AllocError, Global};
 use std::sync::{Mutex, Wait};
 use std::thread;
 use std::time::{Clock, Duration, Instant};
-use storm::tally::Tallies;
-
-/// The step of a storm's gate after a put.
-const AFTER_A_PUT: u32 = 3;
+use storm::Tallies;
 
 /// How often a worker looks whether both writers have ended, once a millisecond.
 const MOST_LOOKS: u64 = 60_000;
@@ -78,8 +75,8 @@ impl<'a, R: Clock> Watch<'a, R> {
 }
 
 impl<'a, R: Clock> Gate for Watch<'a, R> {
-    fn pass<W: Wait>(&self, rt: &W, step: u32) {
-        if step == AFTER_A_PUT {
+    fn pass<W: Wait>(&self, rt: &W, step: Step) {
+        if step == Step::Put {
             self.note_put(rt);
         } else if self.plan.workers == Workers::Afterwards {
             self.hold_worker(rt);

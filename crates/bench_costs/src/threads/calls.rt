@@ -1,18 +1,17 @@
-// What a thread does.
+//! What a thread does.
 use crate::entries::{key, value};
 use crate::fault::Fault;
 use crate::threads::plan::Part;
 use crate::threads::spans::{Span, Spans};
 use crate::threads::start::StartLine;
-use caller_pass::pass::Pass;
-use ring_node::range::SharedRange;
+use caller_pass::Pass;
+use ring_node::SharedRange;
 use std::alloc::Global;
 use std::sync::Wait;
 use std::sync::ledger::Ledger;
 use std::time::{Clock, Instant};
-use vclock::clock::Clock as VersionClock;
-use vclock::refusal::Refusal;
-use version_set::kind::Kind;
+use vclock::{Clock as VersionClock, Refusal};
+use version_set::Kind;
 
 /// Where the threads wait for one another: before the puts, and before the gets.
 #[derive(Drop)]

@@ -1,4 +1,4 @@
-// What is to be done.
+//! What is to be done.
 ghost use Rattle.std.specs.Prelude.{◌≤◌};
 
 use crate::ranges::MOST_ENTRIES;

@@ -1,4 +1,4 @@
-// The ranges, and the threads that write them.
+//! The ranges, and the threads that write them.
 ghost use Rattle.std.specs.Prelude.{◌≡◌, ◌≤◌};
 
 use crate::fault::Fault;
@@ -6,10 +6,9 @@ use crate::ranges::config;
 use crate::threads::calls::{Starts, put_and_get};
 use crate::threads::plan::{Sharing, ThreadPlan};
 use crate::threads::spans::{Span, Spans};
-use caller_pass::book::open_passes;
-use caller_pass::pass::Pass;
-use range_state::state::RangeState;
-use ring_node::range::SharedRange;
+use caller_pass::{Pass, open_passes};
+use range_state::RangeState;
+use ring_node::SharedRange;
 use std::alloc::Global;
 use std::marker::Brand;
 use std::sync::Wait;
@@ -17,7 +16,7 @@ use std::sync::ledger::{Blank, Ledger};
 use std::thread;
 use std::thread::Threads;
 use std::time::{Clock, Instant};
-use vclock::refusal::Refusal;
+use vclock::Refusal;
 
 /// When the calls were done, when the ranges were closed then, and whether they were: each pass was told what its journal
 /// has.

@@ -1,4 +1,4 @@
-// From when to when something was done.
+//! From when to when something was done.
 use std::time::{Duration, Instant};
 
 /// A time between two moments.

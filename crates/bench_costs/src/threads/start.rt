@@ -1,4 +1,4 @@
-// Where threads wait for one another.
+//! Where threads wait for one another.
 use crate::fault::Fault;
 use std::sync::{Condvar, Mutex, Wait};
 use std::time::{Clock, Duration};

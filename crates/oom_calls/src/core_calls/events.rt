@@ -1,17 +1,14 @@
-// Lists of events.
+//! Lists of events.
 use crate::core_calls::ranges::range;
 use crate::core_calls::versions::version;
 use crate::lines::{show, unchanged};
 use crate::states::is_same;
-use range_journal::journal::Source;
-use range_state::event::{AcceptEvent, Event, PutEvent, Reply};
-use range_state::state::RangeState;
+use range_journal::Source;
+use range_state::{AcceptEvent, Event, PutEvent, RangeState, Reply};
 use std::alloc::Global;
 use std::io;
-use vclock::bytes::Bytes;
-use vclock::clock::Clock;
-use vclock::refusal::Refusal;
-use version_set::kind::Kind;
+use vclock::{Bytes, Clock, Refusal};
+use version_set::Kind;
 
 /// How many events there are.
 const COUNT: usize = 5;

@@ -1,12 +1,10 @@
-// Hints.
+//! Hints.
 use crate::core_calls::versions::wide_version;
 use crate::lines::{show, unchanged};
-use hint_store::hint::{Hint, Kept};
-use hint_store::store::HintStore;
+use hint_store::{Hint, HintStore, Kept};
 use std::alloc::Global;
 use std::io;
-use vclock::bytes::Bytes;
-use vclock::refusal::Refusal;
+use vclock::{Bytes, Refusal};
 
 /// How many hints are kept.
 const HINTS: u16 = 8;

@@ -1,12 +1,11 @@
-// Journals.
+//! Journals.
 use crate::core_calls::versions::version;
 use crate::lines::{show, unchanged};
 use crate::states::begins;
-use range_journal::journal::{Journal, Source, held_in};
+use range_journal::{Journal, Source, held_in};
 use std::alloc::Global;
 use std::io;
-use vclock::bytes::Bytes;
-use vclock::refusal::Refusal;
+use vclock::{Bytes, Refusal};
 
 /// Shows the calls on a journal.
 pub(crate) fn show_all<R: Print + AllocGlobal>(rt: &R) -> io::Result<()> {

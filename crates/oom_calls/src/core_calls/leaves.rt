@@ -1,12 +1,10 @@
-// Shared leaves.
+//! Shared leaves.
 use crate::core_calls::versions::version;
 use crate::lines::{show, unchanged};
-use hash_tree::shared::SharedLeaf;
+use hash_tree::SharedLeaf;
 use std::alloc::Global;
 use std::io;
-use vclock::format::Format;
-use vclock::key::check_key;
-use vclock::refusal::Refusal;
+use vclock::{Format, Refusal, check_key};
 
 /// The keys of one byte that are offered a version, one after the other.
 const KEYS: &[u8] = b"acabeda";

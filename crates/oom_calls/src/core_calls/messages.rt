@@ -1,13 +1,10 @@
-// Messages.
+//! Messages.
 use crate::lines::show;
-use hash_tree::node::NodeAt;
-use hash_tree::text::Text;
+use hash_tree::{NodeAt, Text};
 use std::alloc::Global;
 use std::io;
-use vclock::refusal::Refusal;
-use walk_messages::decoding::decode;
-use walk_messages::encoding::encode;
-use walk_messages::message::{Answer, Message};
+use vclock::Refusal;
+use walk_messages::{Answer, Message, decode, encode};
 
 /// An answer for the root of offer 1, whose text is too long to stand in a `Bytes` itself.
 const ROOT_ANSWER: &[u8] =

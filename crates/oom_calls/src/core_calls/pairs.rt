@@ -1,18 +1,13 @@
-// Pairs of ranges that reconcile.
+//! Pairs of ranges that reconcile.
 use crate::lines::{show, unchanged};
 use crate::states::{is_between, is_same};
-use range_journal::journal::Source;
-use range_state::config::RangeConfig;
-use range_state::state::RangeState;
-use range_state::state::reconciling::{Reconciled, reconcile};
+use range_journal::Source;
+use range_state::{RangeConfig, RangeState, Reconciled, reconcile};
 use std::alloc::Global;
 use std::io;
 use std::thread::Threads;
-use vclock::bytes::Bytes;
-use vclock::clock::Clock;
-use vclock::refusal::Refusal;
-use version_set::kind::Kind;
-use version_set::version::Version;
+use vclock::{Bytes, Clock, Refusal};
+use version_set::{Kind, Version};
 
 /// Shows the call on a pair.
 pub(crate) fn show_all<R: Print + AllocGlobal + Threads + Sync>(rt: &R) -> io::Result<()> {

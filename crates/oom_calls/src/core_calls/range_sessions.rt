@@ -1,18 +1,16 @@
-// Sessions of ranges.
+//! Sessions of ranges.
 use crate::core_calls::sessions::{ASKED, first_text};
 use crate::core_calls::snapshots::{Snapshots, clean_range};
 use crate::lines::{show, unchanged};
 use crate::states::{is_between, is_same};
-use hash_tree::hashed::Hashed;
-use hash_tree::node::NodeAt;
-use range_state::state::RangeState;
-use range_state::state::syncing::Synced;
-use snapshot::snapshot::Snapshot;
+use hash_tree::{Hashed, NodeAt};
+use range_state::{RangeState, Synced};
+use snapshot::Snapshot;
 use std::alloc::Global;
 use std::io;
 use std::thread::Threads;
-use sync_session::state::SessionState;
-use vclock::refusal::Refusal;
+use sync_session::SessionState;
+use vclock::Refusal;
 
 /// Shows the calls on sessions of a range.
 pub(crate) fn show_all<R: Print + AllocGlobal + Threads + Sync>(

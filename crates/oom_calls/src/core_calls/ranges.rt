@@ -1,18 +1,13 @@
-// Range states.
+//! Range states.
 use crate::core_calls::versions::version;
 use crate::lines::{show, unchanged};
 use crate::states::is_same;
-use range_journal::journal::Source;
-use range_state::config::RangeConfig;
-use range_state::event::{Accepted, Receipt};
-use range_state::replay::Replay;
-use range_state::state::RangeState;
+use range_journal::Source;
+use range_state::{Accepted, RangeConfig, RangeState, Receipt, Replay};
 use std::alloc::Global;
 use std::io;
-use vclock::bytes::Bytes;
-use vclock::clock::Clock;
-use vclock::refusal::Refusal;
-use version_set::kind::Kind;
+use vclock::{Bytes, Clock, Refusal};
+use version_set::Kind;
 
 /// The keys of one byte of which a copy is taken in, one after the other.
 pub(crate) const KEYS: &[u8] = b"abcdee";

@@ -1,4 +1,4 @@
-// Calls of a range whose receipts go to a list.
+//! Calls of a range whose receipts go to a list.
 use crate::core_calls::range_sessions::{first_text_of, is_after};
 use crate::core_calls::ranges::{KEYS, is_before, is_before_key, put_parts, range};
 use crate::core_calls::sessions::ASKED;
@@ -6,15 +6,14 @@ use crate::core_calls::snapshots::{Snapshots, clean_range};
 use crate::core_calls::versions::version;
 use crate::lines::{show, unchanged};
 use crate::states::begins;
-use range_journal::journal::Source;
-use range_state::event::{Accepted, Receipt};
-use range_state::state::RangeState;
-use snapshot::snapshot::Snapshot;
+use range_journal::Source;
+use range_state::{Accepted, RangeState, Receipt};
+use snapshot::Snapshot;
 use std::alloc::Global;
 use std::io;
 use std::thread::Threads;
-use vclock::refusal::Refusal;
-use version_set::kind::Kind;
+use vclock::Refusal;
+use version_set::Kind;
 
 /// Shows the calls whose receipts go to a list.
 pub(crate) fn show_all<R: Print + AllocGlobal + Threads + Sync>(

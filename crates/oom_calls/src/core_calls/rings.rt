@@ -1,9 +1,9 @@
-// Rings.
+//! Rings.
 use crate::lines::show;
-use key_ring::ring::Ring;
+use key_ring::Ring;
 use std::alloc::Global;
 use std::io;
-use vclock::refusal::Refusal;
+use vclock::Refusal;
 
 /// Shows the calls on a ring.
 pub(crate) fn show_all<R: Print + AllocGlobal>(rt: &R) -> io::Result<()> {

@@ -1,11 +1,9 @@
-// Row texts.
+//! Row texts.
 use crate::lines::{show, unchanged};
-use row_bytes::reading::{a_held_set_is_a_row, read_row, read_rows};
-use row_bytes::writing::{put_row, write_row};
+use row_bytes::{a_held_set_is_a_row, put_row, read_row, read_rows, write_row};
 use std::alloc::Global;
 use std::io;
-use vclock::format::Format;
-use vclock::refusal::Refusal;
+use vclock::{Format, Refusal};
 
 /// The text of key `a` with the version of clock (1,1) and value `x`, in format 1.
 const TEXT: &[u8] =

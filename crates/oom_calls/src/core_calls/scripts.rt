@@ -1,10 +1,10 @@
-// Scripts.
+//! Scripts.
 use crate::lines::show;
 use outage_script::{ScriptEnd, run_bytes, run_script};
 use std::alloc::Global;
 use std::io;
 use std::thread::Threads;
-use vclock::refusal::Refusal;
+use vclock::Refusal;
 
 /// A script of two lines.
 const SCRIPT: &[u8] = b"{\"put\":{\"node\":1,\"key\":\"61\",\"context\":[],\"value\":\"78\"}}\n\

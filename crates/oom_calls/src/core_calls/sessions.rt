@@ -1,17 +1,15 @@
-// Sessions, which compare snapshots.
+//! Sessions, which compare snapshots.
 use crate::core_calls::snapshots::Snapshots;
 use crate::lines::{show, unchanged};
 use crate::sessions::is_same_session;
-use hash_tree::hashed::{Hashed, hash};
-use hash_tree::node::{NodeAt, tree_depth};
-use hash_tree::text::Text;
-use snapshot::snapshot::Snapshot;
+use hash_tree::{Hashed, NodeAt, Text, hash, tree_depth};
+use snapshot::Snapshot;
 use std::alloc::Global;
 use std::io;
 use std::sync::Arc;
-use sync_session::session::Session;
-use vclock::refusal::Refusal;
-use walk_messages::message::Ask;
+use sync_session::Session;
+use vclock::Refusal;
+use walk_messages::Ask;
 
 /// How many nodes are asked if a range without rows compares itself with its partner.
 pub(crate) const ASKED: u64 = 7;
@@ -20,6 +18,7 @@ pub(crate) const ASKED: u64 = 7;
 pub(crate) fn show_all<R: Print + AllocGlobal>(rt: &R, both: &Snapshots) -> io::Result<()> {
     let alloc = rt.alloc();
     show(rt, "Session::start", start(alloc, both))?;
+    show(rt, "Session::rows_of", rows_of(alloc, both))?;
     show(rt, "Session::news_of", news_of(alloc, both))?;
     show(rt, "Session::take", take(alloc, both))?;
     show(rt, "Session::take_leaf", take_leaf(alloc, both))
@@ -73,7 +72,14 @@ fn is_after(
     Ok(is_same_session(session, &other))
 }
 
-/// How many rows the leaf that is asked first has beside the own ones.
+/// Returns the number of rows of the leaf that is asked first.
+fn rows_of(alloc: Global, both: &Snapshots) -> Result<u64, Refusal> {
+    let session = session_after(alloc, both, ASKED.saturating_sub(1))?;
+    let (node, text) = first_text(alloc, &session, &both.partner)?;
+    Ok(session.rows_of(alloc, node, &text)?.len() as u64)
+}
+
+/// Returns the number of rows of the leaf that is asked first and that the local snapshot lacks.
 fn news_of(alloc: Global, both: &Snapshots) -> Result<u64, Refusal> {
     let session = session_after(alloc, both, ASKED.saturating_sub(1))?;
     let (node, text) = first_text(alloc, &session, &both.partner)?;

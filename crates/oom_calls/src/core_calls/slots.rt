@@ -1,13 +1,13 @@
-// Slots.
+//! Slots.
 ghost use Rattle.std.specs.Prelude.{◌≡◌};
 
 use crate::lines::show;
-use admission::controller::Controller;
+use admission::Controller;
 use std::alloc::Global;
 use std::io;
 use std::marker::Brand;
 use std::sync::ledger::{Blank, Ledger};
-use vclock::refusal::Refusal;
+use vclock::Refusal;
 
 /// Shows the calls on slots.
 pub(crate) fn show_all<R: Print + AllocGlobal>(rt: &R) -> io::Result<()> {

@@ -1,16 +1,16 @@
-// Snapshots.
+//! Snapshots.
 use crate::core_calls::ranges::range as new_range;
 use crate::core_calls::trees::range;
 use crate::lines::show;
-use hash_tree::node::NodeAt;
-use range_state::state::RangeState;
-use snapshot::snapshot::Snapshot;
+use hash_tree::NodeAt;
+use range_state::RangeState;
+use snapshot::Snapshot;
 use std::alloc::Global;
 use std::io;
 use std::sync::Arc;
 use std::thread::Threads;
-use vclock::refusal::Refusal;
-use walk_messages::message::Ask;
+use vclock::Refusal;
+use walk_messages::Ask;
 
 /// The snapshots that sessions compare.
 #[derive(Drop)]

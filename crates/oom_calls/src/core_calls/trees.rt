@@ -1,21 +1,15 @@
-// Trees: texts of nodes, marks, jobs and rehashes.
+//! Trees: texts of nodes, marks, jobs and rehashes.
 use crate::core_calls::leaves::leaf_of;
 use crate::core_calls::ranges::range_of;
 use crate::lines::{show, unchanged};
 use crate::states::is_between;
-use hash_tree::hashed::{Digest, hash};
-use hash_tree::marks::Marks;
-use hash_tree::node::NodeAt;
-use hash_tree::text::Text;
-use hash_tree::texts::{inner_text, leaf_text, put_inner_text};
-use range_state::state::RangeState;
-use rehash::bulk::hash_all;
-use rehash::job::{Job, run_job};
+use hash_tree::{Digest, Marks, NodeAt, Text, hash, inner_text, leaf_text, put_inner_text};
+use range_state::RangeState;
+use rehash::{Job, hash_all, run_job};
 use std::alloc::Global;
 use std::io;
 use std::thread::Threads;
-use vclock::format::Format;
-use vclock::refusal::Refusal;
+use vclock::{Format, Refusal};
 
 /// A digest.
 const DIGEST: Digest = [7; 32];

@@ -1,13 +1,9 @@
-// Versions and sets of them.
+//! Versions and sets of them.
 use crate::lines::{show, unchanged};
 use std::alloc::Global;
 use std::io;
-use vclock::bytes::Bytes;
-use vclock::clock::Clock;
-use vclock::refusal::Refusal;
-use version_set::kind::Kind;
-use version_set::set::VersionSet;
-use version_set::version::Version;
+use vclock::{Bytes, Clock, Refusal};
+use version_set::{Kind, Version, VersionSet};
 
 /// Shows the calls on versions and sets of them.
 pub(crate) fn show_all<R: Print + AllocGlobal>(rt: &R) -> io::Result<()> {

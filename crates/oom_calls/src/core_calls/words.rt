@@ -1,11 +1,9 @@
-// Clocks, bytes and texts.
+//! Clocks, bytes and texts.
 use crate::lines::{show, unchanged};
-use hash_tree::text::Text;
+use hash_tree::Text;
 use std::alloc::Global;
 use std::io;
-use vclock::bytes::Bytes;
-use vclock::clock::Clock;
-use vclock::refusal::{Clocks, Refusal};
+use vclock::{Bytes, Clock, Clocks, Refusal};
 
 /// Too many bytes to stand in a `Bytes` itself, so that to copy them takes memory.
 const LONG: &[u8] = b"more than sixteen bytes";

@@ -1,14 +1,13 @@
-// Books of passes.
+//! Books of passes.
 ghost use Rattle.std.specs.Prelude.{◌≡◌};
 
 use crate::lines::show;
-use caller_pass::book::{Book, open_passes};
-use caller_pass::pass::Pass;
+use caller_pass::{Book, Pass, open_passes};
 use std::alloc::Global;
 use std::io;
 use std::marker::Brand;
 use std::sync::ledger::{Blank, Ledger};
-use vclock::refusal::Refusal;
+use vclock::Refusal;
 
 /// Shows the calls on a book.
 pub(crate) fn show_all<R: Print + AllocGlobal>(rt: &R) -> io::Result<()> {

@@ -1,4 +1,4 @@
-// The calls on ranges, in the order in which they are made.
+//! The calls on ranges, in the order in which they are made.
 
 /// A call on a locked range. The byte is the key.
 #[derive(Clone, Copy)]

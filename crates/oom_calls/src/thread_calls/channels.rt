@@ -1,14 +1,13 @@
-// Links over channels.
+//! Links over channels.
 use crate::lines::show;
 use crate::thread_calls::links::{ask, offer};
 use crate::thread_calls::partner::Partner;
-use ring_node::channel::{ChannelLink, channel_link};
-use ring_node::link::Link;
+use ring_node::{ChannelLink, Link, channel_link};
 use std::alloc::Global;
 use std::sync::Wait;
 use std::thread::Threads;
 use std::{io, thread};
-use vclock::refusal::Refusal;
+use vclock::Refusal;
 
 /// Shows the calls on a channel.
 pub(crate) fn show_all<R>(rt: &R, partner: &Partner) -> io::Result<()>

@@ -1,11 +1,9 @@
-// Ranges that are closed.
-use caller_pass::closing::{Closed, Unclosed};
-use caller_pass::locked::LockedRange;
-use caller_pass::pass::Pass;
-use ring_node::range::{NotClosed, SharedRange};
+//! Ranges that are closed.
+use caller_pass::{Closed, LockedRange, Pass, Unclosed};
+use ring_node::{NotClosed, SharedRange};
 use std::alloc::Global;
 use std::sync::ledger::Ledger;
-use vclock::refusal::Refusal;
+use vclock::Refusal;
 
 /// A range that was closed, in the second try if the first one was refused.
 #[derive(Drop)]

@@ -1,13 +1,13 @@
-// What is left when the ranges are closed.
+//! What is left when the ranges are closed.
 use crate::states::{clean_nodes, is_between};
 use crate::thread_calls::told::Told;
-use caller_pass::closing::Closed;
-use hint_store::hint::Hint;
-use range_journal::journal::Source;
-use range_state::state::RangeState;
+use caller_pass::Closed;
+use hint_store::Hint;
+use range_journal::Source;
+use range_state::RangeState;
 use std::alloc::Global;
 use std::sync::ledger::Ledger;
-use vclock::refusal::Refusal;
+use vclock::Refusal;
 
 /// What is left of a range that was closed.
 pub(crate) struct Left {

@@ -1,17 +1,13 @@
-// Links to a pool in the same memory.
+//! Links to a pool in the same memory.
 use crate::lines::show;
 use crate::thread_calls::partner::Partner;
-use hash_tree::node::NodeAt;
-use ring_node::deed::Deed;
-use ring_node::link::{Link, Reached};
-use ring_node::memory::MemoryLink;
-use ring_node::scripted::ScriptedLink;
+use hash_tree::NodeAt;
+use ring_node::{Deed, Link, MemoryLink, Reached, ScriptedLink};
 use std::alloc::Global;
 use std::io;
 use std::sync::Wait;
-use vclock::refusal::Refusal;
-use walk_messages::encoding::encode;
-use walk_messages::message::{Ask, Message};
+use vclock::Refusal;
+use walk_messages::{Ask, Message, encode};
 
 /// Shows the calls on links.
 pub(crate) fn show_all<R: Print + AllocGlobal + Wait>(rt: &R, partner: &Partner) -> io::Result<()> {

@@ -1,25 +1,20 @@
-// A locked range.
+//! A locked range.
 ghost use Rattle.std.specs.Prelude.{◌≡◌};
 
 use crate::thread_calls::calls::LockedCall;
 use crate::thread_calls::closing::{Closing, close_locked};
 use crate::thread_calls::partner::Partner;
 use crate::thread_calls::versions::{put_parts, version};
-use caller_pass::book::open_passes;
-use caller_pass::locked::LockedRange;
-use caller_pass::pass::Pass;
-use hash_tree::hashed::hash;
-use hash_tree::text::Text;
-use range_journal::journal::Source;
-use range_state::config::RangeConfig;
-use range_state::event::Accepted;
-use range_state::state::RangeState;
-use rehash::job::run_job;
+use caller_pass::{LockedRange, Pass, open_passes};
+use hash_tree::{Text, hash};
+use range_journal::Source;
+use range_state::{Accepted, RangeConfig, RangeState};
+use rehash::run_job;
 use std::alloc::Global;
 use std::sync::ledger::{Blank, Ledger};
-use vclock::refusal::Refusal;
-use version_set::kind::Kind;
-use walk_messages::message::Ask;
+use vclock::Refusal;
+use version_set::Kind;
+use walk_messages::Ask;
 
 /// Enough turns for all nodes of a tree of format 1.
 const TURNS: u64 = 300;

@@ -1,16 +1,15 @@
-// A partner that has rows which the ranges lack.
+//! A partner that has rows which the ranges lack.
 use crate::lines::show;
 use crate::thread_calls::versions::version;
-use range_journal::journal::Source;
-use range_state::config::RangeConfig;
-use range_state::state::RangeState;
-use rehash::job::run_job;
-use ring_node::offers::OfferPool;
-use snapshot::snapshot::Snapshot;
+use range_journal::Source;
+use range_state::{RangeConfig, RangeState};
+use rehash::run_job;
+use ring_node::OfferPool;
+use snapshot::Snapshot;
 use std::alloc::Global;
 use std::io;
 use std::sync::{Arc, Wait};
-use vclock::refusal::Refusal;
+use vclock::Refusal;
 
 /// Enough turns for all nodes of a tree of format 1.
 const TURNS: u64 = 300;

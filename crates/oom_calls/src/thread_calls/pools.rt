@@ -1,13 +1,13 @@
-// Pools of offers.
+//! Pools of offers.
 use crate::lines::{show, unchanged};
 use crate::thread_calls::partner::Partner;
-use hash_tree::node::NodeAt;
-use ring_node::offers::OfferPool;
+use hash_tree::NodeAt;
+use ring_node::OfferPool;
 use std::alloc::Global;
 use std::io;
 use std::sync::{Arc, Wait};
-use vclock::refusal::Refusal;
-use walk_messages::message::Ask;
+use vclock::Refusal;
+use walk_messages::Ask;
 
 /// Shows the calls on a pool.
 pub(crate) fn show_all<R: Print + AllocGlobal + Wait>(rt: &R, partner: &Partner) -> io::Result<()> {

@@ -1,4 +1,4 @@
-// A locked range and a shared one, on which calls are made.
+//! A locked range and a shared one, on which calls are made.
 ghost use Rattle.std.specs.Prelude.{◌≡◌};
 
 use crate::thread_calls::calls::{CALLS, Call};
@@ -10,7 +10,7 @@ use std::alloc::Global;
 use std::marker::Brand;
 use std::sync::Wait;
 use std::sync::ledger::{Blank, Ledger};
-use vclock::refusal::Refusal;
+use vclock::Refusal;
 
 /// A locked range and a shared one.
 #[derive(Drop)]

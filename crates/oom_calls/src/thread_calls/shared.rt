@@ -1,36 +1,25 @@
-// A shared range, with the hints for it.
+//! A shared range, with the hints for it.
 ghost use Rattle.std.specs.Prelude.{◌≡◌};
 
 use crate::thread_calls::calls::SharedCall;
 use crate::thread_calls::closing::{Closing, close_shared};
 use crate::thread_calls::partner::Partner;
 use crate::thread_calls::versions::{put_parts, version};
-use admission::controller::Controller;
-use caller_pass::book::open_passes;
-use caller_pass::pass::Pass;
-use hint_store::hint::Hint;
-use range_journal::journal::Source;
-use range_state::config::RangeConfig;
-use range_state::event::Accepted;
-use range_state::state::RangeState;
-use ring_node::controller::SharedController;
-use ring_node::deed::Deed;
-use ring_node::delivery::deliver;
-use ring_node::gate::Gate;
-use ring_node::hints::SharedHints;
-use ring_node::link::Link;
-use ring_node::memory::MemoryLink;
-use ring_node::range::SharedRange;
-use ring_node::scripted::ScriptedLink;
-use ring_node::syncer::SyncReport;
+use admission::Controller;
+use caller_pass::{Pass, open_passes};
+use hint_store::Hint;
+use range_journal::Source;
+use range_state::{Accepted, RangeConfig, RangeState};
+use ring_node::{
+    Deed, Gate, Link, MemoryLink, ScriptedLink, SharedController, SharedHints, SharedRange, Step,
+    SyncReport, deliver,
+};
 use std::alloc::Global;
 use std::sync::Wait;
 use std::sync::atomic::{AtomicU64, Ordering};
 use std::sync::ledger::{Blank, Ledger};
-use vclock::bytes::Bytes;
-use vclock::clock::Clock;
-use vclock::refusal::Refusal;
-use version_set::kind::Kind;
+use vclock::{Bytes, Clock, Refusal};
+use version_set::Kind;
 
 /// Enough turns for all nodes of a tree of format 1.
 const TURNS: u64 = 300;
@@ -56,8 +45,8 @@ struct Counter {
 }
 
 impl Gate for Counter {
-    fn pass<R: Wait>(&self, _rt: &R, step: u32) {
-        if step == 2 {
+    fn pass<R: Wait>(&self, _rt: &R, step: Step) {
+        if step == Step::Hashed {
             self.hashed.fetch_add(1, Ordering::SeqCst);
         }
     }

@@ -1,4 +1,4 @@
-// The calls on ranges, each on what the ones before it left.
+//! The calls on ranges, each on what the ones before it left.
 ghost use Rattle.std.specs.Prelude.{◌≡◌};
 
 use crate::lines::{show, unchanged};
@@ -12,7 +12,7 @@ use std::io;
 use std::marker::Brand;
 use std::sync::Wait;
 use std::sync::ledger::{Blank, Ledger};
-use vclock::refusal::Refusal;
+use vclock::Refusal;
 
 /// The name of what comes before the calls.
 const OPENING: &str = "a locked range and a shared one";

@@ -1,11 +1,10 @@
-// What passes were told.
+//! What passes were told.
 use crate::states::begins;
-use caller_pass::pass::Pass;
-use caller_pass::reading::Reading;
-use range_state::event::Receipt;
+use caller_pass::{Pass, Reading};
+use range_state::Receipt;
 use std::alloc::Global;
 use std::sync::ledger::Ledger;
-use vclock::refusal::Refusal;
+use vclock::Refusal;
 
 /// What a pass was told.
 pub(crate) struct Told {

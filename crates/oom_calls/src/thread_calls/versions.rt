@@ -1,10 +1,7 @@
-// Versions, and what they are put with.
+//! Versions, and what they are put with.
 use std::alloc::Global;
-use vclock::bytes::Bytes;
-use vclock::clock::Clock;
-use vclock::refusal::Refusal;
-use version_set::kind::Kind;
-use version_set::version::Version;
+use vclock::{Bytes, Clock, Refusal};
+use version_set::{Kind, Version};
 
 /// A version that one node alone has counted, with the value `x`.
 pub(crate) fn version(alloc: Global, node: u64) -> Result<Version, Refusal> {

@@ -3,7 +3,7 @@ ghost use Rattle.std.specs.Prelude.{◌<◌};
 
 use crate::calls::plain::{NODES, PlainVersion};
 use crate::random::Random;
-use version_set::kind::Kind;
+use version_set::Kind;
 
 impl Random {
     /// How many entries a journal may have: once in so many times few, else more than come.

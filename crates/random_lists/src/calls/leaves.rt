@@ -3,7 +3,7 @@
 use crate::calls::plain::{Fault, PlainEntry, PlainRange};
 use crate::calls::trees::Tree;
 use crate::trouble::Trouble;
-use range_journal::journal::Source;
+use range_journal::Source;
 use std::alloc::Global;
 
 /// What comes of a leaf that is taken: the versions that are news, in order, and how many were known.

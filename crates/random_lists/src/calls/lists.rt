@@ -9,18 +9,15 @@ use crate::calls::replicas::{Replica, SEAT, is_entry};
 use crate::calls::walks::{Offering, Sent};
 use crate::random::Random;
 use crate::trouble::{Trouble, expect};
-use hash_tree::hashed::{Digest, hash};
-use hash_tree::node::NodeAt;
-use hash_tree::text::Text;
-use range_state::event::AnswerTaken;
+use hash_tree::{Digest, NodeAt, Text, hash};
+use range_state::AnswerTaken;
 use sha2::{Digest as _, Sha256};
 use std::alloc::Global;
 use std::thread::Threads;
-use sync_session::state::SessionState;
-use vclock::format::Format;
-use vclock::refusal::Refusal;
-use version_set::kind::Kind;
-use walk_messages::message::Offer;
+use sync_session::SessionState;
+use vclock::{Format, Refusal};
+use version_set::Kind;
+use walk_messages::Offer;
 
 /// The node that the range is at.
 const OWN: u16 = 1;

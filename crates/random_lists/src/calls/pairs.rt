@@ -5,12 +5,11 @@ use crate::calls::replicas::{Offered, Replica, SEAT};
 use crate::calls::trees::{Tree, differing};
 use crate::calls::walks::{Offering, Sent, Walk};
 use crate::trouble::{Trouble, expect};
-use hash_tree::node::NodeAt;
-use range_state::state::RangeState;
-use range_state::state::reconciling::{Reconciled, reconcile};
+use hash_tree::NodeAt;
+use range_state::{RangeState, Reconciled, reconcile};
 use std::alloc::Global;
-use sync_session::state::SessionState;
-use vclock::refusal::Refusal;
+use sync_session::SessionState;
+use vclock::Refusal;
 
 /// What a whole session came to: how many nodes it asked, and how many versions came.
 #[derive(Clone, Copy)]

@@ -2,14 +2,10 @@
 
 use crate::trouble::Trouble;
 use md5::{Digest, Md5};
-use range_journal::journal::Source;
+use range_journal::Source;
 use std::alloc::Global;
-use vclock::bytes::Bytes;
-use vclock::clock::Clock;
-use vclock::format::Format;
-use vclock::refusal::Refusal;
-use version_set::kind::Kind;
-use version_set::version::Version;
+use vclock::{Bytes, Clock, Format, Refusal};
+use version_set::{Kind, Version};
 
 /// How many nodes count in clocks: the nodes 1 to 4.
 pub(crate) const NODES: usize = 4;

@@ -5,20 +5,16 @@ use crate::calls::plain::{Fault, KEYS, PlainEntry, PlainRange, PlainVersion, key
 use crate::calls::trees::{Tree, leaf_depth, width};
 use crate::calls::walks::Walk;
 use crate::trouble::{Trouble, expect};
-use hash_tree::hashed::Hashed;
-use hash_tree::node::NodeAt;
-use range_journal::journal::{Entry, Source};
-use range_state::config::RangeConfig;
-use range_state::event::{Accepted, Receipt};
-use range_state::state::RangeState;
-use rehash::job::run_job;
-use snapshot::snapshot::Snapshot;
+use hash_tree::{Hashed, NodeAt};
+use range_journal::{Entry, Source};
+use range_state::{Accepted, RangeConfig, RangeState, Receipt};
+use rehash::run_job;
+use snapshot::Snapshot;
 use std::alloc::Global;
 use std::sync::Arc;
 use std::thread::Threads;
-use sync_session::state::SessionState;
-use vclock::format::Format;
-use vclock::refusal::Refusal;
+use sync_session::SessionState;
+use vclock::{Format, Refusal};
 
 /// The seat of all callers.
 pub(crate) const SEAT: u16 = 3;

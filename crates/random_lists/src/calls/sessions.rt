@@ -5,13 +5,12 @@ use crate::calls::replicas::Replica;
 use crate::calls::trees::Tree;
 use crate::calls::walks::{Offering, Walk};
 use crate::trouble::{Trouble, expect};
-use hash_tree::hashed::Digest;
-use hash_tree::node::NodeAt;
-use range_journal::journal::Source;
+use hash_tree::{Digest, NodeAt};
+use range_journal::Source;
 use std::alloc::Global;
-use sync_session::state::SessionState;
-use vclock::format::Format;
-use walk_messages::message::{Ask, Offer};
+use sync_session::SessionState;
+use vclock::Format;
+use walk_messages::{Ask, Offer};
 
 /// How many sessions are open at the most.
 const MOST_OPEN: usize = 64;

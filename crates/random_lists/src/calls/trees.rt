@@ -3,11 +3,10 @@ ghost use Rattle.std.specs.Prelude.{◌≤◌};
 
 use crate::calls::plain::{KEYS, PlainRange, PlainVersion, key_bytes};
 use crate::trouble::Trouble;
-use hash_tree::hashed::Digest;
-use hash_tree::node::NodeAt;
+use hash_tree::{Digest, NodeAt};
 use sha2::{Digest as _, Sha256};
 use std::alloc::Global;
-use vclock::format::Format;
+use vclock::Format;
 
 /// A key with the versions that are held for it, and its leaf.
 #[derive(Drop)]

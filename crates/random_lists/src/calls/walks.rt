@@ -3,14 +3,12 @@
 use crate::calls::plain::Fault;
 use crate::calls::trees::{Tree, child, inner_byte, leaf_depth};
 use crate::trouble::Trouble;
-use hash_tree::hashed::Digest;
-use hash_tree::node::NodeAt;
-use range_state::record::Record;
+use hash_tree::{Digest, NodeAt};
+use range_state::Record;
 use sha2::{Digest as _, Sha256};
 use std::alloc::Global;
-use sync_session::state::SessionState;
-use sync_session::taken::Taken;
-use vclock::format::Format;
+use sync_session::{SessionState, Taken};
+use vclock::Format;
 
 /// A text that was sent for a node.
 #[derive(Drop)]

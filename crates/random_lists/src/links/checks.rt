@@ -5,15 +5,13 @@ use crate::links::partner::Partner;
 use crate::links::rows::{Given, is_covered};
 use crate::links::tally::Tally;
 use crate::trouble::{Trouble, expect};
-use hash_tree::node::{NodeAt, tree_depth};
-use key_ring::places::place;
-use range_journal::journal::Source;
-use range_state::event::Receipt;
-use range_state::state::RangeState;
-use ring_node::syncer::SyncReport;
+use hash_tree::{NodeAt, tree_depth};
+use key_ring::place;
+use range_journal::Source;
+use range_state::{RangeState, Receipt};
+use ring_node::SyncReport;
 use std::sync::ledger::Ledger;
-use sync_session::session::Session;
-use sync_session::state::SessionState;
+use sync_session::{Session, SessionState};
 
 /// The seat of the pass that syncs have.
 const SEAT: u16 = 1;

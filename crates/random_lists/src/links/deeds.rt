@@ -2,10 +2,10 @@
 ghost use Rattle.std.specs.Prelude.{◌<◌};
 
 use crate::random::Random;
-use hash_tree::node::NodeAt;
-use ring_node::deed::Deed;
+use hash_tree::NodeAt;
+use ring_node::Deed;
 use std::alloc::Global;
-use vclock::refusal::Refusal;
+use vclock::Refusal;
 
 /// A list of at most 200 deeds. Most of them hand on what comes, in some lists almost all.
 pub(crate) fn random_deeds(alloc: Global, random: &mut Random) -> Result<Vec<Deed>, Refusal> {

@@ -2,17 +2,12 @@
 ghost use Rattle.ring_node.specs.Links.{IsCounted};
 
 use crate::random::Random;
-use hash_tree::hashed::{Digest, hash};
-use hash_tree::text::Text;
-use hash_tree::texts::inner_text;
-use ring_node::link::{Link, Reached};
+use hash_tree::{Digest, Text, hash, inner_text};
+use ring_node::{Link, Reached};
 use std::alloc::Global;
 use std::sync::Wait;
-use vclock::format::Format;
-use vclock::refusal::Refusal;
-use walk_messages::decoding::decode;
-use walk_messages::encoding::encode;
-use walk_messages::message::{Answer, Ask, Message, Offer};
+use vclock::{Format, Refusal};
+use walk_messages::{Answer, Ask, Message, Offer, decode, encode};
 
 /// What a forger says that the text of each node below the root is.
 const JUNK: &[u8] = b"abc";

@@ -2,17 +2,15 @@
 
 use crate::links::rows::{Given, KEYS, key_bytes};
 use crate::trouble::Trouble;
-use hash_tree::hashed::Digest;
-use range_journal::journal::Source;
-use range_state::config::RangeConfig;
-use range_state::state::RangeState;
-use ring_node::offers::OfferPool;
-use snapshot::snapshot::Snapshot;
+use hash_tree::Digest;
+use range_journal::Source;
+use range_state::{RangeConfig, RangeState};
+use ring_node::OfferPool;
+use snapshot::Snapshot;
 use std::alloc::Global;
 use std::sync::{Arc, Wait};
 use std::thread::Threads;
-use vclock::format::Format;
-use vclock::refusal::Refusal;
+use vclock::{Format, Refusal};
 
 /// What a partner had when it made an offer.
 #[derive(Drop)]

@@ -2,12 +2,8 @@
 
 use crate::random::Random;
 use std::alloc::Global;
-use vclock::bytes::Bytes;
-use vclock::clock::Clock;
-use vclock::format::Format;
-use vclock::refusal::Refusal;
-use version_set::kind::Kind;
-use version_set::version::Version;
+use vclock::{Bytes, Clock, Format, Refusal};
+use version_set::{Kind, Version};
 
 /// How many keys there are: they have the numbers from 0.
 pub(crate) const KEYS: u64 = 8;

@@ -1,8 +1,8 @@
 //! What came of all syncs.
 
 use std::fmt;
-use sync_session::state::SessionState;
-use vclock::refusal::Refusal;
+use sync_session::SessionState;
+use vclock::Refusal;
 
 /// What came of all syncs.
 #[derive(Clone, Copy)]

@@ -11,18 +11,14 @@ use crate::links::tally::Tally;
 use crate::links::watched::Watched;
 use crate::random::Random;
 use crate::trouble::Trouble;
-use admission::controller::Controller;
-use admission::slot::Slot;
-use ring_node::controller::SharedController;
-use ring_node::link::Link;
-use ring_node::memory::MemoryLink;
-use ring_node::scripted::ScriptedLink;
+use admission::{Controller, Slot};
+use ring_node::{Link, MemoryLink, ScriptedLink, SharedController};
 use std::alloc::Global;
 use std::marker::Brand;
 use std::sync::Wait;
 use std::sync::ledger::{Blank, Ledger};
 use std::thread::Threads;
-use vclock::format::Format;
+use vclock::Format;
 
 /// How many versions either side has of a key that is crowded: together too many.
 const CROWD: u8 = 40;

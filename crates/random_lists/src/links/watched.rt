@@ -1,11 +1,10 @@
 //! Links that are watched.
 
-use ring_node::link::{Link, Reached};
+use ring_node::{Link, Reached};
 use std::alloc::Global;
 use std::mem::replace;
 use std::sync::Wait;
-use walk_messages::decoding::decode;
-use walk_messages::message::{Answer, Message};
+use walk_messages::{Answer, Message, decode};
 
 /// A link round another one that counts the asks, and keeps the answers that are of the offer asked of. What comes over the
 /// other one is handed on.

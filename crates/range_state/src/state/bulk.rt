@@ -7,13 +7,11 @@ ghost use Rattle.range_state.specs.State.{is_current, place_of};
 ghost use Rattle.range_state.specs.Trees.{rehashed, IsSameRange};
 
 use crate::state::RangeState;
-use hash_tree::hashed::Hashed;
-use hash_tree::node::NodeAt;
-use rehash::bulk::hash_all;
-use rehash::job::Job;
+use hash_tree::{Hashed, NodeAt};
+use rehash::{Job, hash_all};
 use std::alloc::{AllocError, Global};
 use std::thread::Threads;
-use vclock::refusal::Refusal;
+use vclock::Refusal;
 
 impl RangeState {
     /// Hashes every dirty node and installs the digests, and returns how many nodes were dirty. Each round hashes the nodes

@@ -9,18 +9,12 @@ ghost use Rattle.range_state.specs.Syncs.{IsFirstOf};
 
 use crate::record::Record;
 use crate::state::RangeState;
-use hash_tree::node::NodeAt;
+use hash_tree::NodeAt;
 use std::alloc::Global;
-use sync_session::session::Session;
-use sync_session::state::SessionState;
-use vclock::refusal::Refusal;
-use walk_messages::message::Offer;
-
-/// How many sessions of a range are open at the most.
-const MOST_OPEN: usize = 64;
-
-/// How many records of sessions a range has at the most.
-const MOST_RECORDS: usize = 1_024;
+use sync_session::{Session, SessionState};
+use vclock::Refusal;
+use vclock::limits::{OPEN_SESSIONS_MAX, SESSIONS_MAX};
+use walk_messages::Offer;
 
 impl RangeState {
     /// The records of all sessions, in the order of their numbers. It takes no memory.
@@ -110,7 +104,7 @@ impl RangeState {
 pub(super) fn check_crowd(records: &[Record]) -> Result<(), Refusal>
     ensures { AnswersAtOnce result (crowd_fault (standings records.now)) (λ _. ⊤) }
 {
-    if open_count(records) >= MOST_OPEN || records.len() >= MOST_RECORDS {
+    if open_count(records) >= OPEN_SESSIONS_MAX || records.len() >= SESSIONS_MAX {
         return Err(Refusal::SessionsFull);
     }
     Ok(())

@@ -7,12 +7,10 @@ ghost use Rattle.hash_tree.specs.Nodes.{digest_at, is_ready, ready_from};
 ghost use Rattle.range_state.specs.State.{has_node, place_of, text_in, GivesJob, AreJobs, is_current, install, installed};
 
 use crate::state::RangeState;
-use hash_tree::comparing::is_inner_text;
-use hash_tree::hashed::{Digest, Hashed};
-use hash_tree::node::{NodeAt, tree_depth};
-use rehash::job::Job;
+use hash_tree::{Digest, Hashed, NodeAt, is_inner_text, tree_depth};
+use rehash::Job;
 use std::alloc::Global;
-use vclock::refusal::Refusal;
+use vclock::Refusal;
 
 impl RangeState {
     /// The digest of a node, if it is clean: that of its text for the rows now. `None` if the node is dirty or the

@@ -1,6 +1,5 @@
 use Rattle.std.proofs.Common.{◌≡◌, ◌≤◌, take, vec_len, vec_capacity}
-use Rattle.admission.specs.Admission.{window_of}
-use Rattle.admission.specs.Samples.{pairs}
+use Rattle.admission.specs.Admission.{window_of, pairs}
 use Rattle.admission.proofs.latency.window.Given as goal
 
 abbrev pub invariant-loop-i : goal.invariant-loop-i

@@ -9,7 +9,7 @@ use Rattle.row_bytes.specs.declared.row.Row.{Row}
 use Rattle.hash_tree.specs.Leaves.{Bucket, AscendByKey, IsAt, IsBetween, versions_in}
 use Rattle.hash_tree.specs.Chunks.{all_rows, place_in, offered_at}
 use Rattle.hash_tree.proofs.ChunkPlaces.{rows_read, on_ok_map, values_fit}
-use Rattle.hash_tree.proofs.KeySpots.{IsChunkOf, chunk_ascends, at_there, between_there, row_spot, gap_spot, at_offers, at_holds, nothing_crowds}
+use Rattle.hash_tree.proofs.KeySpotLaws.{IsChunkOf, chunk_ascends, at_there, between_there, row_spot, gap_spot, at_offers, at_holds, nothing_crowds}
 use Rattle.hash_tree.proofs.leaf.offer_to_key.Goals as goal
 
 pub find_place-requires : goal.find_place-requires

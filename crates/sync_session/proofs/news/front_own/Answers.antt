@@ -1,7 +1,7 @@
 use Rattle.std.proofs.Common.{◌++◌, ◌∙◌, ℕ, List, None, Some, refl, sym, ap}
 use Rattle.std.proofs.lemmas.Bool.Decides.{Decides-eqb}
 use Rattle.std.proofs.lemmas.Slice.Eq.{strip_prefix_is}
-use Rattle.hash_tree.proofs.Strips.{to_strips}
+use Rattle.hash_tree.proofs.StripLaws.{to_strips}
 use Rattle.sync_session.proofs.NewsLaws.{front_differs}
 use Rattle.sync_session.proofs.news.front_own.Goals as goal
 

@@ -1,7 +1,7 @@
 use Rattle.std.proofs.Common.{◌++◌, ◌∙◌, List, Some, ap, arith}
 use Rattle.std.proofs.lemmas.Bool.Decides.{Decides-eqb}
 use Rattle.std.proofs.lemmas.Slice.Eq.{strip_prefix_is}
-use Rattle.hash_tree.proofs.Strips.{to_strips}
+use Rattle.hash_tree.proofs.StripLaws.{to_strips}
 use Rattle.sync_session.proofs.NewsLaws.{run_within, last_of}
 use Rattle.sync_session.proofs.news.front_run.Goals as goal
 

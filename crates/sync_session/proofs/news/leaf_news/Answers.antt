@@ -3,7 +3,7 @@ use Rattle.std.proofs.lemmas.List.{length-append}
 use Rattle.std.specs.List.{flat_map, Contains}
 use Rattle.row_bytes.specs.declared.row.Row.{Row}
 use Rattle.row_bytes.specs.Rows.{is_before, row_text}
-use Rattle.row_bytes.proofs.ManyRows.{some_left, none_left}
+use Rattle.row_bytes.proofs.ManyRowLaws.{some_left, none_left}
 use Rattle.hash_tree.specs.Leaves.{Bucket, AscendByKey, rows_at}
 use Rattle.snapshot.specs.RowMaps.{leaf_in}
 use Rattle.sync_session.specs.TreeNodes.{node_of}

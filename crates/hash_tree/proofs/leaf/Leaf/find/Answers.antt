@@ -1,7 +1,7 @@
 use Rattle.std.proofs.Common.{◌<◌, ◌∙◌, List, length, subst, sym, ap}
 use Rattle.hash_tree.specs.Leaves.{Bucket, AscendByKey, versions_in}
 use Rattle.hash_tree.proofs.ChunkPlaces.{rows_read}
-use Rattle.hash_tree.proofs.KeySpots.{IsChunkOf, chunk_ascends, versions_there}
+use Rattle.hash_tree.proofs.KeySpotLaws.{IsChunkOf, chunk_ascends, versions_there}
 use Rattle.hash_tree.proofs.leaf.Leaf.find.Goals as goal
 
 pub find_place-requires : goal.find_place-requires

@@ -4,7 +4,7 @@ use Rattle.row_bytes.specs.declared.row.Row.{Row}
 use Rattle.hash_tree.specs.Chunks.{all_rows}
 use Rattle.hash_tree.specs.Leaves.{Bucket, AscendByKey, FindsRun, IsRun, versions_in}
 use Rattle.hash_tree.proofs.ChunkPlaces.{rows_read, three_parts}
-use Rattle.hash_tree.proofs.KeySpots.{IsChunkOf, chunk_ascends, versions_there}
+use Rattle.hash_tree.proofs.KeySpotLaws.{IsChunkOf, chunk_ascends, versions_there}
 use Rattle.hash_tree.proofs.LeafLaws.{no_row, some_each}
 use Rattle.hash_tree.proofs.leaf.Leaf.find_run.Goals as goal
 

@@ -1,5 +1,5 @@
 use Rattle.std.proofs.Common.{◌<◌, ◌+◌, length, [], arith}
-use Rattle.script_commands.specs.Faults.{line_limit}
+use Rattle.outage_commands.specs.Faults.{line_limit}
 use Rattle.outage_script.specs.Moves.{place_of}
 use Rattle.outage_script.proofs.Known.{appends_nothing}
 use Rattle.outage_script.proofs.LineLemmas.{line_long, bytes_kept}

@@ -2,7 +2,7 @@ use Rattle.std.proofs.Common.{◌≡◌, ◌+◌, ◌++◌, ◌∙◌, length, t
 use Rattle.std.proofs.lemmas.Result.{err_from_is_err_and}
 use Rattle.std.proofs.lemmas.List.Folds.{length-flat_map-take}
 use Rattle.row_bytes.specs.declared.row.Row.{Row}
-use Rattle.range_state.specs.declared.state.preparing.Batch.{Batch}
+use Rattle.range_state.specs.declared.state.preparation.Batch.{Batch}
 use Rattle.range_state.specs.Sessions.{offers_in, offers_of}
 use Rattle.range_state.proofs.BatchLaws.{Offers, going_err, going_more, from_none, offers_next, offers_split}
 use Rattle.range_state.proofs.state.RangeState.prepare_rows.Goals as goal

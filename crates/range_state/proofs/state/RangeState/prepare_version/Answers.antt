@@ -3,7 +3,7 @@ use Rattle.vclock.specs.declared.refusal.Refusal.TheVariants.{Crowded}
 use Rattle.version_set.specs.Version.{covered, offer_fault}
 use Rattle.range_journal.specs.declared.journal.Source.TheVariants.{Partner}
 use Rattle.hash_tree.specs.Leaves.{versions_in}
-use Rattle.range_state.specs.declared.state.preparing.Batch.{Batch}
+use Rattle.range_state.specs.declared.state.preparation.Batch.{Batch}
 use Rattle.range_state.specs.State.{State}
 use Rattle.range_state.proofs.BatchLaws.{known_next, crowded_next, news_next}
 use Rattle.range_state.proofs.state.RangeState.prepare_version.Goals as goal

@@ -5,8 +5,8 @@ use Rattle.range_state.specs.Records.{open_count}
 use Rattle.range_state.proofs.SessionLaws.{crowd_by}
 use Rattle.range_state.proofs.state.sessions.check_crowd.Goals as goal
 
-pub returns-then-open_count-ge-MOST_OPEN : goal.returns-then-open_count-ge-MOST_OPEN
-returns-then-open_count-ge-MOST_OPEN c =
+pub returns-then-open_count-ge-OPEN_SESSIONS_MAX : goal.returns-then-open_count-ge-OPEN_SESSIONS_MAX
+returns-then-open_count-ge-OPEN_SESSIONS_MAX c =
     let rs = c.args.records.now in
     let full : (if nat_le 64 (open_count rs) || nat_le 1024 (length rs) then Some SessionsFull else None) ≡ Some SessionsFull = search rules in
     crowd_by rs ∙ full

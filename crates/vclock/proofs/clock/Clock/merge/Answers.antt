@@ -5,12 +5,12 @@ use Rattle.vclock.specs.Clock.{Pairs, IsClock, counter, merged}
 use Rattle.vclock.proofs.ClockLaws.{counter-merged, merged-drop, merged_clock, merge_fault_over, merge_fault_none}
 use Rattle.vclock.proofs.clock.Clock.merge.Goals as goal
 
-pub returns-then-len-gt-MOST_PAIRS-clause-answers :
-    goal.returns-then-len-gt-MOST_PAIRS-clause-answers
-returns-then-len-gt-MOST_PAIRS-clause-answers c =
+pub returns-then-len-gt-PAIRS_MAX-clause-answers :
+    goal.returns-then-len-gt-PAIRS_MAX-clause-answers
+returns-then-len-gt-PAIRS_MAX-clause-answers c =
     let other : c.as_slice-others.result.now ≡ c.args.other.now = c.as_slice-others.ensures ∙ c.other.view_is in
     let absent = subst (λ (ps : Pairs). c.count_absent.result ≡ length (filter (λ p. eqb (counter c.args.self.now p.0) 0) ps)) other c.count_absent.ensures.count in
-    inr (merge_fault_over c.args.self.now c.args.other.now (omega (arith, absent, c.if-len-gt-MOST_PAIRS.true, c.len.ensures.value, ap (λ (ps : Pairs). length ps) c.self.view_is)))
+    inr (merge_fault_over c.args.self.now c.args.other.now (omega (arith, absent, c.if-len-gt-PAIRS_MAX.true, c.len.ensures.value, ap (λ (ps : Pairs). length ps) c.self.view_is)))
 
 pub loop-i-init : goal.loop-i-init
 loop-i-init c =
@@ -36,7 +36,7 @@ few : (c : goal.After-loop-i) → length c.args.self.now + length (filter (λ p.
 few c =
     let other : c.as_slice-others.result.now ≡ c.args.other.now = c.as_slice-others.ensures ∙ c.other.view_is in
     let absent = subst (λ (ps : Pairs). c.count_absent.result ≡ length (filter (λ p. eqb (counter c.args.self.now p.0) 0) ps)) other c.count_absent.ensures.count in
-    omega (arith, absent, c.if-len-gt-MOST_PAIRS.false, c.len.ensures.value, ap (λ (ps : Pairs). length ps) c.self.view_is)
+    omega (arith, absent, c.if-len-gt-PAIRS_MAX.false, c.len.ensures.value, ap (λ (ps : Pairs). length ps) c.self.view_is)
 
 pub invariant_of-result : goal.invariant_of-result
 invariant_of-result c =

@@ -1,0 +1,17 @@
+use Rattle.std.proofs.Common.{◌≡◌, ◌<◌, length, None, arith, sym, subst}
+use Rattle.hash_tree.specs.declared.node.NodeAt.{NodeAt}
+use Rattle.hash_tree.specs.Nodes.{digest_at}
+use Rattle.range_state.specs.State.{place_of}
+use Rattle.range_state.proofs.BulkLaws.{cleaning_next}
+use Rattle.antientropy_c.proofs.tree.install_all.Goals as goal
+
+pub loop-i-preserved : goal.loop-i-preserved
+loop-i-preserved c =
+    let start = c.args.state.now in
+    let i = c.loop-i.i in
+    let node = c.index-nodes-i.result in
+    let less : i < length c.args.nodes.now = omega arith in
+    let back = sym c.index-nodes-i.is in
+    let has = subst (λ (n : NodeAt). place_of n < length start.marks) back (c.requires.has i node less) in
+    let dirty = subst (λ (n : NodeAt). digest_at start.marks (place_of n) ≡ None) back (c.requires.dirty i node less) in
+    cleaning_next start c.args.nodes.now c.args.hashed.now i c.loop-i.state c.install.new.state node c.index-hashed-i.result c.loop-i.invariant has dirty c.install.ensures

@@ -1,0 +1,96 @@
+//! Replicas that are made, taken over and freed.
+ghost use Rattle.std.specs.Prelude.{◌≡◌, false, Result};
+ghost use Rattle.vclock.specs.Answer.{Answers};
+ghost use Rattle.vclock.specs.Outcome.{Does};
+ghost use Rattle.vclock.specs.declared.refusal.Refusal.{Refusal};
+ghost use Rattle.range_state.specs.Config.{config_of};
+ghost use Rattle.range_state.specs.Migrates.{migrate};
+ghost use Rattle.antientropy_c.specs.Numbers.{Returns};
+ghost use Rattle.antientropy_c.specs.Calls.{Calls};
+ghost use Rattle.antientropy_c.specs.Makes.{Makes, TakesState, config_fault, IsFresh};
+
+use crate::numbers::{EMPTY, HELD, code};
+use crate::replica::Replica;
+use range_state::{RangeConfig, RangeState};
+use std::alloc::Global;
+use vclock::Refusal;
+
+/// Makes a replica that has accepted nothing, as [`RangeConfig::new`] and [`RangeState::new`].
+///
+/// Refused, in order: HELD (the handle holds one already), BadRing (the numbers are outside the limits), NoMemory. The handle
+/// is then as it was.
+#[unsafe(no_mangle)]
+#[tactic(auto, using(crate::proofs::MakeLaws::already, crate::proofs::MakeLaws::made))]
+pub extern "C" fn antientropy_new(
+    alloc: Global,
+    replica: &mut Replica,
+    format: u64,
+    bits: u64,
+    range: u64,
+    limit: u64,
+) -> u32
+    ensures { Makes result replica.old replica.new (config_of format bits range limit) }
+{
+    if let Some(state) = replica.take(alloc) {
+        replica.hold(state);
+        return HELD;
+    }
+    code(&make(alloc, replica, format, bits, range, limit))
+}
+
+/// Does the same with a handle that holds nothing.
+fn make(
+    alloc: Global,
+    replica: &mut Replica,
+    format: u64,
+    bits: u64,
+    range: u64,
+    limit: u64,
+) -> Result<(), Refusal>
+    requires { replica.old.held ≡ false }
+    ensures { TakesState replica.new (config_of format bits range limit) result }
+{
+    let state = fresh(alloc, format, bits, range, limit)?;
+    replica.hold(state);
+    Ok(())
+}
+
+/// A replica that has accepted nothing.
+fn fresh(
+    alloc: Global,
+    format: u64,
+    bits: u64,
+    range: u64,
+    limit: u64,
+) -> Result<Box<RangeState, Global>, Refusal>
+    ensures { Answers result (config_fault (config_of format bits range limit))
+        (λ state. IsFresh (config_of format bits range limit) state.value) }
+{
+    let config = RangeConfig::new(format, bits, range, limit).ok_or(Refusal::BadRing)?;
+    let state = RangeState::new(alloc, config)?;
+    Ok(Box::new(alloc, state)?)
+}
+
+/// Takes a replica of format 1 over to format 2; one of format 2 stays as it is. Refused, in order: EMPTY, NoMemory. The
+/// replica is then as it was.
+#[unsafe(no_mangle)]
+#[tactic(auto, using(crate::proofs::CallLaws::empty, crate::proofs::CallLaws::held, crate::proofs::CallLaws::returns))]
+pub extern "C" fn antientropy_migrate(alloc: Global, replica: &mut Replica) -> u32
+    ensures { Calls result replica.old replica.new (λ s t. Returns result (λ (r : Result (Unit {0}) Refusal).
+        Does r s t (migrate s))) }
+{
+    let Some(mut state) = replica.take(alloc) else {
+        return EMPTY;
+    };
+    let told = state.migrate(alloc);
+    replica.hold(state);
+    code(&told)
+}
+
+/// Frees what a handle holds.
+#[unsafe(no_mangle)]
+pub extern "C" fn antientropy_free(alloc: Global, replica: &mut Replica)
+    ensures { replica.new.held ≡ false }
+{
+    let _state = replica.take(alloc);
+}

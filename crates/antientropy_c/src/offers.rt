@@ -1,0 +1,175 @@
+//! What a replica offers to another one.
+ghost use Rattle.std.specs.Prelude.{◌≡◌, false, None};
+ghost use Rattle.vclock.specs.Answer.{Answers};
+ghost use Rattle.walk_messages.specs.Messages.{message_text};
+ghost use Rattle.walk_messages.specs.declared.message.Message.TheVariants as messages;
+ghost use Rattle.range_state.specs.State.{rows_now, dirty_fault};
+ghost use Rattle.antientropy_c.specs.Calls.{Calls, Reads};
+ghost use Rattle.antientropy_c.specs.Hands.{Gives};
+ghost use Rattle.antientropy_c.specs.Offers.{Shows, Publishes, TakesRows, offer_of, ServesAsk, Serves};
+
+use crate::numbers::{EMPTY, HELD, code};
+use crate::output::hand_out;
+use crate::publication::Publication;
+use crate::published::Published;
+use crate::replica::Replica;
+use hash_tree::Text;
+use range_state::RangeState;
+use snapshot::Snapshot;
+use std::alloc::Global;
+use vclock::Refusal;
+use walk_messages::{Answer, Ask, Message, decode, encode};
+
+/// Publishes the rows of a replica now. Refused, in order: EMPTY, HELD (the publication holds something already), Dirty (some
+/// node has no digest), NoMemory. The publication is then as it was.
+#[unsafe(no_mangle)]
+#[tactic(auto, using(crate::proofs::CallLaws::empty, crate::proofs::CallLaws::held))]
+pub extern "C" fn antientropy_snapshot(
+    alloc: Global,
+    replica: &mut Replica,
+    publication: &mut Publication,
+) -> u32
+    ensures { Calls result replica.old replica.new (λ s t. (t ≡ s)
+        × Publishes result publication.old publication.new (dirty_fault s) (rows_now s)) }
+{
+    let Some(state) = replica.take(alloc) else {
+        return EMPTY;
+    };
+    let number = publish(alloc, &state, publication);
+    replica.hold(state);
+    number
+}
+
+/// Does the same of a replica.
+#[tactic(auto, using(crate::proofs::OfferLaws::already, crate::proofs::OfferLaws::published))]
+fn publish(alloc: Global, state: &RangeState, publication: &mut Publication) -> u32
+    ensures { Publishes result publication.old publication.new (dirty_fault state.now) (rows_now state.now) }
+{
+    if let Some(rows) = publication.take(alloc) {
+        publication.hold(rows);
+        return HELD;
+    }
+    code(&make(alloc, state, publication))
+}
+
+/// Does the same with a publication that holds nothing.
+fn make(alloc: Global, state: &RangeState, publication: &mut Publication) -> Result<(), Refusal>
+    requires { publication.old.held ≡ false }
+    ensures { TakesRows publication.new (dirty_fault state.now) (rows_now state.now) result }
+{
+    let rows = boxed(alloc, state)?;
+    publication.hold(rows);
+    Ok(())
+}
+
+/// The rows of a replica now.
+fn boxed(alloc: Global, state: &RangeState) -> Result<Box<Published, Global>, Refusal>
+    ensures { Answers result (dirty_fault state.now) (λ rows. rows.value ≡ rows_now state.now) }
+{
+    let snapshot = state.snapshot(alloc)?;
+    Ok(Box::new(alloc, Published::new(snapshot))?)
+}
+
+/// Frees what a publication holds.
+#[unsafe(no_mangle)]
+pub extern "C" fn antientropy_snapshot_free(alloc: Global, publication: &mut Publication)
+    ensures { publication.new.held ≡ false }
+{
+    let _rows = publication.take(alloc);
+}
+
+/// The message of the offer with a number. Refused, in order: EMPTY, NoMemory.
+#[unsafe(no_mangle)]
+#[tactic(auto, using(crate::proofs::OfferLaws::empty, crate::proofs::OfferLaws::held, crate::proofs::CallLaws::gives))]
+pub extern "C" fn antientropy_offer(
+    alloc: Global,
+    publication: &mut Publication,
+    number: u32,
+    out: &mut [u8],
+    need: &mut u64,
+) -> u32
+    ensures { Shows result publication.old publication.new (λ m. Gives result (need.old, out.old) (need.new, out.new)
+        (λ r. Answers r None (λ bytes. bytes ≡ message_text (messages.Offer (offer_of number m))))) }
+{
+    let Some(rows) = publication.take(alloc) else {
+        return EMPTY;
+    };
+    let told = offer(alloc, rows.snapshot(), number);
+    publication.hold(rows);
+    hand_out(&told, out, need)
+}
+
+/// The message of the offer of a snapshot.
+fn offer(alloc: Global, snapshot: &Snapshot, number: u32) -> Result<Text, Refusal>
+    ensures { Answers result None (λ bytes. bytes ≡ message_text (messages.Offer (offer_of number snapshot.now))) }
+{
+    let bytes = encode(alloc, &Message::Offer(snapshot.offer(number)))?;
+    Ok(Text::from(bytes))
+}
+
+/// The message that answers an ask, if it is for the offer with this number.
+///
+/// Refused, in order: EMPTY, BadMessage (the bytes are no ask), Gone (it is of another offer), BadMessage (the tree has
+/// no such node), NoMemory. If the bytes are an answer, NoMemory may stand in place of BadMessage.
+#[unsafe(no_mangle)]
+#[tactic(auto, using(crate::proofs::OfferLaws::empty, crate::proofs::OfferLaws::held, crate::proofs::CallLaws::gives))]
+pub extern "C" fn antientropy_serve(
+    alloc: Global,
+    publication: &mut Publication,
+    number: u32,
+    ask: &[u8],
+    out: &mut [u8],
+    need: &mut u64,
+) -> u32
+    ensures { Shows result publication.old publication.new (λ m. Gives result (need.old, out.old) (need.new, out.new)
+        (λ r. Reads ask.now (Serves m number r))) }
+{
+    let Some(rows) = publication.take(alloc) else {
+        return EMPTY;
+    };
+    let told = serve(alloc, rows.snapshot(), number, ask);
+    publication.hold(rows);
+    hand_out(&told, out, need)
+}
+
+/// Does the same of a snapshot.
+#[tactic(auto, using(crate::proofs::CallLaws::reads))]
+fn serve(alloc: Global, snapshot: &Snapshot, number: u32, bytes: &[u8]) -> Result<Text, Refusal>
+    ensures { Reads bytes.now (Serves snapshot.now number result) }
+{
+    let decoded = decode(alloc, bytes);
+    serve_decoded(alloc, snapshot, number, decoded)
+}
+
+/// Does the same with what the bytes decode to.
+fn serve_decoded(
+    alloc: Global,
+    snapshot: &Snapshot,
+    number: u32,
+    decoded: Result<Message, Refusal>,
+) -> Result<Text, Refusal>
+    ensures { Serves snapshot.now number result decoded }
+{
+    match decoded {
+        Ok(Message::Ask(ask)) => serve_ask(alloc, snapshot, number, ask),
+        Ok(Message::Offer(_) | Message::Answer(_)) => Err(Refusal::BadMessage),
+        Err(refusal) => Err(refusal),
+    }
+}
+
+/// The message that answers an ask. Refused, in order: Gone, BadMessage, NoMemory.
+fn serve_ask(alloc: Global, snapshot: &Snapshot, number: u32, ask: Ask) -> Result<Text, Refusal>
+    ensures { ServesAsk snapshot.now number ask result }
+{
+    if ask.offer != number {
+        return Err(Refusal::Gone);
+    }
+    let text = snapshot.answer(alloc, ask)?;
+    let answer = Answer {
+        offer: ask.offer,
+        node: ask.node,
+        text: Text::from(text),
+    };
+    let bytes = encode(alloc, &Message::Answer(answer))?;
+    Ok(Text::from(bytes))
+}

@@ -1,0 +1,29 @@
+//! Bytes that are handed to C.
+ghost use Rattle.std.specs.Prelude.{Ok};
+ghost use Rattle.antientropy_c.specs.Hands.{HandsOut};
+
+use crate::numbers::SMALL;
+use hash_tree::Text;
+use vclock::Refusal;
+
+/// Hands out the bytes of a result, or nothing, and returns the number of what came of it.
+pub(crate) fn hand_out(told: &Result<Text, Refusal>, out: &mut [u8], need: &mut u64) -> u32
+    ensures { HandsOut told.now result (need.old, out.old) (need.new, out.new) }
+{
+    match told {
+        Ok(bytes) => copy_out(bytes.as_slice(), out, need),
+        Err(refusal) => refusal.number() as u32,
+    }
+}
+
+/// Copies bytes to the front of a room if all of them fit, and says how many there are.
+pub(crate) fn copy_out(bytes: &[u8], out: &mut [u8], need: &mut u64) -> u32
+    ensures { HandsOut (Ok bytes.now) result (need.old, out.old) (need.new, out.new) }
+{
+    *need = bytes.len() as u64;
+    if bytes.len() > out.len() {
+        return SMALL;
+    }
+    out[..bytes.len()].copy_from_slice(bytes);
+    0
+}

@@ -1,0 +1,162 @@
+//! Versions that come to a replica.
+ghost use Rattle.std.specs.Prelude.{◌≡◌, Result};
+ghost use Rattle.vclock.specs.Answer.{AnswersAtOnce};
+ghost use Rattle.vclock.specs.Outcome.{DoesOrNoMemory};
+ghost use Rattle.vclock.specs.declared.refusal.Refusal.{Refusal};
+ghost use Rattle.range_journal.specs.declared.journal.Entry.{Entry};
+ghost use Rattle.antientropy_c.specs.Numbers.{Returns};
+ghost use Rattle.antientropy_c.specs.Calls.{Calls};
+ghost use Rattle.antientropy_c.specs.Pairs.{pairs_of};
+ghost use Rattle.range_state.specs.declared.event.Accepted.{Accepted};
+ghost use Rattle.antientropy_c.specs.Puts.{kind_fault, kind_of, put_at, accept_at, TellsPut, TellsAccepted};
+
+use crate::numbers::{EMPTY, code};
+use crate::pair::{Pair, clock_of};
+use crate::replica::Replica;
+use range_journal::Source;
+use range_state::{Accepted, RangeState, Receipt};
+use std::alloc::Global;
+use vclock::{Bytes, Refusal};
+use version_set::{Kind, Version};
+
+/// What a put is told.
+#[repr(C)]
+#[derive(Clone, Copy, Debug)]
+pub struct PutReceipt {
+    /// The number of the entry in the journal, from 0.
+    pub number: u64,
+    /// The counter of the node in the new version's clock. The other counters are those of the context.
+    pub counter: u64,
+}
+
+/// Puts a value, or a tombstone, for a key at a node.
+///
+/// Refused, in order: EMPTY; BadClock (the node is 0, or the context is no clock), ClockFull (the context has over 32 pairs),
+/// BadValue (the kind is neither 0 nor 1); then as [`RangeState::put`]. The replica and the receipt are then as they were.
+/// NoMemory may stand in place of any cause but EMPTY.
+#[unsafe(no_mangle)]
+#[tactic(auto, using(crate::proofs::CallLaws::empty, crate::proofs::CallLaws::held, crate::proofs::CallLaws::returns))]
+pub extern "C" fn antientropy_put(
+    alloc: Global,
+    replica: &mut Replica,
+    node: u16,
+    key: &[u8],
+    context: &[Pair],
+    kind: u8,
+    value: &[u8],
+    receipt: &mut PutReceipt,
+) -> u32
+    ensures { Calls result replica.old replica.new (λ s t. Returns result (λ (r : Result Entry Refusal).
+        DoesOrNoMemory r s t (put_at s node key.now (pairs_of context.now) kind value.now)
+        × TellsPut node r receipt.old receipt.new)) }
+{
+    let Some(mut state) = replica.take(alloc) else {
+        return EMPTY;
+    };
+    let told = put(alloc, &mut state, node, key, context, kind, value);
+    replica.hold(state);
+    tell_put(&told, node, receipt);
+    code(&told)
+}
+
+/// Does as [`antientropy_put`], on a replica.
+fn put(
+    alloc: Global,
+    state: &mut RangeState,
+    node: u16,
+    key: &[u8],
+    context: &[Pair],
+    kind: u8,
+    value: &[u8],
+) -> Result<Receipt, Refusal>
+    ensures { DoesOrNoMemory result state.old state.new (put_at state.old node key.now (pairs_of context.now) kind value.now) }
+{
+    if node == 0 {
+        return Err(Refusal::BadClock);
+    }
+    let context = clock_of(alloc, context)?;
+    let kind = kind_of(kind)?;
+    let value = Bytes::copy_of(alloc, value)?;
+    state.put(alloc, 0, node, key, &context, kind, value)
+}
+
+/// Takes in a version of another replica, as a copy, unless it is known, and says whether it was taken: 1, or 0.
+///
+/// Refused, in order: EMPTY; BadClock (the pairs are no clock), ClockFull, BadValue (the kind is neither 0 nor 1); then as
+/// [`RangeState::accept`]. The replica and what is said are then as they were. NoMemory may stand in place of any cause but
+/// EMPTY.
+#[unsafe(no_mangle)]
+#[tactic(auto, using(crate::proofs::CallLaws::empty, crate::proofs::CallLaws::held, crate::proofs::CallLaws::returns))]
+pub extern "C" fn antientropy_accept(
+    alloc: Global,
+    replica: &mut Replica,
+    key: &[u8],
+    clock: &[Pair],
+    kind: u8,
+    value: &[u8],
+    taken: &mut u64,
+) -> u32
+    ensures { Calls result replica.old replica.new (λ s t. Returns result (λ (r : Result Accepted Refusal).
+        DoesOrNoMemory r s t (accept_at s key.now (pairs_of clock.now) kind value.now)
+        × TellsAccepted r taken.old taken.new)) }
+{
+    let Some(mut state) = replica.take(alloc) else {
+        return EMPTY;
+    };
+    let told = accept(alloc, &mut state, key, clock, kind, value);
+    replica.hold(state);
+    tell_accepted(&told, taken);
+    code(&told)
+}
+
+/// Does the same on a replica.
+fn accept(
+    alloc: Global,
+    state: &mut RangeState,
+    key: &[u8],
+    clock: &[Pair],
+    kind: u8,
+    value: &[u8],
+) -> Result<Accepted, Refusal>
+    ensures { DoesOrNoMemory result state.old state.new (accept_at state.old key.now (pairs_of clock.now) kind value.now) }
+{
+    let clock = clock_of(alloc, clock)?;
+    let kind = kind_of(kind)?;
+    let value = Bytes::copy_of(alloc, value)?;
+    let version = Version { clock, kind, value };
+    state.accept(alloc, 0, Source::Copy, key, version)
+}
+
+/// Tells the caller of a put, if it was not refused.
+fn tell_put(told: &Result<Receipt, Refusal>, node: u16, receipt: &mut PutReceipt)
+    ensures { TellsPut node told.now receipt.old receipt.new }
+{
+    if let Ok(entry) = told {
+        *receipt = PutReceipt {
+            number: entry.number,
+            counter: entry.version.clock.get(node),
+        };
+    }
+}
+
+/// Says whether a version was taken, if it was not refused.
+fn tell_accepted(told: &Result<Accepted, Refusal>, taken: &mut u64)
+    ensures { TellsAccepted told.now taken.old taken.new }
+{
+    match told {
+        Ok(Accepted::Taken(_)) => *taken = 1,
+        Ok(Accepted::Known) => *taken = 0,
+        Err(_) => {}
+    }
+}
+
+/// The kind of a number. Refused: BadValue (it is neither 0 nor 1).
+fn kind_of(kind: u8) -> Result<Kind, Refusal>
+    ensures { AnswersAtOnce result (kind_fault kind) (λ k. k ≡ kind_of kind) }
+{
+    match kind {
+        0 => Ok(Kind::Live),
+        1 => Ok(Kind::Tombstone),
+        _ => Err(Refusal::BadValue),
+    }
+}

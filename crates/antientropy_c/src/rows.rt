@@ -1,0 +1,75 @@
+//! What a replica shows.
+ghost use Rattle.std.specs.Prelude.{◌≡◌, length};
+ghost use Rattle.vclock.specs.Answer.{Answers};
+ghost use Rattle.vclock.specs.Bytes.{key_fault};
+ghost use Rattle.range_journal.specs.Journal.{held};
+ghost use Rattle.antientropy_c.specs.Calls.{Calls};
+ghost use Rattle.antientropy_c.specs.Hands.{Gives};
+ghost use Rattle.antientropy_c.specs.Shows.{row_shown};
+
+use crate::numbers::EMPTY;
+use crate::output::hand_out;
+use crate::replica::Replica;
+use hash_tree::Text;
+use range_state::RangeState;
+use row_bytes::{Row, write_row};
+use std::alloc::Global;
+use vclock::{Bytes, Refusal, check_key};
+
+/// The text of the row of a key: no bytes if nothing is held. Refused, in order: EMPTY, BadKey, NoMemory.
+#[unsafe(no_mangle)]
+#[tactic(auto, using(crate::proofs::CallLaws::empty, crate::proofs::CallLaws::held, crate::proofs::CallLaws::gives))]
+pub extern "C" fn antientropy_get(
+    alloc: Global,
+    replica: &mut Replica,
+    key: &[u8],
+    out: &mut [u8],
+    need: &mut u64,
+) -> u32
+    ensures { Calls result replica.old replica.new (λ s t. (t ≡ s) × Gives result (need.old, out.old) (need.new, out.new)
+        (λ r. Answers r (key_fault key.now) (λ bytes. bytes ≡ row_shown s key.now))) }
+{
+    let Some(state) = replica.take(alloc) else {
+        return EMPTY;
+    };
+    let told = row(alloc, &state, key);
+    replica.hold(state);
+    hand_out(&told, out, need)
+}
+
+/// The same of a replica.
+fn row(alloc: Global, state: &RangeState, key: &[u8]) -> Result<Text, Refusal>
+    ensures { Answers result (key_fault key.now) (λ bytes. bytes ≡ row_shown state.now key.now) }
+{
+    check_key(key)?;
+    let versions = state.get(alloc, key)?;
+    if versions.as_slice().is_empty() {
+        return Ok(Text::from(Vec::new(alloc)));
+    }
+    let row = Row {
+        key: Bytes::copy_of(alloc, key)?,
+        versions,
+    };
+    let text = write_row(alloc, state.config().format(), &row)?;
+    Ok(Text::from(text))
+}
+
+/// How many versions are held for a key. Refused: EMPTY.
+#[unsafe(no_mangle)]
+#[tactic(auto, using(crate::proofs::CallLaws::empty, crate::proofs::CallLaws::held))]
+pub extern "C" fn antientropy_versions(
+    alloc: Global,
+    replica: &mut Replica,
+    key: &[u8],
+    count: &mut u64,
+) -> u32
+    ensures { Calls result replica.old replica.new (λ s t. (t ≡ s) × (result ≡ 0)
+        × (count.new ≡ length (held s.entries key.now))) }
+{
+    let Some(state) = replica.take(alloc) else {
+        return EMPTY;
+    };
+    *count = state.versions(key).len() as u64;
+    replica.hold(state);
+    0
+}

@@ -1,0 +1,278 @@
+//! Sessions with other replicas.
+ghost use Rattle.std.specs.Prelude.{◌≡◌, ℕ, Result};
+ghost use Rattle.vclock.specs.Outcome.{DoesAtOnce};
+ghost use Rattle.vclock.specs.declared.refusal.Refusal.{Refusal};
+ghost use Rattle.range_state.specs.Sessions.{cancel_session};
+ghost use Rattle.range_state.specs.declared.event.AnswerTaken.{AnswerTaken};
+ghost use Rattle.antientropy_c.specs.Numbers.{Returns};
+ghost use Rattle.antientropy_c.specs.Calls.{Calls, Reads};
+ghost use Rattle.antientropy_c.specs.Hands.{Gives};
+ghost use Rattle.antientropy_c.specs.Sessions.{Opens, TellsNumber, Asks, TakesWith, Takes, TellsTaken, number_of_state, session_seen};
+
+use crate::numbers::{EMPTY, code};
+use crate::output::hand_out;
+use crate::replica::Replica;
+use hash_tree::{Text, hash};
+use range_state::{AnswerTaken, RangeState};
+use std::alloc::Global;
+use sync_session::SessionState;
+use vclock::Refusal;
+use walk_messages::{Answer, Ask, Message, decode, encode};
+
+/// Opens a session with a partner by the bytes of its offer, and gives the session's number, from 0.
+///
+/// Refused, in order: EMPTY, BadMessage (the bytes are no offer); then as [`RangeState::open_session`]: OtherFormat,
+/// OtherRange, SessionsFull, Dirty, NoMemory. If the bytes are an answer, NoMemory may stand in place of BadMessage.
+/// The replica and the number are then as they were.
+#[unsafe(no_mangle)]
+#[tactic(auto, using(crate::proofs::CallLaws::empty, crate::proofs::CallLaws::held, crate::proofs::CallLaws::returns))]
+pub extern "C" fn antientropy_open(
+    alloc: Global,
+    replica: &mut Replica,
+    partner: u16,
+    offer: &[u8],
+    session: &mut u64,
+) -> u32
+    ensures { Calls result replica.old replica.new (λ s t. Returns result (λ (r : Result ℕ Refusal).
+        Reads offer.now (Opens s partner r t) × TellsNumber r session.old session.new)) }
+{
+    let Some(mut state) = replica.take(alloc) else {
+        return EMPTY;
+    };
+    let told = open(alloc, &mut state, partner, offer);
+    replica.hold(state);
+    tell_number(&told, session);
+    code(&told)
+}
+
+/// Does the same on a replica.
+#[tactic(auto, using(crate::proofs::CallLaws::reads))]
+fn open(alloc: Global, state: &mut RangeState, partner: u16, bytes: &[u8]) -> Result<u64, Refusal>
+    ensures { Reads bytes.now (Opens state.old partner result state.new) }
+{
+    let decoded = decode(alloc, bytes);
+    open_decoded(alloc, state, partner, decoded)
+}
+
+/// Does the same with what the bytes decode to.
+fn open_decoded(
+    alloc: Global,
+    state: &mut RangeState,
+    partner: u16,
+    decoded: Result<Message, Refusal>,
+) -> Result<u64, Refusal>
+    ensures { Opens state.old partner result state.new decoded }
+{
+    match decoded {
+        Ok(Message::Offer(offer)) => state.open_session(alloc, partner, offer),
+        Ok(Message::Ask(_) | Message::Answer(_)) => Err(Refusal::BadMessage),
+        Err(refusal) => Err(refusal),
+    }
+}
+
+/// Gives a number, if there is one.
+pub(crate) fn tell_number(told: &Result<u64, Refusal>, out: &mut u64)
+    ensures { TellsNumber told.now out.old out.new }
+{
+    if let Ok(number) = told {
+        *out = *number;
+    }
+}
+
+/// The message that asks for the first node that a session has outstanding, with the number of the partner's offer: no
+/// bytes if nothing is outstanding. Refused, in order: EMPTY, UnknownSession, NoMemory.
+#[unsafe(no_mangle)]
+#[tactic(auto, using(crate::proofs::CallLaws::empty, crate::proofs::CallLaws::held, crate::proofs::CallLaws::gives))]
+pub extern "C" fn antientropy_ask(
+    alloc: Global,
+    replica: &mut Replica,
+    session: u64,
+    number: u32,
+    out: &mut [u8],
+    need: &mut u64,
+) -> u32
+    ensures { Calls result replica.old replica.new (λ s t. (t ≡ s) × Gives result (need.old, out.old) (need.new, out.new)
+        (Asks s session number)) }
+{
+    let Some(state) = replica.take(alloc) else {
+        return EMPTY;
+    };
+    let told = ask(alloc, &state, session, number);
+    replica.hold(state);
+    hand_out(&told, out, need)
+}
+
+/// Does the same of a replica.
+fn ask(alloc: Global, state: &RangeState, session: u64, number: u32) -> Result<Text, Refusal>
+    ensures { Asks state.now session number result }
+{
+    let Some(node) = state.outstanding(session)? else {
+        return Ok(Text::from(Vec::new(alloc)));
+    };
+    let ask = Ask {
+        offer: number,
+        node,
+    };
+    let bytes = encode(alloc, &Message::Ask(ask))?;
+    Ok(Text::from(bytes))
+}
+
+/// What came of an answer that a session took.
+#[repr(C)]
+#[derive(Clone, Copy, Debug)]
+pub struct TakenReceipt {
+    /// How many versions were new, and are entries of the journal from then on.
+    pub accepted: u64,
+    /// How many versions were known.
+    pub known: u64,
+    /// How the session stands: 0 open, 1 finished, 2 failed, 3 cancelled.
+    pub state: u64,
+}
+
+/// Takes the bytes of a partner's answer for a session with the partner's offer of that number.
+///
+/// Refused, in order: EMPTY, BadMessage (the bytes are no answer, or the answer is of another offer); then as
+/// [`RangeState::take_answer`]: UnknownSession, NotAsked, WrongDigest, NotCanonical (the session has failed then), Crowded,
+/// JournalFull, NoMemory. NoMemory may stand in place of any of them where the bytes are an answer. After any but
+/// NotCanonical the replica is as it was, and after any the receipt is.
+#[unsafe(no_mangle)]
+#[tactic(auto, using(crate::proofs::CallLaws::empty, crate::proofs::CallLaws::held, crate::proofs::CallLaws::returns))]
+pub extern "C" fn antientropy_take(
+    alloc: Global,
+    replica: &mut Replica,
+    session: u64,
+    number: u32,
+    answer: &[u8],
+    receipt: &mut TakenReceipt,
+) -> u32
+    ensures { Calls result replica.old replica.new (λ s t. Returns result (λ (r : Result AnswerTaken Refusal).
+        Reads answer.now (Takes s session number r t) × TellsTaken r receipt.old receipt.new)) }
+{
+    let Some(mut state) = replica.take(alloc) else {
+        return EMPTY;
+    };
+    let told = take(alloc, &mut state, session, number, answer);
+    replica.hold(state);
+    tell_taken(&told, receipt);
+    code(&told)
+}
+
+/// Does the same on a replica.
+#[tactic(auto, using(crate::proofs::CallLaws::reads))]
+fn take(
+    alloc: Global,
+    state: &mut RangeState,
+    session: u64,
+    number: u32,
+    bytes: &[u8],
+) -> Result<AnswerTaken, Refusal>
+    ensures { Reads bytes.now (Takes state.old session number result state.new) }
+{
+    let decoded = decode(alloc, bytes);
+    take_decoded(alloc, state, session, number, decoded)
+}
+
+/// Does the same with what the bytes decode to.
+fn take_decoded(
+    alloc: Global,
+    state: &mut RangeState,
+    session: u64,
+    number: u32,
+    decoded: Result<Message, Refusal>,
+) -> Result<AnswerTaken, Refusal>
+    ensures { Takes state.old session number result state.new decoded }
+{
+    match decoded {
+        Ok(Message::Answer(answer)) => take_answer(alloc, state, session, number, answer),
+        Ok(Message::Offer(_) | Message::Ask(_)) => Err(Refusal::BadMessage),
+        Err(refusal) => Err(refusal),
+    }
+}
+
+/// Does the same with an answer.
+fn take_answer(
+    alloc: Global,
+    state: &mut RangeState,
+    session: u64,
+    number: u32,
+    answer: Answer,
+) -> Result<AnswerTaken, Refusal>
+    ensures { TakesWith state.old session number answer result state.new }
+{
+    let Answer { offer, node, text } = answer;
+    if offer != number {
+        return Err(Refusal::BadMessage);
+    }
+    state.take_answer(alloc, 0, session, node, hash(text))
+}
+
+/// Tells what came of an answer, if it was not refused.
+fn tell_taken(told: &Result<AnswerTaken, Refusal>, receipt: &mut TakenReceipt)
+    ensures { TellsTaken told.now receipt.old receipt.new }
+{
+    if let Ok(taken) = told {
+        *receipt = TakenReceipt {
+            accepted: taken.receipts.len() as u64,
+            known: taken.known,
+            state: number_of(taken.state),
+        };
+    }
+}
+
+/// The number of a session's state.
+fn number_of(state: SessionState) -> u64
+    ensures { result ≡ number_of_state state }
+{
+    match state {
+        SessionState::Open => 0,
+        SessionState::Finished => 1,
+        SessionState::Failed => 2,
+        SessionState::Cancelled => 3,
+    }
+}
+
+/// Ends a session that is open; another stays as it is. Refused, in order: EMPTY, UnknownSession.
+#[unsafe(no_mangle)]
+#[tactic(auto, using(crate::proofs::CallLaws::empty, crate::proofs::CallLaws::held, crate::proofs::CallLaws::returns))]
+pub extern "C" fn antientropy_cancel(alloc: Global, replica: &mut Replica, session: u64) -> u32
+    ensures { Calls result replica.old replica.new (λ s t. Returns result (λ (r : Result (Unit {0}) Refusal).
+        DoesAtOnce r s t (cancel_session s session))) }
+{
+    let Some(mut state) = replica.take(alloc) else {
+        return EMPTY;
+    };
+    let told = state.cancel_session(session);
+    replica.hold(state);
+    code(&told)
+}
+
+/// How a session stands: 0 open, 1 finished, 2 failed, 3 cancelled. Refused, in order: EMPTY, UnknownSession.
+#[unsafe(no_mangle)]
+#[tactic(auto, using(crate::proofs::CallLaws::empty, crate::proofs::CallLaws::held, crate::proofs::CallLaws::returns))]
+pub extern "C" fn antientropy_session(
+    alloc: Global,
+    replica: &mut Replica,
+    session: u64,
+    standing: &mut u64,
+) -> u32
+    ensures { Calls result replica.old replica.new (λ s t. (t ≡ s) × Returns result (λ (r : Result ℕ Refusal).
+        (r ≡ session_seen s session) × TellsNumber r standing.old standing.new)) }
+{
+    let Some(state) = replica.take(alloc) else {
+        return EMPTY;
+    };
+    let told = standing_of(&state, session);
+    replica.hold(state);
+    tell_number(&told, standing);
+    code(&told)
+}
+
+/// The number of how a session stands. Refused: UnknownSession.
+fn standing_of(state: &RangeState, session: u64) -> Result<u64, Refusal>
+    ensures { result ≡ session_seen state.now session }
+{
+    if session >= state.records().len() as u64 {
+        return Err(Refusal::UnknownSession);
+    }
+    Ok(number_of(state.records()[session as usize].session().state()))
+}

@@ -1,0 +1,109 @@
+//! One version of a key, so that C need not read a row's text.
+ghost use Rattle.std.specs.Prelude.{◌≡◌, slice_get};
+ghost use Rattle.range_journal.specs.Journal.{held};
+ghost use Rattle.antientropy_c.specs.Calls.{Calls};
+ghost use Rattle.antientropy_c.specs.Versions.{ShowsValue, ShowsClock, HandsPairs};
+
+use crate::numbers::{EMPTY, NO_VERSION, SMALL};
+use crate::output::copy_out;
+use crate::pair::Pair;
+use crate::replica::Replica;
+use range_state::RangeState;
+use std::alloc::Global;
+
+/// The value of a version that is held for a key, by its index from 0, and its kind: 0 for a live version, 1 for a
+/// tombstone. Refused, in order: EMPTY, NO_VERSION, SMALL. The kind is told even if the room is too small.
+#[unsafe(no_mangle)]
+#[tactic(auto, using(crate::proofs::CallLaws::empty, crate::proofs::CallLaws::held))]
+pub extern "C" fn antientropy_value(
+    alloc: Global,
+    replica: &mut Replica,
+    key: &[u8],
+    index: u64,
+    kind: &mut u8,
+    out: &mut [u8],
+    need: &mut u64,
+) -> u32
+    ensures { Calls result replica.old replica.new (λ s t. (t ≡ s)
+        × ShowsValue (slice_get (held s.entries key.now) index) result kind.old kind.new (need.old, out.old) (need.new, out.new)) }
+{
+    let Some(state) = replica.take(alloc) else {
+        return EMPTY;
+    };
+    let number = show_value(&state, key, index, kind, out, need);
+    replica.hold(state);
+    number
+}
+
+/// Does the same of a replica.
+fn show_value(
+    state: &RangeState,
+    key: &[u8],
+    index: u64,
+    kind: &mut u8,
+    out: &mut [u8],
+    need: &mut u64,
+) -> u32
+    ensures { ShowsValue (slice_get (held state.now.entries key.now) index) result kind.old kind.new
+        (need.old, out.old) (need.new, out.new) }
+{
+    let versions = state.versions(key);
+    if index >= versions.len() as u64 {
+        return NO_VERSION;
+    }
+    let version = &versions[index as usize];
+    *kind = version.kind.byte();
+    copy_out(version.value.as_slice(), out, need)
+}
+
+/// The pairs of the clock of a version that is held for a key, by its index from 0: by rising node. Refused, in order: EMPTY,
+/// NO_VERSION, SMALL.
+#[unsafe(no_mangle)]
+#[tactic(auto, using(crate::proofs::CallLaws::empty, crate::proofs::CallLaws::held))]
+pub extern "C" fn antientropy_clock(
+    alloc: Global,
+    replica: &mut Replica,
+    key: &[u8],
+    index: u64,
+    out: &mut [Pair],
+    need: &mut u64,
+) -> u32
+    ensures { Calls result replica.old replica.new (λ s t. (t ≡ s)
+        × ShowsClock (slice_get (held s.entries key.now) index) result (need.old, out.old) (need.new, out.new)) }
+{
+    let Some(state) = replica.take(alloc) else {
+        return EMPTY;
+    };
+    let number = show_clock(&state, key, index, out, need);
+    replica.hold(state);
+    number
+}
+
+/// Does the same of a replica.
+fn show_clock(state: &RangeState, key: &[u8], index: u64, out: &mut [Pair], need: &mut u64) -> u32
+    ensures { ShowsClock (slice_get (held state.now.entries key.now) index) result (need.old, out.old) (need.new, out.new) }
+{
+    let versions = state.versions(key);
+    if index >= versions.len() as u64 {
+        return NO_VERSION;
+    }
+    copy_pairs(versions[index as usize].clock.pairs(), out, need)
+}
+
+/// Copies pairs to the front of a room if all of them fit, and says how many there are.
+pub(crate) fn copy_pairs(pairs: &[(u16, u64)], out: &mut [Pair], need: &mut u64) -> u32
+    ensures { HandsPairs pairs.now result (need.old, out.old) (need.new, out.new) }
+{
+    *need = pairs.len() as u64;
+    if pairs.len() > out.len() {
+        return SMALL;
+    }
+    for i in 0..pairs.len() {
+        let (node, counter) = pairs[i];
+        out[i] = Pair {
+            node: u64::from(node),
+            counter,
+        };
+    }
+    0
+}

@@ -1,0 +1,6 @@
+use Rattle.std.proofs.Common.{ℕ, ◌<◌, get_or}
+use Rattle.caller_pass.specs.Passes.{PassView}
+use Rattle.caller_pass.proofs.close.seats_below.Given as goal
+
+abbrev pub invariant-loop-pass : goal.invariant-loop-pass
+invariant-loop-pass g l = (d : PassView) (k : ℕ) → k < l.pass-index → (get_or l.passes.items k d).seat < g.L.Ledger.parts

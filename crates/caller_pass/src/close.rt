@@ -1,0 +1,227 @@
+//! Closing a range.
+ghost use Rattle.std.specs.Prelude.{◌≡◌, ◌<◌, ◌↔◌, false, true, Some, None, slice_get, IsTrue, OnOk, IfOk, IfErr, MatchOption, All};
+ghost use Rattle.vclock.specs.Answer.{Answers};
+ghost use Rattle.caller_pass.specs.Locks.{IsLocked};
+ghost use Rattle.caller_pass.specs.Passes.{AreInOrder};
+ghost use Rattle.caller_pass.specs.Closings.{of_seat, IsTrueReading, IsSettled, DifferAt, IsFalseAt, DiffersFirst, HasSeat, AllThere, SomeIsMissing, SeatDiffers, IsUnclosed};
+
+use crate::locked_range::LockedRange;
+use crate::pass::Pass;
+use crate::reading::Reading;
+use range_journal::Entry;
+use range_state::{RangeState, Receipt, Replay};
+use std::alloc::Global;
+use std::sync::ledger::Ledger;
+use vclock::{PassPart, Refusal};
+
+/// A range that was closed: each pass was handed in and settled, which means that its receipts are the entries of its
+/// seat, and its readings what the journal says.
+///
+/// ```
+/// let closed = range.close(alloc, passes).ok().ok_or("not closed")?;
+/// assert_eq!(rt; (closed.state.journal().len(), closed.passes.len()), (2, 2));
+/// ```
+#[derive(Drop)]
+pub struct Closed<L: Ledger> {
+    /// The range.
+    pub state: RangeState,
+    /// Its passes.
+    pub passes: Vec<Pass<L>>,
+}
+
+/// A range that was not closed, with its passes and the cause, so nothing is lost.
+///
+/// ```
+/// let unclosed = range.close(alloc, passes).err().ok_or("closed")?;
+/// assert!(rt; matches!(&unclosed.refusal, Refusal::Stranger));
+/// ```
+#[derive(Drop)]
+pub struct Unclosed<L: Ledger> {
+    /// The range.
+    pub range: LockedRange<L>,
+    /// The passes.
+    pub passes: Vec<Pass<L>>,
+    /// Why: Stranger, Unsettled or NoMemory.
+    pub refusal: Refusal,
+}
+
+impl<L: Ledger> LockedRange<L> {
+    /// Closes the range, if each seat has a pass, and each pass was told what the journal has: its receipts are the entries of
+    /// its seat, in order, and each of its readings is what the journal held for the key at the reading's front.
+    ///
+    /// Refused, in order: Stranger (a seat has no pass), Unsettled (a pass and the journal differ; the first
+    /// difference: by seat, in a pass receipts before readings), NoMemory, which may stand in place of Unsettled. Range
+    /// and passes are then handed back.
+    pub fn close(self, alloc: Global, passes: Vec<Pass<L>>) -> Result<Closed<L>, Unclosed<L>>
+        ensures closed { IfOk result (λ closed. (closed.state ≡ self.state) × (closed.passes.items ≡ passes.items)) }
+        ensures there { OnOk result (AllThere L.parts passes.items) }
+        ensures settled { OnOk result (All (IsSettled self.state.entries) passes.items) }
+        ensures right { OnOk result (IsLocked L.parts self) }
+        ensures back { IfErr result (λ unclosed. (unclosed.range ≡ self) × (unclosed.passes.items ≡ passes.items)) }
+        ensures refused { IfErr result (λ unclosed. IsUnclosed L.parts self.state.entries passes.items unclosed.refusal) }
+    {
+        let seats = self.book.seats();
+        match compare(alloc, &self.state, seats, &passes) {
+            Ok(()) => {
+                let LockedRange { state, book: _ } = self;
+                Ok(Closed { state, passes })
+            }
+            Err(refusal) => Err(Unclosed {
+                range: self,
+                passes,
+                refusal,
+            }),
+        }
+    }
+}
+
+/// Compares all passes with the journal.
+fn compare<L: Ledger>(
+    alloc: Global,
+    state: &RangeState,
+    seats: u16,
+    passes: &Vec<Pass<L>>,
+) -> Result<(), Refusal>
+    requires { seats ≡ L.parts }
+    ensures there { OnOk result (AllThere seats passes.now.items) }
+    ensures settled { OnOk result (All (IsSettled state.now.entries) passes.now.items) }
+    ensures refused { IfErr result (IsUnclosed seats state.now.entries passes.now.items) }
+{
+    seats_below(passes);
+    if !all_there(seats, passes) {
+        return Err(Refusal::Stranger);
+    }
+    for seat in 0..seats {
+        match seat_differs(alloc, state, passes, seat) {
+            Ok(None) => {}
+            Ok(Some((part, place))) => return Err(Refusal::Unsettled { seat, part, place }),
+            Err(refusal) => return Err(refusal),
+        }
+    }
+    Ok(())
+}
+
+/// Each pass has a seat of the ledger.
+fn seats_below<L: Ledger>(passes: &Vec<Pass<L>>)
+    ensures { All (λ p. p.seat < L.parts) passes.now.items }
+{
+    for pass in passes {
+        let _seat = pass.seat();
+    }
+}
+
+/// Whether each seat has a pass.
+fn all_there<L: Ledger>(seats: u16, passes: &Vec<Pass<L>>) -> bool
+    ensures yes { result ≡ true → AllThere seats passes.now.items }
+    ensures no { result ≡ false → SomeIsMissing seats passes.now.items }
+{
+    for seat in 0..seats {
+        if !has_seat(passes, seat) {
+            return false;
+        }
+    }
+    true
+}
+
+/// Whether some pass has the seat.
+fn has_seat<L: Ledger>(passes: &Vec<Pass<L>>, seat: u16) -> bool
+    ensures { IsTrue result ↔ HasSeat passes.now.items seat }
+{
+    passes.iter().any(|pass| pass.seat() == seat)
+}
+
+/// The first difference of the pass of a seat and the journal.
+fn seat_differs<L: Ledger>(
+    alloc: Global,
+    state: &RangeState,
+    passes: &Vec<Pass<L>>,
+    seat: u16,
+) -> Result<Option<(PassPart, u64)>, Refusal>
+    ensures { Answers result None (λ found. MatchOption found
+        (All (λ p. p.seat ≡ seat → IsSettled state.now.entries p) passes.now.items)
+        (SeatDiffers seat state.now.entries passes.now.items)) }
+{
+    for pass in passes {
+        if pass.seat == seat {
+            let differs = pass_differs(alloc, state, pass)?;
+            if differs.is_some() {
+                return Ok(differs);
+            }
+        }
+    }
+    Ok(None)
+}
+
+/// The first difference of a pass and the journal.
+fn pass_differs<L: Ledger>(
+    alloc: Global,
+    state: &RangeState,
+    pass: &Pass<L>,
+) -> Result<Option<(PassPart, u64)>, Refusal>
+    ensures { Answers result None (λ found. MatchOption found (IsSettled state.now.entries pass.now)
+        (λ at. DiffersFirst state.now.entries pass.now at.0 at.1)) }
+{
+    if let Some(place) = receipts_differ(&pass.receipts, pass.seat, state.journal().entries()) {
+        return Ok(Some((PassPart::Receipt, place as u64)));
+    }
+    if let Some(place) = readings_differ(alloc, state, &pass.readings)? {
+        return Ok(Some((PassPart::Reading, place as u64)));
+    }
+    Ok(None)
+}
+
+/// The first place at which the receipts are not the entries of the seat.
+fn receipts_differ(receipts: &[Receipt], seat: u16, entries: &[Entry]) -> Option<usize>
+    ensures { MatchOption result (receipts.now ≡ of_seat seat entries.now)
+        (DifferAt receipts.now (of_seat seat entries.now)) }
+{
+    let mut count = 0;
+    for entry in entries {
+        if entry.seat == seat {
+            if !is_at(receipts, count, entry) {
+                return Some(count);
+            }
+            count += 1;
+        }
+    }
+    if count < receipts.len() {
+        Some(count)
+    } else {
+        None
+    }
+}
+
+/// Whether an entry is at a place.
+fn is_at(receipts: &[Receipt], place: usize, entry: &Entry) -> bool
+    ensures { IsTrue result ↔ (slice_get receipts.now place ≡ Some entry.now) }
+{
+    match receipts.get(place) {
+        Some(receipt) => receipt.same(entry),
+        None => false,
+    }
+}
+
+/// The first reading that is not what the journal held at its front. The journal is replayed once for all readings, which are
+/// in order.
+fn readings_differ(
+    alloc: Global,
+    state: &RangeState,
+    readings: &[Reading],
+) -> Result<Option<usize>, Refusal>
+    requires { AreInOrder readings.now }
+    ensures { Answers result None (λ found. MatchOption found (All (IsTrueReading state.now.entries) readings.now)
+        (IsFalseAt state.now.entries readings.now)) }
+{
+    let entries = state.journal().len();
+    let mut replay = Replay::new(alloc, state)?;
+    for (i, reading) in readings.iter().enumerate() {
+        if reading.front > entries {
+            return Ok(Some(i));
+        }
+        replay.advance(alloc, reading.front)?;
+        if !replay.holds(reading.key.as_slice(), &reading.versions) {
+            return Ok(Some(i));
+        }
+    }
+    Ok(None)
+}

@@ -1,0 +1,364 @@
+//! The range that a lock keeps.
+ghost use Rattle.std.specs.Prelude.{◌≡◌, ◌≤◌, [], None, IfErr, IsTrue, MatchOption, slice_get};
+ghost use Rattle.std.specs.Arc.{arc_value};
+ghost use Rattle.vclock.specs.Answer.{Answers, AnswersAtOnce};
+ghost use Rattle.vclock.specs.Outcome.{Does, DoesAtOnce, DoesOrNoMemory, through};
+ghost use Rattle.range_journal.specs.Journal.{held};
+ghost use Rattle.sync_session.specs.TreeNodes.{node_of};
+ghost use Rattle.range_state.specs.State.{is_sent, GivesJob, ask_fault, install, dirty_fault, rows_now};
+ghost use Rattle.range_state.specs.Sessions.{open_session, cancel_session, unknown_fault};
+ghost use Rattle.range_state.specs.Migrates.{migrate};
+ghost use Rattle.range_state.specs.Syncs.{IsFirstOf};
+ghost use Rattle.caller_pass.specs.Passes.{seen_after};
+ghost use Rattle.caller_pass.specs.Indexes.{IsIndex};
+ghost use Rattle.caller_pass.specs.Locks.{IsLocked, moved, put_in, accept_in, is_missing, first_missing, get_in, plainly, TellsAnswer};
+
+use crate::book::Book;
+use crate::pass::Pass;
+use crate::reading::Reading;
+use crate::receipt_index::ByKey;
+use crate::unread::Unread;
+use hash_tree::{Hashed, NodeAt};
+use range_journal::Source;
+use range_state::{Accepted, AnswerCounted, RangeConfig, RangeState, Receipt, Record};
+use rehash::Job;
+use snapshot::Snapshot;
+use std::alloc::Global;
+use std::marker::Model;
+use std::sync::Arc;
+use std::sync::ledger::Ledger;
+use vclock::{Bytes, Clock, Refusal};
+use version_set::{Kind, Version, VersionSet};
+use walk_messages::Offer;
+
+/// A range with its book, as a lock keeps it. Each call is one step of the range. The pass that it is lent gets exactly the
+/// receipts of the entries that came, or the one reading that is returned; no other call adds to a pass.
+///
+/// ```
+/// let context = Clock::from_pairs(alloc, &[])?;
+/// let value = Bytes::copy_of(alloc, b"x")?;
+/// let receipt = range.put(alloc, pass, 1, b"a", &context, Kind::Live, value)?;
+/// Ok(receipt.number)
+/// ```
+#[derive(Drop)]
+pub struct LockedRange<L: Ledger> {
+    pub(crate) state: RangeState,
+    pub(crate) book: Book<L>,
+}
+
+impl<L: Ledger> Model for LockedRange<L> {
+    ghost use Rattle.caller_pass.specs.Locks.{Locked, IsLocked};
+
+    ghost Value = { Locked };
+
+    ghost view = { λ r. record { state = r.state; book = r.book } };
+
+    ghost invariant = { λ r. IsLocked L.parts (record { state = r.state; book = r.book }) };
+}
+
+impl<L: Ledger> LockedRange<L> {
+    /// A range that has accepted nothing, with a book that has counted nothing. It takes no memory.
+    pub fn new(state: RangeState, book: Book<L>) -> LockedRange<L>
+        requires empty { state.entries ≡ [] }
+        requires none { book.number ≡ 0 }
+        ensures { result ≡ record { state = state; book = book } }
+    {
+        // Called for its clause alone: the state is right.
+        let _right = state.journal();
+        LockedRange { state, book }
+    }
+
+    /// Which range it is, in which format, and the limit of its journal. The clause `valid` is what holds whenever the lock
+    /// is free.
+    pub fn config(&self) -> RangeConfig
+        ensures value { result ≡ self.now.state.config }
+        ensures valid { IsLocked L.parts self.now }
+    {
+        self.state.config()
+    }
+
+    /// Puts a value at a node, as `RangeState::put` for the seat of the pass, and tells the pass of the entry.
+    ///
+    /// Refused as `RangeState::put`. Range and pass are then as they were.
+    pub fn put(
+        &mut self,
+        alloc: Global,
+        pass: &mut Pass<L>,
+        at: u16,
+        key: &[u8],
+        context: &Clock,
+        kind: Kind,
+        value: Bytes,
+    ) -> Result<Receipt, Refusal>
+        requires { 1 ≤ at }
+        ensures puts { DoesOrNoMemory result (self.old, pass.old) (self.new, pass.new)
+            (put_in self.old pass.old at key.now context.now kind value) }
+        ensures early { IfErr result (λ e. e ≡ Refusal.NoMemory
+            → ask_fault self.old.state.config at key.now context.now kind value ≡ None) }
+    {
+        let LockedRange { state, book } = self;
+        let Pass {
+            seat,
+            seen,
+            receipts,
+            readings: _,
+            by_key: _,
+            share,
+        } = pass;
+        let receipt = state.put_into(alloc, receipts, *seat, at, key, context, kind, value)?;
+        book.count(share, 1);
+        *seen = (*seen).max(state.journal().len());
+        Ok(receipt)
+    }
+
+    /// Takes in a version that another node sent, as `RangeState::accept` for the seat of the pass, and tells the pass
+    /// of the entry if the version was not known.
+    ///
+    /// Refused as `RangeState::accept`. Range and pass are then as they were.
+    pub fn accept(
+        &mut self,
+        alloc: Global,
+        pass: &mut Pass<L>,
+        source: Source,
+        key: &[u8],
+        version: Version,
+    ) -> Result<Accepted, Refusal>
+        requires { IsTrue (is_sent source) }
+        ensures { Does result (self.old, pass.old) (self.new, pass.new)
+            (accept_in self.old pass.old source key.now version) }
+    {
+        let LockedRange { state, book } = self;
+        let Pass {
+            seat,
+            seen,
+            receipts,
+            readings: _,
+            by_key: _,
+            share,
+        } = pass;
+        let receipt = match state.accept_into(alloc, receipts, *seat, source, key, version)? {
+            Accepted::Known => return Ok(Accepted::Known),
+            Accepted::Taken(receipt) => receipt,
+        };
+        book.count(share, 1);
+        *seen = (*seen).max(state.journal().len());
+        Ok(Accepted::Taken(receipt))
+    }
+
+    /// The versions that are held for a key, in the order of their texts: empty if the key is not held. The pass keeps
+    /// them as a reading.
+    ///
+    /// Refused, in order: Behind (the journal is shorter than what the pass has seen; or what is held does not cover a receipt
+    /// of the pass for the key: then with the number of the first such receipt), NoMemory. The pass is then as it was.
+    pub fn get(&self, alloc: Global, pass: &mut Pass<L>, key: &[u8]) -> Result<VersionSet, Refusal>
+        ensures { Does result pass.old pass.new (get_in self.now pass.old key.now) }
+    {
+        pass.index(alloc);
+        let Pass {
+            seat: _,
+            seen,
+            receipts,
+            readings,
+            by_key,
+            share: _,
+        } = pass;
+        let front = self.state.journal().len();
+        if front < *seen {
+            return Err(Refusal::Behind {
+                seen: *seen,
+                held: front,
+                missing: None,
+            });
+        }
+        if let Some(number) = self.find_missing(receipts, by_key, key) {
+            return Err(Refusal::Behind {
+                seen: *seen,
+                held: front,
+                missing: Some(number),
+            });
+        }
+        readings.reserve(1)?;
+        let versions = self.state.get(alloc, key)?;
+        let reading = Reading {
+            front,
+            key: Bytes::copy_of(alloc, key)?,
+            versions: versions.try_clone(alloc)?,
+        };
+        *seen = front;
+        readings.push_reserved(reading);
+        Ok(versions)
+    }
+
+    /// The same for a caller who has to show that a refusal comes from a read of this range.
+    pub fn read(
+        &self,
+        alloc: Global,
+        pass: &mut Pass<L>,
+        key: &[u8],
+    ) -> Result<VersionSet, Unread<L>>
+        ensures reads { Does (plainly result) pass.old pass.new (get_in self.now pass.old key.now) }
+        ensures seat { IfErr result (λ unread. unread.seat ≡ pass.old.seat) }
+    {
+        match self.get(alloc, pass, key) {
+            Ok(versions) => Ok(versions),
+            Err(refusal) => Err(Unread::new(pass.seat(), refusal)),
+        }
+    }
+
+    /// The number of the first of some receipts of a key whose version is not covered by those held. It looks at the receipts
+    /// of the key, from the last one back, and at those that are not indexed.
+    fn find_missing(&self, receipts: &[Receipt], by_key: &ByKey, key: &[u8]) -> Option<u64>
+        requires { IsIndex receipts.now by_key.now }
+        ensures { result ≡ first_missing receipts.now key.now (held self.now.state.entries key.now) }
+    {
+        let mut found = self.first_missing(&receipts[by_key.len()..], key);
+        let mut next = by_key.last(key);
+        while next > 0 {
+            let place = next - 1;
+            let receipt = &receipts[place];
+            if self.is_missing(receipt, key) {
+                found = Some(receipt.number);
+            }
+            next = by_key.earlier(place);
+        }
+        found
+    }
+
+    /// The same, by a walk through all of the receipts.
+    fn first_missing(&self, receipts: &[Receipt], key: &[u8]) -> Option<u64>
+        ensures { result ≡ first_missing receipts.now key.now (held self.now.state.entries key.now) }
+    {
+        for receipt in receipts {
+            if self.is_missing(receipt, key) {
+                return Some(receipt.number);
+            }
+        }
+        None
+    }
+
+    /// Whether a receipt is of a key, and its version is not covered by those held.
+    #[tactic(auto, unfolding(crate::specs::Locks::is_missing))]
+    fn is_missing(&self, receipt: &Receipt, key: &[u8]) -> bool
+        ensures { result ≡ is_missing receipt.now key.now (held self.now.state.entries key.now) }
+    {
+        receipt.key.as_slice() == key && !self.state.covers(key, &receipt.version)
+    }
+
+    /// A job for a node, as `RangeState::take_job`. Refused: NoMemory.
+    pub fn take_job(&self, alloc: Global, skip: u64) -> Result<Option<Job>, Refusal>
+        ensures { Answers result None (GivesJob self.now.state) }
+    {
+        self.state.take_job(alloc, skip)
+    }
+
+    /// Gives a node the digest of a text, as `RangeState::install`. It takes no memory. Refused: Stale.
+    pub fn install(&mut self, node: NodeAt, hashed: &Hashed) -> Result<(), Refusal>
+        ensures { DoesAtOnce result self.old self.new
+            (through (moved self.old) (install self.old.state node hashed.now)) }
+    {
+        let installed = self.state.install(node, hashed);
+        let _right = self.state.journal();
+        installed
+    }
+
+    /// The rows now with the digests of their tree, as `RangeState::snapshot`. Refused, in order: Dirty, NoMemory.
+    pub fn snapshot(&self, alloc: Global) -> Result<Arc<Snapshot, Global>, Refusal>
+        ensures { Answers result (dirty_fault self.now.state) (λ snapshot. arc_value snapshot ≡ rows_now self.now.state) }
+    {
+        self.state.snapshot(alloc)
+    }
+
+    /// Opens a session with a partner's offer, as `RangeState::open_session`, and returns its number. Refused as
+    /// `RangeState::open_session`. The range is then as it was.
+    pub fn open_session(
+        &mut self,
+        alloc: Global,
+        partner: u16,
+        offer: Offer,
+    ) -> Result<u64, Refusal>
+        ensures { Does result self.old self.new
+            (through (moved self.old) (open_session self.old.state partner offer)) }
+    {
+        let id = self.state.open_session(alloc, partner, offer);
+        let _right = self.state.journal();
+        id
+    }
+
+    /// Takes a partner's text for a node of a session, as `RangeState::take_answer` for the seat of the pass, and moves the
+    /// receipts into the pass: their number is returned.
+    ///
+    /// Refused as `RangeState::take_answer`. The pass is then as it was, and the range too, but that NotCanonical has the
+    /// session fail.
+    pub fn take_answer(
+        &mut self,
+        alloc: Global,
+        pass: &mut Pass<L>,
+        id: u64,
+        node: NodeAt,
+        text: Hashed,
+    ) -> Result<AnswerCounted, Refusal>
+        ensures { TellsAnswer self.old pass.old id
+            (record { node = node_of node; text = text }) result self.new pass.new }
+    {
+        let LockedRange { state, book } = self;
+        let Pass {
+            seat,
+            seen,
+            receipts,
+            readings: _,
+            by_key: _,
+            share,
+        } = pass;
+        let answered = state.take_answer_into(alloc, receipts, *seat, id, node, text);
+        let journal = state.journal().len();
+        let taken = answered?;
+        book.count(share, taken.receipts);
+        *seen = seen_after(*seen, journal, taken.receipts);
+        Ok(taken)
+    }
+
+    /// Ends a session that is open, as `RangeState::cancel_session`. It takes no memory. Refused: UnknownSession.
+    pub fn cancel_session(&mut self, id: u64) -> Result<(), Refusal>
+        ensures { DoesAtOnce result self.old self.new
+            (through (moved self.old) (cancel_session self.old.state id)) }
+    {
+        let ended = self.state.cancel_session(id);
+        let _right = self.state.journal();
+        ended
+    }
+
+    /// Takes the range over to format 2, as `RangeState::migrate`: what passes were told stays true. Refused: NoMemory. The
+    /// range is then as it was.
+    pub fn migrate(&mut self, alloc: Global) -> Result<(), Refusal>
+        ensures { Does result self.old self.new
+            (through (moved self.old) (migrate self.old.state)) }
+    {
+        let migrated = self.state.migrate(alloc);
+        let _right = self.state.journal();
+        migrated
+    }
+
+    /// The records of all sessions, in the order of their numbers. It takes no memory.
+    pub fn records(&self) -> &[Record]
+        ensures { result.now ≡ self.now.state.records }
+    {
+        self.state.records()
+    }
+
+    /// The first node that a session has outstanding, if any is. It takes no memory. Refused: UnknownSession.
+    pub fn outstanding(&self, id: u64) -> Result<Option<NodeAt>, Refusal>
+        ensures { AnswersAtOnce result (unknown_fault self.now.state id)
+            (λ first. MatchOption (slice_get self.now.state.records id) ⊥
+            (λ r. IsFirstOf r.session.outstanding first)) }
+    {
+        self.state.outstanding(id)
+    }
+}
+
+/// How many entries a caller has seen, who had seen `seen`, and was told of `count` entries of a journal of length
+/// `journal`.
+fn seen_after(seen: u64, journal: u64, count: u64) -> u64
+    ensures { result ≡ seen_after seen journal count }
+{
+    if count == 0 { seen } else { seen.max(journal) }
+}

@@ -1,0 +1,138 @@
+use Rattle.std.proofs.Common.{Result, Ok, Err, None, Some, refl, inl, inr, ◌≡◌, ◌++◌, ◌+◌, ◌≤◌, ◌∙◌, ℕ, List, length, take, drop, set, sym, ap, arith}
+use Rattle.std.proofs.lemmas.Result.{err_from_is_err_and}
+use Rattle.std.specs.List.{sum_by}
+use Rattle.std.specs.Result.{IsOk, OnErr}
+use Rattle.version_set.specs.Version.{offered}
+use Rattle.row_bytes.specs.declared.row.Row.{Row}
+use Rattle.row_bytes.specs.Rows.{row_text, FitsText}
+use Rattle.hash_tree.specs.Leaves.{Bucket}
+use Rattle.hash_tree.specs.Chunks.{offered_at}
+use Rattle.hash_tree.proofs.ChunkLaws.{start_within, end_is, keeps-set, within-inside, value-inside, versions-inside, fits-at, grows-at, ends_within, offered_at-set}
+use Rattle.hash_tree.proofs.written_rows.WrittenRows.offer.Goals as goal
+
+pub total-start-requires : goal.total-start-requires
+total-start-requires c =
+    let s = c.self.inside in
+    let before = λ (ls : List ℕ). sum_by (λ (n : ℕ). n) (take c.args.at ls) in
+    omega (arith, start_within s.format s.rows.items s.lens.items s.text.items c.args.at c.self.invariant, ap before c.deref.ensures.value, s.text.ok.0, s.text.ok.1, s.text.small)
+
+pub overflow_add-end : goal.overflow_add-end
+overflow_add-end c =
+    let s = c.self.inside in
+    let at = c.args.at in
+    let within = within-inside c.args.self.now s.format s.rows.items at c.self.view_is c.requires.at in
+    let begins : c.total-start.result ≡ sum_by (λ (n : ℕ). n) (take at s.lens.items) = c.total-start.ensures ∙ ap (λ (ls : List ℕ). sum_by (λ (n : ℕ). n) (take at ls)) c.deref.ensures.value in
+    omega (arith, end_is s.format s.rows.items s.lens.items s.text.items at c.total-start.result c.index.result.now c.self.invariant within begins c.index.ensures, start_within s.format s.rows.items s.lens.items s.text.items (at + 1) c.self.invariant, s.text.ok.0, s.text.ok.1, s.text.small)
+
+pub overflow_sub-len : goal.overflow_sub-len
+overflow_sub-len c =
+    let s = c.self.inside in
+    let before = λ (ls : List ℕ). sum_by (λ (n : ℕ). n) (take c.args.at ls) in
+    omega (arith, start_within s.format s.rows.items s.lens.items s.text.items c.args.at c.self.invariant, c.total-start.ensures, ap before c.deref.ensures.value, c.len.ensures)
+
+pub returns-in_err-offer-clause-answers : goal.returns-in_err-offer-clause-answers
+returns-in_err-offer-clause-answers c =
+    let s = c.self.inside in
+    let versions = versions-inside c.args.self.now s.format s.rows.items c.args.at c.index_mut-row.result.now c.self.view_is c.requires.at c.index_mut-row.ensures.value in
+    let none = rw (← versions) at c.requires.room in
+    let p = err_from_is_err_and c.from_residual-in_err-offer.result c.from_residual-in_err-offer.ensures.1 in
+    rw (p.1, p.2) (elim c.in_err-offer.ensures.answers [ inl n ↦ inl (refl, n.1) | inr e ↦ absurd (let no : None ≡ Some _ = sym none ∙ e in cc) ])
+
+pub put_row-requires : goal.put_row-requires
+put_row-requires c =
+    let s = c.self.inside in
+    let within = within-inside c.args.self.now s.format s.rows.items c.args.at c.self.view_is c.requires.at in
+    let value = value-inside c.args.self.now s.format s.rows.items c.args.version c.self.view_is c.requires.value in
+    rw c.in_ok-offer.ensures.set (fits-at s.format s.rows.items s.lens.items s.text.items c.args.at c.index_mut-row.result.now c.args.version c.self.invariant within c.index_mut-row.ensures.value value)
+
+no_error : {T E P : Type 0} (r : Result T E) → OnErr r P → (P → ⊥) → IsOk r
+no_error (Ok x) h n = refl
+no_error (Err e) h n = absurd (n h)
+
+pub unwrap-requires : goal.unwrap-requires
+unwrap-requires c =
+    let s = c.self.inside in
+    let at = c.args.at in
+    let len = c.index.result.now in
+    let within = within-inside c.args.self.now s.format s.rows.items at c.self.view_is c.requires.at in
+    let begins : c.total-start.result ≡ sum_by (λ (n : ℕ). n) (take at s.lens.items) = c.total-start.ensures ∙ ap (λ (ls : List ℕ). sum_by (λ (n : ℕ). n) (take at ls)) c.deref.ensures.value in
+    let grown : length (row_text s.format (record { key = c.index_mut-row.result.now.key; versions = c.offer.new.self })) ≤ len + c.version_len-more.result =
+    rw c.in_ok-offer.ensures.set (grows-at s.format s.rows.items s.lens.items s.text.items at len c.version_len-more.result c.index_mut-row.result.now c.args.version c.self.invariant within c.index_mut-row.ensures.value c.index.ensures c.version_len-more.ensures.exact) in
+    no_error c.put_row.result c.put_row.ensures.room
+    (λ full. omega (arith, full, grown, ends_within s.format s.rows.items s.lens.items s.text.items at c.total-start.result len c.self.invariant within begins c.index.ensures, c.len.ensures, ap length c.in_ok-tail.ensures.items, c.in_ok-tail.ensures.capacity))
+
+pub replace-requires-clause-ends : goal.replace-requires-clause-ends
+replace-requires-clause-ends c =
+    let s = c.self.inside in
+    let at = c.args.at in
+    let len = c.index.result.now in
+    let within = within-inside c.args.self.now s.format s.rows.items at c.self.view_is c.requires.at in
+    let begins : c.total-start.result ≡ sum_by (λ (n : ℕ). n) (take at s.lens.items) = c.total-start.ensures ∙ ap (λ (ls : List ℕ). sum_by (λ (n : ℕ). n) (take at ls)) c.deref.ensures.value in
+    omega (arith, ends_within s.format s.rows.items s.lens.items s.text.items at c.total-start.result len c.self.invariant within begins c.index.ensures, ap length c.make_room.ensures.items)
+
+pub replace-requires-clause-room : goal.replace-requires-clause-room
+replace-requires-clause-room c =
+    let s = c.self.inside in
+    let at = c.args.at in
+    let len = c.index.result.now in
+    let within = within-inside c.args.self.now s.format s.rows.items at c.self.view_is c.requires.at in
+    let begins : c.total-start.result ≡ sum_by (λ (n : ℕ). n) (take at s.lens.items) = c.total-start.ensures ∙ ap (λ (ls : List ℕ). sum_by (λ (n : ℕ). n) (take at ls)) c.deref.ensures.value in
+    let grown : length (row_text s.format (record { key = c.index_mut-row.result.now.key; versions = c.offer.new.self })) ≤ len + c.version_len-more.result =
+    rw c.in_ok-offer.ensures.set (grows-at s.format s.rows.items s.lens.items s.text.items at len c.version_len-more.result c.index_mut-row.result.now c.args.version c.self.invariant within c.index_mut-row.ensures.value c.index.ensures c.version_len-more.ensures.exact) in
+    let row = row_text s.format (record { key = c.index_mut-row.result.now.key; versions = c.offer.new.self }) in
+    let ok : c.put_row.new.out.items ≡ c.in_ok-tail.tail.items ++ row = rw c.unwrap.ensures at c.put_row.ensures.ok in
+    let written : c.put_row.new.out.items ≡ row = ok ∙ ap (λ (t : List ℕ). t ++ row) c.in_ok-tail.ensures.items in
+    omega (arith, ends_within s.format s.rows.items s.lens.items s.text.items at c.total-start.result len c.self.invariant within begins c.index.ensures, grown, ap length written, ap length c.make_room.ensures.items, c.in_ok-make_room.ensures.room)
+
+pub replace-requires-clause-spare : goal.replace-requires-clause-spare
+replace-requires-clause-spare c =
+    let s = c.self.inside in
+    let at = c.args.at in
+    let len = c.index.result.now in
+    let within = within-inside c.args.self.now s.format s.rows.items at c.self.view_is c.requires.at in
+    let begins : c.total-start.result ≡ sum_by (λ (n : ℕ). n) (take at s.lens.items) = c.total-start.ensures ∙ ap (λ (ls : List ℕ). sum_by (λ (n : ℕ). n) (take at ls)) c.deref.ensures.value in
+    let grown : length (row_text s.format (record { key = c.index_mut-row.result.now.key; versions = c.offer.new.self })) ≤ len + c.version_len-more.result =
+    rw c.in_ok-offer.ensures.set (grows-at s.format s.rows.items s.lens.items s.text.items at len c.version_len-more.result c.index_mut-row.result.now c.args.version c.self.invariant within c.index_mut-row.ensures.value c.index.ensures c.version_len-more.ensures.exact) in
+    let row = row_text s.format (record { key = c.index_mut-row.result.now.key; versions = c.offer.new.self }) in
+    let ok : c.put_row.new.out.items ≡ c.in_ok-tail.tail.items ++ row = rw c.unwrap.ensures at c.put_row.ensures.ok in
+    let written : c.put_row.new.out.items ≡ row = ok ∙ ap (λ (t : List ℕ). t ++ row) c.in_ok-tail.ensures.items in
+    omega (arith, ends_within s.format s.rows.items s.lens.items s.text.items at c.total-start.result len c.self.invariant within begins c.index.ensures, grown, ap length written, ap length c.make_room.ensures.items, c.len.ensures, c.in_ok-tail.ensures.capacity, c.put_row.ensures.grows)
+
+pub row_len-requires : goal.row_len-requires
+row_len-requires c =
+    let s = c.self.inside in
+    let within = within-inside c.args.self.now s.format s.rows.items c.args.at c.self.view_is c.requires.at in
+    let value = value-inside c.args.self.now s.format s.rows.items c.args.version c.self.view_is c.requires.value in
+    rw c.in_ok-offer.ensures.set (fits-at s.format s.rows.items s.lens.items s.text.items c.args.at c.index_mut-row.result.now c.args.version c.self.invariant within c.index_mut-row.ensures.value value)
+
+pub invariant_of-self-2 : goal.invariant_of-self-2
+invariant_of-self-2 c =
+    let s = c.self.inside in
+    let at = c.args.at in
+    let old = c.index_mut-row.result.now in
+    let new : Row = record { key = old.key; versions = c.offer.new.self } in
+    let start = c.total-start.result in
+    let end = start + c.index.result.now in
+    let within = within-inside c.args.self.now s.format s.rows.items at c.self.view_is c.requires.at in
+    let value = value-inside c.args.self.now s.format s.rows.items c.args.version c.self.view_is c.requires.value in
+    let begins : c.total-start.result ≡ sum_by (λ (n : ℕ). n) (take at s.lens.items) = c.total-start.ensures ∙ ap (λ (ls : List ℕ). sum_by (λ (n : ℕ). n) (take at ls)) c.deref.ensures.value in
+    let ends = end_is s.format s.rows.items s.lens.items s.text.items at start c.index.result.now c.self.invariant within begins c.index.ensures in
+    let fits : FitsText s.format new = rw c.in_ok-offer.ensures.set (fits-at s.format s.rows.items s.lens.items s.text.items at old c.args.version c.self.invariant within c.index_mut-row.ensures.value value) in
+    let row = row_text s.format (record { key = c.index_mut-row.result.now.key; versions = c.offer.new.self }) in
+    let ok : c.put_row.new.out.items ≡ c.in_ok-tail.tail.items ++ row = rw c.unwrap.ensures at c.put_row.ensures.ok in
+    let written : c.put_row.new.out.items ≡ row = ok ∙ ap (λ (t : List ℕ). t ++ row) c.in_ok-tail.ensures.items in
+    let now : c.replace.new.text.items ≡ take start s.text.items ++ row_text s.format new ++ drop end s.text.items =
+    c.replace.ensures ∙ ap (λ (t : List ℕ). take start t ++ c.put_row.new.out.items ++ drop end t) c.make_room.ensures.items ∙ ap (λ (t : List ℕ). take start s.text.items ++ t ++ drop end s.text.items) written in
+    keeps-set s.format s.rows.items s.lens.items s.text.items at c.row_len.result start end new c.replace.new.text.items c.self.invariant within fits c.row_len.ensures.exact begins ends now
+
+pub returns-clause-ok : goal.returns-clause-ok
+returns-clause-ok c =
+    let s = c.self.inside in
+    let at = c.args.at in
+    let old = c.index_mut-row.result.now in
+    let within = within-inside c.args.self.now s.format s.rows.items at c.self.view_is c.requires.at in
+    let rows : set s.rows.items at (record { key = old.key; versions = c.offer.new.self }) ≡ offered_at s.rows.items at c.args.version =
+    ap (λ (vs : _). set s.rows.items at (record { key = old.key; versions = vs })) c.in_ok-offer.ensures.set
+    ∙ ap (λ (x : Row). set s.rows.items at (record { key = x.key; versions = offered c.args.version x.versions })) c.index_mut-row.ensures.value
+    ∙ sym (offered_at-set s.rows.items at c.args.version old within) in
+    ap (λ (rs : List Row). record { format = s.format; rows = rs }) rows ∙ ap (λ (b : Bucket). record { format = b.format; rows = offered_at b.rows at c.args.version }) c.self.view_is

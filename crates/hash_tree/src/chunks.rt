@@ -1,0 +1,173 @@
+//! The rows of a leaf in chunks: finding a row, and inserting one.
+ghost use Rattle.std.specs.Prelude.{◌≡◌, ◌+◌, ◌<◌, ◌≤◌, ◌^◌, ⊤, None, length, take, drop, IfOk, OnOk, OnErr};
+ghost use Rattle.std.specs.List.{AllByRecursion, flat_map, insert};
+ghost use Rattle.std.specs.declared.cmp.Ordering.TheVariants.{Less, Greater};
+ghost use Rattle.vclock.specs.Answer.{Answers};
+ghost use Rattle.version_set.specs.Kind.{value_fault};
+ghost use Rattle.version_set.specs.Version.{offer_fault};
+ghost use Rattle.row_bytes.specs.Rows.{FitsText};
+ghost use Rattle.hash_tree.specs.Leaves.{Bucket, key_cmp, AscendByKey};
+ghost use Rattle.hash_tree.specs.Chunks.{all_rows, rows_of, chunk_text, AreChunks, place_in, IsRowSpot, IsGapSpot, IsSplit, versions_at, offered_at};
+
+use crate::chunk::Chunk;
+use crate::written_rows::MOST_ROWS;
+use row_bytes::Row;
+use std::alloc::Global;
+use vclock::{Format, Refusal};
+use version_set::Version;
+
+/// The maximum number of chunks of a leaf: more than any memory holds, and few enough to count the bytes of its text.
+const MOST_CHUNKS: usize = 1 << 56;
+
+/// The place of a row, or a place at which to insert one.
+#[derive(Clone, Copy)]
+pub(crate) struct Spot {
+    /// The index of the chunk.
+    pub(crate) chunk: usize,
+    /// The index among the rows of the chunk.
+    pub(crate) at: usize,
+}
+
+/// Returns the index of the chunk that has the row of a key, or into which one is inserted: the last chunk whose first
+/// key is at most the key, otherwise the first chunk.
+pub(crate) fn chunk_of(chunks: &[Chunk], key: &[u8]) -> usize
+    requires some { 1 ≤ length chunks.now }
+    requires each { AllByRecursion (λ (c : Bucket). 1 ≤ length c.rows) chunks.now }
+    requires ascending { AscendByKey (all_rows chunks.now) }
+    ensures within { result < length chunks.now }
+    ensures before { AllByRecursion (λ r. key_cmp key.now r.key ≡ Greater) (all_rows (take result chunks.now)) }
+    ensures after { AllByRecursion (λ r. key_cmp key.now r.key ≡ Less) (all_rows (drop (result + 1) chunks.now)) }
+{
+    chunks
+        .partition_point(|chunk| chunk.begins_by(key))
+        .saturating_sub(1)
+}
+
+/// Returns the length in bytes of the text of a leaf with these chunks.
+pub(crate) fn text_len(chunks: &[Chunk]) -> u128
+    requires { length chunks.now ≤ 2 ^ 56 }
+    ensures { result ≡ 1 + length (flat_map chunk_text chunks.now) }
+{
+    let mut len = 1;
+    for chunk in chunks {
+        len += chunk.text().len() as u128;
+    }
+    len
+}
+
+/// Adds an owner to each chunk, and returns the chunks. Refused: NoMemory. Copies no row.
+pub(crate) fn share_chunks(alloc: Global, chunks: &[Chunk]) -> Result<Vec<Chunk>, Refusal>
+    ensures { Answers result None (λ copy. copy.items ≡ chunks.now) }
+{
+    let mut copy = Vec::with_capacity(alloc, chunks.len())?;
+    for chunk in chunks {
+        copy.push(chunk.share()?)?;
+    }
+    Ok(copy)
+}
+
+/// Offers a version to the set of a row. On error the chunks are unchanged.
+///
+/// Refused, in order: Crowded (the set would have over 64 versions), NoMemory.
+pub(crate) fn offer_at(
+    alloc: Global,
+    chunks: &mut Vec<Chunk>,
+    spot: Spot,
+    version: Version,
+) -> Result<(), Refusal>
+    requires spot { IsRowSpot chunks.old.items (place_in chunks.old.items spot.chunk spot.at) spot.chunk spot.at }
+    requires value { AllByRecursion (λ (c : Bucket). value_fault c.format version.kind version.value ≡ None) chunks.old.items }
+    ensures answers { Answers result (offer_fault version
+        (versions_at (all_rows chunks.old.items) (place_in chunks.old.items spot.chunk spot.at))) (λ _. ⊤) }
+    ensures ok { OnOk result (all_rows chunks.new.items
+        ≡ offered_at (all_rows chunks.old.items) (place_in chunks.old.items spot.chunk spot.at) version) }
+    ensures chunks { (format : Format) → AreChunks format chunks.old.items → AreChunks format chunks.new.items }
+    ensures err { OnErr result (chunks.new.items ≡ chunks.old.items) }
+{
+    chunks[spot.chunk].offer(alloc, spot.at, version)
+}
+
+/// Inserts a row among the others, after splitting its chunk if that is full. On error the rows are unchanged.
+///
+/// Refused: NoMemory.
+pub(crate) fn insert_at(
+    alloc: Global,
+    format: Format,
+    chunks: &mut Vec<Chunk>,
+    spot: Spot,
+    row: Row,
+) -> Result<(), Refusal>
+    requires spot { IsGapSpot chunks.old.items (place_in chunks.old.items spot.chunk spot.at) spot.chunk spot.at }
+    requires fits { FitsText format row }
+    requires chunks { AreChunks format chunks.old.items }
+    ensures answers { Answers result None (λ _. ⊤) }
+    ensures ok { OnOk result (all_rows chunks.new.items
+        ≡ insert (all_rows chunks.old.items) (place_in chunks.old.items spot.chunk spot.at) row) }
+    ensures chunks { AreChunks format chunks.new.items }
+    ensures err { OnErr result (all_rows chunks.new.items ≡ all_rows chunks.old.items) }
+{
+    let gap = roomy_gap(alloc, chunks, spot)?;
+    chunks[gap.chunk].insert(alloc, gap.at, row)
+}
+
+/// Makes room at a gap, by splitting a full chunk, and returns the place of the gap. The rows are unchanged, even on
+/// error. Refused: NoMemory.
+fn roomy_gap(alloc: Global, chunks: &mut Vec<Chunk>, gap: Spot) -> Result<Spot, Refusal>
+    requires gap { IsGapSpot chunks.old.items (place_in chunks.old.items gap.chunk gap.at) gap.chunk gap.at }
+    requires each { AllByRecursion (λ (c : Bucket). length c.rows ≤ 15) chunks.old.items }
+    ensures answers { Answers result None (λ _. ⊤) }
+    ensures gap { IfOk result (λ now. IsGapSpot chunks.new.items (place_in chunks.old.items gap.chunk gap.at) now.chunk now.at) }
+    ensures room { IfOk result (λ now. length (rows_of chunks.new.items now.chunk) < 15) }
+    ensures rows { all_rows chunks.new.items ≡ all_rows chunks.old.items }
+    ensures chunks { (format : Format) → AreChunks format chunks.old.items → AreChunks format chunks.new.items }
+{
+    if chunks[gap.chunk].rows().len() < MOST_ROWS {
+        return Ok(gap);
+    }
+    let cut = cut_for(gap.at);
+    split_at(alloc, chunks, gap.chunk, cut)?;
+    if gap.at <= cut {
+        return Ok(gap);
+    }
+    Ok(Spot {
+        chunk: gap.chunk + 1,
+        at: gap.at - cut,
+    })
+}
+
+/// Returns the index from which a full chunk is split, if a row is to be inserted at `at`. After all rows, as with keys
+/// in ascending order, it is the last one, so that most rows are in full chunks; otherwise it is the middle one.
+fn cut_for(at: usize) -> usize
+    ensures some { 1 ≤ result }
+    ensures less { result < 15 }
+{
+    if at < MOST_ROWS {
+        MOST_ROWS / 2
+    } else {
+        MOST_ROWS - 1
+    }
+}
+
+/// Splits a full chunk in two at `cut`. On error the chunks are unchanged. Refused: NoMemory.
+fn split_at(
+    alloc: Global,
+    chunks: &mut Vec<Chunk>,
+    number: usize,
+    cut: usize,
+) -> Result<(), Refusal>
+    requires within { number < length chunks.old.items }
+    requires some { 1 ≤ cut }
+    requires less { cut < 15 }
+    requires full { length (rows_of chunks.old.items number) ≡ 15 }
+    ensures answers { Answers result None (λ _. ⊤) }
+    ensures ok { OnOk result (IsSplit chunks.old.items number cut chunks.new.items) }
+    ensures err { OnErr result (chunks.new.items ≡ chunks.old.items) }
+{
+    if chunks.len() >= MOST_CHUNKS {
+        return Err(Refusal::NoMemory);
+    }
+    chunks.reserve(1)?;
+    let back = chunks[number].split(alloc, cut)?;
+    chunks.insert(number + 1, back).unwrap();
+    Ok(())
+}

@@ -1,0 +1,287 @@
+-- What the commands do to the state, and what they answer.
+use Rattle.std.specs.Prelude.{ℕ, ◌^◌, Bool, true, false, not, ◌==◌, ◌&&◌, ◌-◌, nat_le, nat_lt, slice_index_or, List, [], ◌∷◌, length, map, filter, if◌then◌else◌, Option, Some, None, is_some}
+use Rattle.std.specs.List.{list_any, list_all}
+use Rattle.vclock.specs.Answer.{first_fault}
+use Rattle.vclock.specs.Clock.{clock_of, pairs_fault}
+use Rattle.vclock.specs.Bytes.{key_fault}
+use Rattle.vclock.specs.Outcome.{Outcome, gives, refuses, is_given, through, ◌>>◌, ◌>>=◌}
+use Rattle.vclock.specs.declared.format.Format.{Format}
+use Rattle.vclock.specs.declared.format.Format.TheVariants.{One, Two}
+use Rattle.vclock.specs.declared.refusal.Refusal.{Refusal}
+use Rattle.vclock.specs.declared.refusal.Refusal.TheVariants.{BadRing, Down, OtherRange}
+use Rattle.version_set.specs.Kind.{value_fault}
+use Rattle.version_set.specs.declared.kind.Kind.{Kind}
+use Rattle.version_set.specs.declared.version.Version.{Version}
+use Rattle.row_bytes.specs.Rows.{row_text}
+use Rattle.version_set.specs.declared.kind.Kind.TheVariants.{Live, Tombstone}
+use Rattle.key_ring.specs.Places.{range_at}
+use Rattle.key_ring.specs.Ring.{Places, ring_fault}
+use Rattle.admission.specs.Admission.{Admission, lend}
+use Rattle.range_journal.specs.Journal.{held}
+use Rattle.range_journal.specs.declared.journal.Entry.{Entry}
+use Rattle.range_journal.specs.declared.journal.Source.TheVariants.{Copy}
+use Rattle.range_state.specs.Config.{Config, config_of}
+use Rattle.range_state.specs.Rows.{rows_of}
+use Rattle.range_state.specs.Sessions.{crowd_fault}
+use Rattle.range_state.specs.State as range
+use Rattle.range_state.specs.Trees.{rehashed}
+use Rattle.range_state.specs.declared.event.Accepted.{Accepted}
+use Rattle.hash_tree.specs.Nodes.{tree_depth, place_at, digest_at, dirty_count}
+use Rattle.hash_tree.specs.Texts.{node_digest}
+use Rattle.outage_commands.specs.Asks.{RingAsk, PutAsk, GetAsk, RehashAsk, SyncAsk, NodeAsk, Ask, ring, put, get, row, take_down, bring_up, deliver, rehash, sync, show_node, slot, sample}
+use Rattle.outage_cluster.specs.declared.answer.Answer.{Answer}
+use Rattle.outage_cluster.specs.declared.answer.Answer.TheVariants as Answers
+use Rattle.outage_cluster.specs.State.{Cluster, State, Replica, first_slots, made, in_replica, at_home, left, replica_at, at_node, replicas_of, with_range, with_replicas, home, is_member, is_down, taken_down, brought_up, hints_of}
+use Rattle.outage_cluster.specs.Handoff.{owners_of, carrier_of, hinted, deliver_at}
+use Rattle.outage_cluster.specs.Syncs.{told, synced_with}
+use Rattle.outage_cluster.specs.Slots.{slot_act, sample_act, is_target}
+use Rattle.outage_cluster.specs.declared.answer.Answer.TheVariants.{Refused}
+
+-- ---- a ring
+
+abbrev pub places_of : RingAsk → Places
+places_of r = record { bits = r.bits; nodes = r.nodes; copies = r.copies }
+
+-- the configuration of range 0, if the format and the limit are some
+abbrev pub ring_config : RingAsk → Option Config
+ring_config r = config_of r.format r.bits 0 r.limit
+
+-- everything anew
+abbrev pub ring_act : RingAsk → Option Config → Outcome Answer State
+ring_act r None = refuses BadRing
+ring_act r (Some c) = do
+  ring_fault (places_of r)
+  gives (Answers.Ring (length r.nodes) (2 ^ r.bits)) (record { cluster = made (places_of r) c; slots = first_slots })
+
+-- ---- nodes
+
+-- why the nodes that a command names are refused: one is not on the ring
+abbrev pub ring_nodes_fault : Cluster → ℕ → List ℕ → Option Refusal
+ring_nodes_fault s node others = if is_member s node && list_all (is_member s) others then None else Some BadRing
+
+-- why a node is refused: it is down
+abbrev pub down_fault : Cluster → ℕ → Option Refusal
+down_fault s node = if is_down s node then Some Down else None
+
+-- why nodes are refused: one is not on the ring, or the first is down
+abbrev pub nodes_fault : Cluster → ℕ → List ℕ → Option Refusal
+nodes_fault s node others = first_fault (ring_nodes_fault s node others) (down_fault s node)
+
+unfoldable pub down_act : ℕ → Cluster → Outcome Answer Cluster
+down_act n s = do
+  ring_nodes_fault s n []
+  gives (Answers.Up n false) (taken_down s n)
+
+unfoldable pub up_act : ℕ → Cluster → Outcome Answer Cluster
+up_act n s = do
+  ring_nodes_fault s n []
+  gives (Answers.Up n true) (brought_up s n)
+
+-- ---- a put
+
+-- null is a tombstone, whose value is empty
+abbrev pub kind_of : Option (List ℕ) → Kind
+kind_of (Some value) = Live
+kind_of None = Tombstone
+
+abbrev pub value_of : Option (List ℕ) → List ℕ
+value_of (Some value) = value
+value_of None = []
+
+-- why a put is refused before its range is looked for
+abbrev pub ask_fault : PutAsk → Cluster → Option Refusal
+ask_fault p s = first_fault (nodes_fault s p.node p.lose) (first_fault (pairs_fault p.context) (first_fault (key_fault p.key) (value_fault s.format (kind_of p.value) (value_of p.value))))
+
+-- a put with what its node keeps: the script's seat is 0
+unfoldable pub put_at : PutAsk → range.State → Outcome Entry range.State
+put_at p h = range.put h 0 p.node p.key (clock_of p.context) (kind_of p.value) (value_of p.value)
+
+-- whether a replica is to have a put: it is another node, and not one that is to get nothing
+abbrev pub is_sent_to : ℕ → List ℕ → ℕ → Bool
+is_sent_to node lose n = not (n == node) && not (list_any (λ m. m == n) lose)
+
+-- whether a replica is sent a copy of a put: it is to have it, and is up
+abbrev pub gets_copy : List ℕ → ℕ → List ℕ → ℕ → Bool
+gets_copy down node lose n = is_sent_to node lose n && not (list_any (λ m. m == n) down)
+
+-- whether a replica is to have a hint of a put: it is to have the put, and is down
+abbrev pub gets_hint : List ℕ → ℕ → List ℕ → ℕ → Bool
+gets_hint down node lose n = is_sent_to node lose n && list_any (λ m. m == n) down
+
+-- a copy of an entry, sent to a replica
+unfoldable pub copied_to : Entry → Replica → Outcome Accepted Replica
+copied_to e r = in_replica r (range.accept r.range 0 Copy e.key e.version)
+
+-- whether a replica is sent a copy of an entry, and takes it or knows it
+abbrev pub takes : List ℕ → ℕ → List ℕ → Entry → Replica → Bool
+takes down node lose e r = gets_copy down node lose r.node && is_given (copied_to e r)
+
+-- a replica after the copies were sent: one that refuses its copy is as it was
+abbrev pub after_copy : List ℕ → ℕ → List ℕ → Entry → Replica → Replica
+after_copy down node lose e r = if gets_copy down node lose r.node then left (copied_to e r) r else r
+
+-- a put and its copies: the entry, and how many replicas take a copy or know it
+unfoldable pub put_into : List ℕ → PutAsk → List Replica → Outcome (Entry × ℕ) (List Replica)
+put_into down p reps = do
+  at ← at_home p.node (put_at p) reps
+  gives (at.0, length (filter (takes down p.node p.lose at.0) at.1)) (map (after_copy down p.node p.lose at.0) at.1)
+
+-- a put whose hints were kept
+abbrev pub put_told : Entry × ℕ → ℕ × Cluster → Outcome Answer Cluster
+put_told e kept = gives (Answers.Put e.0.version.clock e.1 kept.0 e.0.number) kept.1
+
+unfoldable pub put_act : PutAsk → Cluster → Outcome Answer Cluster
+put_act p s = do
+  ask_fault p s
+  at ← put_into s.down p (replicas_of s p.key)
+  put_told at.0 (hinted at.0.0 (owners_of (gets_hint s.down p.node p.lose) (replicas_of s p.key)) (with_replicas s p.key at.1) (carrier_of s (range_at s.ring.bits p.key)))
+
+-- ---- what a node keeps
+
+-- what is shown of what a node keeps
+abbrev pub shown : Cluster → (range.State → Answer) → Option range.State → Outcome Answer Cluster
+shown s show None = refuses OtherRange
+shown s show (Some h) = gives (show h) s
+
+-- what is shown of a key at a node
+unfoldable pub key_act : (range.State → Answer) → GetAsk → Cluster → Outcome Answer Cluster
+key_act show g s = do
+  nodes_fault s g.node []
+  key_fault g.key
+  shown s show (home g.node (replicas_of s g.key))
+
+abbrev pub held_at : GetAsk → range.State → Answer
+held_at g h = Answers.Versions (held h.entries g.key)
+
+-- a row's text in a format, or nothing if nothing is held
+abbrev pub text_of : Format → List ℕ → List Version → List ℕ
+text_of format key [] = []
+text_of format key (v ∷ vs) = row_text format (record { key = key; versions = v ∷ vs })
+
+abbrev pub row_at : GetAsk → range.State → Answer
+row_at g h = Answers.Row (text_of h.config.format g.key (held h.entries g.key))
+
+-- what a node keeps of the range of that number: nothing too if the ring has no such range
+abbrev pub kept_at : Cluster → ℕ → ℕ → Option range.State
+kept_at s node r = home node (slice_index_or s.replicas r [])
+
+-- the digest of a node, shown if it is clean: that of the node's text for the rows now
+abbrev pub shown_digest : ℕ → ℕ → range.State → Option (List ℕ)
+shown_digest depth index h = if is_some (digest_at h.marks (place_at depth index)) then Some (node_digest h.config.format (range.leaf_in h.config) (rows_of h.entries) (tree_depth h.config.format - depth) index) else None
+
+abbrev pub node_at : NodeAsk → range.State → Answer
+node_at q h = Answers.Node (shown_digest q.depth q.index h)
+
+unfoldable pub node_act : NodeAsk → Cluster → Outcome Answer Cluster
+node_act q s = do
+  nodes_fault s q.node []
+  shown s (node_at q) (kept_at s q.node q.range)
+
+-- ---- background work
+
+-- why a node is refused that keeps nothing
+abbrev pub kept_fault : Option range.State → Option Refusal
+kept_fault None = Some OtherRange
+kept_fault (Some h) = None
+
+-- why a command on a range at a node is refused
+abbrev pub range_fault : Cluster → ℕ → ℕ → Option Refusal
+range_fault s node r = first_fault (nodes_fault s node []) (kept_fault (kept_at s node r))
+
+-- all nodes of a range's tree made clean: how many were dirty
+abbrev pub clean_at : range.State → Outcome ℕ range.State
+clean_at h = gives (dirty_count h.marks) (rehashed h)
+
+unfoldable pub rehash_at : RehashAsk → Cluster → Outcome Answer Cluster
+rehash_at q s = do
+  hashed ← at_home q.node clean_at (slice_index_or s.replicas q.range [])
+  gives (Answers.Rehash hashed.0) (with_range s q.range hashed.1)
+
+-- why a sync is refused for its nodes: one is not on the ring, one is down, or one does not keep the range
+abbrev pub pair_fault : SyncAsk → Cluster → Option Refusal
+pair_fault q s = first_fault (ring_nodes_fault s q.node (q.from ∷ [])) (first_fault (down_fault s q.node) (down_fault s q.from))
+
+abbrev pub keepers_fault : SyncAsk → Cluster → Option Refusal
+keepers_fault q s = first_fault (pair_fault q s) (first_fault (kept_fault (kept_at s q.node q.range)) (kept_fault (kept_at s q.from q.range)))
+
+-- the replica at a node of the range of that number
+abbrev pub replica_in : Cluster → ℕ → ℕ → Option Replica
+replica_in s node r = replica_at node (slice_index_or s.replicas r [])
+
+-- a sync of a replica with what another node keeps
+abbrev pub synced_in : SyncAsk → Cluster → Option range.State → Option Replica → Outcome Answer Cluster
+synced_in q s None own = refuses OtherRange
+synced_in q s (Some h) None = do
+  range.dirty_fault h
+  refuses OtherRange
+synced_in q s (Some h) (Some own) = do
+  range.dirty_fault h
+  crowd_fault own.sessions
+  range.dirty_fault own.range
+  gives (Answers.Sync (told own (range.rows_now h))) (with_range s q.range (at_node q.node (synced_with (range.rows_now h)) (slice_index_or s.replicas q.range [])))
+
+unfoldable pub sync_at : SyncAsk → Cluster → Outcome Answer Cluster
+sync_at q s = synced_in q s (kept_at s q.from q.range) (replica_in s q.node q.range)
+
+-- ---- the commands
+
+-- what is done in the cluster, or with the slots, as done with the state
+abbrev pub in_cluster : State → Outcome Answer Cluster → Outcome Answer State
+in_cluster s done = through (λ c. record s { cluster = c }) done
+
+abbrev pub in_slots : State → Outcome Answer Admission → Outcome Answer State
+in_slots s done = through (λ a. record s { slots = a }) done
+
+-- background work, with a slot that is given back
+abbrev pub with_slot : State → Outcome Answer Cluster → Outcome Answer State
+with_slot s work = lend s.slots >>= (λ lent. in_cluster s work)
+
+unfoldable pub deliver_act : ℕ → State → Outcome Answer State
+deliver_act n s = do
+  nodes_fault s.cluster n []
+  with_slot s (deliver_at s.cluster n (hints_of s.cluster n))
+
+unfoldable pub rehash_act : RehashAsk → State → Outcome Answer State
+rehash_act q s = do
+  range_fault s.cluster q.node q.range
+  with_slot s (rehash_at q s.cluster)
+
+unfoldable pub sync_act : SyncAsk → State → Outcome Answer State
+sync_act q s = do
+  keepers_fault q s.cluster
+  with_slot s (sync_at q s.cluster)
+
+-- what a command tells, and the state after it
+unfoldable pub act : Ask → State → Outcome Answer State
+act (ring r) s = ring_act r (ring_config r)
+act (put p) s = in_cluster s (put_act p s.cluster)
+act (get g) s = in_cluster s (key_act (held_at g) g s.cluster)
+act (row g) s = in_cluster s (key_act (row_at g) g s.cluster)
+act (take_down n) s = in_cluster s (down_act n s.cluster)
+act (bring_up n) s = in_cluster s (up_act n s.cluster)
+act (deliver n) s = deliver_act n s
+act (rehash q) s = rehash_act q s
+act (sync q) s = sync_act q s
+act (show_node q) s = in_cluster s (node_act q s.cluster)
+act (slot x) s = in_slots s (slot_act x s.slots)
+act (sample q) s = in_slots s (sample_act q s.slots)
+
+-- whether the tree of a range in a format has a node
+abbrev pub is_tree_node : Format → ℕ → ℕ → Bool
+is_tree_node format depth index = nat_le depth (tree_depth format) && nat_lt index (16 ^ depth)
+
+-- whether the ring in force has such a command: in format 1 no value is null, and the tree has the node
+abbrev pub has_value : Format → Option (List ℕ) → Bool
+has_value One value = is_some value
+has_value Two value = true
+
+abbrev pub suits : State → Ask → Bool
+suits s (put p) = has_value s.cluster.format p.value
+suits s (show_node q) = is_tree_node s.cluster.format q.depth q.index
+suits s (slot x) = is_target s.slots x
+suits s ask = true
+
+-- what is answered: what the command tells, or why it is refused
+abbrev pub replied : {S : Type 0} → Outcome Answer S → Answer
+replied (gives answer s) = answer
+replied (refuses refusal) = Refused refusal

@@ -1,0 +1,106 @@
+-- Hints in a script: who keeps them, and how they are delivered: the paper of 2007, section 4.6.
+use Rattle.std.specs.Prelude.{ℕ, ◌+◌, ◌-◌, Bool, true, false, not, ◌&&◌, nat_eq, slice_index_or, slice_set, List, [], length, map, filter, find, fold, drop, if◌then◌else◌, Option, Some, None}
+use Rattle.std.specs.List.{list_any}
+use Rattle.vclock.specs.Outcome.{Outcome, gives, refuses}
+use Rattle.vclock.specs.declared.refusal.Refusal.TheVariants.{BadRing}
+use Rattle.key_ring.specs.Places.{range_at}
+use Rattle.key_ring.specs.Ring.{preference_list}
+use Rattle.range_journal.specs.declared.journal.Entry.{Entry}
+use Rattle.range_journal.specs.declared.journal.Source.TheVariants as Sources
+use Rattle.range_state.specs.State as range
+use Rattle.range_state.specs.declared.event.Accepted.{Accepted}
+use Rattle.range_state.specs.declared.event.Accepted.TheVariants.{Taken, Known}
+use Rattle.hint_store.specs.Hints.{is_pending, pending_count, keep, confirmed, delivery_by}
+use Rattle.hint_store.specs.declared.hint.Hint.{Hint}
+use Rattle.hint_store.specs.declared.hint.Kept.{Kept}
+use Rattle.outage_cluster.specs.declared.answer.Answer.{Answer}
+use Rattle.outage_cluster.specs.declared.answer.Answer.TheVariants as Answers
+use Rattle.outage_cluster.specs.State.{Cluster, Replica, at_home, left, is_down, hints_of, with_hints}
+
+-- the owners of a put's hints: the nodes among these replicas that are to have one, in order
+abbrev pub owners_of : (ℕ → Bool) → List Replica → List ℕ
+owners_of gets_hint reps = filter gets_hint (map (λ r. r.node) reps)
+
+-- who keeps the hints of a range: the first node after its replicas in its preference list that is up
+abbrev pub carrier_of : Cluster → ℕ → Option ℕ
+carrier_of s r = find (λ n. not (is_down s n)) (drop s.ring.copies (preference_list s.ring.nodes r))
+
+-- the hints with one more for an owner, if one can be kept
+abbrev pub kept_for : Entry → List Kept → ℕ → List Kept
+kept_for e hs owner = left (keep hs owner e.key e.version) hs
+
+-- the hints with one more for each owner
+abbrev pub kept_all : Entry → List ℕ → List Kept → List Kept
+kept_all e owners hs = fold (kept_for e) hs owners
+
+-- what a put's hints do, if the node with these hints carries them: how many are kept, and the cluster with them
+abbrev pub hinted_at : Entry → List ℕ → Cluster → ℕ → Option (List Kept) → ℕ × Cluster
+hinted_at e owners s carrier None = (0, s)
+hinted_at e owners s carrier (Some hs) = (length (kept_all e owners hs) - length hs, with_hints s carrier (kept_all e owners hs))
+
+-- the same for the carrier, if there is one
+abbrev pub hinted : Entry → List ℕ → Cluster → Option ℕ → ℕ × Cluster
+hinted e owners s None = (0, s)
+hinted e owners s (Some carrier) = hinted_at e owners s carrier (hints_of s carrier)
+
+-- what the owner of a hint, if it is among these replicas, makes of it
+unfoldable pub asked : Hint → List Replica → Outcome Accepted (List Replica)
+asked hint reps = at_home hint.owner (λ h. range.accept h 0 Sources.Hint hint.key hint.version) reps
+
+-- the same in a ring of 2^bits ranges
+abbrev pub asked_in : ℕ → List (List Replica) → Hint → Outcome Accepted (List Replica)
+asked_in bits replicas hint = asked hint (slice_index_or replicas (range_at bits hint.key) [])
+
+-- a delivery in progress: the replicas and the carrier's hints now, and how many hints were taken and known
+pub record Round : Type 0 where
+  pub replicas : List (List Replica)
+  pub hints : List Kept
+  pub taken : ℕ
+  pub known : ℕ
+
+-- whether an owner knew a version
+abbrev pub was_known : Accepted → Bool
+was_known Known = true
+was_known (Taken e) = false
+
+-- the delivery after an owner took a hint or knew it, and these are the replicas of the range
+abbrev pub round_after : ℕ → Round → Hint → Bool → List Replica → Round
+round_after bits r h known reps = record {
+  replicas = slice_set r.replicas (range_at bits h.key) reps;
+  hints = confirmed r.hints h.id (delivery_by h known);
+  taken = if known then r.taken else r.taken + 1;
+  known = if known then r.known + 1 else r.known;
+}
+
+-- the delivery after a hint was offered to its owner: one that is refused stays pending
+abbrev pub offered_to : ℕ → Round → Hint → Outcome Accepted (List Replica) → Round
+offered_to bits r h (refuses e) = r
+offered_to bits r h (gives reply reps) = round_after bits r h (was_known reply) reps
+
+-- whether a hint is offered: it is pending, and its owner is up
+abbrev pub is_offered : List ℕ → Kept → Bool
+is_offered up k = is_pending k && list_any (nat_eq k.hint.owner) up
+
+abbrev pub offer_one : List ℕ → ℕ → Round → Kept → Round
+offer_one up bits r k = if is_offered up k then offered_to bits r k.hint (asked_in bits r.replicas k.hint) else r
+
+-- the delivery before the first hint
+abbrev pub first_round : List (List Replica) → List Kept → Round
+first_round replicas hs = record { replicas = replicas; hints = hs; taken = 0; known = 0 }
+
+-- the nodes that are up, in the order of the ring
+abbrev pub up_nodes : Cluster → List ℕ
+up_nodes s = filter (λ n. not (is_down s n)) s.ring.nodes
+
+-- the hints are offered in order
+abbrev pub round_of : Cluster → List Kept → Round
+round_of s hs = fold (offer_one (up_nodes s) s.ring.bits) (first_round s.replicas hs) hs
+
+-- a delivery that is over: its answer, and the cluster after it
+abbrev pub delivered : Cluster → ℕ → Round → Outcome Answer Cluster
+delivered s n r = gives (Answers.Deliver r.taken r.known (pending_count r.hints)) (with_hints (record s { replicas = r.replicas }) n r.hints)
+
+-- a delivery of the hints that a node keeps; one that is not on the ring keeps none
+abbrev pub deliver_at : Cluster → ℕ → Option (List Kept) → Outcome Answer Cluster
+deliver_at s n None = refuses BadRing
+deliver_at s n (Some hs) = delivered s n (round_of s hs)

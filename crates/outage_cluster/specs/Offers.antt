@@ -1,0 +1,28 @@
+-- Words for one step of a delivery.
+use Rattle.std.specs.Prelude.{ℕ, ◌+◌, Bool, true, false, List, Option, Some, None}
+use Rattle.vclock.specs.Outcome.{Outcome, gives, refuses}
+use Rattle.range_state.specs.declared.event.Accepted.{Accepted}
+use Rattle.hint_store.specs.declared.hint.Fate.TheVariants.{Pending}
+use Rattle.hint_store.specs.declared.hint.Hint.{Hint}
+use Rattle.hint_store.specs.declared.hint.Kept.{Kept}
+use Rattle.outage_cluster.specs.State.{Replica}
+use Rattle.outage_cluster.specs.Handoff.{Round, was_known}
+
+-- a hint that is pending
+abbrev pub pending_of : Hint → Kept
+pending_of h = record { hint = h; fate = Pending }
+
+-- a delivery in progress
+abbrev pub round_at : List (List Replica) → List Kept → ℕ → ℕ → Round
+round_at replicas hints taken known = record { replicas = replicas; hints = hints; taken = taken; known = known }
+
+-- the same after an offer: it was refused, or the owner took the version or knew it
+abbrev pub after_offer : Option Bool → List (List Replica) → List Kept → ℕ → ℕ → Round
+after_offer None replicas hints taken known = round_at replicas hints taken known
+after_offer (Some false) replicas hints taken known = round_at replicas hints (taken + 1) known
+after_offer (Some true) replicas hints taken known = round_at replicas hints taken (known + 1)
+
+-- what an owner tells, if it is no refusal: whether it knew the version
+abbrev pub told_by : Outcome Accepted (List Replica) → Option Bool
+told_by (gives reply reps) = Some (was_known reply)
+told_by (refuses e) = None

@@ -1,0 +1,449 @@
+//! The cluster that a script changes: a ring, its nodes and their hints, and the replicas of its ranges.
+ghost use Rattle.std.specs.Prelude.{◌≡◌, ◌<◌, ◌^◌, ◌==◌, ⊤, [], length, position, replicate, None, is_some, option_map, IsTrue, IfOk, IfSome, OnOk};
+ghost use Rattle.std.specs.List.{list_all, AllByRecursion};
+ghost use Rattle.vclock.specs.Answer.{Answers, AnswersAtOnce, AnswersOrNoMemory};
+ghost use Rattle.vclock.specs.Clock.{clock_of};
+ghost use Rattle.vclock.specs.Outcome.{gives, DoesOrBreaksOff};
+ghost use Rattle.vclock.specs.Bytes.{key_fault};
+ghost use Rattle.version_set.specs.Kind.{value_fault};
+ghost use Rattle.outage_cluster.specs.Acts.{ask_fault, down_act, down_fault, held_at, is_tree_node, keepers_fault, kept_at, key_act, kind_of, node_act, nodes_fault, put_act, range_fault, rehash_at, ring_nodes_fault, row_at, sync_at, text_of, up_act, value_of};
+ghost use Rattle.outage_cluster.specs.Handoff.{carrier_of, deliver_at, hinted, up_nodes};
+ghost use Rattle.outage_commands.specs.Orders.{get_ask, node_ask, put_ask, rehash_ask, sync_ask};
+ghost use Rattle.outage_cluster.specs.State.{first_config, first_ring, hints_of, home, is_down, is_member, made, replicas_of};
+
+use crate::answer::Answer;
+use crate::handoff::{deliver_all, keep_all};
+use crate::replica::Replica;
+use crate::replicas::{Replicas, Sent};
+use hash_tree::{NodeAt, Text, tree_depth};
+use hint_store::HintStore;
+use key_ring::Ring;
+use outage_commands::{Get, Put, Rehash, ShowNode, SyncFrom};
+use range_state::{RangeConfig, Receipt};
+use row_bytes::{Row, write_row};
+use std::alloc::{AllocError, Global};
+use std::marker::Model;
+use std::thread::Threads;
+use vclock::limits::ENTRIES_MAX;
+use vclock::{Bytes, Clock, Format, Refusal, check_key};
+use version_set::{Kind, VersionSet};
+
+/// A ring: its nodes, the hints that they keep, and the replicas of its ranges.
+pub(crate) struct Cluster {
+    ring: Ring,
+    format: Format,
+    down: Vec<u64>,
+    carriers: Vec<HintStore>,
+    ranges: Vec<Replicas>,
+}
+
+impl Model for Cluster {
+    ghost use Rattle.std.specs.Prelude.{◌≡◌, ◌^◌, length};
+    ghost use Rattle.outage_cluster.specs.State.{Cluster};
+
+    ghost Value = { Cluster };
+
+    ghost view = { λ c. record { ring = c.ring; format = c.format; down = c.down.items; hints = c.carriers.items; replicas = c.ranges.items } };
+
+    ghost invariant = { λ c. (length c.ranges.items ≡ 2 ^ c.ring.bits) × (length c.carriers.items ≡ length c.ring.nodes) };
+}
+
+impl Cluster {
+    /// The cluster that a script begins with: a ring of node 1, with one range.
+    pub(crate) fn start(alloc: Global) -> Result<Cluster, AllocError>
+        ensures { IfOk result (λ cluster. cluster ≡ made first_ring first_config) }
+    {
+        let config = RangeConfig::new(1, 0, 0, ENTRIES_MAX).unwrap();
+        match Ring::new(alloc, 0, &[1], 1) {
+            Ok(ring) => Cluster::new(alloc, ring, config),
+            Err(_) => Err(AllocError),
+        }
+    }
+
+    /// The cluster of a ring whose nodes are up, have no hints, and have accepted nothing.
+    #[tactic(auto, unfolding(crate::specs::State::made))]
+    pub(crate) fn new(alloc: Global, ring: Ring, config: RangeConfig) -> Result<Cluster, AllocError>
+        requires { config.bits ≡ ring.bits }
+        ensures { IfOk result (λ cluster. cluster ≡ made ring config) }
+    {
+        let carriers = empty_stores(alloc, ring.nodes().len())?;
+        let mut ranges = Vec::with_capacity(alloc, usize::from(ring.ranges()))?;
+        for range in 0..ring.ranges() {
+            ranges.push(Replicas::new(alloc, &ring, config.for_range(range))?)?;
+        }
+        Ok(Cluster {
+            ring,
+            format: config.format(),
+            down: Vec::new(alloc),
+            carriers,
+            ranges,
+        })
+    }
+
+    /// The format of the ring.
+    pub(crate) fn format(&self) -> Format
+        ensures { result ≡ self.now.format }
+    {
+        self.format
+    }
+
+    /// Puts a value at a node, sends the copies and keeps the hints. Returns the answer with the clock and the number.
+    pub(crate) fn put(&mut self, alloc: Global, put: Put) -> Result<Answer, Refusal>
+        ensures { DoesOrBreaksOff result self.old self.new (put_act (put_ask put) self.old) }
+    {
+        let context = self.check_put(alloc, &put)?;
+        let range = self.ring.range_of(put.key.as_slice());
+        let sent = self.ranges[usize::from(range)].put(alloc, &context, &self.down, put)?;
+        let hinted = self.keep_hints(range, &sent.owners, &sent.receipt)?;
+        let Sent {
+            receipt,
+            copied,
+            ..
+        } = sent;
+        let Receipt {
+            number,
+            version,
+            ..
+        } = receipt;
+        Ok(Answer::Put {
+            clock: version.clock,
+            copied,
+            hinted,
+            number,
+        })
+    }
+
+    /// Keeps a hint of an entry for each of these owners at the carrier of a range, and returns how many were kept.
+    fn keep_hints(&mut self, range: u16, owners: &[u16], entry: &Receipt) -> Result<u64, AllocError>
+        requires { range < 2 ^ self.old.ring.bits }
+        ensures count { IfOk result (λ n. n ≡ (hinted entry.now owners.now self.old (carrier_of self.old range)).0) }
+        ensures kept { OnOk result (self.new ≡ (hinted entry.now owners.now self.old (carrier_of self.old range)).1) }
+    {
+        let Some(carrier) = self.carrier_of(range) else {
+            return Ok(0);
+        };
+        match self.place_of(u64::from(carrier)) {
+            Some(place) => keep_all(&mut self.carriers[place], owners, entry),
+            None => Ok(0),
+        }
+    }
+
+    /// The node that keeps a range's hints: the first live one after its replicas in the preference list.
+    #[tactic(auto, using(crate::proofs::ListSteps::find_end))]
+    fn carrier_of(&self, range: u16) -> Option<u16>
+        requires { range < 2 ^ self.now.ring.bits }
+        ensures { result ≡ carrier_of self.now range }
+    {
+        for place in self.ring.copies()..self.ring.nodes().len() {
+            let node = self.ring.preference(range, place);
+            if !self.is_down(u64::from(node)) {
+                return Some(node);
+            }
+        }
+        None
+    }
+
+    /// The place of a node in the ring.
+    fn place_of(&self, node: u64) -> Option<usize>
+        ensures { result ≡ position (λ m. m == node) self.now.ring.nodes }
+    {
+        self.ring.nodes().iter().position(|n| u64::from(*n) == node)
+    }
+
+    /// Takes a node down.
+    #[tactic(auto, unfolding(crate::specs::Acts::down_act))]
+    pub(crate) fn take_down(&mut self, node: u64) -> Result<Answer, Refusal>
+        ensures { DoesOrBreaksOff result self.old self.new (down_act node self.old) }
+    {
+        self.check_ring_nodes(node, &[])?;
+        if !self.is_down(node) {
+            self.down.push(node)?;
+        }
+        Ok(Answer::Up { node, up: false })
+    }
+
+    /// Brings a node up.
+    #[tactic(auto, unfolding(crate::specs::Acts::up_act))]
+    pub(crate) fn bring_up(&mut self, node: u64) -> Result<Answer, Refusal>
+        ensures { DoesOrBreaksOff result self.old self.new (up_act node self.old) }
+    {
+        self.check_ring_nodes(node, &[])?;
+        self.down.retain(|member| *member != node);
+        Ok(Answer::Up { node, up: true })
+    }
+
+    /// Whether a node is down.
+    fn is_down(&self, node: u64) -> bool
+        ensures { result ≡ is_down self.now node }
+    {
+        self.down.contains(&node)
+    }
+
+    /// The nodes that are up, in the order of the ring.
+    fn up_nodes(&self, alloc: Global) -> Result<Vec<u16>, AllocError>
+        ensures { IfOk result (λ nodes. nodes.items ≡ up_nodes self.now) }
+    {
+        self.ring
+            .nodes()
+            .iter()
+            .copied()
+            .filter(|node| !self.is_down(u64::from(*node)))
+            .collect(alloc)
+    }
+
+    /// Whether a node is on the ring and up, so that its hints can be delivered.
+    pub(crate) fn check_carrier(&self, node: u64) -> Result<(), Refusal>
+        ensures { AnswersAtOnce result (nodes_fault self.now node []) (λ _. ⊤) }
+    {
+        self.check_nodes(node, &[])
+    }
+
+    /// Offers the hints that a node keeps to their owners. Returns the answer with how many were taken, known, and
+    /// still pending.
+    pub(crate) fn deliver(&mut self, alloc: Global, node: u64) -> Result<Answer, AllocError>
+        requires { nodes_fault self.old node [] ≡ None }
+        ensures { IfOk result (λ a. deliver_at self.old node (hints_of self.old node) ≡ gives a self.new) }
+    {
+        let up = self.up_nodes(alloc)?;
+        let Some(place) = self.place_of(node) else {
+            unreachable!()
+        };
+        let hints = &mut self.carriers[place];
+        let done = deliver_all(alloc, &self.ring, &up, &mut self.ranges, hints)?;
+        Ok(Answer::Deliver {
+            delivered: done.taken,
+            known: done.known,
+            pending: hints.pending(),
+        })
+    }
+
+    /// Returns the answer with the versions that are held for a key.
+    #[tactic(auto, unfolding(crate::specs::Acts::key_act))]
+    pub(crate) fn get(&self, alloc: Global, get: &Get) -> Result<Answer, Refusal>
+        ensures { DoesOrBreaksOff result self.now self.now (key_act (held_at (get_ask get.now)) (get_ask get.now) self.now) }
+    {
+        self.check_nodes(get.node, &[])?;
+        check_key(get.key.as_slice())?;
+        let Some(replica) = self.replica_of(get.node, get.key.as_slice()) else {
+            return Err(Refusal::OtherRange);
+        };
+        let versions = replica.version_set(alloc, get.key.as_slice())?;
+        Ok(Answer::Versions(versions))
+    }
+
+    /// Returns the answer with the text of the row of a key.
+    #[tactic(auto, unfolding(crate::specs::Acts::key_act))]
+    pub(crate) fn row(&self, alloc: Global, get: Get) -> Result<Answer, Refusal>
+        ensures { DoesOrBreaksOff result self.now self.now (key_act (row_at (get_ask get)) (get_ask get) self.now) }
+    {
+        self.check_nodes(get.node, &[])?;
+        check_key(get.key.as_slice())?;
+        let Some(replica) = self.replica_of(get.node, get.key.as_slice()) else {
+            return Err(Refusal::OtherRange);
+        };
+        let versions = replica.version_set(alloc, get.key.as_slice())?;
+        let text = row_text(alloc, replica.format(), get.key, versions)?;
+        Ok(Answer::Row(text))
+    }
+
+    /// Whether a node that is up keeps a range of that number.
+    pub(crate) fn check_range(&self, node: u64, range: u64) -> Result<(), Refusal>
+        ensures { AnswersAtOnce result (range_fault self.now node range) (λ _. ⊤) }
+    {
+        self.check_nodes(node, &[])?;
+        match self.replica_at(node, range) {
+            Some(_) => Ok(()),
+            None => Err(Refusal::OtherRange),
+        }
+    }
+
+    /// Makes every node of the tree of a range at a node clean. Returns the answer with how many were dirty.
+    #[tactic(auto, unfolding(crate::specs::Acts::rehash_at))]
+    pub(crate) fn rehash(
+        &mut self,
+        rt: &(impl Threads + Sync),
+        alloc: Global,
+        ask: &Rehash,
+    ) -> Result<Answer, Refusal>
+        ensures { DoesOrBreaksOff result self.old self.new (rehash_at (rehash_ask ask.now) self.old) }
+    {
+        if ask.range >= self.ranges.len() as u64 {
+            return Err(Refusal::OtherRange);
+        }
+        let hashed = self.ranges[ask.range as usize].rehash(rt, alloc, ask.node)?;
+        Ok(Answer::Rehash(hashed))
+    }
+
+    /// Whether both nodes of a sync are up and keep the range.
+    pub(crate) fn check_sync(&self, ask: &SyncFrom) -> Result<(), Refusal>
+        ensures { AnswersAtOnce result (keepers_fault (sync_ask ask.now) self.now) (λ _. ⊤) }
+    {
+        self.check_ring_nodes(ask.node, &[ask.from])?;
+        self.check_up(ask.node)?;
+        self.check_up(ask.from)?;
+        let own = self.replica_at(ask.node, ask.range);
+        let partner = self.replica_at(ask.from, ask.range);
+        if own.is_none() || partner.is_none() {
+            return Err(Refusal::OtherRange);
+        }
+        Ok(())
+    }
+
+    /// Makes a node take what another has of a range. Returns the answer with what came of it.
+    #[tactic(auto, unfolding(crate::specs::Acts::sync_at))]
+    pub(crate) fn sync(&mut self, alloc: Global, ask: &SyncFrom) -> Result<Answer, Refusal>
+        ensures { DoesOrBreaksOff result self.old self.new (sync_at (sync_ask ask.now) self.old) }
+    {
+        if ask.range >= self.ranges.len() as u64 {
+            return Err(Refusal::OtherRange);
+        }
+        let done = self.ranges[ask.range as usize].sync(alloc, ask.node, ask.from)?;
+        Ok(Answer::Sync(done))
+    }
+
+    /// Returns the answer with the digest of a node of the tree of a range.
+    #[tactic(auto, unfolding(crate::specs::Acts::node_act))]
+    pub(crate) fn node(&self, ask: &ShowNode) -> Result<Answer, Refusal>
+        requires { IsTrue (is_tree_node self.now.format ask.now.depth ask.now.index) }
+        ensures { DoesOrBreaksOff result self.now self.now (node_act (node_ask ask.now) self.now) }
+    {
+        self.check_nodes(ask.node, &[])?;
+        let Some(replica) = self.replica_at(ask.node, ask.range) else {
+            return Err(Refusal::OtherRange);
+        };
+        let Some(node) = tree_node(self.format, ask.depth, ask.index) else {
+            unreachable!()
+        };
+        Ok(Answer::Node(replica.digest_at(node)))
+    }
+
+    /// The replica at a node of the range of that number, if the ring has such a range.
+    fn replica_at(&self, node: u64, range: u64) -> Option<&Replica>
+        ensures { option_map (λ r. r.now.range) result ≡ kept_at self.now node range }
+    {
+        if range >= self.ranges.len() as u64 {
+            return None;
+        }
+        self.ranges[range as usize].find(node)
+    }
+
+    /// The replica of a key's range at a node.
+    fn replica_of(&self, node: u64, key: &[u8]) -> Option<&Replica>
+        ensures { option_map (λ r. r.now.range) result ≡ home node (replicas_of self.now key.now) }
+    {
+        let range = usize::from(self.ring.range_of(key));
+        self.ranges[range].find(node)
+    }
+
+    /// The context of a put, if nothing that it names is refused.
+    fn check_put(&self, alloc: Global, put: &Put) -> Result<Clock, Refusal>
+        ensures { AnswersOrNoMemory result (ask_fault (put_ask put.now) self.now)
+            (λ context. context ≡ clock_of put.now.context.items) }
+    {
+        self.check_nodes(put.node, &put.lose)?;
+        let context = Clock::from_pairs(alloc, &put.context)?;
+        check_key(put.key.as_slice())?;
+        check_value(self.format, &put.value)?;
+        Ok(context)
+    }
+
+    /// Whether a node and the others that a command names are on the ring, and the node is up.
+    fn check_nodes(&self, node: u64, others: &[u64]) -> Result<(), Refusal>
+        ensures { AnswersAtOnce result (nodes_fault self.now node others.now) (λ _. ⊤) }
+    {
+        self.check_ring_nodes(node, others)?;
+        self.check_up(node)
+    }
+
+    /// Whether a node is up.
+    fn check_up(&self, node: u64) -> Result<(), Refusal>
+        ensures { AnswersAtOnce result (down_fault self.now node) (λ _. ⊤) }
+    {
+        if self.is_down(node) {
+            return Err(Refusal::Down);
+        }
+        Ok(())
+    }
+
+    /// Whether a node and the others that a command names are on the ring.
+    fn check_ring_nodes(&self, node: u64, others: &[u64]) -> Result<(), Refusal>
+        ensures { AnswersAtOnce result (ring_nodes_fault self.now node others.now) (λ _. ⊤) }
+    {
+        if self.ring.contains(node) && self.are_nodes(others) {
+            Ok(())
+        } else {
+            Err(Refusal::BadRing)
+        }
+    }
+
+    /// Whether each of these is on the ring.
+    fn are_nodes(&self, nodes: &[u64]) -> bool
+        ensures { result ≡ list_all (is_member self.now) nodes.now }
+    {
+        nodes.iter().all(|node| self.ring.contains(*node))
+    }
+}
+
+/// That many stores without hints.
+#[tactic(auto, using(crate::proofs::ListSteps::copies_more))]
+fn empty_stores(alloc: Global, count: usize) -> Result<Vec<HintStore>, AllocError>
+    ensures { IfOk result (λ stores. stores.items ≡ replicate count []) }
+{
+    let mut stores = Vec::with_capacity(alloc, count)?;
+    for made in 0..count {
+        stores.push(HintStore::new(alloc))?;
+    }
+    Ok(stores)
+}
+
+/// The node of the tree of a format, if it has one of that depth and index.
+pub(crate) fn tree_node(format: Format, depth: u64, index: u64) -> Option<NodeAt>
+    ensures some { is_some result ≡ is_tree_node format depth index }
+    ensures depth { IfSome result (λ n. n.depth ≡ depth) }
+    ensures index { IfSome result (λ n. n.index ≡ index) }
+{
+    if depth > u64::from(tree_depth(format)) || index > u64::from(u16::MAX) {
+        return None;
+    }
+    NodeAt::new(depth as u8, index as u16)
+}
+
+/// Whether a put may have the value, or the tombstone, in a format.
+fn check_value(format: Format, value: &Option<Bytes>) -> Result<(), Refusal>
+    ensures { AnswersAtOnce result (value_fault format (kind_of value.now) (value_of value.now)) (λ _. ⊤) }
+{
+    match value {
+        Some(value) => Kind::Live.check_value(format, value.as_slice()),
+        None => Kind::Tombstone.check_value(format, &[]),
+    }
+}
+
+/// The text of the row of a key, or no bytes if no version is held.
+fn row_text(
+    alloc: Global,
+    format: Format,
+    key: Bytes,
+    versions: VersionSet,
+) -> Result<Text, Refusal>
+    requires key { key_fault key ≡ None }
+    requires fit { AllByRecursion (λ v. value_fault format v.kind v.value ≡ None) versions }
+    ensures { Answers result None (λ text. text ≡ text_of format key versions) }
+{
+    if versions.is_empty() {
+        return Ok(Text::from(Vec::new(alloc)));
+    }
+    Ok(Text::from(write_row(alloc, format, &Row { key, versions })?))
+}
+
+impl Drop for Cluster {
+    /// Keeps the fields out of the proofs of callers that drop a cluster.
+    fn drop(self) {
+        let Cluster {
+            ring: _ring,
+            format: _format,
+            down: _down,
+            carriers: _carriers,
+            ranges: _ranges,
+        } = self;
+    }
+}

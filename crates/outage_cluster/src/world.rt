@@ -1,0 +1,190 @@
+//! The world that a script changes: a cluster, and the slots for background work.
+ghost use Rattle.std.specs.Prelude.{◌≡◌, ◌≢◌, IsTrue, IfOk, IfErr, OnOk};
+ghost use Rattle.outage_cluster.specs.Acts.{act, deliver_act, rehash_act, ring_act, ring_config, suits, sync_act, replied};
+ghost use Rattle.outage_commands.specs.Orders.{ask_of, rehash_ask, ring_ask, sync_ask};
+ghost use Rattle.outage_cluster.specs.State.{left, start};
+ghost use Rattle.vclock.specs.Outcome.{DoesOrBreaksOff};
+
+use crate::answer::Answer;
+use crate::cluster::{Cluster, tree_node};
+use crate::slots::Slots;
+use key_ring::Ring;
+use outage_commands::{Command, NewRing, Rehash, SyncFrom};
+use range_state::RangeConfig;
+use std::alloc::{AllocError, Global};
+use std::marker::Model;
+use std::mem::forget;
+use std::sync::ledger::{Blank, Ledger};
+use std::thread::Threads;
+use vclock::{Format, Refusal};
+
+/// What becomes of the memory that the replicas hold, at the end of a run.
+#[derive(Clone, Copy, Debug, PartialEq, Eq)]
+pub enum AtEnd {
+    /// It is freed.
+    Free,
+    /// It is left to the system, which takes back all memory of a process when the process ends.
+    Leave,
+}
+
+/// What the commands change.
+pub struct World<L: Ledger> {
+    cluster: Cluster,
+    slots: Slots<L>,
+}
+
+impl<L: Ledger> Model for World<L> {
+    ghost use Rattle.outage_cluster.specs.State.{State};
+
+    ghost Value = { State };
+
+    ghost view = { λ w. record { cluster = w.cluster; slots = w.slots } };
+}
+
+impl<L: Ledger> World<L> {
+    /// The world that a script begins with: a ring of node 1 with one range, and no slot lent.
+    pub fn start(blank: Blank, alloc: Global) -> Result<World<L>, AllocError>
+        requires ledger { (blank.name ≡ L.name) × (blank.parts ≡ L.parts) × (blank.parts ≡ 1024) }
+        ensures { IfOk result (λ world. world ≡ start) }
+    {
+        let cluster = Cluster::start(alloc)?;
+        match Slots::new(blank, alloc) {
+            Ok(slots) => Ok(World { cluster, slots }),
+            Err(_) => Err(AllocError),
+        }
+    }
+
+    /// Gives all slots back, and frees what the replicas hold or leaves it.
+    pub fn close(self, at_end: AtEnd) {
+        let World { slots, cluster } = self;
+        slots.close();
+        match at_end {
+            AtEnd::Free => drop(cluster),
+            AtEnd::Leave => forget(cluster),
+        }
+    }
+
+    /// Whether the ring in force has such a command: in format 1 no value is null, the tree has the node, and the
+    /// controller may have the target.
+    pub fn suits(&self, command: &Command) -> bool
+        ensures { result ≡ suits self.now (ask_of command.now) }
+    {
+        match command {
+            Command::Put(put) => self.cluster.format() == Format::Two || put.value.is_some(),
+            Command::Node(ask) => tree_node(self.cluster.format(), ask.depth, ask.index).is_some(),
+            Command::Slot(command) => self.slots.is_target(command),
+            _ => true,
+        }
+    }
+
+    /// The answer of a command, and the world after it. If memory runs out the script ends, and what a part of the
+    /// command did does not matter.
+    pub fn act(
+        &mut self,
+        rt: &(impl Threads + Sync),
+        alloc: Global,
+        command: Command,
+    ) -> Result<Answer, AllocError>
+        requires { IsTrue (suits self.old (ask_of command)) }
+        ensures reply { IfOk result (λ answer. answer ≡ replied (act (ask_of command) self.old)) }
+        ensures after { OnOk result (self.new ≡ left (act (ask_of command) self.old) self.old) }
+    {
+        let answer = self.perform(rt, alloc, command);
+        answered(answer)
+    }
+
+    /// Does what a command says.
+    #[tactic(auto, unfolding(crate::specs::Acts::act))]
+    fn perform(
+        &mut self,
+        rt: &(impl Threads + Sync),
+        alloc: Global,
+        command: Command,
+    ) -> Result<Answer, Refusal>
+        requires { IsTrue (suits self.old (ask_of command)) }
+        ensures { DoesOrBreaksOff result self.old self.new (act (ask_of command) self.old) }
+    {
+        match command {
+            Command::Ring(ring) => self.renew(alloc, &ring),
+            Command::Put(put) => self.cluster.put(alloc, put),
+            Command::Get(get) => self.cluster.get(alloc, &get),
+            Command::Row(get) => self.cluster.row(alloc, get),
+            Command::Down(node) => self.cluster.take_down(node),
+            Command::Up(node) => self.cluster.bring_up(node),
+            Command::Deliver(node) => self.deliver(alloc, node),
+            Command::Rehash(ask) => self.rehash(rt, alloc, &ask),
+            Command::Sync(ask) => self.sync(alloc, &ask),
+            Command::Node(ask) => self.cluster.node(&ask),
+            Command::Slot(command) => self.slots.act(command),
+            Command::Sample(sample) => self.slots.sample(sample),
+        }
+    }
+
+    /// Makes everything anew.
+    fn renew(&mut self, alloc: Global, ask: &NewRing) -> Result<Answer, Refusal>
+        ensures { DoesOrBreaksOff result self.old self.new (ring_act (ring_ask ask.now) (ring_config (ring_ask ask.now))) }
+    {
+        let Some(config) = RangeConfig::new(ask.format, ask.bits, 0, ask.limit) else {
+            return Err(Refusal::BadRing);
+        };
+        let ring = Ring::new(alloc, ask.bits, &ask.nodes, ask.copies)?;
+        let (nodes, ranges) = (ring.nodes().len() as u64, u64::from(ring.ranges()));
+        self.cluster = Cluster::new(alloc, ring, config)?;
+        self.slots.renew();
+        Ok(Answer::Ring { nodes, ranges })
+    }
+
+    /// Delivers the hints that a node keeps, with a slot that is given back.
+    #[tactic(auto, unfolding(crate::specs::Acts::deliver_act))]
+    fn deliver(&mut self, alloc: Global, node: u64) -> Result<Answer, Refusal>
+        ensures { DoesOrBreaksOff result self.old self.new (deliver_act node self.old) }
+    {
+        self.cluster.check_carrier(node)?;
+        self.slots.lend()?;
+        let answer = self.cluster.deliver(alloc, node);
+        self.slots.give_back();
+        Ok(answer?)
+    }
+
+    /// Rehashes a range at a node, with a slot that is given back.
+    #[tactic(auto, unfolding(crate::specs::Acts::rehash_act))]
+    fn rehash(
+        &mut self,
+        rt: &(impl Threads + Sync),
+        alloc: Global,
+        ask: &Rehash,
+    ) -> Result<Answer, Refusal>
+        ensures { DoesOrBreaksOff result self.old self.new (rehash_act (rehash_ask ask.now) self.old) }
+    {
+        self.cluster.check_range(ask.node, ask.range)?;
+        self.slots.lend()?;
+        let answer = self.cluster.rehash(rt, alloc, ask);
+        self.slots.give_back();
+        answer
+    }
+
+    /// Makes a node take what another has of a range, with a slot that is given back.
+    #[tactic(auto, unfolding(crate::specs::Acts::sync_act))]
+    fn sync(&mut self, alloc: Global, ask: &SyncFrom) -> Result<Answer, Refusal>
+        ensures { DoesOrBreaksOff result self.old self.new (sync_act (sync_ask ask.now) self.old) }
+    {
+        self.cluster.check_sync(ask)?;
+        self.slots.lend()?;
+        let answer = self.cluster.sync(alloc, ask);
+        self.slots.give_back();
+        answer
+    }
+}
+
+/// The answer of a command, or that of its refusal. Want of memory has no answer.
+fn answered(answer: Result<Answer, Refusal>) -> Result<Answer, AllocError>
+    ensures ok { IfOk answer (λ a. result ≡ Ok a) }
+    ensures refused { IfErr answer
+        (λ e. IfOk result (λ a. (e ≢ Refusal.NoMemory) × (a ≡ Answer.Refused e))) }
+{
+    match answer {
+        Ok(answer) => Ok(answer),
+        Err(Refusal::NoMemory) => Err(AllocError),
+        Err(refusal) => Ok(Answer::Refused(refusal)),
+    }
+}

@@ -1,0 +1,136 @@
+-- Which command a line is.
+use Rattle.std.specs.Prelude.{ℕ, ◌^◌, nat_lt, List, [], ◌∷◌, codes, if◌then◌else◌, Option, Some, None, option_map, option_and_then}
+use Rattle.std.specs.Str.{bytes_eq}
+use Rattle.serde_json.specs.Data.{Data}
+use Rattle.serde_json.specs.Find.{as_str}
+use Rattle.outage_commands.specs.Asks.{RingAsk, PutAsk, GetAsk, RehashAsk, SyncAsk, NodeAsk, SlotAsk, SampleAsk, Ask, ring, put, get, row, take_down, bring_up, deliver, rehash, sync, show_node, slot, sample, lend_slot, give_slot_back, set_target, adjust_target}
+use Rattle.outage_commands.specs.Reading.{◌>>=◌, ◌>>◌, has_only, number_of, bytes_of, numbers_of, pairs_of, nullable, member_of, default_of, maybe_of, sole_member}
+
+-- what the members of a ring say, if it has no others
+unfoldable pub ring_of : Data → Option RingAsk
+ring_of d = do
+  has_only (codes "bits" ∷ codes "copies" ∷ codes "nodes" ∷ codes "limit" ∷ codes "format" ∷ []) d
+  bits ← member_of number_of (codes "bits") d
+  copies ← member_of number_of (codes "copies") d
+  nodes ← member_of numbers_of (codes "nodes") d
+  limit ← default_of 1000000 number_of (codes "limit") d
+  format ← default_of 1 number_of (codes "format") d
+  Some (record { bits = bits; copies = copies; nodes = nodes; limit = limit; format = format })
+
+-- what the members of a put say, if it has no others
+unfoldable pub put_of : Data → Option PutAsk
+put_of d = do
+  has_only (codes "node" ∷ codes "key" ∷ codes "context" ∷ codes "value" ∷ codes "lose" ∷ []) d
+  node ← member_of number_of (codes "node") d
+  key ← member_of bytes_of (codes "key") d
+  context ← member_of pairs_of (codes "context") d
+  value ← member_of (nullable bytes_of) (codes "value") d
+  lose ← default_of [] numbers_of (codes "lose") d
+  Some (record { node = node; key = key; context = context; value = value; lose = lose })
+
+-- what the members of a get or a row say, if it has no others
+unfoldable pub get_of : Data → Option GetAsk
+get_of d = do
+  has_only (codes "node" ∷ codes "key" ∷ []) d
+  node ← member_of number_of (codes "node") d
+  key ← member_of bytes_of (codes "key") d
+  Some (record { node = node; key = key })
+
+-- what the members of a rehash say, if it has no others
+unfoldable pub rehash_of : Data → Option RehashAsk
+rehash_of d = do
+  has_only (codes "node" ∷ codes "range" ∷ []) d
+  node ← member_of number_of (codes "node") d
+  range ← member_of number_of (codes "range") d
+  Some (record { node = node; range = range })
+
+-- what the members of a sync say, if it has no others
+unfoldable pub sync_of : Data → Option SyncAsk
+sync_of d = do
+  has_only (codes "from" ∷ codes "node" ∷ codes "range" ∷ []) d
+  from ← member_of number_of (codes "from") d
+  node ← member_of number_of (codes "node") d
+  range ← member_of number_of (codes "range") d
+  Some (record { from = from; node = node; range = range })
+
+-- what the members of a node say, if it has no others
+unfoldable pub node_of : Data → Option NodeAsk
+node_of d = do
+  has_only (codes "node" ∷ codes "range" ∷ codes "depth" ∷ codes "index" ∷ []) d
+  node ← member_of number_of (codes "node") d
+  range ← member_of number_of (codes "range") d
+  depth ← member_of number_of (codes "depth") d
+  index ← member_of number_of (codes "index") d
+  Some (record { node = node; range = range; depth = depth; index = index })
+
+-- the node of a command that names nothing else
+unfoldable pub sole_node_of : Data → Option ℕ
+sole_node_of d = has_only (codes "node" ∷ []) d >> member_of number_of (codes "node") d
+
+-- what is done with the slots where there is no number
+abbrev pub plain_slot : List ℕ → Option SlotAsk
+plain_slot word = if bytes_eq word (codes "lend") then Some lend_slot else if bytes_eq word (codes "back") then Some give_slot_back else None
+
+-- what is done with the slots where there is one
+abbrev pub numbered_slot : ℕ → List ℕ → Option SlotAsk
+numbered_slot n word = if bytes_eq word (codes "target") then Some (set_target n) else if bytes_eq word (codes "adjust") then Some (adjust_target n) else None
+
+-- what is done with the slots by a word, with the number or without
+abbrev pub slot_named : List ℕ → Option ℕ → Option SlotAsk
+slot_named word None = plain_slot word
+slot_named word (Some n) = numbered_slot n word
+
+-- what the members of a slot say, if it has no others
+unfoldable pub slot_of : Data → Option SlotAsk
+slot_of d = do
+  has_only (codes "do" ∷ codes "n" ∷ []) d
+  word ← member_of as_str (codes "do") d
+  n ← maybe_of number_of (codes "n") d
+  slot_named word n
+
+-- a number below 2^32
+abbrev pub short_number_of : Data → Option ℕ
+short_number_of d = option_and_then (λ n. if nat_lt n (2 ^ 32) then Some n else None) (number_of d)
+
+-- what the members of a sample say, if it has no others
+unfoldable pub sample_of : Data → Option SampleAsk
+sample_of d = do
+  has_only (codes "at" ∷ codes "micros" ∷ []) d
+  moment ← member_of number_of (codes "at") d
+  micros ← member_of short_number_of (codes "micros") d
+  Some (record { moment = moment; micros = micros })
+
+-- a command's name, and how its members are read
+abbrev pub Form : Type 0
+Form = List ℕ × (Data → Option Ask)
+
+-- the commands that touch no key
+abbrev pub other_forms : List Form
+other_forms =
+    (codes "down", λ d. option_map take_down (sole_node_of d))
+    ∷ (codes "up", λ d. option_map bring_up (sole_node_of d))
+    ∷ (codes "deliver", λ d. option_map deliver (sole_node_of d))
+    ∷ (codes "rehash", λ d. option_map rehash (rehash_of d))
+    ∷ (codes "sync", λ d. option_map sync (sync_of d))
+    ∷ (codes "node", λ d. option_map show_node (node_of d))
+    ∷ (codes "slot", λ d. option_map slot (slot_of d))
+    ∷ (codes "sample", λ d. option_map sample (sample_of d))
+    ∷ []
+
+-- all commands
+abbrev pub forms : List Form
+forms =
+    (codes "ring", λ d. option_map ring (ring_of d))
+    ∷ (codes "put", λ d. option_map put (put_of d))
+    ∷ (codes "get", λ d. option_map get (get_of d))
+    ∷ (codes "row", λ d. option_map row (get_of d))
+    ∷ other_forms
+
+-- the command of a name, of these, with its members
+abbrev pub named : List Form → List ℕ × Data → Option Ask
+named [] m = None
+named (form ∷ more) m = if bytes_eq m.0 form.0 then form.1 m.1 else named more m
+
+-- an object of one member, which is named as a command
+unfoldable pub command_of : Data → Option Ask
+command_of d = option_and_then (named forms) (sole_member d)

@@ -1,0 +1,392 @@
+//! A line as a tree of JSON values that borrow its text, and what they are read as.
+ghost use Rattle.std.specs.Prelude.{◌≡◌, ◌==◌, [], false, IfOk, is_some, map, option_map, option_and_then, slice_index};
+ghost use Rattle.std.specs.List.{list_all, list_any};
+ghost use Rattle.std.specs.Str.{bytes_eq};
+ghost use Rattle.json.specs.Value.{value_view, items_view, members_view};
+ghost use Rattle.serde_json.specs.Data.{no_members};
+ghost use Rattle.serde_json.specs.Find.{get, as_array, as_null, as_object, as_str, as_u64};
+ghost use Rattle.serde_json.specs.Read.{number_from};
+ghost use Rattle.outage_commands.specs.Commands.{short_number_of};
+ghost use Rattle.outage_commands.specs.Reading.{has_only, number_of, bytes_of, pair_of, list_of, nullable, member_of, default_of, maybe_of, sole_member, value_of};
+ghost use Rattle.outage_commands.specs.Trees.{is_whole, items_are_whole, members_are_whole, items_data, members_data, seen, whole_of};
+
+use crate::digits::spelled;
+use fast_float::Numeral;
+use json::{Error, Reader, Scratch, Value};
+use serde_json::Value as OwnedValue;
+use std::alloc::{AllocError, Global};
+use std::str::from_utf8;
+use vclock::Bytes;
+
+/// How deep arrays and objects may nest, as `serde_json` has it.
+const MAX_DEPTH: usize = 127;
+
+/// The tree of a line, if it is the text of a JSON value.
+#[tactic(auto, unfolding(crate::specs::Reading::value_of))]
+pub(crate) fn tree_in<'a>(
+    alloc: Global,
+    line: &'a [u8],
+    scratch: &'a mut Scratch,
+) -> Result<Option<Value<'a>>, AllocError>
+    ensures { IfOk result (λ o. option_map seen o ≡ value_of line.now) }
+{
+    let Ok(text) = from_utf8(line) else {
+        return Ok(None);
+    };
+    let mut reader = Reader::new(text, scratch)?;
+    let tree = match Value::read(alloc, &mut reader, MAX_DEPTH) {
+        Ok(tree) => tree,
+        Err(Error::OutOfMemory) => return Err(AllocError),
+        Err(_) => return Ok(None),
+    };
+    if reader.next().is_some() {
+        return Ok(None);
+    }
+    if is_whole(&tree) {
+        return Ok(Some(tree));
+    }
+    match is_in_range(alloc, line)? {
+        true => Ok(Some(tree)),
+        false => Ok(None),
+    }
+}
+
+/// Whether `serde_json` reads the line, which it does not if a number is out of range.
+fn is_in_range(alloc: Global, line: &[u8]) -> Result<bool, AllocError>
+    ensures { IfOk result (λ yes. yes ≡ is_some (value_of line.now)) }
+{
+    match OwnedValue::from_slice(alloc, line) {
+        Ok(_) => Ok(true),
+        Err(e) if e.is_memory() => Err(AllocError),
+        Err(_) => Ok(false),
+    }
+}
+
+/// Whether all numbers in it are whole, and below 2^64.
+#[cycle(whole)]
+fn is_whole(value: &Value<'_>) -> bool
+    ensures { result ≡ is_whole (value_view value.now) }
+{
+    match value {
+        Value::Number(text) => whole(text).is_some(),
+        Value::Array(items) => items_are_whole(items),
+        Value::Object(members) => members_are_whole(members),
+        _ => true,
+    }
+}
+
+/// The same of each item.
+#[cycle(whole)]
+fn items_are_whole(items: &Vec<Value<'_>>) -> bool
+    ensures { result ≡ items_are_whole (items_view items.now.items) }
+{
+    for item in items {
+        if !is_whole(item) {
+            return false;
+        }
+    }
+    true
+}
+
+/// The same of each member's value.
+#[cycle(whole)]
+fn members_are_whole(members: &Vec<(&str, Value<'_>)>) -> bool
+    ensures { result ≡ members_are_whole (members_view members.now.items) }
+{
+    for member in members {
+        if !is_whole(&member.1) {
+            return false;
+        }
+    }
+    true
+}
+
+/// The number that a text is, if it is whole, without sign, point or exponent, and below 2^64.
+fn whole(text: &str) -> Option<u64>
+    ensures { result ≡ whole_of text.now }
+{
+    let digits = text.as_bytes();
+    if has_minus(digits) {
+        return None;
+    }
+    without_sign(&Numeral::scan(digits))
+}
+
+/// Whether a minus stands before the digits.
+fn has_minus(digits: &[u8]) -> bool
+    ensures { result ≡ (slice_index digits.now 0 == 45) }
+{
+    !digits.is_empty() && digits[0] == b'-'
+}
+
+/// The number, if it is whole and below 2^64.
+fn without_sign(numeral: &Numeral<'_>) -> Option<u64>
+    ensures { result ≡ option_and_then as_u64 (number_from false numeral.now) }
+{
+    numeral.to_u64()
+}
+
+/// What a JSON value can be read as.
+pub(crate) trait FromValue: Sized + Drop {
+    ghost use Rattle.std.specs.Prelude.{Option};
+    ghost use Rattle.serde_json.specs.Data.{Data};
+
+    ghost reads: { Data → Option Self };
+
+    /// What the value is, if it is one.
+    fn from_value(alloc: Global, value: &Value<'_>) -> Result<Option<Self>, AllocError>
+        ensures { IfOk result (λ o. o ≡ reads (seen value.now)) };
+}
+
+impl FromValue for u64 {
+    ghost reads = { number_of };
+
+    /// A whole number, without sign, point or exponent.
+    fn from_value(_alloc: Global, value: &Value<'_>) -> Result<Option<u64>, AllocError> {
+        Ok(number_in(value))
+    }
+}
+
+impl FromValue for Bytes {
+    ghost reads = { bytes_of };
+
+    /// The bytes that a text spells in hexadecimal digits.
+    fn from_value(alloc: Global, value: &Value<'_>) -> Result<Option<Bytes>, AllocError> {
+        match text_in(value) {
+            Some(text) => spelled(alloc, text),
+            None => Ok(None),
+        }
+    }
+}
+
+impl FromValue for Option<Bytes> {
+    ghost reads = { nullable bytes_of };
+
+    /// Null, or bytes.
+    fn from_value(alloc: Global, value: &Value<'_>) -> Result<Option<Option<Bytes>>, AllocError> {
+        if is_null(value) {
+            return Ok(Some(None));
+        }
+        Ok(Bytes::from_value(alloc, value)?.map(Some))
+    }
+}
+
+impl FromValue for (u64, u64) {
+    ghost reads = { pair_of };
+
+    /// A list of two numbers.
+    fn from_value(_alloc: Global, value: &Value<'_>) -> Result<Option<(u64, u64)>, AllocError> {
+        Ok(pair_in(value))
+    }
+}
+
+/// The two numbers of a list.
+#[tactic(auto, using(crate::proofs::TreeLemmas::other_items))]
+fn pair_in(value: &Value<'_>) -> Option<(u64, u64)>
+    ensures { result ≡ pair_of (seen value.now) }
+{
+    let items = items_in(value)?;
+    if items.len() != 2 {
+        return None;
+    }
+    Some((number_in(&items[0])?, number_in(&items[1])?))
+}
+
+/// The whole number that it is.
+#[tactic(auto, using(crate::proofs::TreeLemmas::a_number))]
+fn number_in(value: &Value<'_>) -> Option<u64>
+    ensures { result ≡ number_of (seen value.now) }
+{
+    whole(value.as_number()?)
+}
+
+/// The text that it is.
+#[tactic(auto, using(crate::proofs::TreeLemmas::a_text))]
+fn text_in<'a>(value: &Value<'a>) -> Option<&'a str>
+    ensures { option_map (λ s. s.now) result ≡ as_str (seen value.now) }
+{
+    value.as_str()
+}
+
+/// Whether it is null.
+#[tactic(auto, using(crate::proofs::TreeLemmas::a_null))]
+fn is_null(value: &Value<'_>) -> bool
+    ensures { result ≡ is_some (as_null (seen value.now)) }
+{
+    value.is_null()
+}
+
+/// Its items, if it is a list.
+fn items_in<'v, 'a>(value: &'v Value<'a>) -> Option<&'v Vec<Value<'a>>>
+    ensures { option_map (λ items. items_data (items_view items.now.items)) result
+        ≡ as_array (seen value.now) }
+{
+    match value {
+        Value::Array(items) => Some(items),
+        _ => None,
+    }
+}
+
+/// Its members, if it is an object.
+fn members_in<'v, 'a>(value: &'v Value<'a>) -> Option<&'v Vec<(&'a str, Value<'a>)>>
+    ensures { option_map (λ members. members_data (members_view members.now.items) no_members) result
+        ≡ as_object (seen value.now) }
+{
+    match value {
+        Value::Object(members) => Some(members),
+        _ => None,
+    }
+}
+
+/// What the items of a list are, if each is one.
+pub(crate) fn list_in<T: FromValue>(
+    alloc: Global,
+    value: &Value<'_>,
+) -> Result<Option<Vec<T>>, AllocError>
+    ensures { IfOk result (λ o. option_map (λ list. list.items) o
+        ≡ list_of T.reads (seen value.now)) }
+{
+    let Some(items) = items_in(value) else {
+        return Ok(None);
+    };
+    let mut list = Vec::new(alloc);
+    for item in items {
+        let Some(read) = T::from_value(alloc, item)? else {
+            return Ok(None);
+        };
+        list.push(read)?;
+    }
+    Ok(Some(list))
+}
+
+/// Whether it is an object that has no other members than these.
+pub(crate) fn has_only(value: &Value<'_>, names: &[&str]) -> bool
+    ensures { result ≡ has_only (map (λ n. n.now) names.now) (seen value.now) }
+{
+    match members_in(value) {
+        Some(members) => are_among(names, members),
+        None => false,
+    }
+}
+
+/// Whether the name of each member is among these.
+fn are_among(names: &[&str], members: &[(&str, Value<'_>)]) -> bool
+    ensures { result ≡ list_all (λ m. list_any (λ n. bytes_eq n.now m.0.now) names.now) members.now }
+{
+    members.iter().all(|m| is_among(names, m.0))
+}
+
+/// Whether a name is among these.
+fn is_among(names: &[&str], name: &str) -> bool
+    ensures { result ≡ list_any (λ n. bytes_eq n.now name.now) names.now }
+{
+    names.iter().any(|n| *n == name)
+}
+
+/// The value of that name: the last one, if it comes twice.
+#[tactic(auto, using(crate::proofs::TreeLemmas::found))]
+fn member<'v, 'a>(value: &'v Value<'a>, name: &str) -> Option<&'v Value<'a>>
+    ensures { option_map (λ v. seen v.now) result ≡ get name.now (seen value.now) }
+{
+    value.get(name)
+}
+
+/// The name and the value of the one member of an object.
+pub(crate) fn sole_member<'v, 'a>(value: &'v Value<'a>) -> Option<(&'a str, &'v Value<'a>)>
+    ensures { option_map (λ m. (m.0.now, seen m.1.now)) result ≡ sole_member (seen value.now) }
+{
+    let members = members_in(value)?;
+    if members.is_empty() {
+        return None;
+    }
+    let name = members[0].0;
+    if !has_only(value, &[name]) {
+        return None;
+    }
+    Some((name, member(value, name)?))
+}
+
+/// The whole number of that name.
+pub(crate) fn number_at(value: &Value<'_>, name: &str) -> Option<u64>
+    ensures { result ≡ member_of number_of name.now (seen value.now) }
+{
+    number_in(member(value, name)?)
+}
+
+/// The whole number below 2^32 of that name.
+pub(crate) fn short_number_at(value: &Value<'_>, name: &str) -> Option<u32>
+    ensures { result ≡ member_of short_number_of name.now (seen value.now) }
+{
+    u32::try_from(number_at(value, name)?).ok()
+}
+
+/// The text of that name.
+pub(crate) fn text_at<'a>(value: &Value<'a>, name: &str) -> Option<&'a str>
+    ensures { option_map (λ s. s.now) result ≡ member_of as_str name.now (seen value.now) }
+{
+    text_in(member(value, name)?)
+}
+
+/// The whole number of that name, or that one if the member is missing.
+pub(crate) fn number_or(value: &Value<'_>, name: &str, absent: u64) -> Option<u64>
+    ensures { result ≡ default_of absent number_of name.now (seen value.now) }
+{
+    match member(value, name) {
+        Some(inner) => number_in(inner),
+        None => Some(absent),
+    }
+}
+
+/// The whole number of that name, or `Some(None)` if the member is missing.
+pub(crate) fn maybe_number_at(value: &Value<'_>, name: &str) -> Option<Option<u64>>
+    ensures { result ≡ maybe_of number_of name.now (seen value.now) }
+{
+    match member(value, name) {
+        Some(inner) => Some(Some(number_in(inner)?)),
+        None => Some(None),
+    }
+}
+
+/// What the member of that name is, if it is one.
+pub(crate) fn member_at<T: FromValue>(
+    alloc: Global,
+    value: &Value<'_>,
+    name: &str,
+) -> Result<Option<T>, AllocError>
+    ensures { IfOk result (λ o. o ≡ member_of T.reads name.now (seen value.now)) }
+{
+    match member(value, name) {
+        Some(inner) => T::from_value(alloc, inner),
+        None => Ok(None),
+    }
+}
+
+/// What the items of the list of that name are, if each is one.
+pub(crate) fn list_at<T: FromValue>(
+    alloc: Global,
+    value: &Value<'_>,
+    name: &str,
+) -> Result<Option<Vec<T>>, AllocError>
+    ensures { IfOk result (λ o. option_map (λ list. list.items) o
+        ≡ member_of (list_of T.reads) name.now (seen value.now)) }
+{
+    match member(value, name) {
+        Some(inner) => list_in(alloc, inner),
+        None => Ok(None),
+    }
+}
+
+/// The same, with no item if the member is missing.
+pub(crate) fn list_or_none<T: FromValue>(
+    alloc: Global,
+    value: &Value<'_>,
+    name: &str,
+) -> Result<Option<Vec<T>>, AllocError>
+    ensures { IfOk result (λ o. option_map (λ list. list.items) o
+        ≡ default_of [] (list_of T.reads) name.now (seen value.now)) }
+{
+    match member(value, name) {
+        Some(inner) => list_in(alloc, inner),
+        None => Ok(Some(Vec::new(alloc))),
+    }
+}

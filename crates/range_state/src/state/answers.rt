@@ -1,0 +1,177 @@
+//! Texts that partners send.
+ghost use Rattle.std.specs.Prelude.{ℕ, ◌≡◌, ◌+◌, ◌<◌, ◌≤◌, ◌^◌, ◌++◌, ◌⊎◌, [], nat_eq, length, slice_get, MatchOption, IfOk, if◌then◌else◌};
+ghost use Rattle.std.specs.Vec.{vec_len, vec_capacity};
+ghost use Rattle.range_journal.specs.Log.{AreNumberedFrom};
+ghost use Rattle.hash_tree.specs.Nodes.{dirtied, tree_depth};
+ghost use Rattle.sync_session.specs.TreeNodes.{node_of};
+ghost use Rattle.sync_session.specs.Steps.{failed, IsDue};
+ghost use Rattle.sync_session.specs.Walks.{TakenText, IsCanonical};
+ghost use Rattle.range_state.specs.Sessions.{walked_to, IsInnerRead, IsNewsRead, TakesAnswer};
+
+use crate::event::{AnswerTaken, Receipt};
+use crate::state::RangeState;
+use crate::state::preparation::Batch;
+use hash_tree::{Hashed, Marks, NodeAt, tree_depth};
+use range_journal::{Entry, Journal};
+use std::alloc::Global;
+use sync_session::News;
+use vclock::Refusal;
+
+impl RangeState {
+    /// Takes a partner's text for a node of a session: the children that differ are asked; the versions of a leaf are
+    /// accepted, all or none.
+    ///
+    /// Refused, in order: UnknownSession (there is no record of that number), NotAsked, WrongDigest, NotCanonical (the
+    /// session has failed then), Crowded (in its turn one would be a version too many for its key), JournalFull, NoMemory.
+    /// Reading a leaf takes memory, so at a leaf NoMemory may stand in place of NotCanonical, Crowded and JournalFull. After
+    /// any but NotCanonical the state is as it was.
+    ///
+    /// A row of a leaf that the session's own snapshot has is not read: its bytes are compared, and its versions are known.
+    pub fn take_answer(
+        &mut self,
+        alloc: Global,
+        seat: u16,
+        id: u64,
+        node: NodeAt,
+        text: Hashed,
+    ) -> Result<AnswerTaken, Refusal>
+        ensures { TakesAnswer self.old seat id
+            (record { node = node_of node; text = text }) result self.new }
+    {
+        let mut told = Vec::new(alloc);
+        self.take_answer_beside(alloc, &mut told, seat, id, node, text)
+    }
+
+    /// Does the same, and makes room for the receipts in a list that has some.
+    pub(super) fn take_answer_beside(
+        &mut self,
+        alloc: Global,
+        told: &mut Vec<Receipt>,
+        seat: u16,
+        id: u64,
+        node: NodeAt,
+        text: Hashed,
+    ) -> Result<AnswerTaken, Refusal>
+        ensures answers { TakesAnswer self.old seat id
+            (record { node = node_of node; text = text }) result self.new }
+        ensures same { told.new.items ≡ told.old.items }
+        ensures room { IfOk result (λ taken. (told.new.items ≡ [])
+            ⊎ (vec_len told.new + vec_len taken.receipts ≤ vec_capacity told.new)) }
+    {
+        let Some(record) = self.records.get(id as usize) else {
+            return Err(Refusal::UnknownSession);
+        };
+        match record.session.news_of(alloc, node, &text) {
+            Ok(news) => {
+                if node.depth == tree_depth(self.config.format()) {
+                    self.take_leaf(alloc, told, seat, id, node, text, &news)
+                } else {
+                    self.take_inner(alloc, id, node, text)
+                }
+            }
+            Err(Refusal::NotCanonical) => {
+                self.fail_session(id);
+                Err(Refusal::NotCanonical)
+            }
+            Err(refusal) => Err(refusal),
+        }
+    }
+
+    /// Takes a text of a node with children.
+    fn take_inner(
+        &mut self,
+        alloc: Global,
+        id: u64,
+        node: NodeAt,
+        text: Hashed,
+    ) -> Result<AnswerTaken, Refusal>
+        requires { MatchOption (slice_get self.old.records id) ⊥
+            (λ r. IsInnerRead self.old r (record { node = node_of node; text = text })) }
+        ensures answers { (seat : ℕ) → TakesAnswer self.old seat id
+            (record { node = node_of node; text = text }) result self.new }
+        ensures none { IfOk result (λ taken. vec_len taken.receipts ≡ 0) }
+    {
+        let session = &mut self.records[id as usize].session;
+        session.take(alloc, node, text)?;
+        Ok(AnswerTaken {
+            receipts: Vec::new(alloc),
+            known: 0,
+            state: session.state(),
+        })
+    }
+
+    /// Takes a text of a leaf that has these news, with room for the receipts in a list that has some. Every growth is made
+    /// before anything changes.
+    fn take_leaf(
+        &mut self,
+        alloc: Global,
+        told: &mut Vec<Receipt>,
+        seat: u16,
+        id: u64,
+        node: NodeAt,
+        text: Hashed,
+        news: &News,
+    ) -> Result<AnswerTaken, Refusal>
+        requires { MatchOption (slice_get self.old.records id) ⊥
+            (λ r. IsNewsRead self.old r (record { node = node_of node; text = text }) news.now) }
+        ensures answers { TakesAnswer self.old seat id
+            (record { node = node_of node; text = text }) result self.new }
+        ensures same { told.new.items ≡ told.old.items }
+        ensures room { IfOk result (λ taken. (told.new.items ≡ [])
+            ⊎ (vec_len told.new + vec_len taken.receipts ≤ vec_capacity told.new)) }
+    {
+        // Called for its clause alone: the digest is the text's.
+        let _bytes = text.text();
+        let batch = self.prepare_beside(alloc, told, seat, node.index, news)?;
+        self.journal.reserve(batch.entries.len() as u64)?;
+        let session = &mut self.records[id as usize].session;
+        session.take_leaf(node, text)?;
+        let state = session.state();
+        let Batch {
+            leaf,
+            entries,
+            receipts,
+            known,
+        } = batch;
+        mark_news(&mut self.marks, node.index, &entries);
+        self.leaves[usize::from(node.index)] = leaf;
+        append_all(&mut self.journal, entries);
+        Ok(AnswerTaken {
+            receipts,
+            known,
+            state,
+        })
+    }
+
+    /// Has a session fail by a text that it awaits and that the node cannot have.
+    fn fail_session(&mut self, id: u64)
+        requires { MatchOption (slice_get self.old.records id) ⊥
+            (λ r. (t : TakenText) × IsDue r.session t × (IsCanonical r.session.own t.node t.text → ⊥)) }
+        ensures { MatchOption (slice_get self.old.records id) ⊥
+            (λ r. self.new ≡ walked_to self.old id r (failed r.session)) }
+    {
+        self.records[id as usize].session.fail();
+    }
+}
+
+/// Makes a leaf dirty, and every node above it, if any entry came to it.
+fn mark_news(marks: &mut Marks, leaf: u16, entries: &[Entry])
+    requires { leaf < 16 ^ tree_depth marks.old.format }
+    ensures { marks.new ≡ record marks.old { digests = (if nat_eq (length entries.now) 0 then marks.old.digests else dirtied marks.old.format leaf marks.old.digests) } }
+{
+    if !entries.is_empty() {
+        marks.dirty(leaf);
+    }
+}
+
+/// Adds entries at the end, which have the next numbers, and for which room was made.
+fn append_all(journal: &mut Journal, entries: Vec<Entry>)
+    requires numbered { AreNumberedFrom (length journal.old.entries) entries.items }
+    requires room { length entries.items ≤ journal.old.room }
+    ensures entries { journal.new.entries ≡ journal.old.entries ++ entries.items }
+    ensures limit { journal.new.limit ≡ journal.old.limit }
+{
+    for entry in entries {
+        journal.append_reserved(entry.seat, entry.source, entry.key, entry.version);
+    }
+}

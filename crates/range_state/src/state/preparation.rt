@@ -1,0 +1,176 @@
+//! Preparing the versions of a leaf, so that they are accepted all or none.
+ghost use Rattle.std.specs.Prelude.{◌≡◌, ◌+◌, ◌<◌, ◌≤◌, ◌^◌, ◌∷◌, ◌++◌, ◌⊎◌, ⊤, List, [], length, None, OnOk, IfOk};
+ghost use Rattle.std.specs.List.{AllByRecursion};
+ghost use Rattle.std.specs.Vec.{vec_len, vec_capacity};
+ghost use Rattle.vclock.specs.Answer.{Answers, AnswersOrNoMemory};
+ghost use Rattle.range_journal.specs.Journal.{held};
+ghost use Rattle.range_journal.specs.declared.journal.Source.TheVariants as sources;
+ghost use Rattle.row_bytes.specs.declared.row.Row.{Row};
+ghost use Rattle.sync_session.specs.Readings.{AreNews};
+ghost use Rattle.sync_session.specs.Walks.{Held};
+ghost use Rattle.range_state.specs.State.{leaf_in, leaf_count, place_fault};
+ghost use Rattle.range_state.specs.Sessions.{offers_in, offers_of, taken_in, crowded_in};
+ghost use Rattle.range_state.specs.Batches.{IsRowFor, ahead, IsBatch, seen_count, IsPrepared};
+
+use crate::event::Receipt;
+use crate::state::{RangeState, covers, crowds};
+use hash_tree::SharedLeaf;
+use range_journal::{Entry, Source};
+use row_bytes::Row;
+use std::alloc::Global;
+use sync_session::News;
+use vclock::{Bytes, Refusal};
+use version_set::Version;
+
+/// Versions of one leaf that are to be accepted together.
+#[derive(Drop)]
+pub(super) struct Batch {
+    /// The leaf with them.
+    pub(super) leaf: SharedLeaf,
+    /// Their entries, which come next.
+    pub(super) entries: Vec<Entry>,
+    /// The same entries, for the caller.
+    pub(super) receipts: Vec<Receipt>,
+    /// How many versions that were looked at are known already.
+    pub(super) known: u64,
+}
+
+impl RangeState {
+    /// Prepares the versions of rows that lie in a leaf. Refused: Crowded (in its turn one would be a version too many for
+    /// its key), NoMemory, which may stand in place of Crowded.
+    pub(super) fn prepare_rows(
+        &self,
+        alloc: Global,
+        seat: u16,
+        leaf: u16,
+        rows: &[Row],
+    ) -> Result<Batch, Refusal>
+        requires inside { leaf < leaf_count self.now.config }
+        requires here { AllByRecursion (IsRowFor self.now.config leaf) rows.now }
+        requires few { length (offers_of rows.now) < 2 ^ 64 }
+        ensures { AnswersOrNoMemory result (crowded_in self.now seat (offers_of rows.now))
+            (λ batch. IsBatch self.now leaf batch
+            × (self.now.entries ++ batch.entries.items ≡ (taken_in self.now seat (offers_of rows.now)).entries)
+            × (seen_count batch ≡ length (offers_of rows.now))) }
+    {
+        let mut batch = Batch {
+            leaf: self.leaves[usize::from(leaf)].share()?,
+            entries: Vec::new(alloc),
+            receipts: Vec::new(alloc),
+            known: 0,
+        };
+        for row in rows {
+            self.prepare_row(alloc, seat, leaf, row, &mut batch)?;
+        }
+        Ok(batch)
+    }
+
+    /// Prepares the versions of a leaf's text, of which own rows that are held have some, and makes room for their receipts
+    /// in a list that has some. What is held is counted as known.
+    pub(super) fn prepare_beside(
+        &self,
+        alloc: Global,
+        told: &mut Vec<Receipt>,
+        seat: u16,
+        leaf: u16,
+        news: &News,
+    ) -> Result<Batch, Refusal>
+        requires inside { leaf < leaf_count self.now.config }
+        requires here { AllByRecursion (IsRowFor self.now.config leaf) news.now.rows.items }
+        requires few { length (offers_of news.now.rows.items) + news.now.known < 2 ^ 64 }
+        ensures answers { (own rows : List Row)
+            → Held own (held self.now.entries)
+            → AreNews own rows news.now.rows.items news.now.known
+            → AnswersOrNoMemory result (crowded_in self.now seat (offers_of rows))
+            (λ batch. IsBatch self.now leaf batch
+            × (self.now.entries ++ batch.entries.items ≡ (taken_in self.now seat (offers_of rows)).entries)
+            × (seen_count batch ≡ length (offers_of rows))) }
+        ensures same { told.new.items ≡ told.old.items }
+        ensures room { IfOk result (λ batch. (told.new.items ≡ [])
+            ⊎ (vec_len told.new + vec_len batch.receipts ≤ vec_capacity told.new)) }
+    {
+        let mut batch = self.prepare_rows(alloc, seat, leaf, &news.rows)?;
+        batch.known += news.known;
+        if !told.is_empty() {
+            told.reserve(batch.receipts.len())?;
+        }
+        Ok(batch)
+    }
+
+    /// Adds the versions of a row to the batch.
+    fn prepare_row(
+        &self,
+        alloc: Global,
+        seat: u16,
+        leaf: u16,
+        row: &Row,
+        batch: &mut Batch,
+    ) -> Result<(), Refusal>
+        requires here { IsRowFor self.now.config leaf row.now }
+        requires batch { IsBatch self.now leaf batch.old }
+        requires few { seen_count batch.old + length (offers_in row.now) < 2 ^ 64 }
+        ensures answers { AnswersOrNoMemory result (crowded_in (ahead self.now batch.old) seat (offers_in row.now)) (λ _. ⊤) }
+        ensures ok { OnOk result (IsPrepared self.now seat leaf (offers_in row.now) batch.old batch.new) }
+    {
+        for version in row.versions.as_slice() {
+            self.prepare_version(alloc, seat, leaf, row.key.as_slice(), version, batch)?;
+        }
+        Ok(())
+    }
+
+    /// Adds a version to the batch. It allocates first, so a refused version does not count.
+    fn prepare_version(
+        &self,
+        alloc: Global,
+        seat: u16,
+        leaf: u16,
+        key: &[u8],
+        version: &Version,
+        batch: &mut Batch,
+    ) -> Result<(), Refusal>
+        requires leaf { leaf ≡ leaf_in self.now.config key.now }
+        requires here { place_fault self.now.config key.now version.now.kind version.now.value ≡ None }
+        requires batch { IsBatch self.now leaf batch.old }
+        requires few { seen_count batch.old + 1 < 2 ^ 64 }
+        ensures answers { AnswersOrNoMemory result
+            (crowded_in (ahead self.now batch.old) seat ((key.now, version.now) ∷ [])) (λ _. ⊤) }
+        ensures ok { OnOk result
+            (IsPrepared self.now seat leaf ((key.now, version.now) ∷ []) batch.old batch.new) }
+    {
+        let set = batch.leaf.find(key);
+        if covers(set, version) {
+            batch.known += 1;
+            return Ok(());
+        }
+        if crowds(set, version) {
+            return Err(Refusal::Crowded);
+        }
+        let number = self.journal.len() + batch.entries.len() as u64;
+        let entry = partners_entry(alloc, number, seat, key, version)?;
+        let receipt = partners_entry(alloc, number, seat, key, version)?;
+        let row_version = version.try_clone()?;
+        batch.leaf.offer(alloc, key, row_version)?;
+        batch.entries.push(entry)?;
+        batch.receipts.push(receipt)?;
+        Ok(())
+    }
+}
+
+/// The entry of a version that a partner had.
+fn partners_entry(
+    alloc: Global,
+    number: u64,
+    seat: u16,
+    key: &[u8],
+    version: &Version,
+) -> Result<Entry, Refusal>
+    ensures { Answers result None (λ entry. entry ≡ record { number = number; seat = seat; source = sources.Partner; key = key.now; version = version.now }) }
+{
+    Ok(Entry {
+        number,
+        seat,
+        source: Source::Partner,
+        key: Bytes::copy_of(alloc, key)?,
+        version: version.try_clone()?,
+    })
+}

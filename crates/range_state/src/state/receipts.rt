@@ -1,0 +1,142 @@
+//! Calls whose receipts go to a list too, as that of a caller who keeps what was told.
+ghost use Rattle.std.specs.Prelude.{◌≡◌, ◌+◌, ◌≤◌, ◌++◌, ◌⊎◌, [], None, IfErr, IsTrue};
+ghost use Rattle.std.specs.Vec.{vec_len, vec_capacity};
+ghost use Rattle.vclock.specs.Outcome.{Does, DoesOrNoMemory};
+ghost use Rattle.version_set.specs.Version.{covered};
+ghost use Rattle.range_journal.specs.Journal.{held};
+ghost use Rattle.sync_session.specs.TreeNodes.{node_of};
+ghost use Rattle.range_state.specs.State.{is_sent, ask_fault, entry_of, admit, accept, put};
+ghost use Rattle.range_state.specs.Fitting.{IsFitting};
+ghost use Rattle.range_state.specs.Told.{with_put, with_sent, CountsAnswer};
+
+use crate::event::{Accepted, AnswerCounted, AnswerTaken, Receipt};
+use crate::state::{RangeState, covers};
+use hash_tree::{Hashed, NodeAt};
+use range_journal::Source;
+use std::alloc::Global;
+use vclock::{Bytes, Clock, Refusal};
+use version_set::{Kind, Version};
+
+impl RangeState {
+    /// Whether the versions that are held for a key cover a version: it is one of them or below one. It takes no memory.
+    pub fn covers(&self, key: &[u8], version: &Version) -> bool
+        ensures { result ≡ covered version.now (held self.now.entries key.now) }
+    {
+        covers(self.find(self.leaf_of(key), key), version)
+    }
+
+    /// Does as `put`, and puts a copy of the receipt at the end of a list. Refused as `put`: the list is then as it was.
+    pub fn put_into(
+        &mut self,
+        alloc: Global,
+        receipts: &mut Vec<Receipt>,
+        seat: u16,
+        at: u16,
+        key: &[u8],
+        context: &Clock,
+        kind: Kind,
+        value: Bytes,
+    ) -> Result<Receipt, Refusal>
+        requires { 1 ≤ at }
+        ensures puts { DoesOrNoMemory result self.old self.new
+            (put self.old seat at key.now context.now kind value) }
+        ensures early { IfErr result (λ e. e ≡ Refusal.NoMemory
+            → ask_fault self.old.config at key.now context.now kind value ≡ None) }
+        ensures told { receipts.new.items ≡ with_put receipts.old.items result }
+    {
+        let (leaf, version) = self.make_put(alloc, at, key, context, kind, value)?;
+        self.admit_into(alloc, receipts, leaf, seat, Source::Client, key, version)
+    }
+
+    /// Does as `accept`, and puts a copy of the receipt, if there is one, at the end of a list. Refused as `accept`:
+    /// the list is then as it was.
+    pub fn accept_into(
+        &mut self,
+        alloc: Global,
+        receipts: &mut Vec<Receipt>,
+        seat: u16,
+        source: Source,
+        key: &[u8],
+        version: Version,
+    ) -> Result<Accepted, Refusal>
+        requires { IsTrue (is_sent source) }
+        ensures accepts { Does result self.old self.new (accept self.old seat source key.now version) }
+        ensures told { receipts.new.items ≡ with_sent receipts.old.items result }
+    {
+        let Some(leaf) = self.home_of_news(key, &version)? else {
+            return Ok(Accepted::Known);
+        };
+        let receipt = self.admit_into(alloc, receipts, leaf, seat, source, key, version)?;
+        Ok(Accepted::Taken(receipt))
+    }
+
+    /// Does as `take_answer`, and moves the receipts to the end of a list. Refused as `take_answer`: the list is then as it
+    /// was.
+    pub fn take_answer_into(
+        &mut self,
+        alloc: Global,
+        receipts: &mut Vec<Receipt>,
+        seat: u16,
+        id: u64,
+        node: NodeAt,
+        text: Hashed,
+    ) -> Result<AnswerCounted, Refusal>
+        ensures { CountsAnswer self.old seat id (record { node = node_of node; text = text }) result self.new receipts.old.items receipts.new.items }
+    {
+        let AnswerTaken {
+            receipts: told,
+            known,
+            state,
+        } = self.take_answer_beside(alloc, receipts, seat, id, node, text)?;
+        let count = told.len() as u64;
+        move_to(receipts, told);
+        Ok(AnswerCounted {
+            receipts: count,
+            known,
+            state,
+        })
+    }
+
+    /// Does as `admit`, and puts a copy of the receipt at the end of a list.
+    fn admit_into(
+        &mut self,
+        alloc: Global,
+        receipts: &mut Vec<Receipt>,
+        leaf: u16,
+        seat: u16,
+        source: Source,
+        key: &[u8],
+        version: Version,
+    ) -> Result<Receipt, Refusal>
+        requires own { ¬ (source ≡ Source.Partner) }
+        requires fits { IsFitting self.old leaf key.now version }
+        ensures admits { Does result self.old self.new
+            (admit self.old (entry_of self.old seat source key.now version)) }
+        ensures told { receipts.new.items ≡ with_put receipts.old.items result }
+    {
+        self.reserve_entry()?;
+        receipts.reserve(1)?;
+        let copy = Receipt {
+            number: self.journal.len(),
+            seat,
+            source,
+            key: Bytes::copy_of(alloc, key)?,
+            version: version.try_clone()?,
+        };
+        let receipt = self.admit(alloc, leaf, seat, source, key, version)?;
+        receipts.push_reserved(copy);
+        Ok(receipt)
+    }
+}
+
+/// Moves receipts to the end of a list that has none or has room for them.
+fn move_to(list: &mut Vec<Receipt>, mut receipts: Vec<Receipt>)
+    requires { (list.old.items ≡ []) ⊎ (vec_len list.old + vec_len receipts ≤ vec_capacity list.old) }
+    ensures { list.new.items ≡ list.old.items ++ receipts.items }
+{
+    if list.is_empty() {
+        *list = receipts;
+    } else {
+        list.append(&mut receipts).unwrap();
+    }
+}

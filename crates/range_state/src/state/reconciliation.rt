@@ -1,0 +1,165 @@
+//! Two replicas of a range that catch up with each other.
+ghost use Rattle.std.specs.Prelude.{◌≡◌, ⊤, [], None, MatchResult, IfOk, OnOk};
+ghost use Rattle.vclock.specs.Answer.{AnswersAtOnce};
+ghost use Rattle.range_state.specs.State.{rows_now, dirty_fault};
+ghost use Rattle.range_state.specs.Sessions.{standings, crowd_fault};
+ghost use Rattle.range_state.specs.Syncs.{IsOfRange};
+ghost use Rattle.sync_session.specs.Walks.{NoTwoShareADigest};
+ghost use Rattle.range_state.specs.Reconciles.{pair_fault, HasCaughtUp, HasStopped, Reconciles, HaveAskedAlike, HoldBoth, HaveEqualRoots};
+ghost use Rattle.vclock.specs.Answer.{first_fault};
+
+use crate::state::RangeState;
+use crate::state::sessions::check_crowd;
+use crate::state::sync::Synced;
+use snapshot::Snapshot;
+use std::alloc::Global;
+use vclock::Refusal;
+
+/// What it took to make two replicas hold the same: how many nodes each asked, and how many versions each journaled.
+///
+/// ```
+/// reconcile(alloc, a, 1, b, 2, 5)
+/// ```
+#[derive(Debug, Drop)]
+pub struct Reconciled {
+    /// How many nodes the first asked: those where the two trees differed.
+    pub asked_a: u64,
+    /// How many versions came to the first: each has an entry at the end of its journal.
+    pub accepted_a: u64,
+    /// How many nodes the second asked.
+    pub asked_b: u64,
+    /// How many versions came to the second.
+    pub accepted_b: u64,
+}
+
+/// Makes two replicas of a range hold the same: each runs a whole session on the rows that the other had before the call,
+/// first `a`, then `b`. `at_a` and `at_b` are the nodes that they are at.
+///
+/// Refused, in order, before anything changes: Dirty (some node of the tree of `a`, then of `b`, has no digest),
+/// SessionsFull (of `a`, then of `b`, 64 sessions are open, or there are 1,024 records). Then, as the sessions go:
+/// Crowded, JournalFull, NoMemory. A session that is refused so is cancelled, what was accepted stays, and if it is
+/// that of `a`, then `b` is as it was.
+///
+/// Otherwise each asked the nodes where their trees differed, and no others. If no two different texts of the nodes of the two
+/// trees share a digest, both hold, for each key, the maximal versions of what they held before; and once both are clean, the
+/// digests of their roots are equal.
+pub fn reconcile(
+    alloc: Global,
+    a: &mut RangeState,
+    at_a: u16,
+    b: &mut RangeState,
+    at_b: u16,
+    seat: u16,
+) -> Result<Reconciled, Refusal>
+    requires { IsOfRange a.old.config (rows_now b.old) }
+    ensures sessions { Reconciles a.old at_a b.old at_b seat result a.new b.new }
+    ensures asked { IfOk result (λ told. HaveAskedAlike a.old b.old a.new b.new told.asked_a told.asked_b) }
+    ensures union { OnOk result (NoTwoShareADigest (rows_now a.old) (rows_now b.old) []
+        → HoldBoth a.old b.old a.new b.new) }
+    ensures roots { OnOk result (NoTwoShareADigest (rows_now a.old) (rows_now b.old) []
+        → HaveEqualRoots a.new b.new) }
+{
+    // Called for their clauses alone: both states are right.
+    let _right = a.journal();
+    let _other = b.journal();
+    run_both(alloc, a, at_a, b, at_b, seat)
+}
+
+/// The same, of which only the sessions are told.
+fn run_both(
+    alloc: Global,
+    a: &mut RangeState,
+    at_a: u16,
+    b: &mut RangeState,
+    at_b: u16,
+    seat: u16,
+) -> Result<Reconciled, Refusal>
+    requires { IsOfRange a.old.config (rows_now b.old) }
+    ensures { Reconciles a.old at_a b.old at_b seat result a.new b.new }
+{
+    check_pair(a, b)?;
+    let of_a = a.snapshot(alloc)?;
+    let of_b = b.snapshot(alloc)?;
+    let first = a.catch_up(alloc, seat, at_b, &of_b)?;
+    let second = b.catch_up(alloc, seat, at_a, &of_a)?;
+    Ok(Reconciled {
+        asked_a: first.asked,
+        accepted_a: first.accepted,
+        asked_b: second.asked,
+        accepted_b: second.accepted,
+    })
+}
+
+/// How many nodes a session asked, and how many versions came.
+#[derive(Clone, Copy)]
+struct CaughtUp {
+    asked: u64,
+    accepted: u64,
+}
+
+/// Whether two replicas can begin.
+fn check_pair(a: &RangeState, b: &RangeState) -> Result<(), Refusal>
+    ensures { AnswersAtOnce result (pair_fault a.now b.now) (λ _. ⊤) }
+{
+    a.check_clean()?;
+    b.check_clean()?;
+    a.check_room()?;
+    b.check_room()
+}
+
+impl RangeState {
+    /// Runs a whole session on a partner's snapshot. One that is refused on its way is cancelled.
+    fn catch_up(
+        &mut self,
+        alloc: Global,
+        seat: u16,
+        partner: u16,
+        other: &Snapshot,
+    ) -> Result<CaughtUp, Refusal>
+        requires range { IsOfRange self.old.config other.now }
+        requires free { first_fault (crowd_fault (standings self.old.records)) (dirty_fault self.old) ≡ None }
+        ensures { MatchResult result
+            (λ told. HasCaughtUp self.old seat partner other.now told.asked told.accepted self.new)
+            (λ e. HasStopped self.old seat partner other.now e self.new) }
+    {
+        let id = self.records.len() as u64;
+        match self.sync_with(alloc, seat, partner, other) {
+            Ok(
+                Synced {
+                    accepted,
+                    asked,
+                    fault,
+                    ..
+                },
+            ) => match fault {
+                None => Ok(CaughtUp { asked, accepted }),
+                Some(refusal) => {
+                    let _cancelled = self.cancel_session(id);
+                    Err(refusal)
+                }
+            },
+            Err(refusal) => {
+                // If the session was not opened, there is none to cancel.
+                let _cancelled = self.cancel_session(id);
+                Err(refusal)
+            }
+        }
+    }
+
+    /// Whether each node of the tree has a digest.
+    fn check_clean(&self) -> Result<(), Refusal>
+        ensures { AnswersAtOnce result (dirty_fault self.now) (λ _. ⊤) }
+    {
+        if self.marks.dirty_count() > 0 {
+            return Err(Refusal::Dirty);
+        }
+        Ok(())
+    }
+
+    /// Whether a session can be opened.
+    fn check_room(&self) -> Result<(), Refusal>
+        ensures { AnswersAtOnce result (crowd_fault (standings self.now.records)) (λ _. ⊤) }
+    {
+        check_crowd(&self.records)
+    }
+}

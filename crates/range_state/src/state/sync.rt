@@ -1,0 +1,107 @@
+//! Whole sessions with a partner that answers truly.
+ghost use Rattle.std.specs.Prelude.{◌≡◌, ◌≢◌, ◌⊎◌, ◌+◌, ◌<◌, ◌≤◌, ⊤, None, length, slice_get, MatchOption, IfOk, IfErr, OnOk, OnErr, Err};
+ghost use Rattle.vclock.specs.Answer.{Answers, AnswersOrNoMemory, first_fault};
+ghost use Rattle.hash_tree.specs.Nodes.{tree_depth};
+ghost use Rattle.sync_session.specs.TreeNodes.{node_of, text_of};
+ghost use Rattle.range_state.specs.State.{dirty_fault};
+ghost use Rattle.range_state.specs.Sessions.{standings, crowd_fault, TakesFor};
+ghost use Rattle.range_state.specs.Syncs.{IsOfRange, HasAskedAll, IsSyncedTo, IsPartWay};
+
+use crate::event::AnswerTaken;
+use crate::state::RangeState;
+use hash_tree::NodeAt;
+use snapshot::Snapshot;
+use std::alloc::Global;
+use vclock::Refusal;
+use walk_messages::Ask;
+
+/// What a session with a partner that answers truly came to.
+#[derive(Debug, Drop)]
+pub struct Synced {
+    /// How many versions came: each has an entry at the end of the journal.
+    pub accepted: u64,
+    /// How many versions of the leaves that were taken were covered by those accepted before.
+    pub known: u64,
+    /// How many nodes were asked: those where the two trees differ.
+    pub asked: u64,
+    /// Why a leaf was refused, if one was: Crowded or JournalFull.
+    pub fault: Option<Refusal>,
+}
+
+impl RangeState {
+    /// Opens a session with a partner's snapshot and answers each outstanding node from it, in order, until nothing is
+    /// outstanding or a leaf is refused; then the session stays open.
+    ///
+    /// Refused, in order, before anything changes: SessionsFull (64 sessions are open, or there are 1,024 records), Dirty
+    /// (some node of the own tree has no digest), NoMemory. NoMemory may come later too: then the session stays, and so do
+    /// the versions of the leaves that were taken, which are the first of those where the two trees differ.
+    pub fn sync_with(
+        &mut self,
+        alloc: Global,
+        seat: u16,
+        partner: u16,
+        other: &Snapshot,
+    ) -> Result<Synced, Refusal>
+        requires { IsOfRange self.old.config other.now }
+        ensures answers { Answers result
+            (first_fault (crowd_fault (standings self.old.records)) (dirty_fault self.old)) (λ _. ⊤) }
+        ensures ok { IfOk result (λ a. IsSyncedTo self.old seat other.now self.new a) }
+        ensures session { OnOk result (HasAskedAll self.old partner other.now self.new.records) }
+        ensures err { IfErr result (λ e. e ≢ Refusal.NoMemory → self.new ≡ self.old) }
+        ensures late { OnErr result ((self.new ≡ self.old) ⊎ IsPartWay self.old seat partner other.now self.new) }
+    {
+        let before = self.journal.len();
+        let id = self.open_session(alloc, partner, other.offer(0))?;
+        let mut known = 0;
+        while let Some(node) = self.first_outstanding(id) {
+            match self.answer_from(alloc, seat, id, node, other) {
+                Ok(taken) => known = sum(known, taken.known)?,
+                Err(Refusal::NoMemory) => return Err(Refusal::NoMemory),
+                Err(fault) => return Ok(self.synced(before, id, known, Some(fault))),
+            }
+        }
+        Ok(self.synced(before, id, known, None))
+    }
+
+    /// Answers a node of a session from a snapshot.
+    fn answer_from(
+        &mut self,
+        alloc: Global,
+        seat: u16,
+        id: u64,
+        node: NodeAt,
+        other: &Snapshot,
+    ) -> Result<AnswerTaken, Refusal>
+        requires { node.depth ≤ tree_depth other.now.format }
+        ensures { ((result ≡ Err Refusal.NoMemory) × (self.new ≡ self.old))
+            ⊎ TakesFor self.old seat id (slice_get self.old.records id)
+            (record { node = node_of node; text = text_of other.now (node_of node) }) result self.new }
+    {
+        let text = other.hashed_answer(alloc, Ask { offer: 0, node })?;
+        self.take_answer(alloc, seat, id, node, text)
+    }
+
+    /// What a session came to.
+    fn synced(&self, before: u64, id: u64, known: u64, fault: Option<Refusal>) -> Synced
+        requires before { before ≤ length self.now.entries }
+        requires id { id < length self.now.records }
+        ensures accepted { before + result.accepted ≡ length self.now.entries }
+        ensures known { result.known ≡ known }
+        ensures asked { MatchOption (slice_get self.now.records id) ⊥ (λ r. result.asked ≡ length r.session.asked) }
+        ensures fault { result.fault ≡ fault }
+    {
+        Synced {
+            accepted: self.journal.len() - before,
+            known,
+            asked: self.records[id as usize].session.asked().len() as u64,
+            fault,
+        }
+    }
+}
+
+/// The sum of two counts. Refused: NoMemory (it is over 2^64 - 1: no memory holds as many versions).
+fn sum(count: u64, more: u64) -> Result<u64, Refusal>
+    ensures { AnswersOrNoMemory result None (λ sum. sum ≡ count + more) }
+{
+    count.checked_add(more).ok_or(Refusal::NoMemory)
+}

@@ -1,5 +1,0 @@
-use Rattle.row_bytes.proofs.RowLaws.{one_row}
-use Rattle.row_bytes.proofs.reading.a_row_has_one_text.Goals as goal
-
-pub returns : goal.returns
-returns c = one_row

@@ -1,8 +1,0 @@
-pub mod State
-pub mod Handoff
-pub mod Syncs
-pub mod Homes
-pub mod Slots
-pub mod Offers
-pub mod Acts
-pub mod Replies

@@ -1,7 +1,0 @@
-//! The commands of a script, which are read from lines of JSON, and why a line is no command.
-#![tactic(auto)]
-
-pub mod command;
-mod digits;
-pub mod fault;
-mod tree;

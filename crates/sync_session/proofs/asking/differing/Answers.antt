@@ -1,7 +1,0 @@
-use Rattle.std.proofs.Common.{◌∙◌, ap, arith}
-use Rattle.sync_session.specs.TreeNodes.{node_of}
-use Rattle.sync_session.specs.Walks.{differing}
-use Rattle.sync_session.proofs.asking.differing.Goals as goal
-
-pub returns : goal.returns
-returns c = c.loop-j.invariant ∙ ap (differing c.args.own.now (node_of c.args.node) c.args.text.now) (omega arith)

@@ -1,7 +1,0 @@
-use Rattle.std.proofs.Common.{◌≡◌, drop}
-use Rattle.sync_session.specs.TreeNodes.{node_of}
-use Rattle.sync_session.specs.Walks.{taken_at}
-use Rattle.sync_session.proofs.asking.taken_text.Given as goal
-
-abbrev pub invariant-loop-entry : goal.invariant-loop-entry
-invariant-loop-entry l = taken_at (drop l.entry-index l.taken) (node_of l.node) ≡ taken_at l.fn.taken (node_of l.node)

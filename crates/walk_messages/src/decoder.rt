@@ -1,0 +1,61 @@
+//! Reading messages, whose bytes this project's profile defines.
+ghost use Rattle.std.specs.Prelude.{◌∷◌};
+ghost use Rattle.walk_messages.specs.Messages.{Decodes};
+
+use crate::fields::{answer_parts_of, ask_of, offer_of};
+use crate::message::{Answer, Message};
+use hash_tree::Text;
+use std::alloc::Global;
+use vclock::Refusal;
+
+/// Returns the message that has exactly these bytes. Doesn't validate an offer's format or range, or an answer's text.
+///
+/// Refused, in order: BadMessage (no message has these bytes), NoMemory. Only the text of an answer is allocated, and
+/// only by its real length: a length field that differs from it is refused as BadMessage before memory is requested.
+pub fn decode(alloc: Global, bytes: &[u8]) -> Result<Message, Refusal>
+    ensures { Decodes bytes.now result }
+{
+    match bytes {
+        [1, fields @ ..] => decode_offer(fields),
+        [2, fields @ ..] => decode_ask(fields),
+        [3, fields @ ..] => decode_answer(alloc, fields),
+        _ => Err(Refusal::BadMessage),
+    }
+}
+
+/// Reads the offer with these fields.
+#[tactic(auto, unfolding(crate::specs::Messages::message_text))]
+fn decode_offer(fields: &[u8]) -> Result<Message, Refusal>
+    ensures { Decodes (1 ∷ fields.now) result }
+{
+    match offer_of(fields) {
+        Some(offer) => Ok(Message::Offer(offer)),
+        None => Err(Refusal::BadMessage),
+    }
+}
+
+/// Reads the ask with these fields.
+#[tactic(auto, unfolding(crate::specs::Messages::message_text))]
+fn decode_ask(fields: &[u8]) -> Result<Message, Refusal>
+    ensures { Decodes (2 ∷ fields.now) result }
+{
+    match ask_of(fields) {
+        Some(ask) => Ok(Message::Ask(ask)),
+        None => Err(Refusal::BadMessage),
+    }
+}
+
+/// Reads the answer with these fields.
+#[tactic(auto, unfolding(crate::specs::Messages::message_text))]
+fn decode_answer(alloc: Global, fields: &[u8]) -> Result<Message, Refusal>
+    ensures { Decodes (3 ∷ fields.now) result }
+{
+    let Some((head, text)) = answer_parts_of(fields) else {
+        return Err(Refusal::BadMessage);
+    };
+    Ok(Message::Answer(Answer {
+        offer: head.offer,
+        node: head.node,
+        text: Text::copy_of(alloc, text)?,
+    }))
+}

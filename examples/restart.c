@@ -1,0 +1,118 @@
+/* Why a replica that lost its entries must not return under its old node number.
+ *
+ * Node 1 restarts empty and takes a put under its old number: the put is lost, although it was acknowledged. Then it
+ * restarts as node 3, with a sync, and takes the put again: nothing is lost. The program prints each step, and ends with
+ * status 1 if a call returns another number than the one wanted. */
+#include "antientropy.h"
+
+#include <stdio.h>
+#include <stdlib.h>
+#include <string.h>
+
+enum { OFFER = 1, MOST_TRIES = 10000 };
+
+static const uint8_t KEY[] = {'c', 'a', 'r', 't'};
+
+/* Ends the program unless a call returned the number that is wanted. */
+static void want(const char *call, uint32_t got, uint32_t wanted)
+{
+    if (got != wanted) {
+        printf("%s returned %u, not %u\n", call, got, wanted);
+        exit(1);
+    }
+}
+
+/* Puts a value, and prints the clock of the new version: the context here has at most the node's own counter. */
+static void put(struct antientropy *replica, uint16_t node, const char *value, const struct antientropy_pair *context,
+                size_t context_len)
+{
+    struct antientropy_receipt receipt;
+    want("put", antientropy_put(replica, node, KEY, sizeof KEY, context, context_len, ANTIENTROPY_LIVE,
+                                (const uint8_t *)value, strlen(value), &receipt), ANTIENTROPY_OK);
+    printf("  put at node %u: %s, clock (%u,%llu)\n", node, value, node, (unsigned long long)receipt.counter);
+}
+
+/* Prints the versions of the key at a node. */
+static void show(struct antientropy *replica, unsigned node)
+{
+    struct antientropy_pair clock[32];
+    uint8_t value[64], kind;
+    uint64_t count, len, pairs;
+    want("versions", antientropy_versions(replica, KEY, sizeof KEY, &count), ANTIENTROPY_OK);
+    for (uint64_t n = 0; n < count; n++) {
+        want("value", antientropy_value(replica, KEY, sizeof KEY, n, &kind, value, sizeof value, &len), ANTIENTROPY_OK);
+        want("clock", antientropy_clock(replica, KEY, sizeof KEY, n, clock, 32, &pairs), ANTIENTROPY_OK);
+        printf("  node %u holds: %.*s, clock", node, (int)len, (const char *)value);
+        for (uint64_t pair = 0; pair < pairs; pair++)
+            printf(" (%llu,%llu)", (unsigned long long)clock[pair].node, (unsigned long long)clock[pair].counter);
+        printf("\n");
+    }
+}
+
+/* Syncs a replica from a partner, and prints the number of new versions. */
+static void sync(struct antientropy *replica, unsigned node, struct antientropy *partner, uint16_t partner_node)
+{
+    static uint8_t offer[64], ask[64], answer[1 << 16];
+    struct antientropy_snapshot offered = {0};
+    struct antientropy_taken taken;
+    uint64_t len, session, state, accepted = 0;
+    want("rehash", antientropy_rehash(partner), ANTIENTROPY_OK);
+    want("snapshot", antientropy_snapshot(partner, &offered), ANTIENTROPY_OK);
+    want("offer", antientropy_offer(&offered, OFFER, offer, sizeof offer, &len), ANTIENTROPY_OK);
+    want("rehash", antientropy_rehash(replica), ANTIENTROPY_OK);
+    want("open", antientropy_open(replica, partner_node, offer, len, &session), ANTIENTROPY_OK);
+    for (unsigned tries = 0; tries < MOST_TRIES; tries++) {
+        want("ask", antientropy_ask(replica, session, OFFER, ask, sizeof ask, &len), ANTIENTROPY_OK);
+        if (len == 0)
+            break;
+        want("serve", antientropy_serve(&offered, OFFER, ask, len, answer, sizeof answer, &len), ANTIENTROPY_OK);
+        want("take", antientropy_take(replica, session, OFFER, answer, len, &taken), ANTIENTROPY_OK);
+        accepted += taken.accepted;
+    }
+    want("session", antientropy_session(replica, session, &state), ANTIENTROPY_OK);
+    want("session state", (uint32_t)state, ANTIENTROPY_FINISHED);
+    antientropy_snapshot_free(&offered);
+    printf("  node %u syncs from node %u: %llu new\n", node, partner_node, (unsigned long long)accepted);
+}
+
+/* A process that ends and starts again: the replica is empty. */
+static void restart(struct antientropy *replica)
+{
+    antientropy_free(replica);
+    want("new", antientropy_new(replica, 2, 0, 0, 1000), ANTIENTROPY_OK);
+}
+
+int main(void)
+{
+    struct antientropy first = {0}, second = {0};
+    const struct antientropy_pair seen[] = {{1, 1}};
+    want("new", antientropy_new(&first, 2, 0, 0, 1000), ANTIENTROPY_OK);
+    want("new", antientropy_new(&second, 2, 0, 0, 1000), ANTIENTROPY_OK);
+
+    printf("before the restart\n");
+    put(&first, 1, "milk", seen, 0);
+    put(&first, 1, "milk, bread", seen, 1);
+    sync(&second, 2, &first, 1);
+
+    printf("wrong: node 1 restarts empty, under its old number\n");
+    restart(&first);
+    put(&first, 1, "eggs", seen, 0);
+    sync(&second, 2, &first, 1);
+    sync(&first, 1, &second, 2);
+    show(&first, 1);
+    show(&second, 2);
+    printf("  eggs are lost\n");
+
+    printf("right: node 1 restarts empty, under the new number 3, and syncs\n");
+    restart(&first);
+    sync(&first, 3, &second, 2);
+    put(&first, 3, "eggs", seen, 0);
+    sync(&second, 2, &first, 3);
+    show(&first, 3);
+    show(&second, 2);
+    printf("  both are held until a client merges them\n");
+
+    antientropy_free(&first);
+    antientropy_free(&second);
+    return 0;
+}
