@@ -152,6 +152,12 @@ fn expect_pending<L: Ledger, C: Ledger, R: Wait>(
     )
 }
 
+/// A delivery reports so many hints of each kind.
+fn expect_report(report: DeliverReport, delivered: u64, known: u64, kept: u64) -> Result<(), Fail> {
+    let are_counted = report.delivered == delivered && report.known == known;
+    expect(are_counted && report.kept == kept, "the report")
+}
+
 /// Delivers five hints, and then what is left of them.
 fn expect_five<L: Ledger, C: Ledger, R: Wait>(
     rt: &R,
@@ -159,21 +165,13 @@ fn expect_five<L: Ledger, C: Ledger, R: Wait>(
     node: &mut Node<L, C>,
 ) -> Result<(), Fail> {
     keep_five(rt, alloc, node)?;
-    let report = node.deliver(rt, alloc, 1)?;
-    expect(
-        (report.delivered, report.known, report.kept) == (2, 1, 1),
-        "the report",
-    )?;
+    expect_report(node.deliver(rt, alloc, 1)?, 2, 1, 1)?;
     expect(
         node.receipts() == 3,
         "a receipt of the copy and of each hint taken",
     )?;
     expect_pending(rt, alloc, node)?;
-    let report = node.deliver(rt, alloc, 1)?;
-    expect(
-        (report.delivered, report.known, report.kept) == (0, 0, 1),
-        "the next report",
-    )?;
+    expect_report(node.deliver(rt, alloc, 1)?, 0, 0, 1)?;
     expect_pending(rt, alloc, node)
 }
 

@@ -131,8 +131,10 @@ impl<L: Ledger, C: Ledger> Node<L, C> {
         owner: u16,
         after: u32,
     ) -> Result<Option<u32>, Refusal> {
-        let hint = self.hints.next(rt, alloc, owner, after)?;
-        Ok(hint.map(|hint| hint.id))
+        match self.hints.next(rt, alloc, owner, after)? {
+            Some(hint) => Ok(Some(hint.id)),
+            None => Ok(None),
+        }
     }
 
     /// How many receipts its pass has.

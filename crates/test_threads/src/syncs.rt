@@ -152,7 +152,8 @@ fn sync_known<L: Ledger, C: Ledger, R: Threads + Wait + Sync>(
     fill(rt, alloc, node, &[a, b], (1, 1))?;
     let versions = [(a, (1, 1)), (a, (2, 1)), (b, (1, 1)), (b, (2, 1))];
     let pool = pool_in(rt, alloc, config, &versions)?;
-    Ok(node.sync(rt, alloc, &mut MemoryLink::new(alloc, &pool))?)
+    let mut link = MemoryLink::new(alloc, &pool);
+    Ok(node.sync(rt, alloc, &mut link)?)
 }
 
 /// A node that knows a version of each of two answers counts both.
@@ -190,7 +191,8 @@ fn is_synced<L: Ledger, C: Ledger, R: Wait>(
     pool: &OfferPool,
 ) -> Result<bool, Fail> {
     node.rehash(rt, alloc)?;
-    match node.sync(rt, alloc, &mut MemoryLink::new(alloc, pool)) {
+    let mut link = MemoryLink::new(alloc, pool);
+    match node.sync(rt, alloc, &mut link) {
         Ok(report) => Ok(report == finished(3, 1)),
         Err(Refusal::OtherRange) => Ok(false),
         Err(refusal) => Err(Fail::from(refusal)),
