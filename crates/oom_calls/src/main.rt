@@ -17,7 +17,7 @@ use std::process::ExitCode;
 /// How the program is called.
 const USAGE: &str = "usage: oom_calls core|threads";
 
-/// Which calls are made.
+/// The calls to make.
 #[derive(Clone, Copy)]
 enum Calls {
     Core,

@@ -1,4 +1,4 @@
-//! What a test expects.
+//! Expectations of tests.
 use std::test::Fail;
 
 /// Fails the test with these words unless the condition holds.

@@ -132,7 +132,7 @@ fn keep_five<L: Ledger, C: Ledger, R: Wait>(
     Ok(())
 }
 
-/// The third hint is the only one of node 1 that is pending, and the fifth that of node 2.
+/// Expects that the third hint is the only pending one of node 1, and the fifth that of node 2.
 fn expect_pending<L: Ledger, C: Ledger, R: Wait>(
     rt: &R,
     alloc: Global,
@@ -152,13 +152,13 @@ fn expect_pending<L: Ledger, C: Ledger, R: Wait>(
     )
 }
 
-/// A delivery reports so many hints of each kind.
+/// Expects that a delivery reports these counts.
 fn expect_report(report: DeliverReport, delivered: u64, known: u64, kept: u64) -> Result<(), Fail> {
     let are_counted = report.delivered == delivered && report.known == known;
     expect(are_counted && report.kept == kept, "the report")
 }
 
-/// Delivers five hints, and then what is left of them.
+/// Delivers four of five hints, and then the one that is left.
 fn expect_five<L: Ledger, C: Ledger, R: Wait>(
     rt: &R,
     alloc: Global,

@@ -16,8 +16,8 @@ use std::test::Fail;
 use vclock::{Bytes, Refusal};
 use version_set::Version;
 
-/// Node 1 with a range of one seat: its pass, its slots, and the hints that it keeps. Its methods promise nothing, so that
-/// a test that calls them carries no facts about them.
+/// Node 1 with a range of one seat: its pass, its slots, and the hints that it keeps. Its methods have no clauses, so a test
+/// that calls them carries no facts about them, and is proved fast.
 pub struct Node<L: Ledger, C: Ledger> {
     range: SharedRange<L>,
     pass: Pass<L>,
@@ -26,7 +26,7 @@ pub struct Node<L: Ledger, C: Ledger> {
 }
 
 impl<L: Ledger, C: Ledger> Node<L, C> {
-    /// A node with a range that has accepted nothing.
+    /// Opens a node with a range that has accepted nothing.
     pub fn open(
         alloc: Global,
         blank: Blank,
@@ -123,7 +123,7 @@ impl<L: Ledger, C: Ledger> Node<L, C> {
         report
     }
 
-    /// The id of the first pending hint of an owner after that one.
+    /// Returns the id of the first pending hint of an owner after that one.
     pub fn pending<R: Wait>(
         &self,
         rt: &R,
@@ -137,7 +137,7 @@ impl<L: Ledger, C: Ledger> Node<L, C> {
         }
     }
 
-    /// How many receipts its pass has.
+    /// Returns the number of receipts of its pass.
     pub fn receipts(&self) -> usize {
         self.pass.receipts().len()
     }

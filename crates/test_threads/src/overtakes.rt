@@ -21,10 +21,10 @@ use test_core::checks::expect;
 use vclock::Refusal;
 use version_set::Kind;
 
-/// More points than a worker has.
+/// A bound on points, over those of any worker here.
 const MOST_POINTS: u64 = 10_000;
 
-/// How many entries the range of a rehash accepts: the later puts are refused, and answered too.
+/// The limit of the journal in a rehash: later puts are refused, and answered too.
 const ENTRIES: u64 = 100;
 
 /// Enough turns for a rehash that so many puts disturb.
@@ -42,8 +42,8 @@ fn put<L: Ledger, R: Wait>(
     range.put(rt, alloc, pass, key, &context, Kind::Live, x)
 }
 
-/// Puts `d` at the first point, and a key of its own at each later one. A put may be refused: it was answered then too.
-/// The snapshot, which may be refused likewise, leaves all sessions as they are.
+/// Puts `d` at the first point, and a new key at each later one, and takes a snapshot. Both may be refused, and are answered
+/// all the same. Neither may change a session.
 fn call_at<L: Ledger, R: Wait>(
     rt: &R,
     alloc: Global,
@@ -81,7 +81,7 @@ fn call_at_each<L: Ledger, R: Wait>(
     points
 }
 
-/// A rehash worker that is held at each of its steps.
+/// Rehashes, held at each step.
 fn rehash_held<L: Ledger, C: Ledger, R: Wait>(
     rt: &R,
     alloc: Global,
@@ -96,7 +96,7 @@ fn rehash_held<L: Ledger, C: Ledger, R: Wait>(
     report
 }
 
-/// A rehash of a range with a put at each step: the report, and how many points there were.
+/// Rehashes a range with a put at each step. Returns the report and the number of points.
 fn rehash_with_puts<L: Ledger + Send + Sync, C: Ledger + Send + Sync, R: Threads + Wait + Sync>(
     rt: &R,
     alloc: Global,
@@ -115,7 +115,7 @@ fn rehash_with_puts<L: Ledger + Send + Sync, C: Ledger + Send + Sync, R: Threads
     Ok((report?, points))
 }
 
-/// A rehash hashed the whole tree, each node between two points.
+/// Expects that a rehash hashed the whole tree, each node between two points.
 fn expect_rehashed(report: RehashReport, points: u64) -> Result<(), Fail> {
     let hashed = report.installed.saturating_add(report.stale);
     expect(report.clean, "the tree is clean")?;
@@ -177,7 +177,7 @@ impl<'a, K: Link> Link for Held<'a, K> {
     }
 }
 
-/// A sync over a link that is held at each call.
+/// Syncs over a link that is held at each call.
 fn sync_held<L: Ledger, C: Ledger, R: Wait>(
     rt: &R,
     alloc: Global,
@@ -193,8 +193,8 @@ fn sync_held<L: Ledger, C: Ledger, R: Wait>(
     report
 }
 
-/// A sync of a range with a put at the offer and at each ask: the report, and how many points there were. The partner has
-/// `d` as the range does, and `a`, `b` and `c` in three more leaves. The sync has the last of two passes.
+/// Syncs a range with a put at the offer and at each ask. Returns the report and the number of points. The partner has `d` as
+/// the range does, and `a`, `b` and `c` in three more leaves. The sync has the last of two passes.
 fn sync_with_puts<L: Ledger + Send + Sync, C: Ledger + Send + Sync, R: Threads + Wait + Sync>(
     rt: &R,
     alloc: Global,
@@ -242,7 +242,7 @@ fn sync_all<L: Ledger + Send + Sync, C: Ledger + Send + Sync, R: Threads + Wait 
     let state = close(alloc, range, passes)?;
     expect(points == 8, "an offer and seven asks")?;
     expect(report == finished(7, 3), "the report")?;
-    // (`d`, a put at each ask, and what the partner has more)
+    // (`d`, seven puts, and three rows of the partner)
     expect(state.journal().len() == 11, "the entries")
 }
 

@@ -62,7 +62,8 @@ pub fn pool_of<R: Threads + Wait + Sync>(
     Ok(pool)
 }
 
-/// The pool of a partner that has published a snapshot of a range with these versions, each of a key, with the value `x`.
+/// Makes the pool of a partner that has published a snapshot of a range with these versions, each of a key, with the value
+/// `x`.
 pub fn pool_in<R: Threads + Wait + Sync>(
     rt: &R,
     alloc: Global,

@@ -7,8 +7,8 @@ use std::thread;
 /// How often a thread looks whether it may go on.
 const MOST_LOOKS: u64 = 10_000_000;
 
-/// What holds a worker at each of its points until another thread has answered it there. As a gate it holds a worker at
-/// each step.
+/// A hold on a worker at each of its points, until another thread has answered it there. As a gate it holds a worker at each
+/// step.
 #[derive(Drop)]
 pub struct Relay {
     arrived: AtomicU64,
@@ -18,7 +18,7 @@ pub struct Relay {
 }
 
 impl Relay {
-    /// A relay of a worker that has passed no point.
+    /// Makes a relay for a worker that has passed no point.
     pub fn new() -> Relay {
         Relay {
             arrived: AtomicU64::new(0),
@@ -28,7 +28,7 @@ impl Relay {
         }
     }
 
-    /// Holds the worker at its next point until it was answered there.
+    /// Holds the worker at its next point until it is answered there.
     pub fn hold(&self) {
         let point = self.arrived.fetch_add(1, Ordering::SeqCst).wrapping_add(1);
         for _ in 0..MOST_LOOKS {
@@ -40,7 +40,7 @@ impl Relay {
         self.give_up();
     }
 
-    /// Waits until the worker is held at that point, counted from 1. Returns whether it is: it may have ended before.
+    /// Waits until the worker is held at that point, counted from 1. Returns false if it ended before.
     pub fn wait_for(&self, point: u64) -> bool {
         for _ in 0..MOST_LOOKS {
             if self.arrived.load(Ordering::SeqCst) >= point {
@@ -65,7 +65,7 @@ impl Relay {
         self.ended.store(1, Ordering::SeqCst);
     }
 
-    /// Whether a thread looked 10,000,000 times in vain.
+    /// Returns whether a thread looked 10,000,000 times in vain.
     pub fn gave_up(&self) -> bool {
         self.gave_up.load(Ordering::SeqCst) > 0
     }

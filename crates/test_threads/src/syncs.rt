@@ -156,7 +156,7 @@ fn sync_known<L: Ledger, C: Ledger, R: Threads + Wait + Sync>(
     Ok(node.sync(rt, alloc, &mut link)?)
 }
 
-/// A node that knows a version of each of two answers counts both.
+/// Expects that a node counts the known versions of two answers.
 fn count_known<L: Ledger, C: Ledger, R: Threads + Wait + Sync>(
     rt: &R,
     alloc: Global,
@@ -182,8 +182,7 @@ fn the_known_versions_of_all_answers_are_counted(rt: HostRuntime) -> Result<(), 
     count_known::<Brand, Brand, HostRuntime>(&rt, rt.alloc(), range, slots)
 }
 
-/// What a sync of a node with a partner comes to that offers a range: whether it takes the partner's row, and isn't refused
-/// as OtherRange.
+/// Rehashes and syncs a node. Returns true if it takes the row of the partner, and false if the offer is refused as OtherRange.
 fn is_synced<L: Ledger, C: Ledger, R: Wait>(
     rt: &R,
     alloc: Global,
@@ -199,7 +198,7 @@ fn is_synced<L: Ledger, C: Ledger, R: Wait>(
     }
 }
 
-/// Syncs a range of a ring of two with a partner's, each of that number. The partner has a row of `a` or of `b`.
+/// Syncs one of two ranges with a partner that offers one of them. The partner has a row of `a` or of `b`.
 fn sync_ranges<L: Ledger, C: Ledger, R: Threads + Wait + Sync>(
     rt: &R,
     alloc: Global,
