@@ -30,8 +30,8 @@ without_records s = record { config = s.config; entries = s.entries; marks = s.m
 abbrev pub replica_of : ℕ → range.State → Replica
 replica_of n s = record { node = n; range = without_records s; sessions = standings s.records }
 
--- the ring, its format, the nodes that are down, the hints of each node in the order of the ring, and range by range the
--- replicas, in the order of the range's preference list
+-- the ring, its format, the nodes that are down, the hints of each node in the order of the ring, and range by range
+-- the replicas, in the order of the range's preference list
 pub record Cluster : Type 0 where
   pub ring : Places
   pub format : Format

@@ -166,10 +166,10 @@ impl RangeState {
     /// counter raised by one (the paper of 2007, section 4.4).
     ///
     /// Refused, in order: BadKey, BadValue (of the range's format), OtherRange (the key is of another range), ClockFull
-    /// and CounterFull (the context can't be raised), StaleContext (some held version has seen everything that the raised
-    /// clock has), which has the clocks that are held, Crowded (the key would hold over 64 versions), JournalFull,
-    /// NoMemory. On error the state is unchanged. The raised clock and the list of clocks are allocated, so NoMemory may
-    /// replace a cause from StaleContext on.
+    /// and CounterFull (the context can't be raised), StaleContext with the clocks that are held (some held version has
+    /// seen everything that the raised clock has), Crowded (the key would hold over 64 versions), JournalFull,
+    /// NoMemory. On error the state is unchanged. The raised clock and the list of clocks are allocated, so NoMemory
+    /// may replace a cause from StaleContext on.
     pub fn put(
         &mut self,
         alloc: Global,

@@ -38,8 +38,7 @@ pub struct StormEnd {
 /// 1 and 2), by each writer after each put (step 3) and by each sync worker before each round (step 4). The tallies
 /// show the progress of the nodes.
 ///
-/// Refused as each part is, apart from those four. Also NoMemory, if a thread can't be made, or if the last sync loses
-/// its link.
+/// Refused: any other refusal of a part. Also NoMemory, if a thread can't be made, or if the last sync loses its link.
 pub fn run_storm<R: Threads + Wait + Sync, G: Gate + Sync>(
     rt: &R,
     alloc: Global,

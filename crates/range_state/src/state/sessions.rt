@@ -17,7 +17,7 @@ use vclock::limits::{OPEN_SESSIONS_MAX, SESSIONS_MAX};
 use walk_messages::Offer;
 
 impl RangeState {
-    /// The records of all sessions, in the order of their numbers. It takes no memory.
+    /// The records of all sessions, in the order of their numbers. Doesn't allocate.
     pub fn records(&self) -> &[Record]
         ensures all { result.now ≡ self.now.records }
         ensures valid { IsRight self.now }
