@@ -150,8 +150,7 @@ impl<L: Ledger> Book<L> {
         Ok(())
     }
 
-    /// Proves that the passes have, in all, a number of receipts equal to the book's count. It needs the passes of all
-    /// seats back.
+    /// Proves that the number of the passes' receipts is the book's count. The passes of all seats must be back.
     pub fn settle(&mut self)
         requires { length self.old.passes ≡ self.old.seats }
         ensures same { self.new ≡ self.old }
