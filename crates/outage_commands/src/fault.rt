@@ -107,7 +107,7 @@ fn sole_member(value: &Value) -> Option<(&str, &Value)>
     Some((name.as_str(), inner))
 }
 
-/// Returns the members that the command of a name wants. `None` if there is no such command.
+/// Returns the members that the command of a name wants. `None` if no command has the name.
 fn members_of(name: &str) -> Option<&'static str>
     ensures { is_some result ≡ is_command name.now }
 {
