@@ -20,6 +20,18 @@ is_command name = list_any (λ (form : Form). bytes_eq name form.0) forms
 abbrev pub Names : Bool → Data → Type 0
 Names known d = (m : List ℕ × Data) × (sole_member d ≡ Some m) × (is_command m.0 ≡ known)
 
+-- a fault of a command's members
+abbrev pub IsOfMembers : LineFault → Type 0
+IsOfMembers (Member wants wrong) = Unit {0}
+IsOfMembers (Members members) = Unit {0}
+IsOfMembers fault = ⊥
+
+-- a fault of a command's name
+abbrev pub IsOfName : LineFault → Type 0
+IsOfName (Unknown name) = Unit {0}
+IsOfName (Misspelled name nearest) = Unit {0}
+IsOfName fault = ⊥
+
 -- the claim of a fault about a line that is not too long
 abbrev pub IsFaultOf : LineFault → List ℕ → Type 0
 IsFaultOf TooLong line = ⊥
