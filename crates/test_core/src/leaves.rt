@@ -1,4 +1,4 @@
-//! Leaves of more rows than a chunk has. The digest was made by another program from the definition.
+//! Leaves with more rows than a chunk holds. Another program made the digest from the definition.
 use crate::versions::version;
 use hash_tree::{SharedLeaf, Text, hash};
 use std::alloc::Global;
