@@ -238,7 +238,7 @@ fn a_text_is_taken_once_and_only_if_it_is_true(rt: HostRuntime) -> Result<(), Fa
     expect_once(&rt, alloc, &mut range(&rt, alloc, false)?, &partner)
 }
 
-/// Asserts that the text `abc` of its root fails the first session, which asks for no other node.
+/// Asserts that the text `abc` of its root fails the first session, which then no longer asks for the root.
 fn expect_failure(rt: &impl Abort, alloc: Global, state: &mut RangeState) -> Result<(), Fail> {
     state.open_session(alloc, 7, offer(abc(alloc)?.digest()))?;
     let root = first(state)?;
