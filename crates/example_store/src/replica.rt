@@ -11,8 +11,8 @@ use vclock::Refusal;
 /// The number of callers of a replica.
 const SEATS: u16 = 3;
 
-/// A node's replica of a range: the range, the hints that the node keeps for the other replica, the offers that it makes
-/// to it, and a pass for each caller: one for clients, one for copies and hints, and one for syncs.
+/// A node's replica of a range: the range, the hints that the node keeps for the other replica, the offers that it
+/// makes to it, and a pass for each caller: one for clients, one for copies and hints, and one for syncs.
 #[derive(Drop)]
 pub(crate) struct Replica<L: Ledger> {
     pub(crate) range: SharedRange<L>,
