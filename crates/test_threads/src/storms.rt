@@ -23,8 +23,8 @@ fn a_storm_of_two_puts_settles(rt: HostRuntime) -> Result<(), Fail> {
     Ok(())
 }
 
-/// A gate that holds each rehash worker with a job until some put has passed, and each writer after its first put until some
-/// rehash worker has a job.
+/// A gate that holds each rehash worker with a job until some put has passed, and each writer after its first put until
+/// some rehash worker has a job.
 #[derive(Drop)]
 struct Overlap {
     puts: AtomicU64,
