@@ -43,7 +43,7 @@ impl<L: Ledger> Locked<L> {
         close_locked(alloc, range, passes)
     }
 
-    /// Makes a call, and returns a number that tells its result.
+    /// Makes a call, and returns a number that stands for its result.
     pub(crate) fn make(
         &mut self,
         alloc: Global,

@@ -37,7 +37,7 @@ impl<L: Ledger, M: Ledger, C: Ledger> Scene<L, M, C> {
         })
     }
 
-    /// Makes a call, and returns a number that tells its result.
+    /// Makes a call, and returns a number that stands for its result.
     pub(crate) fn make<R: Wait>(
         &mut self,
         rt: &R,

@@ -114,7 +114,7 @@ impl<L: Ledger, C: Ledger> Shared<L, C> {
         Ok(pending)
     }
 
-    /// Makes a call, and returns a number that tells its result.
+    /// Makes a call, and returns a number that stands for its result.
     pub(crate) fn make<R: Wait>(
         &mut self,
         rt: &R,
