@@ -26,7 +26,7 @@ enum Deed {
 }
 
 impl SnapshotPlan {
-    /// Returns the plan of these words, or `None` if they have none: the number of keys, and the number of snapshots or
+    /// Returns the plan of these words, or `None` if they are wrong: the number of keys, and the number of snapshots or
     /// `migrate`.
     pub(crate) fn of_words(words: &[String]) -> Option<SnapshotPlan> {
         let [keys, deed] = words else {

@@ -30,7 +30,7 @@ pub(crate) struct StormPlan {
 }
 
 impl StormPlan {
-    /// Returns the plan of these words, or `None` if they have none: the number of puts, and `beside` if the workers
+    /// Returns the plan of these words, or `None` if they are wrong: the number of puts, and `beside` if the workers
     /// run while the writers do, or `alone` if they wait until both writers have ended.
     pub(crate) fn of_words(words: &[String]) -> Option<StormPlan> {
         let [puts, workers] = words else {

@@ -15,7 +15,7 @@ pub(crate) struct CallPlan {
 }
 
 impl CallPlan {
-    /// Returns the plan of these words, or `None` if they have none. The word is the number of keys, 1,000 by default.
+    /// Returns the plan of these words, or `None` if they are wrong. The word is the number of keys, 1,000 by default.
     pub(crate) fn of_words(words: &[String]) -> Option<CallPlan> {
         match words {
             [] => CallPlan::new(FEW_KEYS),

@@ -44,7 +44,7 @@ impl Sharing {
 }
 
 impl ThreadPlan {
-    /// Returns the plan of these words, or `None` if they have none: the number of keys, the number of threads, and
+    /// Returns the plan of these words, or `None` if they are wrong: the number of keys, the number of threads, and
     /// `one` or `each`.
     pub(crate) fn of_words(words: &[String]) -> Option<ThreadPlan> {
         let [keys, threads, sharing] = words else {
