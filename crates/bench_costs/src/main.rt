@@ -1,7 +1,7 @@
 //! The measurements of `bench/`, one for each word, and most of them with a plain Rust program to compare:
 //!
-//! - `snapshots KEYS COUNT` makes a range of KEYS keys, and then COUNT snapshots of it, one after another; `snapshots
-//!   KEYS migrate` migrates it to format 2 (`bench/snapshot`).
+//! - `snapshots KEYS COUNT` makes a range of KEYS keys, and then COUNT snapshots of it, one after another;
+//!   `snapshots KEYS migrate` migrates it to format 2 (`bench/snapshot`).
 //! - `reconciles KEYS DIFFER TURNS` makes two replicas with the same KEYS keys. In each turn it gives each replica
 //!   DIFFER keys that the other lacks, and reconciles them (`bench/reconcile`).
 //! - `calls [KEYS]` makes the calls of a range in one thread (`bench/calls`).
