@@ -1,4 +1,4 @@
-//! Sync workers whose partners answer truly.
+//! Sync workers whose partners answer with true texts.
 use crate::partners::{
     expect_asked, expect_counts, expect_held, expect_report, pool_of, snapshot_of, sync_over,
 };
@@ -12,7 +12,7 @@ use std::test::Fail;
 use sync_session::SessionState;
 use vclock::Refusal;
 
-/// The report of the first session of a range, if it knew no version and met no lie.
+/// Returns the report of the first session of a range, if it knew no version and met no lie.
 pub(crate) fn finished(asked: u64, accepted: u64) -> SyncReport {
     SyncReport {
         id: 0,
