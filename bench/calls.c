@@ -1,5 +1,5 @@
-/* How many calls of the C library a second one thread does, for bench/c. The word is how many keys there are. It prints a
- * line of JSON, whose members are those of the yardstick's `calls` with one thread. */
+/* The number of calls of the C library that one thread does in a second, for bench/c. The word is the number of keys.
+ * Prints a line of JSON, whose members are those of the yardstick's `calls` with one thread. */
 #include "antientropy.h"
 
 #include <stdio.h>
@@ -73,7 +73,7 @@ static void copy(struct antientropy *replica, unsigned long i, unsigned long of)
     must("accept", antientropy_accept(replica, key, len, clock, 1, ANTIENTROPY_LIVE, value, VALUE, &taken));
 }
 
-/* Takes over the one key that a partner's snapshot has more. */
+/* Takes over the one key that a partner's snapshot has and this replica lacks. */
 static void sync_one(struct antientropy *replica, struct antientropy_snapshot *snapshot)
 {
     struct antientropy_taken taken = {0, 0, 0};

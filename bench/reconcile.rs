@@ -6,7 +6,7 @@ use crate::*;
 use std::sync::Mutex;
 use std::time::{Duration, Instant};
 
-/// What all turns came to.
+/// The counts of all turns.
 #[derive(Default)]
 struct Done {
     asked: usize,
@@ -19,7 +19,7 @@ fn accept(range: &SharedRange, number: u64) -> Result<(), No> {
     range.copy(0, format!("key-{number}").as_bytes(), &version).map(drop)
 }
 
-/// An offer of what a range has.
+/// An offer of a range's contents.
 fn offer(range: &SharedRange) -> Result<OfferPool, No> {
     let pool = OfferPool::default();
     pool.publish(range.snapshot()?);

@@ -15,14 +15,14 @@ TICKS = os.sysconf("SC_CLK_TCK")
 
 
 def unread(pipe):
-    """How many bytes lie in a pipe."""
+    """Returns the number of bytes in a pipe."""
     count = array.array("i", [0])
     fcntl.ioctl(pipe, termios.FIONREAD, count)
     return count[0]
 
 
 def state_and_ticks(pid):
-    """The state of a process, and how many ticks of processor time it has taken."""
+    """Returns the state of a process, and the ticks of processor time that it has taken."""
     with open(f"/proc/{pid}/stat") as stat:
         fields = stat.read().rpartition(")")[2].split()
     return fields[0], int(fields[11]) + int(fields[12])

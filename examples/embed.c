@@ -48,7 +48,7 @@ static uint64_t offer_now(struct antientropy *replica, struct antientropy_snapsh
     return len;
 }
 
-/* Whether two replicas have equal roots. */
+/* Returns true if two replicas have equal roots. */
 static bool equal_roots(struct antientropy *a, struct antientropy *b)
 {
     struct antientropy_snapshot of_a = {0}, of_b = {0};
@@ -93,7 +93,7 @@ static void sync(struct antientropy *replica, struct antientropy *partner)
         else
             break; /* CROWDED or JOURNAL_FULL, say: the next ask would be for this node again */
     }
-    /* A session that has ended stays as it is. */
+    /* A session that has ended is unchanged. */
     want("cancel", antientropy_cancel(replica, session), ANTIENTROPY_OK);
     want("session", antientropy_session(replica, session, &state), ANTIENTROPY_OK);
     antientropy_snapshot_free(&offered);

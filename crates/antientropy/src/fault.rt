@@ -1,8 +1,8 @@
-//! What ends the program before its work is done.
+//! Faults, which end the program before its work is done.
 
 use thiserror::Error;
 
-/// Why the program could not do its work. Its text goes to standard error.
+/// The reason why the program could not do its work. Its text goes to standard error.
 #[derive(Clone, Copy, Debug, PartialEq, Eq, Error)]
 pub(crate) enum Fault {
     /// A read or a write failed.

@@ -33,7 +33,7 @@ fn main(rt: HostRuntime) -> ExitCode {
     }
 }
 
-/// Does what the words of the command line ask for.
+/// Does the task of the command line's words.
 fn obey<R: Env + Input + Print + Eprint + AllocGlobal + Threads + Wait + Sync>(
     rt: &R,
 ) -> Result<ExitCode, Fault> {
@@ -75,7 +75,7 @@ fn run<R: Input + Print + Eprint + AllocGlobal + Threads + Sync>(
     code_of(end)
 }
 
-/// Says on standard error why a line ended the script.
+/// Explains on standard error why a line ended the script.
 fn explain<R: Eprint>(rt: &R, number: u64, fault: Option<&LineFault>) {
     let _ = match fault {
         Some(fault) => eprintln!(rt; "antientropy: line {number}: {fault}"),
@@ -83,7 +83,7 @@ fn explain<R: Eprint>(rt: &R, number: u64, fault: Option<&LineFault>) {
     };
 }
 
-/// Runs a storm, and prints how it ended.
+/// Runs a storm, and prints its end.
 fn storm<R: Print + Eprint + AllocGlobal + Threads + Wait + Sync>(
     rt: &R,
     puts: u64,
@@ -108,14 +108,14 @@ fn storm<R: Print + Eprint + AllocGlobal + Threads + Wait + Sync>(
     code_of_storm(&end)
 }
 
-/// Prints how a storm ended.
+/// Prints the end of a storm.
 fn print_end<R: Print>(rt: &R, end: &StormEnd) -> Result<(), Fault> {
     let roots = if end.equal { "equal" } else { "differ" };
     let settled = if end.settled { "settled" } else { "unsettled" };
     println!(rt; "puts {}, roots {roots}, {settled}", end.puts).map_err(|_| Fault::Device)
 }
 
-/// Shows the help or the version, or what is wrong with the words.
+/// Shows the help or the version, or the mistake in the words.
 fn show<R: Print + Eprint>(rt: &R, refusal: &Error) -> Result<ExitCode, Fault> {
     let code = code_of_refusal(refusal)?;
     match refusal.print(rt) {

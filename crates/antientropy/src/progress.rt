@@ -1,14 +1,14 @@
-//! How far a storm is, on standard error.
+//! The progress of a storm, on standard error.
 ghost use Rattle.std.specs.Prelude.{◌≤◌};
 
 use ring_node::{Gate, Step};
 use std::sync::{Mutex, Wait};
 use storm::{Tallies, Tally};
 
-/// How often a storm tells how far it is, at the most, for each of its two writers.
+/// The maximum number of progress lines of a storm, for each of its two writers.
 const TELLINGS: u64 = 10;
 
-/// A gate that holds no worker, and tells on standard error how far the storm is, at most twenty times.
+/// A gate that holds no worker, and prints the progress of the storm on standard error, at most twenty times.
 #[derive(Drop)]
 pub(crate) struct Teller<'a, R: Eprint> {
     rt: &'a R,
@@ -19,7 +19,7 @@ pub(crate) struct Teller<'a, R: Eprint> {
 }
 
 impl<'a, R: Eprint> Teller<'a, R> {
-    /// A gate for a storm of `puts` puts at each node.
+    /// Makes a gate for a storm of `puts` puts at each node.
     pub(crate) fn new(rt: &'a R, tallies: &'a Tallies, puts: u64) -> Teller<'a, R> {
         Teller {
             rt,
@@ -29,14 +29,14 @@ impl<'a, R: Eprint> Teller<'a, R> {
         }
     }
 
-    /// Counts a put, and returns how many there were.
+    /// Counts a put, and returns the number of puts so far.
     fn count<W: Wait>(&self, rt: &W) -> u64 {
         let mut passed = self.passed.lock(rt);
         *passed = (*passed).wrapping_add(1);
         *passed
     }
 
-    /// Tells what both nodes did until the storm ended.
+    /// Prints the tallies of both nodes at the end of the storm.
     pub(crate) fn tell_end<W: Wait>(&self, rt: &W) {
         self.tell(
             "in the end: ",
@@ -45,7 +45,7 @@ impl<'a, R: Eprint> Teller<'a, R> {
         );
     }
 
-    /// Tells what both nodes have done. A storm goes on even if the line can't be written.
+    /// Prints the tallies of both nodes. A storm goes on even if the line can't be written.
     fn tell(&self, when: &str, one: Tally, two: Tally) {
         let _ = eprintln!(self.rt;
             "{when}puts {} and {}, digests {} and {}, stale {} and {}, snapshots {} and {}, syncs {} and {}, \

@@ -1,4 +1,4 @@
-//! Which status belongs to which end of the program.
+//! The exit statuses of the program.
 ghost use Rattle.std.specs.Prelude.{◌≡◌, ◌≢◌, ℕ, Ok, Err, true, false, IsOkAnd, ◌⊎◌};
 ghost use Rattle.std.specs.Process.{exit_status};
 ghost use Rattle.clap.specs.Values.{kind_of};
@@ -11,22 +11,22 @@ use std::process::ExitCode;
 use storm::StormEnd;
 use vclock::Refusal;
 
-/// All was read and answered, or the help was shown.
+/// Every line was read and answered, or the help was shown.
 const DONE: u8 = 0;
 
-/// A line of the script is no command.
+/// A line of the script isn't a command.
 const BAD_LINE: u8 = 1;
 
 /// A storm did not end with equal roots and all settled.
 const BAD_STORM: u8 = 1;
 
-/// The words of the command line ask for nothing that the program does.
+/// The words of the command line are wrong.
 const USAGE: u8 = 2;
 
 /// A device failed, or memory ran out.
 const FAULT: u8 = 3;
 
-/// The status that belongs to a script's end, or the fault that ended it.
+/// Returns the status of a script's end, or the fault that ended it.
 pub(crate) fn code_of(end: ScriptEnd) -> Result<ExitCode, Fault>
     ensures done { end ≡ ScriptEnd.Done → IsOkAnd result (λ code. exit_status code ≡ 0) }
     ensures bad_line { (number : ℕ) → end ≡ ScriptEnd.BadLine number
@@ -42,7 +42,7 @@ pub(crate) fn code_of(end: ScriptEnd) -> Result<ExitCode, Fault>
     }
 }
 
-/// The status that belongs to a storm's end, or the fault that ended it.
+/// Returns the status of a storm's end, or the fault that ended it.
 pub(crate) fn code_of_storm(end: &Result<StormEnd, Refusal>) -> Result<ExitCode, Fault>
     ensures done { (e : StormEnd) → end.now ≡ Ok e → e.equal ≡ true → e.settled ≡ true
         → IsOkAnd result (λ code. exit_status code ≡ 0) }
@@ -61,7 +61,7 @@ pub(crate) fn code_of_storm(end: &Result<StormEnd, Refusal>) -> Result<ExitCode,
     }
 }
 
-/// The status that belongs to words that clap did not take: 0 if they ask for help or the version, else 2.
+/// Returns the status of words that clap refused: 0 if they ask for help or the version, otherwise 2.
 pub(crate) fn code_of_refusal(refusal: &Error) -> Result<ExitCode, Fault>
     ensures no_memory { kind_of refusal.now ≡ ErrorKind.OutOfMemory
         → result ≡ Err Fault.NoMemory }
@@ -80,14 +80,14 @@ pub(crate) fn code_of_refusal(refusal: &Error) -> Result<ExitCode, Fault>
     }
 }
 
-/// The status that belongs to wrong words.
+/// Returns the status of wrong words.
 pub(crate) fn usage_code() -> ExitCode
     ensures { exit_status result ≡ 2 }
 {
     ExitCode::from(USAGE)
 }
 
-/// The status that belongs to every fault.
+/// Returns the status of every fault.
 pub(crate) fn fault_code() -> ExitCode
     ensures { exit_status result ≡ 3 }
 {

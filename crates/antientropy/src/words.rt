@@ -8,19 +8,19 @@ use std::env::Env;
 use std::io::ErrorKind;
 use storm::MOST_PUTS;
 
-/// What the program is.
+/// The description of the program.
 const ABOUT: &str =
     "Brings the replicas of a Dynamo ring together again, in one process and in memory.
 
-Its word `run` reads a script from standard input. A script is JSON lines: each line is one command,
-and each command is answered by one line on standard output, as soon as it is read. It acts on a
-ring that is empty at the start of the script and is gone at its end.
+`run` reads a script from standard input. A script is JSON lines: each line is one command, and the
+program answers each command with one line on standard output as soon as it has read it. The
+commands act on a ring that is empty at the start of the script and is gone at its end.
 
-Its word `storm` has two nodes write, rehash, and sync with each other, all at once in threads, and
-prints whether they agree in the end.";
+`storm` makes two nodes write, rehash, and sync with each other, all at once in threads, and prints
+whether they agree in the end.";
 
-/// The commands, and what a script looks like.
-const SCRIPTS: &str = r#"Commands, each with its members; ? marks one that may be left out:
+/// The commands, and an example of a script.
+const SCRIPTS: &str = r#"Commands, each with its members; ? marks an optional one:
   ring     bits copies nodes limit? format?   makes a ring of nodes
   put      node key context value lose?       writes a value at a node
   get      node key                           reads the versions of a key
@@ -30,7 +30,7 @@ const SCRIPTS: &str = r#"Commands, each with its members; ? marks one that may b
   deliver  node                               offers a node's hints to their owners
   rehash   node range                         hashes the tree of a range
   node     node range depth index             shows the digest of a node of a tree
-  sync     node from range                    takes what another replica has
+  sync     node from range                    fetches the versions of another replica
   slot     do n?                              lends a slot, takes it back, sets the target
   sample   at micros                          reports a latency
 
@@ -47,44 +47,45 @@ With these lines in the file first.jsonl:
 
 Keys and values are bytes in hexadecimal digits: 61 is the letter a. A clock is a list of pairs
 [node,counter]. The context of a put is the clock of the versions that it replaces, as a get showed
-them; [] is that of the first put. A command that is refused is answered by its cause, and changes
-nothing, except a sync that stops halfway. A line that isn't a command ends the script with BadLine.
-Blank lines are skipped. docs/SCRIPTS.md has each command with its answers and refusals.
+it; the context of the first put is []. The answer to a refused command is the cause. A refused
+command changes nothing, except a sync that stops halfway. A line that isn't a command ends the
+script with BadLine. Blank lines are skipped. docs/SCRIPTS.md has each command with its answers and
+refusals.
 
 Exit status: 0 if each line was answered, 1 at a bad line, 2 for wrong words on the command line, 3
-if a device failed or there is no memory."#;
+if a device failed or memory ran out."#;
 
-/// What a storm prints, and when.
+/// The output of a storm.
 const STORMS: &str =
     "Node 1 and node 2 are replicas of one range. Each has a writer, a rehash worker, a sync worker and
-a server, in threads of their own. When all have ended, both nodes are rehashed, synced both ways,
-rehashed and closed. The storm prints one line:
+a server, each in a thread. When all have ended, both nodes are rehashed, synced both ways, rehashed
+and closed. The storm prints one line:
   puts 200, roots equal, settled
 
-The number is that of all puts. It prints `roots differ` where the trees are not equal in the end,
-and `unsettled` where a caller was told something else than the journals have.
+The number is that of all puts. It prints `roots differ` if the trees aren't equal in the end, and
+`unsettled` if a caller's receipts and reads don't match the journals.
 
 Exit status: 0 if the roots are equal and all is settled, 1 if not or if a call was refused, 2 for
-wrong words on the command line, 3 if a device failed or there is no memory.";
+wrong words on the command line, 3 if a device failed or memory ran out.";
 
-/// How many puts a writer does unless it is told another number.
+/// The number of puts of a writer by default.
 const PUTS: u64 = 100;
 
-/// What the words ask for.
+/// The task of the words.
 #[derive(Clone, Copy, Debug, PartialEq, Eq)]
 pub(crate) enum Task {
     /// `run`: run a script.
     Run,
-    /// `storm`: run a storm of that many puts at each node.
+    /// `storm`: run a storm with this number of puts at each node.
     Storm {
-        /// How many, 1 to 10,000.
+        /// The number of puts, 1 to 10,000.
         puts: u64,
-        /// Whether to tell how far it is.
+        /// True if the progress is printed.
         progress: bool,
     },
 }
 
-/// The words of the command line, the program's name first. `None` if a word is no text.
+/// Returns the words of the command line, the program's name first. `None` if a word isn't a text.
 pub(crate) fn words_of<R: Env + AllocGlobal>(rt: &R) -> Result<Option<Vec<String>>, Fault> {
     match env::args(rt) {
         Ok(words) => match words.collect(rt.alloc()) {
@@ -96,10 +97,10 @@ pub(crate) fn words_of<R: Env + AllocGlobal>(rt: &R) -> Result<Option<Vec<String
     }
 }
 
-/// What the words ask for. An error is a request for help or the version, a mistake, or want of memory.
+/// Reads the task of the words. An error is a request for help or the version, a mistake, or a lack of memory.
 pub(crate) fn task_in(alloc: Global, words: &[String]) -> Result<Task, Error> {
     let run = Command::new(alloc, "run")
-        .about("Runs a script from standard input, and answers on standard output")
+        .about("Runs a script from standard input, and writes the answers to standard output")
         .after_long_help(SCRIPTS);
     let command = Command::new(alloc, "antientropy")
         .version("0.1.0")
@@ -117,27 +118,27 @@ pub(crate) fn task_in(alloc: Global, words: &[String]) -> Result<Task, Error> {
     }
 }
 
-/// The words of a storm.
+/// Makes the parser of a storm's words.
 fn storm_command<'a>(alloc: Global) -> Result<Command<'a>, Error> {
     let puts = Arg::new(alloc, "puts")
         .long("puts")
         .value_name("N")
-        .help("How many puts each writer does, 1 to 10000")
+        .help("The number of puts of each writer, 1 to 10000")
         .default_value("100")
         .value_parser(value_parser!(u64).range(1..=MOST_PUTS as i64));
     let progress = Arg::new(alloc, "progress")
         .long("progress")
-        .help("Tells on standard error how far it is")
+        .help("Prints the progress on standard error")
         .action(ArgAction::SetTrue);
     let storm = Command::new(alloc, "storm")
-        .about("Runs a storm, and prints how it ended")
+        .about("Runs a storm, and prints its end")
         .after_help(STORMS)
         .arg(puts)?
         .arg(progress)?;
     Ok(storm)
 }
 
-/// The storm that the words ask for.
+/// Reads the storm of the words.
 fn storm_in(matches: &ArgMatches<'_>) -> Task {
     Task::Storm {
         puts: matches.get_one::<u64>("puts").unwrap_or(PUTS),

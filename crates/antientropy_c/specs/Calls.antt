@@ -1,4 +1,4 @@
--- What a call does to the replica that a handle holds.
+-- The effect of a call on the replica of a handle.
 use Rattle.std.specs.Prelude.{◌≡◌, ℕ, Bool, true, false, List, Result, length}
 use Rattle.range_state.specs.State.{State}
 use Rattle.antientropy_c.specs.declared.replica.Replica.{Replica}
@@ -10,16 +10,17 @@ use Rattle.hash_tree.specs.Nodes.{dirty_count}
 use Rattle.range_state.specs.Records.{open_count}
 use Rattle.antientropy_c.specs.declared.counts.Counts.{Counts}
 
--- by whether something was held: it still is, and what the call did is right; or nothing is, and the number says so
+-- the call of a full handle leaves it full, and is right; the call of an empty handle leaves it empty, and returns
+-- EMPTY
 abbrev pub OnHeld : Bool → Bool → ℕ → Type 0 → Type 0
 OnHeld true now code Right = (now ≡ true) × Right
 OnHeld false now code Right = (now ≡ false) × (code ≡ EMPTY)
 
--- a call on a replica, that takes it from one state to another
+-- a call on a replica, that changes its state
 unfoldable pub Calls : ℕ → Replica → Replica → (State → State → Type 0) → Type 0
 Calls code old new Right = OnHeld old.held new.held code (Right old.state new.state)
 
--- What the bytes decode to decides.
+-- A statement about the bytes of a message, by their decoding.
 pub record Reads (bytes : List ℕ) (Right : Result Message Refusal → Type 0) : Type 0 where
   pub decoded : Result Message Refusal
   pub decodes : Decodes bytes decoded

@@ -1,4 +1,4 @@
--- What the handles that C keeps own.
+-- The memory that C's handles own.
 use mathlib.Core.Bool.{Bool, true, false}
 use base.Fml.{Fml, ftrue}
 use mir.Syntax.{Ty}
@@ -10,11 +10,11 @@ use Rattle.std_alloc.specs.Box.Ownership.{box_owns}
 use Rattle.range_state.specs.contracts.state.RangeState.{the_row}
 use Rattle.range_state.specs.State.{State}
 
--- if something is held, the box at p whose value is x
+-- the box at p with the value x, if the handle is full
 abbrev pub held_owns : (Ty → Ptr → Fml) → (R : RattleType) → Bool → Ptr → R.Denot → Fml
 held_owns token R true p x = box_owns token R p x
 held_owns token R false p x = ftrue
 
--- the same of a replica with the state s
+-- the memory that the handle of a replica with the state s owns
 abbrev pub replica_owns : Global → Bool → Ptr → State → Fml
 replica_owns a held p s = held_owns (ghosts.dealloc_token a) the_row held p s

@@ -1,23 +1,24 @@
--- What C is handed of bytes.
+-- The copies of bytes that C gets.
 use Rattle.std.specs.Prelude.{◌≡◌, ℕ, nat_le, List, ◌++◌, length, drop, Result, Ok, Err, if◌then◌else◌}
 use Rattle.vclock.specs.Refusal.{number_of}
 use Rattle.vclock.specs.declared.refusal.Refusal.{Refusal}
 use Rattle.antientropy_c.specs.declared.numbers.TheConstants.{SMALL}
 
--- the caller's room after bytes, or whatever it is for, were copied to its front, if all of them fit
+-- the caller's buffer after items were copied to its front, if all of them fit
 abbrev pub copied : {A : Type 0} → List A → List A → List A
 copied bytes room = if nat_le (length bytes) (length room) then bytes ++ drop (length bytes) room else room
 
--- the number that says whether they do
+-- the number of the outcome: 0 if all of them fit, otherwise SMALL
 abbrev pub copy_code : {A : Type 0} → List A → List A → ℕ
 copy_code bytes room = if nat_le (length bytes) (length room) then 0 else SMALL
 
--- Of bytes the caller gets their count, and the bytes if all of them fit; of a refusal its number alone. A room comes with the count beside it.
+-- Of bytes the caller gets their number, and the bytes if all of them fit; of a refusal only its number. Before and
+-- after are the stored number and the buffer.
 abbrev pub HandsOut : Result (List ℕ) Refusal → ℕ → ℕ × List ℕ → ℕ × List ℕ → Type 0
 HandsOut (Ok bytes) code before after = (code ≡ copy_code bytes before.1) × (after.0 ≡ length bytes) × (after.1 ≡ copied bytes before.1)
 HandsOut (Err e) code before after = (code ≡ number_of e) × (after.0 ≡ before.0) × (after.1 ≡ before.1)
 
--- A result that is right is handed out.
+-- A result that is right is copied out.
 pub record Gives (code : ℕ) (before after : ℕ × List ℕ) (Right : Result (List ℕ) Refusal → Type 0) : Type 0 where
   pub told : Result (List ℕ) Refusal
   pub handed : HandsOut told code before after

@@ -1,4 +1,4 @@
--- A replica that is made.
+-- The making of a replica.
 use Rattle.std.specs.Prelude.{◌≡◌, ℕ, Bool, true, false, Option, Some, None, Result, OnErr}
 use Rattle.vclock.specs.Answer.{Answers}
 use Rattle.vclock.specs.declared.refusal.Refusal.{Refusal}
@@ -9,7 +9,7 @@ use Rattle.antientropy_c.specs.Numbers.{Returns}
 use Rattle.antientropy_c.specs.declared.numbers.TheConstants.{HELD}
 use Rattle.antientropy_c.specs.declared.replica.Replica.{Replica}
 
--- why no range is made: there is none with such numbers
+-- the fault of numbers that are not those of a range
 abbrev pub config_fault : Option Config → Option Refusal
 config_fault (Some c) = None
 config_fault None = Some BadRing
@@ -19,11 +19,11 @@ abbrev pub IsFresh : Option Config → State → Type 0
 IsFresh (Some c) s = s ≡ fresh c
 IsFresh None s = ⊥
 
--- it is held from then on, or nothing is
+-- the handle holds the new state, or is empty on error
 abbrev pub TakesState : Replica → Option Config → Result (Unit {0}) Refusal → Type 0
 TakesState new config r = Answers r (config_fault config) (λ _. (new.held ≡ true) × IsFresh config new.state) × OnErr r (new.held ≡ false)
 
--- by whether something was held: nothing changes, and the number says so; or a replica is made
+-- a full handle is unchanged, and HELD is returned; otherwise a replica is made
 abbrev pub MadeWhere : Bool → ℕ → Replica → Replica → Option Config → Type 0
 MadeWhere true code old new config = (new.held ≡ true) × (new.state ≡ old.state) × (code ≡ HELD)
 MadeWhere false code old new config = Returns code (TakesState new config)

@@ -8,7 +8,7 @@ abbrev pub code_of : {T : Type 0} → Result T Refusal → ℕ
 code_of (Ok x) = 0
 code_of (Err e) = number_of e
 
--- A result that is right has the number.
+-- A result that is right has this number.
 pub record Returns {T : Type 0} (code : ℕ) (Right : Result T Refusal → Type 0) : Type 0 where
   pub told : Result T Refusal
   pub number : code ≡ code_of told

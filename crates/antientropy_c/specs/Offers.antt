@@ -1,4 +1,4 @@
--- What a replica offers to another one.
+-- Offers of a replica to another one.
 use Rattle.std.specs.Prelude.{◌≡◌, ℕ, ◌==◌, Bool, true, false, List, Result, Ok, Err, Option, OnErr, MatchBool}
 use Rattle.vclock.specs.Answer.{Answers}
 use Rattle.vclock.specs.Format.{number_of}
@@ -17,15 +17,15 @@ use Rattle.antientropy_c.specs.Calls.{OnHeld}
 use Rattle.antientropy_c.specs.declared.numbers.TheConstants.{HELD}
 use Rattle.antientropy_c.specs.declared.publication.Publication.{Publication}
 
--- a call on a publication, which stays as it is
+-- a call on a publication that does not change it
 unfoldable pub Shows : ℕ → Publication → Publication → (RowMap → Type 0) → Type 0
 Shows code old new Right = OnHeld old.held new.held code ((new.rows ≡ old.rows) × Right old.rows)
 
--- the rows are held from then on, or nothing is
+-- the publication holds the rows, or is empty on error
 abbrev pub TakesRows : Publication → Option Refusal → RowMap → Result (Unit {0}) Refusal → Type 0
 TakesRows new cause m r = Answers r cause (λ _. (new.held ≡ true) × (new.rows ≡ m)) × OnErr r (new.held ≡ false)
 
--- by whether something was held: nothing changes, and the number says so; or the rows are published
+-- a full publication is unchanged, and HELD is returned; otherwise the rows are published
 abbrev pub PublishedWhere : Bool → ℕ → Publication → Publication → Option Refusal → RowMap → Type 0
 PublishedWhere true code old new cause m = (new.held ≡ true) × (new.rows ≡ old.rows) × (code ≡ HELD)
 PublishedWhere false code old new cause m = Returns code (TakesRows new cause m)
@@ -41,13 +41,13 @@ offer_of number m = record { offer = number; format = number_of m.format; range 
 abbrev pub answer_of : RowMap → Ask → Answer
 answer_of m ask = record { offer = ask.offer; node = ask.node; text = text_at m ask.node.depth ask.node.index }
 
--- an ask for the offer of that number is answered, and one for another offer is for one that is gone
+-- an ask for the offer of that number is answered, and the result for another offer is Gone
 abbrev pub ServesAsk : RowMap → ℕ → Ask → Result (List ℕ) Refusal → Type 0
 ServesAsk m number ask r = MatchBool (ask.offer == number)
     (Answers r (answer_fault m ask.node) (λ bytes. bytes ≡ message_text (messages.Answer (answer_of m ask))))
     (r ≡ Err Gone)
 
--- the same of what bytes decode to: nothing but an ask is served
+-- a decoded message is answered if it is an ask
 abbrev pub Serves : RowMap → ℕ → Result (List ℕ) Refusal → Result Message Refusal → Type 0
 Serves m number r (Ok (messages.Ask ask)) = ServesAsk m number ask r
 Serves m number r (Ok (messages.Offer offer)) = r ≡ Err BadMessage

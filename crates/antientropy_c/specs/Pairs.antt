@@ -1,4 +1,4 @@
--- Clocks as C has them.
+-- The pairs of clocks in C.
 use Rattle.std.specs.Prelude.{ℕ, List, map}
 use Rattle.vclock.specs.Clock.{Pairs, at_most, order_of}
 use Rattle.vclock.specs.declared.clock.ClockOrder.{ClockOrder}
@@ -19,6 +19,6 @@ number_of_order After = 1
 number_of_order Equal = 2
 number_of_order Apart = 3
 
--- the number of how two clocks compare
+-- the number of the order of two clocks
 abbrev pub order_between : Pairs → Pairs → ℕ
 order_between a b = number_of_order (order_of (at_most a b) (at_most b a))

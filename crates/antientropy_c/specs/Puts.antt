@@ -1,4 +1,4 @@
--- Versions that C brings: their numbers need not be right.
+-- Versions from C: their numbers need not be right.
 use Rattle.std.specs.Prelude.{◌≡◌, ℕ, nat_le, ◌==◌, List, Option, Some, None, Result, Ok, Err, if◌then◌else◌}
 use Rattle.vclock.specs.Clock.{Pairs, counter, clock_of, pairs_fault}
 use Rattle.vclock.specs.Outcome.{Outcome, ◌>>◌}
@@ -13,11 +13,11 @@ use Rattle.range_state.specs.declared.event.Accepted.{Accepted}
 use Rattle.range_state.specs.declared.event.Accepted.TheVariants.{Taken, Known}
 use Rattle.antientropy_c.specs.declared.puts.PutReceipt.{PutReceipt}
 
--- why a number is no node's
+-- the fault of a number that is not a node's
 abbrev pub node_fault : ℕ → Option Refusal
 node_fault node = if node == 0 then Some BadClock else None
 
--- why a number is no kind's
+-- the fault of a number that is not a kind's
 abbrev pub kind_fault : ℕ → Option Refusal
 kind_fault kind = if nat_le kind 1 then None else Some BadValue
 
@@ -25,7 +25,7 @@ kind_fault kind = if nat_le kind 1 then None else Some BadValue
 abbrev pub kind_of : ℕ → Kind
 kind_of kind = if kind == 0 then Live else Tombstone
 
--- a put by the caller with seat 0
+-- a put by seat 0
 abbrev pub put_at : State → ℕ → List ℕ → Pairs → ℕ → List ℕ → Outcome Entry State
 put_at s node key context kind value = do
   node_fault node
@@ -33,19 +33,19 @@ put_at s node key context kind value = do
   kind_fault kind
   put s 0 node key (clock_of context) (kind_of kind) value
 
--- the caller is told of its entry, if there is one
+-- the caller gets the receipt of its entry, unless the put was refused
 abbrev pub TellsPut : ℕ → Result Entry Refusal → PutReceipt → PutReceipt → Type 0
 TellsPut node (Ok e) old new = new ≡ record { number = e.number; counter = counter e.version.clock node }
 TellsPut node (Err e) old new = new ≡ old
 
--- a version of another replica comes as a copy, by the caller with seat 0
+-- a version of another replica, accepted as a copy by seat 0
 abbrev pub accept_at : State → List ℕ → Pairs → ℕ → List ℕ → Outcome Accepted State
 accept_at s key clock kind value = do
   pairs_fault clock
   kind_fault kind
   accept s 0 Copy key (record { clock = clock_of clock; kind = kind_of kind; value = value })
 
--- the caller is told whether it was new, if it was not refused
+-- the caller gets 1 if the version was new and 0 if it was known, unless it was refused
 abbrev pub TellsAccepted : Result Accepted Refusal → ℕ → ℕ → Type 0
 TellsAccepted (Ok (Taken e)) old new = new ≡ 1
 TellsAccepted (Ok Known) old new = new ≡ 0

@@ -1,4 +1,4 @@
--- Sessions as C goes through them.
+-- Sessions, as C runs them.
 use Rattle.std.specs.Prelude.{◌≡◌, ℕ, ◌==◌, List, [], length, slice_get, Option, Some, None, Result, Ok, Err, MatchBool, MatchOption}
 use Rattle.vclock.specs.Answer.{Answers}
 use Rattle.vclock.specs.Outcome.{Does}
@@ -19,7 +19,7 @@ use Rattle.range_state.specs.declared.«record».Record.{Record}
 use Rattle.range_state.specs.declared.event.AnswerTaken.{AnswerTaken}
 use Rattle.antientropy_c.specs.declared.sessions.TakenReceipt.{TakenReceipt}
 
--- a session is opened with what bytes decode to, if that is an offer
+-- a session is opened by a decoded message, if it is an offer
 abbrev pub Opens : State → ℕ → Result ℕ Refusal → State → Result Message Refusal → Type 0
 Opens s partner r t (Ok (messages.Offer offer)) = Does r s t (open_session s partner offer)
 Opens s partner r t (Ok (messages.Ask ask)) = (r ≡ Err BadMessage) × (t ≡ s)
@@ -36,23 +36,23 @@ abbrev pub asked_bytes : ℕ → Option NodeAt → List ℕ
 asked_bytes number None = []
 asked_bytes number (Some node) = message_text (messages.Ask (record { offer = number; node = node }))
 
--- bytes that ask for the first node that a session has outstanding, if one is
+-- bytes that ask for the first outstanding node of a session, if any
 pub record AsksFirst (r : Record) (number : ℕ) (bytes : List ℕ) : Type 0 where
   pub first : Option NodeAt
   pub is_first : IsFirstOf r.session.outstanding first
   pub says : bytes ≡ asked_bytes number first
 
--- the same of the session of that number
+-- bytes that ask for the first outstanding node of the session of that number
 abbrev pub Asks : State → ℕ → ℕ → Result (List ℕ) Refusal → Type 0
 Asks s id number r = Answers r (unknown_fault s id) (λ bytes. MatchOption (slice_get s.records id) ⊥ (λ kept. AsksFirst kept number bytes))
 
--- an answer of the offer with that number is taken, as by seat 0, and one of another offer is none
+-- an answer of the offer with that number is taken, as by seat 0, and one of another offer is refused
 abbrev pub TakesWith : State → ℕ → ℕ → Answer → Result AnswerTaken Refusal → State → Type 0
 TakesWith s id number a r t = MatchBool (a.offer == number)
     (TakesAnswer s 0 id (record { node = node_of a.node; text = a.text }) r t)
     ((r ≡ Err BadMessage) × (t ≡ s))
 
--- the same of what bytes decode to, if that is an answer
+-- a decoded message is taken, if it is an answer
 abbrev pub Takes : State → ℕ → ℕ → Result AnswerTaken Refusal → State → Result Message Refusal → Type 0
 Takes s id number r t (Ok (messages.Answer answer)) = TakesWith s id number answer r t
 Takes s id number r t (Ok (messages.Offer offer)) = (r ≡ Err BadMessage) × (t ≡ s)
@@ -66,12 +66,12 @@ number_of_state Finished = 1
 number_of_state Failed = 2
 number_of_state Cancelled = 3
 
--- the caller is told what came of an answer, if it was taken
+-- the caller gets the receipt of an answer, if it was taken
 abbrev pub TellsTaken : Result AnswerTaken Refusal → TakenReceipt → TakenReceipt → Type 0
 TellsTaken (Ok a) old new = new ≡ record { accepted = length a.receipts.items; known = a.known; state = number_of_state a.state }
 TellsTaken (Err e) old new = new ≡ old
 
--- how the session of a record stands, if there is one
+-- the number of the state of a record's session, if there is a record
 abbrev pub seen_of : Option Record → Result ℕ Refusal
 seen_of None = Err UnknownSession
 seen_of (Some r) = Ok (number_of_state r.session.state)

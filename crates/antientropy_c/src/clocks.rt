@@ -1,4 +1,4 @@
-//! Clocks that C compares.
+//! Comparison and merge of clocks, for C.
 ghost use Rattle.std.specs.Prelude.{◌≡◌, ℕ, Result};
 ghost use Rattle.vclock.specs.Answer.{AnswersOrNoMemory, first_fault};
 ghost use Rattle.vclock.specs.Clock.{Pairs, pairs_fault, clock_of, merged};
@@ -15,9 +15,11 @@ use crate::versions::copy_pairs;
 use std::alloc::Global;
 use vclock::{Clock, ClockOrder, Refusal};
 
-/// How two clocks compare: 0 the first is before the second, 1 after it, 2 equal, 3 neither has seen all that the other has.
+/// Compares two clocks: 0 if the second has seen everything that the first has, and more; 1 if the first has seen
+/// everything that the second has, and more; 2 if they are equal; 3 if neither has seen everything that the other has.
 ///
-/// Refused, in order: BadClock, ClockFull of the first and then of the second, NoMemory, which may stand in place of each.
+/// Refused, in order: BadClock and ClockFull of the first and then of the second, NoMemory, which may replace each of
+/// these.
 #[unsafe(no_mangle)]
 #[tactic(auto, using(crate::proofs::CallLaws::returns))]
 pub extern "C" fn antientropy_compare(
@@ -36,7 +38,7 @@ pub extern "C" fn antientropy_compare(
     code(&told)
 }
 
-/// Does the same.
+/// Compares two clocks.
 fn compare(alloc: Global, first: &[Pair], second: &[Pair]) -> Result<u64, Refusal>
     ensures { AnswersOrNoMemory result
         (first_fault (pairs_fault (pairs_of first.now)) (pairs_fault (pairs_of second.now)))
@@ -47,7 +49,7 @@ fn compare(alloc: Global, first: &[Pair], second: &[Pair]) -> Result<u64, Refusa
     Ok(number_of(first.compare(&second)))
 }
 
-/// The number of an order.
+/// Returns the number of an order.
 fn number_of(order: ClockOrder) -> u64
     ensures { result ≡ number_of_order order }
 {
@@ -59,10 +61,10 @@ fn number_of(order: ClockOrder) -> u64
     }
 }
 
-/// The clock that has seen what both have seen, as [`Clock::merge`].
+/// Merges two clocks, as [`Clock::merge`] does.
 ///
-/// Refused, in order: BadClock, ClockFull of the first and then of the second, ClockFull (over 32 nodes), NoMemory, which may
-/// stand in place of each, SMALL.
+/// Refused, in order: BadClock and ClockFull of the first and then of the second, ClockFull (over 32 nodes), NoMemory,
+/// which may replace each of these, SMALL.
 #[unsafe(no_mangle)]
 #[tactic(auto, using(crate::proofs::CallLaws::gives_clock))]
 pub extern "C" fn antientropy_merge(
@@ -80,7 +82,7 @@ pub extern "C" fn antientropy_merge(
     hand_clock(&told, out, need)
 }
 
-/// Does the same.
+/// Merges two clocks.
 fn merge(alloc: Global, first: &[Pair], second: &[Pair]) -> Result<Clock, Refusal>
     ensures { AnswersOrNoMemory result (merges_fault (pairs_of first.now) (pairs_of second.now))
         (λ c. c ≡ merged (clock_of (pairs_of first.now)) (clock_of (pairs_of second.now))) }
@@ -90,7 +92,7 @@ fn merge(alloc: Global, first: &[Pair], second: &[Pair]) -> Result<Clock, Refusa
     first.merge(alloc, &second)
 }
 
-/// Hands out the pairs of a clock, or nothing, and returns the number of what came of it.
+/// Copies out the pairs of a clock, or nothing on error, and returns the number of the outcome.
 fn hand_clock(told: &Result<Clock, Refusal>, out: &mut [Pair], need: &mut u64) -> u32
     ensures { HandsClock told.now result (need.old, out.old) (need.new, out.new) }
 {

@@ -1,4 +1,4 @@
-//! What a replica has, in numbers.
+//! The counts of a replica.
 ghost use Rattle.std.specs.Prelude.{◌≡◌, ◌<◌};
 ghost use Rattle.hash_tree.specs.Nodes.{node_count, nodes_above, place_at, dirty_count};
 ghost use Rattle.range_state.specs.Records.{is_open, open_count};
@@ -12,23 +12,23 @@ use std::alloc::Global;
 use sync_session::SessionState;
 use vclock::Format;
 
-/// What a replica has.
+/// The counts of a replica.
 #[repr(C)]
 #[derive(Clone, Copy, Debug)]
 pub struct Counts {
-    /// How many entries the journal has.
+    /// The number of entries of the journal.
     pub entries: u64,
-    /// How many entries it may have.
+    /// The maximum number of entries.
     pub limit: u64,
-    /// How many nodes of the tree have no digest.
+    /// The number of nodes of the tree without a digest.
     pub dirty: u64,
-    /// How many sessions there ever were.
+    /// The number of sessions that were ever opened.
     pub sessions: u64,
-    /// How many of them are open.
+    /// The number of sessions that are open.
     pub open_sessions: u64,
 }
 
-/// What a replica has. Refused: EMPTY.
+/// Counts the parts of a replica. Refused: EMPTY.
 #[unsafe(no_mangle)]
 #[tactic(auto, using(crate::proofs::CallLaws::empty, crate::proofs::CallLaws::held))]
 pub extern "C" fn antientropy_count(
@@ -46,7 +46,7 @@ pub extern "C" fn antientropy_count(
     0
 }
 
-/// The same of a replica.
+/// Counts the parts of a replica.
 fn count(state: &RangeState) -> Counts
     ensures { result ≡ counts_of state.now }
 {
@@ -59,7 +59,7 @@ fn count(state: &RangeState) -> Counts
     }
 }
 
-/// How many nodes have no digest.
+/// Counts the nodes without a digest.
 fn dirty_count(state: &RangeState) -> u64
     ensures { result ≡ dirty_count state.now.marks }
 {
@@ -74,7 +74,7 @@ fn dirty_count(state: &RangeState) -> u64
     dirty
 }
 
-/// How many nodes a tree has.
+/// Returns the number of nodes of a tree.
 fn node_count(format: Format) -> u16
     ensures { result ≡ node_count format }
 {
@@ -84,7 +84,7 @@ fn node_count(format: Format) -> u16
     }
 }
 
-/// The node at a place, depth by depth.
+/// Returns the node at a place, depth by depth.
 fn node_at(place: u16) -> NodeAt
     requires { place < nodes_above 4 }
     ensures { place_at result.depth result.index ≡ place }
@@ -98,7 +98,7 @@ fn node_at(place: u16) -> NodeAt
     NodeAt::new(depth, index).unwrap()
 }
 
-/// How many sessions are open.
+/// Counts the open sessions.
 fn open_count(records: &[Record]) -> u64
     ensures { result ≡ open_count records.now }
 {
@@ -111,7 +111,7 @@ fn open_count(records: &[Record]) -> u64
     open
 }
 
-/// Whether a session can still take texts.
+/// Returns true if a session can still take texts.
 #[tactic(auto, unfolding(range_state::specs::Records::is_open))]
 fn is_open(kept: &Record) -> bool
     ensures { result ≡ is_open kept.now }

@@ -1,4 +1,5 @@
-//! A replica of a range, for programs in C and in what can call C.
+//! A replica of a range, for programs in C and in languages that can call C. Use it through `include/antientropy.h`,
+//! which declares these calls.
 #![tactic(auto)]
 
 pub mod clocks;

@@ -1,4 +1,4 @@
-//! Replicas that are made, taken over and freed.
+//! The making, migration and freeing of replicas.
 ghost use Rattle.std.specs.Prelude.{◌≡◌, false, Result};
 ghost use Rattle.vclock.specs.Answer.{Answers};
 ghost use Rattle.vclock.specs.Outcome.{Does};
@@ -15,10 +15,10 @@ use range_state::{RangeConfig, RangeState};
 use std::alloc::Global;
 use vclock::Refusal;
 
-/// Makes a replica that has accepted nothing, as [`RangeConfig::new`] and [`RangeState::new`].
+/// Makes a replica that has accepted nothing, as [`RangeConfig::new`] and [`RangeState::new`] do.
 ///
-/// Refused, in order: HELD (the handle holds one already), BadRing (the numbers are outside the limits), NoMemory. The handle
-/// is then as it was.
+/// Refused, in order: HELD (the handle holds a replica already), BadRing (the numbers are outside the limits),
+/// NoMemory. On error the handle is unchanged.
 #[unsafe(no_mangle)]
 #[tactic(auto, using(crate::proofs::MakeLaws::already, crate::proofs::MakeLaws::made))]
 pub extern "C" fn antientropy_new(
@@ -38,7 +38,7 @@ pub extern "C" fn antientropy_new(
     code(&make(alloc, replica, format, bits, range, limit))
 }
 
-/// Does the same with a handle that holds nothing.
+/// Makes a replica in an empty handle.
 fn make(
     alloc: Global,
     replica: &mut Replica,
@@ -55,7 +55,7 @@ fn make(
     Ok(())
 }
 
-/// A replica that has accepted nothing.
+/// Makes the state of a replica that has accepted nothing.
 fn fresh(
     alloc: Global,
     format: u64,
@@ -71,8 +71,8 @@ fn fresh(
     Ok(Box::new(alloc, state)?)
 }
 
-/// Takes a replica of format 1 over to format 2; one of format 2 stays as it is. Refused, in order: EMPTY, NoMemory. The
-/// replica is then as it was.
+/// Migrates a replica of format 1 to format 2; one of format 2 is unchanged. Refused, in order: EMPTY, NoMemory. On
+/// error the replica is unchanged.
 #[unsafe(no_mangle)]
 #[tactic(auto, using(crate::proofs::CallLaws::empty, crate::proofs::CallLaws::held, crate::proofs::CallLaws::returns))]
 pub extern "C" fn antientropy_migrate(alloc: Global, replica: &mut Replica) -> u32
@@ -87,7 +87,7 @@ pub extern "C" fn antientropy_migrate(alloc: Global, replica: &mut Replica) -> u
     code(&told)
 }
 
-/// Frees what a handle holds.
+/// Frees the replica of a handle, if any.
 #[unsafe(no_mangle)]
 pub extern "C" fn antientropy_free(alloc: Global, replica: &mut Replica)
     ensures { replica.new.held ≡ false }

@@ -1,4 +1,4 @@
-//! What a replica offers to another one.
+//! Offers of a replica to another one.
 ghost use Rattle.std.specs.Prelude.{◌≡◌, false, None};
 ghost use Rattle.vclock.specs.Answer.{Answers};
 ghost use Rattle.walk_messages.specs.Messages.{message_text};
@@ -20,8 +20,8 @@ use std::alloc::Global;
 use vclock::Refusal;
 use walk_messages::{Answer, Ask, Message, decode, encode};
 
-/// Publishes the rows of a replica now. Refused, in order: EMPTY, HELD (the publication holds something already), Dirty (some
-/// node has no digest), NoMemory. The publication is then as it was.
+/// Publishes the rows of a replica now. Refused, in order: EMPTY, HELD (the publication holds a snapshot already),
+/// Dirty (some node has no digest), NoMemory. On error the publication is unchanged.
 #[unsafe(no_mangle)]
 #[tactic(auto, using(crate::proofs::CallLaws::empty, crate::proofs::CallLaws::held))]
 pub extern "C" fn antientropy_snapshot(
@@ -40,7 +40,7 @@ pub extern "C" fn antientropy_snapshot(
     number
 }
 
-/// Does the same of a replica.
+/// Publishes the rows of a replica.
 #[tactic(auto, using(crate::proofs::OfferLaws::already, crate::proofs::OfferLaws::published))]
 fn publish(alloc: Global, state: &RangeState, publication: &mut Publication) -> u32
     ensures { Publishes result publication.old publication.new (dirty_fault state.now) (rows_now state.now) }
@@ -52,7 +52,7 @@ fn publish(alloc: Global, state: &RangeState, publication: &mut Publication) -> 
     code(&make(alloc, state, publication))
 }
 
-/// Does the same with a publication that holds nothing.
+/// Publishes the rows of a replica in an empty publication.
 fn make(alloc: Global, state: &RangeState, publication: &mut Publication) -> Result<(), Refusal>
     requires { publication.old.held ≡ false }
     ensures { TakesRows publication.new (dirty_fault state.now) (rows_now state.now) result }
@@ -62,7 +62,7 @@ fn make(alloc: Global, state: &RangeState, publication: &mut Publication) -> Res
     Ok(())
 }
 
-/// The rows of a replica now.
+/// Makes a box with the rows of a replica now.
 fn boxed(alloc: Global, state: &RangeState) -> Result<Box<Published, Global>, Refusal>
     ensures { Answers result (dirty_fault state.now) (λ rows. rows.value ≡ rows_now state.now) }
 {
@@ -70,7 +70,7 @@ fn boxed(alloc: Global, state: &RangeState) -> Result<Box<Published, Global>, Re
     Ok(Box::new(alloc, Published::new(snapshot))?)
 }
 
-/// Frees what a publication holds.
+/// Frees the snapshot of a publication, if any.
 #[unsafe(no_mangle)]
 pub extern "C" fn antientropy_snapshot_free(alloc: Global, publication: &mut Publication)
     ensures { publication.new.held ≡ false }
@@ -78,7 +78,7 @@ pub extern "C" fn antientropy_snapshot_free(alloc: Global, publication: &mut Pub
     let _rows = publication.take(alloc);
 }
 
-/// The message of the offer with a number. Refused, in order: EMPTY, NoMemory.
+/// Writes the message of the offer with a number. Refused, in order: EMPTY, NoMemory, SMALL.
 #[unsafe(no_mangle)]
 #[tactic(auto, using(crate::proofs::OfferLaws::empty, crate::proofs::OfferLaws::held, crate::proofs::CallLaws::gives))]
 pub extern "C" fn antientropy_offer(
@@ -99,7 +99,7 @@ pub extern "C" fn antientropy_offer(
     hand_out(&told, out, need)
 }
 
-/// The message of the offer of a snapshot.
+/// Writes the message of the offer of a snapshot.
 fn offer(alloc: Global, snapshot: &Snapshot, number: u32) -> Result<Text, Refusal>
     ensures { Answers result None (λ bytes. bytes ≡ message_text (messages.Offer (offer_of number snapshot.now))) }
 {
@@ -107,10 +107,10 @@ fn offer(alloc: Global, snapshot: &Snapshot, number: u32) -> Result<Text, Refusa
     Ok(Text::from(bytes))
 }
 
-/// The message that answers an ask, if it is for the offer with this number.
+/// Writes the message that answers an ask, if it is for the offer with this number.
 ///
-/// Refused, in order: EMPTY, BadMessage (the bytes are no ask), Gone (it is of another offer), BadMessage (the tree has
-/// no such node), NoMemory. If the bytes are an answer, NoMemory may stand in place of BadMessage.
+/// Refused, in order: EMPTY, BadMessage (the bytes aren't an ask), Gone (the ask is for another offer), BadMessage (the
+/// tree has no such node), NoMemory, SMALL. If the bytes are an answer, NoMemory may replace BadMessage.
 #[unsafe(no_mangle)]
 #[tactic(auto, using(crate::proofs::OfferLaws::empty, crate::proofs::OfferLaws::held, crate::proofs::CallLaws::gives))]
 pub extern "C" fn antientropy_serve(
@@ -132,7 +132,7 @@ pub extern "C" fn antientropy_serve(
     hand_out(&told, out, need)
 }
 
-/// Does the same of a snapshot.
+/// Answers the bytes of an ask from a snapshot.
 #[tactic(auto, using(crate::proofs::CallLaws::reads))]
 fn serve(alloc: Global, snapshot: &Snapshot, number: u32, bytes: &[u8]) -> Result<Text, Refusal>
     ensures { Reads bytes.now (Serves snapshot.now number result) }
@@ -141,7 +141,7 @@ fn serve(alloc: Global, snapshot: &Snapshot, number: u32, bytes: &[u8]) -> Resul
     serve_decoded(alloc, snapshot, number, decoded)
 }
 
-/// Does the same with what the bytes decode to.
+/// Answers a decoded message from a snapshot, if it is an ask.
 fn serve_decoded(
     alloc: Global,
     snapshot: &Snapshot,
@@ -157,7 +157,7 @@ fn serve_decoded(
     }
 }
 
-/// The message that answers an ask. Refused, in order: Gone, BadMessage, NoMemory.
+/// Answers an ask from a snapshot. Refused, in order: Gone, BadMessage, NoMemory.
 fn serve_ask(alloc: Global, snapshot: &Snapshot, number: u32, ask: Ask) -> Result<Text, Refusal>
     ensures { ServesAsk snapshot.now number ask result }
 {

@@ -1,4 +1,4 @@
-//! Bytes that are handed to C.
+//! Copies of bytes to C.
 ghost use Rattle.std.specs.Prelude.{Ok};
 ghost use Rattle.antientropy_c.specs.Hands.{HandsOut};
 
@@ -6,7 +6,7 @@ use crate::numbers::SMALL;
 use hash_tree::Text;
 use vclock::Refusal;
 
-/// Hands out the bytes of a result, or nothing, and returns the number of what came of it.
+/// Copies out the bytes of a result, or nothing on error, and returns the number of the outcome.
 pub(crate) fn hand_out(told: &Result<Text, Refusal>, out: &mut [u8], need: &mut u64) -> u32
     ensures { HandsOut told.now result (need.old, out.old) (need.new, out.new) }
 {
@@ -16,7 +16,7 @@ pub(crate) fn hand_out(told: &Result<Text, Refusal>, out: &mut [u8], need: &mut 
     }
 }
 
-/// Copies bytes to the front of a room if all of them fit, and says how many there are.
+/// Copies bytes to the front of a buffer if all of them fit. Stores their number, and returns 0 or SMALL.
 pub(crate) fn copy_out(bytes: &[u8], out: &mut [u8], need: &mut u64) -> u32
     ensures { HandsOut (Ok bytes.now) result (need.old, out.old) (need.new, out.new) }
 {

@@ -1,4 +1,4 @@
-//! Clocks as C has them.
+//! The pairs of clocks in C.
 ghost use Rattle.std.specs.Prelude.{◌≡◌, IfOk};
 ghost use Rattle.vclock.specs.Answer.{AnswersOrNoMemory};
 ghost use Rattle.vclock.specs.Clock.{pairs_fault, clock_of};
@@ -17,8 +17,8 @@ pub struct Pair {
     pub counter: u64,
 }
 
-/// The clock of pairs in any order. Refused, in order: BadClock, ClockFull, NoMemory. The pairs are copied first, so NoMemory
-/// may stand in place of the others.
+/// Makes the clock of pairs in any order. Refused, in order: BadClock, ClockFull, NoMemory. The pairs are copied first,
+/// so NoMemory may replace the others.
 pub(crate) fn clock_of(alloc: Global, pairs: &[Pair]) -> Result<Clock, Refusal>
     ensures { AnswersOrNoMemory result (pairs_fault (pairs_of pairs.now)) (λ clock. clock ≡ clock_of (pairs_of pairs.now)) }
 {
@@ -26,7 +26,7 @@ pub(crate) fn clock_of(alloc: Global, pairs: &[Pair]) -> Result<Clock, Refusal>
     Clock::from_pairs(alloc, &pairs)
 }
 
-/// The same pairs. It fails for want of memory.
+/// Copies the pairs. It fails if memory runs out.
 fn numbers_of(alloc: Global, pairs: &[Pair]) -> Result<Vec<(u64, u64)>, AllocError>
     ensures { IfOk result (λ numbers. numbers.items ≡ pairs_of pairs.now) }
 {

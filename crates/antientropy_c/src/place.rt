@@ -5,7 +5,7 @@ ghost use Rattle.antientropy_c.specs.Handles.{held_owns};
 use std::alloc::Allocator;
 use std::marker::Model;
 
-/// What a box owns, with its pointer, or nothing.
+/// The parts of a box, with its pointer, or nothing.
 pub(crate) struct Place<T, A: Allocator> {
     pub(crate) at: *mut T,
     pub(crate) held: bool,
@@ -30,7 +30,7 @@ impl<T: Drop, A: Allocator> Place<T, A> {
         }
     }
 
-    /// Makes the box again. If there is none, what is left is the allocator.
+    /// Makes the box again. If there is no box, returns the allocator.
     pub(crate) fn into_box(self) -> Result<Box<T, A>, A>
         ensures { MatchResult result (λ whole. (self.held ≡ true) × (whole.value ≡ self.value))
             (λ _. self.held ≡ false) }

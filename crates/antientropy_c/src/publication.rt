@@ -1,4 +1,4 @@
-//! What C holds of a snapshot.
+//! The handle of a snapshot.
 ghost use Rattle.std.specs.Prelude.{◌≡◌, true, false, MatchOption};
 ghost use Rattle.snapshot.specs.RowMaps.{RowMap};
 ghost use Rattle.antientropy_c.specs.Publications.{publication_owns};
@@ -10,7 +10,7 @@ use std::marker::Model;
 use std::mem::replace;
 use std::ptr::null_mut;
 
-/// A snapshot on the heap, or nothing: all its bytes are zero then, and the rows are any.
+/// A snapshot on the heap, or nothing: then all its bytes are zero, and the ghost rows are arbitrary.
 #[repr(C)]
 #[derive(Drop)]
 pub struct Publication {
@@ -25,7 +25,7 @@ impl Model for Publication {
 }
 
 impl Publication {
-    /// Nothing.
+    /// Makes an empty handle.
     fn none(alloc: Global) -> Publication
         ensures { result.held ≡ false }
     {
@@ -36,7 +36,7 @@ impl Publication {
         }
     }
 
-    /// What is at a place.
+    /// Makes the handle of a place.
     fn of(place: Place<Published, Global>) -> Publication
         ensures { (result.held ≡ place.held) × (result.rows ≡ place.value) }
     {
@@ -48,7 +48,7 @@ impl Publication {
         }
     }
 
-    /// The place of what is held.
+    /// Makes the place of a handle.
     fn into_place(self) -> Place<Published, Global>
         ensures { (result.held ≡ self.held) × (result.value ≡ self.rows) }
     {
@@ -60,7 +60,7 @@ impl Publication {
         }
     }
 
-    /// Takes the snapshot out, if there is one. Nothing is held then.
+    /// Takes the snapshot out, if any. The handle is empty then.
     pub(crate) fn take(&mut self, alloc: Global) -> Option<Box<Published, Global>>
         ensures rows { MatchOption result (self.old.held ≡ false)
             (λ rows. (self.old.held ≡ true) × (rows.value ≡ self.old.rows)) }
@@ -72,7 +72,7 @@ impl Publication {
             .ok()
     }
 
-    /// Holds a snapshot, where nothing was held: what is dropped with the handle would never be freed.
+    /// Puts a snapshot into an empty handle. A snapshot that is dropped with its handle would never be freed.
     pub(crate) fn hold(&mut self, rows: Box<Published, Global>)
         requires { self.old.held ≡ false }
         ensures held { self.new.held ≡ true }

@@ -23,7 +23,7 @@ impl Model for Published {
 }
 
 impl Published {
-    /// What is published.
+    /// Makes the published form of a snapshot.
     pub(crate) fn new(snapshot: Arc<Snapshot, Global>) -> Published
         ensures { result ≡ arc_value snapshot }
     {

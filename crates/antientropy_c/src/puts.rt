@@ -1,4 +1,4 @@
-//! Versions that come to a replica.
+//! Puts, and versions of other replicas.
 ghost use Rattle.std.specs.Prelude.{◌≡◌, Result};
 ghost use Rattle.vclock.specs.Answer.{AnswersAtOnce};
 ghost use Rattle.vclock.specs.Outcome.{DoesOrNoMemory};
@@ -19,7 +19,7 @@ use std::alloc::Global;
 use vclock::{Bytes, Refusal};
 use version_set::{Kind, Version};
 
-/// What a put is told.
+/// The receipt of a put.
 #[repr(C)]
 #[derive(Clone, Copy, Debug)]
 pub struct PutReceipt {
@@ -31,9 +31,9 @@ pub struct PutReceipt {
 
 /// Puts a value, or a tombstone, for a key at a node.
 ///
-/// Refused, in order: EMPTY; BadClock (the node is 0, or the context is no clock), ClockFull (the context has over 32 pairs),
-/// BadValue (the kind is neither 0 nor 1); then as [`RangeState::put`]. The replica and the receipt are then as they were.
-/// NoMemory may stand in place of any cause but EMPTY.
+/// Refused, in order: EMPTY; BadClock (the node is 0, or the context isn't a clock), ClockFull (the context has over 32
+/// pairs), BadValue (the kind is neither 0 nor 1); then as [`RangeState::put`] is. On error the replica and the receipt
+/// are unchanged. NoMemory may replace any cause but EMPTY.
 #[unsafe(no_mangle)]
 #[tactic(auto, using(crate::proofs::CallLaws::empty, crate::proofs::CallLaws::held, crate::proofs::CallLaws::returns))]
 pub extern "C" fn antientropy_put(
@@ -59,7 +59,7 @@ pub extern "C" fn antientropy_put(
     code(&told)
 }
 
-/// Does as [`antientropy_put`], on a replica.
+/// Puts a value into a replica, as [`antientropy_put`] does.
 fn put(
     alloc: Global,
     state: &mut RangeState,
@@ -80,11 +80,11 @@ fn put(
     state.put(alloc, 0, node, key, &context, kind, value)
 }
 
-/// Takes in a version of another replica, as a copy, unless it is known, and says whether it was taken: 1, or 0.
+/// Accepts a version of another replica, as a copy. Stores 1 if it was accepted, and 0 if it was known.
 ///
-/// Refused, in order: EMPTY; BadClock (the pairs are no clock), ClockFull, BadValue (the kind is neither 0 nor 1); then as
-/// [`RangeState::accept`]. The replica and what is said are then as they were. NoMemory may stand in place of any cause but
-/// EMPTY.
+/// Refused, in order: EMPTY; BadClock (the pairs aren't a clock), ClockFull, BadValue (the kind is neither 0 nor 1);
+/// then as [`RangeState::accept`] is. On error the replica and the stored number are unchanged. NoMemory may replace
+/// any cause but EMPTY.
 #[unsafe(no_mangle)]
 #[tactic(auto, using(crate::proofs::CallLaws::empty, crate::proofs::CallLaws::held, crate::proofs::CallLaws::returns))]
 pub extern "C" fn antientropy_accept(
@@ -109,7 +109,7 @@ pub extern "C" fn antientropy_accept(
     code(&told)
 }
 
-/// Does the same on a replica.
+/// Accepts a version into a replica, as [`antientropy_accept`] does.
 fn accept(
     alloc: Global,
     state: &mut RangeState,
@@ -127,7 +127,7 @@ fn accept(
     state.accept(alloc, 0, Source::Copy, key, version)
 }
 
-/// Tells the caller of a put, if it was not refused.
+/// Stores the receipt of a put, if it was not refused.
 fn tell_put(told: &Result<Receipt, Refusal>, node: u16, receipt: &mut PutReceipt)
     ensures { TellsPut node told.now receipt.old receipt.new }
 {
@@ -139,7 +139,7 @@ fn tell_put(told: &Result<Receipt, Refusal>, node: u16, receipt: &mut PutReceipt
     }
 }
 
-/// Says whether a version was taken, if it was not refused.
+/// Stores 1 if a version was accepted and 0 if it was known, if it was not refused.
 fn tell_accepted(told: &Result<Accepted, Refusal>, taken: &mut u64)
     ensures { TellsAccepted told.now taken.old taken.new }
 {
@@ -150,7 +150,7 @@ fn tell_accepted(told: &Result<Accepted, Refusal>, taken: &mut u64)
     }
 }
 
-/// The kind of a number. Refused: BadValue (it is neither 0 nor 1).
+/// Returns the kind of a number. Refused: BadValue (it is neither 0 nor 1).
 fn kind_of(kind: u8) -> Result<Kind, Refusal>
     ensures { AnswersAtOnce result (kind_fault kind) (λ k. k ≡ kind_of kind) }
 {

@@ -1,4 +1,4 @@
-//! What C holds of a replica.
+//! The handle of a replica.
 ghost use Rattle.std.specs.Prelude.{◌≡◌, true, false, MatchOption};
 ghost use Rattle.range_state.specs.State.{State};
 ghost use Rattle.antientropy_c.specs.Handles.{replica_owns};
@@ -10,7 +10,7 @@ use std::marker::Model;
 use std::mem::replace;
 use std::ptr::null_mut;
 
-/// A replica on the heap, or nothing: all its bytes are zero then, and the state is any.
+/// A replica on the heap, or nothing: then all its bytes are zero, and the ghost state is arbitrary.
 #[repr(C)]
 #[derive(Drop)]
 pub struct Replica {
@@ -25,7 +25,7 @@ impl Model for Replica {
 }
 
 impl Replica {
-    /// Nothing.
+    /// Makes an empty handle.
     fn none(alloc: Global) -> Replica
         ensures { result.held ≡ false }
     {
@@ -36,7 +36,7 @@ impl Replica {
         }
     }
 
-    /// What is at a place.
+    /// Makes the handle of a place.
     fn of(place: Place<RangeState, Global>) -> Replica
         ensures { (result.held ≡ place.held) × (result.state ≡ place.value) }
     {
@@ -48,7 +48,7 @@ impl Replica {
         }
     }
 
-    /// The place of what is held.
+    /// Makes the place of a handle.
     fn into_place(self) -> Place<RangeState, Global>
         ensures { (result.held ≡ self.held) × (result.value ≡ self.state) }
     {
@@ -60,7 +60,7 @@ impl Replica {
         }
     }
 
-    /// Takes the replica out, if there is one. Nothing is held then.
+    /// Takes the replica out, if any. The handle is empty then.
     pub(crate) fn take(&mut self, alloc: Global) -> Option<Box<RangeState, Global>>
         ensures state { MatchOption result (self.old.held ≡ false)
             (λ state. (self.old.held ≡ true) × (state.value ≡ self.old.state)) }
@@ -72,7 +72,7 @@ impl Replica {
             .ok()
     }
 
-    /// Holds a replica, where nothing was held: what is dropped with the handle would never be freed.
+    /// Puts a replica into an empty handle. A replica that is dropped with its handle would never be freed.
     pub(crate) fn hold(&mut self, state: Box<RangeState, Global>)
         requires { self.old.held ≡ false }
         ensures held { self.new.held ≡ true }

@@ -1,4 +1,4 @@
-//! What a replica shows.
+//! Reads of a replica's rows.
 ghost use Rattle.std.specs.Prelude.{◌≡◌, length};
 ghost use Rattle.vclock.specs.Answer.{Answers};
 ghost use Rattle.vclock.specs.Bytes.{key_fault};
@@ -16,7 +16,8 @@ use row_bytes::{Row, write_row};
 use std::alloc::Global;
 use vclock::{Bytes, Refusal, check_key};
 
-/// The text of the row of a key: no bytes if nothing is held. Refused, in order: EMPTY, BadKey, NoMemory.
+/// Writes the text of the row of a key: no bytes if no version is held. Refused, in order: EMPTY, BadKey, NoMemory,
+/// SMALL.
 #[unsafe(no_mangle)]
 #[tactic(auto, using(crate::proofs::CallLaws::empty, crate::proofs::CallLaws::held, crate::proofs::CallLaws::gives))]
 pub extern "C" fn antientropy_get(
@@ -37,7 +38,7 @@ pub extern "C" fn antientropy_get(
     hand_out(&told, out, need)
 }
 
-/// The same of a replica.
+/// Writes the text of the row of a key.
 fn row(alloc: Global, state: &RangeState, key: &[u8]) -> Result<Text, Refusal>
     ensures { Answers result (key_fault key.now) (λ bytes. bytes ≡ row_shown state.now key.now) }
 {
@@ -54,7 +55,7 @@ fn row(alloc: Global, state: &RangeState, key: &[u8]) -> Result<Text, Refusal>
     Ok(Text::from(text))
 }
 
-/// How many versions are held for a key. Refused: EMPTY.
+/// Counts the versions that are held for a key. Refused: EMPTY.
 #[unsafe(no_mangle)]
 #[tactic(auto, using(crate::proofs::CallLaws::empty, crate::proofs::CallLaws::held))]
 pub extern "C" fn antientropy_versions(

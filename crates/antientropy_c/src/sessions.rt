@@ -19,11 +19,11 @@ use sync_session::SessionState;
 use vclock::Refusal;
 use walk_messages::{Answer, Ask, Message, decode, encode};
 
-/// Opens a session with a partner by the bytes of its offer, and gives the session's number, from 0.
+/// Opens a session with a partner by the bytes of its offer, and stores the session's number, from 0.
 ///
-/// Refused, in order: EMPTY, BadMessage (the bytes are no offer); then as [`RangeState::open_session`]: OtherFormat,
-/// OtherRange, SessionsFull, Dirty, NoMemory. If the bytes are an answer, NoMemory may stand in place of BadMessage.
-/// The replica and the number are then as they were.
+/// Refused, in order: EMPTY, BadMessage (the bytes aren't an offer); then as [`RangeState::open_session`] is:
+/// OtherFormat, OtherRange, SessionsFull, Dirty, NoMemory. If the bytes are an answer, NoMemory may replace BadMessage.
+/// On error the replica and the stored number are unchanged.
 #[unsafe(no_mangle)]
 #[tactic(auto, using(crate::proofs::CallLaws::empty, crate::proofs::CallLaws::held, crate::proofs::CallLaws::returns))]
 pub extern "C" fn antientropy_open(
@@ -45,7 +45,7 @@ pub extern "C" fn antientropy_open(
     code(&told)
 }
 
-/// Does the same on a replica.
+/// Opens a session by the bytes of an offer.
 #[tactic(auto, using(crate::proofs::CallLaws::reads))]
 fn open(alloc: Global, state: &mut RangeState, partner: u16, bytes: &[u8]) -> Result<u64, Refusal>
     ensures { Reads bytes.now (Opens state.old partner result state.new) }
@@ -54,7 +54,7 @@ fn open(alloc: Global, state: &mut RangeState, partner: u16, bytes: &[u8]) -> Re
     open_decoded(alloc, state, partner, decoded)
 }
 
-/// Does the same with what the bytes decode to.
+/// Opens a session by a decoded message, if it is an offer.
 fn open_decoded(
     alloc: Global,
     state: &mut RangeState,
@@ -70,7 +70,7 @@ fn open_decoded(
     }
 }
 
-/// Gives a number, if there is one.
+/// Stores a number, if there was no refusal.
 pub(crate) fn tell_number(told: &Result<u64, Refusal>, out: &mut u64)
     ensures { TellsNumber told.now out.old out.new }
 {
@@ -79,8 +79,8 @@ pub(crate) fn tell_number(told: &Result<u64, Refusal>, out: &mut u64)
     }
 }
 
-/// The message that asks for the first node that a session has outstanding, with the number of the partner's offer: no
-/// bytes if nothing is outstanding. Refused, in order: EMPTY, UnknownSession, NoMemory.
+/// Writes the message that asks for the first outstanding node of a session, with the number of the partner's offer: no
+/// bytes if no node is outstanding. Refused, in order: EMPTY, UnknownSession, NoMemory, SMALL.
 #[unsafe(no_mangle)]
 #[tactic(auto, using(crate::proofs::CallLaws::empty, crate::proofs::CallLaws::held, crate::proofs::CallLaws::gives))]
 pub extern "C" fn antientropy_ask(
@@ -102,7 +102,7 @@ pub extern "C" fn antientropy_ask(
     hand_out(&told, out, need)
 }
 
-/// Does the same of a replica.
+/// Writes the message that asks for the first outstanding node of a session.
 fn ask(alloc: Global, state: &RangeState, session: u64, number: u32) -> Result<Text, Refusal>
     ensures { Asks state.now session number result }
 {
@@ -117,24 +117,24 @@ fn ask(alloc: Global, state: &RangeState, session: u64, number: u32) -> Result<T
     Ok(Text::from(bytes))
 }
 
-/// What came of an answer that a session took.
+/// The receipt of an answer that a session took.
 #[repr(C)]
 #[derive(Clone, Copy, Debug)]
 pub struct TakenReceipt {
-    /// How many versions were new, and are entries of the journal from then on.
+    /// The number of versions that were new, and are entries of the journal from then on.
     pub accepted: u64,
-    /// How many versions were known.
+    /// The number of versions that were known.
     pub known: u64,
-    /// How the session stands: 0 open, 1 finished, 2 failed, 3 cancelled.
+    /// The state of the session: 0 open, 1 finished, 2 failed, 3 cancelled.
     pub state: u64,
 }
 
 /// Takes the bytes of a partner's answer for a session with the partner's offer of that number.
 ///
-/// Refused, in order: EMPTY, BadMessage (the bytes are no answer, or the answer is of another offer); then as
-/// [`RangeState::take_answer`]: UnknownSession, NotAsked, WrongDigest, NotCanonical (the session has failed then), Crowded,
-/// JournalFull, NoMemory. NoMemory may stand in place of any of them where the bytes are an answer. After any but
-/// NotCanonical the replica is as it was, and after any the receipt is.
+/// Refused, in order: EMPTY, BadMessage (the bytes aren't an answer, or the answer is of another offer); then as
+/// [`RangeState::take_answer`] is: UnknownSession, NotAsked, WrongDigest, NotCanonical (the session has failed then),
+/// Crowded, JournalFull, NoMemory. NoMemory may replace any of them if the bytes are an answer. On error the receipt is
+/// unchanged, and so is the replica after any refusal but NotCanonical.
 #[unsafe(no_mangle)]
 #[tactic(auto, using(crate::proofs::CallLaws::empty, crate::proofs::CallLaws::held, crate::proofs::CallLaws::returns))]
 pub extern "C" fn antientropy_take(
@@ -157,7 +157,7 @@ pub extern "C" fn antientropy_take(
     code(&told)
 }
 
-/// Does the same on a replica.
+/// Takes the bytes of an answer.
 #[tactic(auto, using(crate::proofs::CallLaws::reads))]
 fn take(
     alloc: Global,
@@ -172,7 +172,7 @@ fn take(
     take_decoded(alloc, state, session, number, decoded)
 }
 
-/// Does the same with what the bytes decode to.
+/// Takes a decoded message, if it is an answer.
 fn take_decoded(
     alloc: Global,
     state: &mut RangeState,
@@ -189,7 +189,7 @@ fn take_decoded(
     }
 }
 
-/// Does the same with an answer.
+/// Takes an answer, if it is of the offer with that number.
 fn take_answer(
     alloc: Global,
     state: &mut RangeState,
@@ -206,7 +206,7 @@ fn take_answer(
     state.take_answer(alloc, 0, session, node, hash(text))
 }
 
-/// Tells what came of an answer, if it was not refused.
+/// Stores the receipt of an answer, if it was not refused.
 fn tell_taken(told: &Result<AnswerTaken, Refusal>, receipt: &mut TakenReceipt)
     ensures { TellsTaken told.now receipt.old receipt.new }
 {
@@ -219,7 +219,7 @@ fn tell_taken(told: &Result<AnswerTaken, Refusal>, receipt: &mut TakenReceipt)
     }
 }
 
-/// The number of a session's state.
+/// Returns the number of a session's state.
 fn number_of(state: SessionState) -> u64
     ensures { result ≡ number_of_state state }
 {
@@ -231,7 +231,7 @@ fn number_of(state: SessionState) -> u64
     }
 }
 
-/// Ends a session that is open; another stays as it is. Refused, in order: EMPTY, UnknownSession.
+/// Cancels a session that is open; a session that has ended is unchanged. Refused, in order: EMPTY, UnknownSession.
 #[unsafe(no_mangle)]
 #[tactic(auto, using(crate::proofs::CallLaws::empty, crate::proofs::CallLaws::held, crate::proofs::CallLaws::returns))]
 pub extern "C" fn antientropy_cancel(alloc: Global, replica: &mut Replica, session: u64) -> u32
@@ -246,7 +246,7 @@ pub extern "C" fn antientropy_cancel(alloc: Global, replica: &mut Replica, sessi
     code(&told)
 }
 
-/// How a session stands: 0 open, 1 finished, 2 failed, 3 cancelled. Refused, in order: EMPTY, UnknownSession.
+/// Stores the state of a session: 0 open, 1 finished, 2 failed, 3 cancelled. Refused, in order: EMPTY, UnknownSession.
 #[unsafe(no_mangle)]
 #[tactic(auto, using(crate::proofs::CallLaws::empty, crate::proofs::CallLaws::held, crate::proofs::CallLaws::returns))]
 pub extern "C" fn antientropy_session(
@@ -267,7 +267,7 @@ pub extern "C" fn antientropy_session(
     code(&told)
 }
 
-/// The number of how a session stands. Refused: UnknownSession.
+/// Returns the number of a session's state. Refused: UnknownSession.
 fn standing_of(state: &RangeState, session: u64) -> Result<u64, Refusal>
     ensures { result ≡ session_seen state.now session }
 {

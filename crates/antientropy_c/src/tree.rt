@@ -17,8 +17,8 @@ use rehash::{Job, run_job};
 use std::alloc::{AllocError, Global};
 use vclock::Refusal;
 
-/// Hashes every dirty node. Refused, in order: EMPTY, NoMemory. After NoMemory some of the dirty nodes may be clean, and all
-/// else is as it was.
+/// Hashes every dirty node. Refused, in order: EMPTY, NoMemory. After NoMemory some of the dirty nodes may be clean,
+/// and everything else is unchanged.
 #[unsafe(no_mangle)]
 #[tactic(auto, using(crate::proofs::CallLaws::empty, crate::proofs::CallLaws::held, crate::proofs::CallLaws::returns))]
 pub extern "C" fn antientropy_rehash(alloc: Global, replica: &mut Replica) -> u32
@@ -33,7 +33,7 @@ pub extern "C" fn antientropy_rehash(alloc: Global, replica: &mut Replica) -> u3
     code(&told)
 }
 
-/// Does the same on a replica. Each round hashes the nodes whose children are clean.
+/// Hashes every dirty node of a replica. Each round hashes the nodes whose children are clean.
 fn rehash(alloc: Global, state: &mut RangeState) -> Result<(), Refusal>
     ensures ok { Answers result None (λ _. state.new ≡ rehashed state.old) }
     ensures same { IsSameRange state.old state.new }
@@ -44,7 +44,7 @@ fn rehash(alloc: Global, state: &mut RangeState) -> Result<(), Refusal>
     Ok(())
 }
 
-/// Hashes each dirty node whose children are clean, and makes it clean. Returns whether there was any.
+/// Hashes each dirty node whose children are clean, and makes it clean. Returns true if there was any.
 fn rehash_ready(alloc: Global, state: &mut RangeState) -> Result<bool, Refusal>
     ensures memory { Answers result None (λ _. ⊤) }
     ensures more { IfOk result (λ any. IsTrue any → dirty_count state.new.marks < dirty_count state.old.marks) }
@@ -58,7 +58,7 @@ fn rehash_ready(alloc: Global, state: &mut RangeState) -> Result<bool, Refusal>
     Ok(!nodes.is_empty())
 }
 
-/// The node of each job.
+/// Lists the node of each job.
 fn nodes_of(alloc: Global, jobs: &[Job]) -> Result<Vec<NodeAt>, AllocError>
     ensures { IfOk result (λ nodes. nodes.items ≡ map (λ j. j.node) jobs.now) }
 {
@@ -69,7 +69,7 @@ fn nodes_of(alloc: Global, jobs: &[Job]) -> Result<Vec<NodeAt>, AllocError>
     Ok(nodes)
 }
 
-/// The text of each job with its digest.
+/// Hashes the text of each job.
 fn hash_each(alloc: Global, jobs: Vec<Job>) -> Result<Vec<Hashed>, AllocError>
     ensures { IfOk result (λ hashed. hashed.items ≡ map (λ j. j.text) jobs.items) }
 {
@@ -80,7 +80,7 @@ fn hash_each(alloc: Global, jobs: Vec<Job>) -> Result<Vec<Hashed>, AllocError>
     Ok(hashed)
 }
 
-/// Makes nodes clean whose texts are the ones that were hashed.
+/// Makes nodes clean whose texts are the hashed ones.
 fn install_all(state: &mut RangeState, nodes: &[NodeAt], hashed: &[Hashed])
     requires all { length hashed.now ≡ length nodes.now }
     requires current { (i : ℕ) (node : NodeAt) (text : List ℕ) → i < length nodes.now
@@ -98,7 +98,7 @@ fn install_all(state: &mut RangeState, nodes: &[NodeAt], hashed: &[Hashed])
     }
 }
 
-/// Makes a node clean whose text is the one that was hashed.
+/// Makes a node clean whose text is the hashed one.
 fn install(state: &mut RangeState, node: NodeAt, hashed: &Hashed)
     requires { IsTrue (is_current state.old node hashed.now) }
     ensures { state.new ≡ installed state.old node hashed.now }

@@ -1,4 +1,4 @@
-//! One version of a key, so that C need not read a row's text.
+//! One version of a key, for a caller in C that doesn't parse a row's text.
 ghost use Rattle.std.specs.Prelude.{◌≡◌, slice_get};
 ghost use Rattle.range_journal.specs.Journal.{held};
 ghost use Rattle.antientropy_c.specs.Calls.{Calls};
@@ -11,8 +11,9 @@ use crate::replica::Replica;
 use range_state::RangeState;
 use std::alloc::Global;
 
-/// The value of a version that is held for a key, by its index from 0, and its kind: 0 for a live version, 1 for a
-/// tombstone. Refused, in order: EMPTY, NO_VERSION, SMALL. The kind is told even if the room is too small.
+/// Copies out the value of a version that is held for a key, by its index from 0, and stores its kind: 0 for a live
+/// version, 1 for a tombstone. Refused, in order: EMPTY, NO_VERSION, SMALL. The kind is stored even if the buffer is
+/// too small.
 #[unsafe(no_mangle)]
 #[tactic(auto, using(crate::proofs::CallLaws::empty, crate::proofs::CallLaws::held))]
 pub extern "C" fn antientropy_value(
@@ -35,7 +36,7 @@ pub extern "C" fn antientropy_value(
     number
 }
 
-/// Does the same of a replica.
+/// Copies out the value of a version, and stores its kind.
 fn show_value(
     state: &RangeState,
     key: &[u8],
@@ -56,8 +57,8 @@ fn show_value(
     copy_out(version.value.as_slice(), out, need)
 }
 
-/// The pairs of the clock of a version that is held for a key, by its index from 0: by rising node. Refused, in order: EMPTY,
-/// NO_VERSION, SMALL.
+/// Copies out the pairs of the clock of a version that is held for a key, by its index from 0. The pairs ascend by
+/// node. Refused, in order: EMPTY, NO_VERSION, SMALL.
 #[unsafe(no_mangle)]
 #[tactic(auto, using(crate::proofs::CallLaws::empty, crate::proofs::CallLaws::held))]
 pub extern "C" fn antientropy_clock(
@@ -79,7 +80,7 @@ pub extern "C" fn antientropy_clock(
     number
 }
 
-/// Does the same of a replica.
+/// Copies out the pairs of the clock of a version.
 fn show_clock(state: &RangeState, key: &[u8], index: u64, out: &mut [Pair], need: &mut u64) -> u32
     ensures { ShowsClock (slice_get (held state.now.entries key.now) index) result (need.old, out.old) (need.new, out.new) }
 {
@@ -90,7 +91,7 @@ fn show_clock(state: &RangeState, key: &[u8], index: u64, out: &mut [Pair], need
     copy_pairs(versions[index as usize].clock.pairs(), out, need)
 }
 
-/// Copies pairs to the front of a room if all of them fit, and says how many there are.
+/// Copies pairs to the front of a buffer if all of them fit. Stores their number, and returns 0 or SMALL.
 pub(crate) fn copy_pairs(pairs: &[(u16, u64)], out: &mut [Pair], need: &mut u64) -> u32
     ensures { HandsPairs pairs.now result (need.old, out.old) (need.new, out.new) }
 {

@@ -1,10 +1,10 @@
-//! The calls of a range in one thread, and how many of each were done in a second.
+//! The calls of a range in one thread, and the number of each that were done in a second.
 //
-/// Keys are put into a range, got, put again with the context of the first put, and brought to another replica as copies.
-/// If a journal has no room for two versions of each, none is put again. Then come turns: one more key is put, the tree is
-/// rehashed, a snapshot is made, and the other replica takes the key over by messages. Key and value of each call are made
-/// in the time that is measured. What is told is how many of each there were; in the figures 0 stands for calls that were
-/// not made.
+/// Keys are put into a range, got, put again with the context of the first put, and accepted as copies at another
+/// replica. If a journal has no room for two versions of each key, no key is put again. Turns follow: one more key is
+/// put, the tree is rehashed, a snapshot is made, and the other replica takes the key over by messages. The measured
+/// time includes making each call's key and value. Standard output has the number of each call; in the figures 0 means
+/// that a call was not made.
 mod pace;
 mod phase;
 pub(crate) mod plan;
@@ -25,7 +25,7 @@ use std::thread::Threads;
 use std::time::Clock;
 use turns::run_turns;
 
-/// Makes all calls of a plan, and tells of them.
+/// Makes all calls of a plan, and reports them.
 pub(crate) fn run<R: Threads + Clock + Print + Eprint + AllocGlobal + Sync>(
     rt: &R,
     plan: CallPlan,
@@ -66,7 +66,7 @@ fn make_calls(
     Ok(paces)
 }
 
-/// Says what was done, and the figures on standard error.
+/// Prints the number of each call, and the figures on standard error.
 fn tell(rt: &(impl Print + Eprint), paces: &Paces) -> io::Result<()> {
     println!(rt;
         "{} put, {} got, {} put again, {} accepted, {} turns",

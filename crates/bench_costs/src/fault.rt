@@ -1,10 +1,10 @@
-//! What ends the program before its work is done.
+//! The faults that end the program before its work is done.
 use std::alloc::{AllocError, AllocFailed};
 use std::io;
 use thiserror::Error;
 use vclock::Refusal;
 
-/// Why the program could not do its work. Its text goes to standard error.
+/// The reason why the program could not do its work. Its text goes to standard error.
 #[derive(Debug, Drop, Error)]
 pub(crate) enum Fault {
     /// A call of the libraries was refused, or memory ran out.
@@ -16,10 +16,10 @@ pub(crate) enum Fault {
     /// A get did not return the one version of a key.
     #[error("a key that was put is not held")]
     NotHeld,
-    /// A sync was not that of one key.
+    /// A sync did more or less than take one key.
     #[error("a sync did not take one key by three asks")]
     NotOneKey,
-    /// Some thread did not begin, or ended too early.
+    /// A thread did not begin, or ended too early.
     #[error("the threads did not start together")]
     NotTogether,
     /// A thread did not get a pass.

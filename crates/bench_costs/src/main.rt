@@ -1,14 +1,14 @@
-//! What `bench/` measures, each by a word, and most of it beside a plain Rust program:
+//! The measurements of `bench/`, one for each word, and most of them with a plain Rust program to compare:
 //!
-//! - `snapshots KEYS COUNT` makes a range of so many keys, and then so many snapshots of it, one after another;
-//!   `snapshots KEYS migrate` takes it over to format 2 (`bench/snapshot`).
-//! - `reconciles KEYS DIFFER TURNS` makes two replicas with the same keys, gives each so many that the other lacks, and
-//!   reconciles them, turn by turn (`bench/reconcile`).
+//! - `snapshots KEYS COUNT` makes a range of KEYS keys, and then COUNT snapshots of it, one after another;
+//!   `snapshots KEYS migrate` migrates it to format 2 (`bench/snapshot`).
+//! - `reconciles KEYS DIFFER TURNS` makes two replicas with the same KEYS keys. In each turn it gives each replica
+//!   DIFFER keys that the other lacks, and reconciles them (`bench/reconcile`).
 //! - `calls [KEYS]` makes the calls of a range in one thread (`bench/calls`).
 //! - `threads KEYS THREADS one|each` puts keys into ranges that threads share, and gets them again (`bench/threads`).
 //! - `storms PUTS beside|alone` runs a storm (`bench/storm`).
 //!
-//! Standard output says what was done. The figures, but those of snapshots, are a line of JSON on standard error.
+//! Standard output says what was done. The figures, except those of snapshots, are a line of JSON on standard error.
 #![tactic(auto)]
 
 mod calls;
@@ -33,13 +33,13 @@ use std::time::Clock;
 use storms::StormPlan;
 use threads::plan::ThreadPlan;
 
-/// How the program is called.
+/// The usage lines.
 const USAGE: &str =
     "usage: bench_costs snapshots KEYS COUNT|migrate\n       bench_costs reconciles KEYS DIFFER TURNS\n       \
                      bench_costs calls [KEYS]\n       bench_costs threads KEYS THREADS one|each\n       \
                      bench_costs storms PUTS beside|alone";
 
-/// What is measured.
+/// A measurement.
 #[derive(Clone, Copy)]
 enum Measure {
     Snapshots(SnapshotPlan),
@@ -64,7 +64,7 @@ fn main(rt: HostRuntime) -> ExitCode {
     }
 }
 
-/// What the words of the command line ask for, if they do.
+/// Reads the words on the command line. Returns `None` if they name no measurement.
 fn read_words(rt: &(impl Env + AllocGlobal)) -> Option<Measure> {
     let words: Vec<String> = env::args(rt).ok()?.collect(rt.alloc()).ok()?;
     let [_, name, words @ ..] = words.as_slice() else {
@@ -81,7 +81,7 @@ fn read_words(rt: &(impl Env + AllocGlobal)) -> Option<Measure> {
 }
 
 impl Measure {
-    /// Takes it, and says what was done: whether it ended as it has to.
+    /// Takes the measurement, and prints what was done. Returns true if it ended as it must.
     fn run<R: Threads + Wait + Clock + Print + Eprint + AllocGlobal + Sync>(
         self,
         rt: &R,

@@ -1,6 +1,6 @@
-//! Two replicas of a range that reconcile, turn by turn. What is told is how many nodes were asked and how many versions
-//! came, of both and of all turns; the figures say how many leaves differed in all turns, and how long the calls of
-//! `reconcile` took.
+//! Two replicas of a range that reconcile, turn by turn. Standard output has the numbers of nodes asked and of versions
+//! accepted, of both replicas and all turns. The figures are the number of leaves that differed in all turns, and the
+//! time that the calls of `reconcile` took.
 mod pair;
 
 use crate::fault::Fault;
@@ -11,32 +11,32 @@ use std::io;
 use std::thread::Threads;
 use std::time::{Clock, Duration, Instant};
 
-/// What is to be done.
+/// The plan of the turns.
 #[derive(Clone, Copy)]
 pub(crate) struct ReconcilePlan {
-    /// How many keys both ranges have at first.
+    /// The number of keys that both ranges have at first.
     keys: u64,
-    /// How many more each gets in a turn, which the other lacks.
+    /// The number of keys that each gets in a turn, and that the other lacks.
     differ: u64,
-    /// How often they are reconciled.
+    /// The number of turns.
     turns: u64,
 }
 
-/// What all turns came to.
+/// The counts of all turns.
 #[derive(Clone, Copy, Default)]
 struct Done {
-    /// How many leaves differed.
+    /// The number of leaves that differed.
     leaves: u64,
-    /// How many nodes both asked.
+    /// The number of nodes that both asked.
     asked: u64,
-    /// How many versions came to both.
+    /// The number of versions that both accepted.
     accepted: u64,
-    /// How many nanoseconds the calls took.
+    /// The time that the calls took, in nanoseconds.
     nanos: u128,
 }
 
 impl ReconcilePlan {
-    /// The plan of these words, if they are one's: three numbers.
+    /// Returns the plan of these words, or `None` if they aren't three numbers.
     pub(crate) fn of_words(words: &[String]) -> Option<ReconcilePlan> {
         let [keys, differ, turns] = words else {
             return None;
@@ -49,7 +49,7 @@ impl ReconcilePlan {
     }
 }
 
-/// Does all turns, and tells what came of them.
+/// Does all turns, and reports them.
 pub(crate) fn run<R: Threads + Clock + Print + Eprint + AllocGlobal + Sync>(
     rt: &R,
     plan: ReconcilePlan,
@@ -76,7 +76,7 @@ fn do_turns(
     Ok(done)
 }
 
-/// Tells what came of the turns.
+/// Prints the counts of the turns.
 fn tell(rt: &(impl Print + Eprint), done: &Done) -> io::Result<()> {
     println!(rt; "{} asked, {} accepted", done.asked, done.accepted)?;
     eprintln!(rt;
@@ -86,7 +86,7 @@ fn tell(rt: &(impl Print + Eprint), done: &Done) -> io::Result<()> {
 }
 
 impl Done {
-    /// Adds what came of a turn.
+    /// Adds a turn.
     fn count(&mut self, told: &Reconciled, took: Duration) {
         for asked in [told.asked_a, told.asked_b] {
             self.asked = self.asked.wrapping_add(asked);

@@ -1,4 +1,4 @@
-//! What is done with one range: snapshots, one after another, or its going over to format 2.
+//! Work with one range: snapshots, one after another, or a migration to format 2.
 use crate::fault::Fault;
 use crate::ranges::{accept, new_range};
 use range_state::RangeState;
@@ -7,26 +7,27 @@ use std::io;
 use std::thread::Threads;
 use vclock::Refusal;
 
-/// What is to be done.
+/// The plan of the work.
 #[derive(Clone, Copy)]
 pub(crate) struct SnapshotPlan {
-    /// How many keys the range has.
+    /// The number of keys of the range.
     keys: u64,
-    /// What is done with it.
+    /// The work.
     deed: Deed,
 }
 
-/// What is done with a range.
+/// The work with a range.
 #[derive(Clone, Copy)]
 enum Deed {
-    /// So many snapshots are made of it.
+    /// A number of snapshots.
     Snapshots(u64),
-    /// It goes over to format 2.
+    /// A migration to format 2.
     Migrate,
 }
 
 impl SnapshotPlan {
-    /// The plan of these words, if they are one's: how many keys, and how many snapshots or `migrate`.
+    /// Returns the plan of these words, or `None` if they are wrong: the number of keys, and the number of snapshots or
+    /// `migrate`.
     pub(crate) fn of_words(words: &[String]) -> Option<SnapshotPlan> {
         let [keys, deed] = words else {
             return None;
@@ -39,7 +40,7 @@ impl SnapshotPlan {
 }
 
 impl Deed {
-    /// The deed that a word names.
+    /// Returns the deed that a word names.
     fn of_word(word: &str) -> Option<Deed> {
         match word {
             "migrate" => Some(Deed::Migrate),
@@ -47,7 +48,7 @@ impl Deed {
         }
     }
 
-    /// Does it.
+    /// Does the work.
     fn run(self, alloc: Global, state: &mut RangeState) -> Result<(), Refusal> {
         match self {
             Deed::Snapshots(count) => {
@@ -61,7 +62,7 @@ impl Deed {
     }
 }
 
-/// Makes the range, does what is to be done with it, and says so.
+/// Makes the range, does the work with it, and reports that.
 pub(crate) fn run<R: Threads + Print + AllocGlobal + Sync>(
     rt: &R,
     plan: SnapshotPlan,
@@ -73,7 +74,7 @@ pub(crate) fn run<R: Threads + Print + AllocGlobal + Sync>(
     Ok(true)
 }
 
-/// A range of so many keys, whose nodes are all clean.
+/// Returns a range of this number of keys, whose nodes are all clean.
 fn clean_range(
     rt: &(impl Threads + Sync),
     alloc: Global,
@@ -87,7 +88,7 @@ fn clean_range(
     Ok(state)
 }
 
-/// Says what was done.
+/// Prints what was done.
 fn tell(rt: &impl Print, plan: SnapshotPlan) -> io::Result<()> {
     let keys = plan.keys;
     match plan.deed {

@@ -1,4 +1,4 @@
-//! A storm, and how long its puts took. What is told is how the storm ended.
+//! A storm, and the time that its puts took. Standard output has the end of the storm.
 mod latencies;
 mod watch;
 
@@ -11,27 +11,27 @@ use std::time::{Clock, Duration, Instant};
 use storm::{MOST_PUTS, StormEnd, Tallies, run_storm};
 use watch::Watch;
 
-/// When the rehash and sync workers run.
+/// The time when the rehash and sync workers run.
 #[derive(Clone, Copy, Debug, PartialEq, Eq)]
 enum Workers {
-    /// Beside the writers.
+    /// While the writers run.
     Beside,
-    /// When both writers have ended.
+    /// After both writers have ended.
     Afterwards,
 }
 
-/// What is to be done.
+/// The plan of a storm.
 #[derive(Clone, Copy)]
 pub(crate) struct StormPlan {
-    /// How many puts each writer does, 1 to 10,000.
+    /// The number of puts of each writer, 1 to 10,000.
     puts: u64,
-    /// When the workers run.
+    /// The time when the workers run.
     workers: Workers,
 }
 
 impl StormPlan {
-    /// The plan of these words, if they are one's: how many puts, and `beside` or `alone`, which is whether the workers run
-    /// beside the writers, or wait until both have ended.
+    /// Returns the plan of these words, or `None` if they are wrong: the number of puts, and `beside` if the workers
+    /// run while the writers do, or `alone` if they wait until both writers have ended.
     pub(crate) fn of_words(words: &[String]) -> Option<StormPlan> {
         let [puts, workers] = words else {
             return None;
@@ -47,7 +47,7 @@ impl StormPlan {
 }
 
 impl Workers {
-    /// When the workers run, by a word.
+    /// Returns the time that a word names.
     fn of_word(word: &str) -> Option<Workers> {
         match word {
             "beside" => Some(Workers::Beside),
@@ -57,7 +57,7 @@ impl Workers {
     }
 }
 
-/// Runs the storm, and tells of it: whether both nodes agree, and all is settled.
+/// Runs the storm, and reports it. Returns true if both nodes agree and both ranges are settled.
 pub(crate) fn run<R: Threads + Wait + Clock + Print + Eprint + AllocGlobal + Sync>(
     rt: &R,
     plan: StormPlan,
@@ -72,14 +72,14 @@ pub(crate) fn run<R: Threads + Wait + Clock + Print + Eprint + AllocGlobal + Syn
     Ok(end.equal && end.settled)
 }
 
-/// Says how the storm ended.
+/// Prints how the storm ended.
 fn tell_end(rt: &impl Print, end: &StormEnd) -> io::Result<()> {
     let roots = if end.equal { "equal" } else { "differ" };
     let settled = if end.settled { "settled" } else { "unsettled" };
     println!(rt; "puts {}, roots {roots}, {settled}", end.puts)
 }
 
-/// Tells the figures. What the tallies count is that of the workers, with the last rehashes and syncs.
+/// Prints the figures. The counts of the tallies are those of the workers, with the last rehashes and syncs.
 fn tell_figures<R: Eprint + Wait>(
     rt: &R,
     took: Duration,

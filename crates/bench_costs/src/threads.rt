@@ -1,8 +1,9 @@
-//! Threads that put keys into ranges that they share, and get them again, and how many puts and gets were done in a second.
+//! Threads that put keys into ranges that they share, and get them again, and the numbers of puts and gets done in a
+//! second.
 //
-/// All threads write one range, or each one of its own. Each has its part of the keys. It puts all of them, once all threads
-/// have come so far, and gets all of them, once all have come so far. A phase lasts from the first start to the last end.
-/// What is told is whether the ranges were closed.
+/// All threads write one range, or each writes a range of its own. Each has its part of the keys. It puts all of them
+/// once all threads have reached this phase, and then gets all of them once all threads have reached that one. A phase
+/// lasts from the first start to the last end. Standard output says whether the ranges were closed.
 mod calls;
 pub(crate) mod plan;
 mod ranges;
@@ -18,7 +19,7 @@ use std::sync::Wait;
 use std::thread::Threads;
 use std::time::Clock;
 
-/// Runs all threads of a plan, and tells of them: whether the ranges were closed.
+/// Runs all threads of a plan, and reports them. Returns true if the ranges were closed.
 pub(crate) fn run<R: Threads + Wait + Clock + Print + Eprint + AllocGlobal + Sync>(
     rt: &R,
     plan: ThreadPlan,
@@ -28,7 +29,7 @@ pub(crate) fn run<R: Threads + Wait + Clock + Print + Eprint + AllocGlobal + Syn
     Ok(done.closed)
 }
 
-/// Says what was done and whether the ranges were closed, and the figures on standard error.
+/// Prints what was done and whether the ranges were closed, and the figures on standard error.
 fn tell(rt: &(impl Print + Eprint), plan: &ThreadPlan, done: &Done) -> io::Result<()> {
     let closed = if done.closed { "closed" } else { "not closed" };
     let ThreadPlan { keys, threads, .. } = *plan;
@@ -44,7 +45,7 @@ fn tell(rt: &(impl Print + Eprint), plan: &ThreadPlan, done: &Done) -> io::Resul
     )
 }
 
-/// How many of so many calls were done in a second. A span of no time counts as a nanosecond.
+/// Returns the number of calls done in a second. A time of zero counts as a nanosecond.
 fn a_second(calls: u64, span: Span) -> u128 {
     u128::from(calls) * 1_000_000_000 / span.length().as_nanos().max(1)
 }

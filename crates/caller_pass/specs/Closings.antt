@@ -1,4 +1,4 @@
--- Closing a range: what each pass was told, against the journal.
+-- The close of a range: each pass against the journal.
 use Rattle.std.specs.Prelude.{◌≡◌, ℕ, ◌<◌, ◌≤◌, List, length, take, filter, nat_eq, slice_get, All, Contains, Some}
 use Rattle.vclock.specs.declared.refusal.Refusal.{Refusal}
 use Rattle.vclock.specs.declared.refusal.Refusal.TheVariants.{Unsettled, Stranger, NoMemory}
@@ -13,7 +13,7 @@ use Rattle.caller_pass.specs.Passes.{PassView}
 abbrev pub of_seat : ℕ → List Entry → List Entry
 of_seat seat entries = filter (λ e. nat_eq e.seat seat) entries
 
--- a reading is what the journal held for its key at its front
+-- a reading has the versions that the journal held for its key at its front
 pub record IsTrueReading (entries : List Entry) (r : Reading) : Type 0 where
   pub within : r.front ≤ length entries
   pub versions : held (take r.front entries) r.key ≡ r.versions
@@ -23,7 +23,7 @@ pub record IsSettled (entries : List Entry) (p : PassView) : Type 0 where
   pub receipts : p.receipts ≡ of_seat p.seat entries
   pub readings : All (IsTrueReading entries) p.readings
 
--- two lists differ at this place, and at none before
+-- two lists differ at this place, and are equal before it
 pub record DifferAt (xs ys : List Entry) (k : ℕ) : Type 0 where
   pub alike : take k xs ≡ take k ys
   pub differ : ¬ (slice_get xs k ≡ slice_get ys k)
@@ -35,7 +35,7 @@ pub record IsFalseAt (entries : List Entry) (rs : List Reading) (k : ℕ) : Type
   pub there : slice_get rs k ≡ Some reading
   pub not_true : ¬ IsTrueReading entries reading
 
--- the first place where a pass and the journal differ: its receipts come before its readings
+-- the first place at which a pass and the journal differ: its receipts are compared before its readings
 abbrev pub DiffersFirst : List Entry → PassView → PassPart → ℕ → Type 0
 DiffersFirst entries p parts.Receipt k = DifferAt p.receipts (of_seat p.seat entries) k
 DiffersFirst entries p parts.Reading k = (p.receipts ≡ of_seat p.seat entries) × IsFalseAt entries p.readings k
@@ -56,8 +56,8 @@ SomeIsMissing seats passes = (seat : ℕ) × (seat < seats) × (¬ HasSeat passe
 abbrev pub SeatDiffers : ℕ → List Entry → List PassView → PassPart × ℕ → Type 0
 SeatDiffers seat entries passes at = (p : PassView) × Contains passes p × (p.seat ≡ seat) × DiffersFirst entries p at.0 at.1
 
--- Why a range is not closed: a seat has no pass; or each has one, and a pass and the journal differ, at the first place by seat.
--- A journal is replayed in memory for the readings, so NoMemory may stand in place of a difference.
+-- The refusal of a close: a seat has no pass; or each has one, and a pass and the journal differ, at the first place by
+-- seat. A journal is replayed in memory for the readings, so NoMemory may replace a difference.
 abbrev pub IsUnclosed : ℕ → List Entry → List PassView → Refusal → Type 0
 IsUnclosed seats entries passes Stranger = SomeIsMissing seats passes
 IsUnclosed seats entries passes (Unsettled seat part place) =

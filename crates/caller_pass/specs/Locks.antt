@@ -1,4 +1,4 @@
--- The range that a lock keeps, and what its calls do to it and to the pass that they are lent.
+-- The range that a lock keeps, and the changes that its calls make to it and to the pass that they are lent.
 use Rattle.std.specs.Prelude.{◌≡◌, ℕ, ◌<◌, Bool, ◌&&◌, not, nat_lt, List, [], ◌∷◌, length, Option, Some, None, Result, Ok, Err, bytes_eq, if◌then◌else◌}
 use Rattle.std.specs.List.{AllByRecursion}
 use Rattle.vclock.specs.Clock.{Pairs}
@@ -26,39 +26,39 @@ pub record Locked : Type 0 where
   pub state : State
   pub book : BookView
 
--- What holds whenever the lock is free: the state is right, the book's count is the journal's length, and each entry came by a
--- seat.
+-- The facts that hold whenever the lock is free: the state is right, the book's count is the journal's length, and each
+-- entry is of a seat.
 pub record IsLocked (seats : ℕ) (l : Locked) : Type 0 where
   pub right : IsRight l.state
   pub counted : l.book.number ≡ length l.state.entries
   pub seated : AllByRecursion (λ (e : Entry). e.seat < seats) l.state.entries
 
--- the range with another state to which no entry came
+-- the range with another state that has no new entry
 abbrev pub moved : Locked → State → Locked
 moved l s = record l { state = s }
 
--- the range with another state to which these entries came, and the pass that was told of them
+-- the range with another state that has these new entries, and the pass with their receipts
 abbrev pub told : Locked → PassView → State → List Entry → Locked × PassView
 told l p s es = (record { state = s; book = counted l.book (length es) }, with_receipts p (length s.entries) es)
 
--- a put by the pass: it is told of the entry
+-- a put by the pass, which gets the receipt
 abbrev pub put_in : Locked → PassView → ℕ → List ℕ → Pairs → Kind → List ℕ → Outcome Entry (Locked × PassView)
 put_in l p at key context kind value = do
   entry ← put l.state p.seat at key context kind value
   gives entry.0 (told l p entry.1 (entry.0 ∷ []))
 
--- range and pass after a version of another node: the pass is told where it was taken
+-- range and pass after a version of another node: the pass gets the receipt if it was accepted
 abbrev pub after_sent : Locked → PassView → Accepted → State → Locked × PassView
 after_sent l p (Taken e) s = told l p s (e ∷ [])
 after_sent l p Known s = (l, p)
 
--- a version of another node by the pass
+-- a version of another node, accepted for the pass
 abbrev pub accept_in : Locked → PassView → Source → List ℕ → Version → Outcome Accepted (Locked × PassView)
 accept_in l p source key v = do
   reply ← accept l.state p.seat source key v
   gives reply.0 (after_sent l p reply.0 reply.1)
 
--- whether an entry is of a key, and the versions do not cover its version
+-- an entry is of a key, and the versions do not cover its version
 unfoldable pub is_missing : Entry → List ℕ → List Version → Bool
 is_missing e key versions = bytes_eq e.key key && not (covered e.version versions)
 
@@ -71,12 +71,12 @@ abbrev pub missing_fault : ℕ → ℕ → Option ℕ → Option Refusal
 missing_fault seen journal None = None
 missing_fault seen journal (Some number) = Some (Behind seen journal (Some number))
 
--- why a pass is not told what a key holds: the journal is shorter than what it has seen, or it was told of a version of the key
--- that is not covered
+-- the refusal of a read by a pass: the journal is shorter than the part that it has seen, or a receipt of the pass for
+-- the key is not covered
 abbrev pub behind_fault : List Entry → PassView → List ℕ → Option Refusal
 behind_fault entries p key = if nat_lt (length entries) p.seen then Some (Behind p.seen (length entries) None) else missing_fault p.seen (length entries) (first_missing p.receipts key (held entries key))
 
--- a pass is told what a key holds, and keeps it as a reading
+-- a pass reads a key, and keeps the versions as a reading
 abbrev pub get_in : Locked → PassView → List ℕ → Outcome (List Version) PassView
 get_in l p key = do
   behind_fault l.state.entries p key
@@ -87,7 +87,7 @@ pub record UnreadView : Type 0 where
   pub seat : ℕ
   pub refusal : Refusal
 
--- the same result with the plain refusal
+-- the result with the plain refusal
 abbrev pub plainly : {T : Type 0} → Result T UnreadView → Result T Refusal
 plainly (Ok x) = Ok x
 plainly (Err u) = Err u.refusal
@@ -100,7 +100,7 @@ pub record IsToldOf (l : Locked) (p : PassView) (id : ℕ) (t : TakenText) (a : 
   pub range : m ≡ (told l p m.state taken.receipts.items).0
   pub pass : q ≡ (told l p m.state taken.receipts.items).1
 
--- what a partner's text for a session is answered, and range and pass afterwards
+-- the result of a partner's text for a session, and range and pass afterwards
 abbrev pub TellsAnswer : Locked → PassView → ℕ → TakenText → Result AnswerCounted Refusal → Locked → PassView → Type 0
 TellsAnswer l p id t (Ok a) m q = IsToldOf l p id t a m q
 TellsAnswer l p id t (Err e) m q = TakesAnswer l.state p.seat id t (Err e) m.state × (m ≡ moved l m.state) × (q ≡ p)

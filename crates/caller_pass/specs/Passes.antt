@@ -1,11 +1,11 @@
--- Passes: what a range told its callers. And the book that counts it.
+-- Passes, the records of callers, and the book that counts their receipts.
 use Rattle.std.specs.Prelude.{◌≡◌, ℕ, zero, suc, ◌+◌, ◌<◌, ◌≤◌, nat_eq, List, [], ◌∷◌, ◌++◌, length, max, if◌then◌else◌}
 use Rattle.std.specs.List.{sum_by, AllByRecursion}
 use Rattle.range_journal.specs.declared.journal.Entry.{Entry}
 use Rattle.caller_pass.specs.declared.reading.Reading.{Reading}
 
--- the seat of the caller, how many entries of the journal it has seen, its share of the book's count, the entries that it was
--- told of, and what it was told that keys hold
+-- the seat of the caller, the number of entries of the journal that it has seen, its share of the book's count, the
+-- entries that it made, and its readings
 pub record PassView : Type 0 where
   pub seat : ℕ
   pub seen : ℕ
@@ -13,26 +13,26 @@ pub record PassView : Type 0 where
   pub receipts : List Entry
   pub readings : List Reading
 
--- each reading comes from a journal that is at most as long as those of the readings after it
+-- each reading is of a journal that is at most as long as those of the readings after it
 abbrev pub AreInOrder : List Reading → Type 0
 AreInOrder [] = Unit {0}
 AreInOrder (r ∷ rs) = AllByRecursion (λ (s : Reading). r.front ≤ s.front) rs × AreInOrder rs
 
--- What holds of each pass, where there are so many seats: it has one of them; its share is the number of its receipts; and its
--- readings are in order, none of a longer journal than it has seen.
+-- The facts of each pass of a number of seats: it has one of them; its share is the number of its receipts; and its
+-- readings are in order, each of a journal at most as long as the part that it has seen.
 pub record IsPass (seats : ℕ) (p : PassView) : Type 0 where
   pub seated : p.seat < seats
   pub counted : p.share ≡ length p.receipts
   pub in_order : AreInOrder p.readings
   pub seen : AllByRecursion (λ (r : Reading). r.front ≤ p.seen) p.readings
 
--- how many entries the book has counted, how many seats there are, and the passes that came back
+-- the number of entries that the book has counted, the number of seats, and the passes that were handed back
 pub record BookView : Type 0 where
   pub number : ℕ
   pub seats : ℕ
   pub passes : List PassView
 
--- the pass of a caller that was told nothing
+-- the pass of a caller that made and read nothing
 abbrev pub new_pass : ℕ → PassView
 new_pass seat = record { seat = seat; seen = 0; share = 0; receipts = []; readings = [] }
 
@@ -41,23 +41,23 @@ abbrev pub new_passes : ℕ → List PassView
 new_passes zero = []
 new_passes (suc n) = new_passes n ++ new_pass n ∷ []
 
--- the book of so many seats that has counted nothing
+-- the book of these seats that has counted nothing
 abbrev pub new_book : ℕ → BookView
 new_book seats = record { number = 0; seats = seats; passes = [] }
 
--- the book with n entries more in its count
+-- the book with n more entries in its count
 abbrev pub counted : BookView → ℕ → BookView
 counted b n = record b { number = b.number + n }
 
--- the book with a pass that came back
+-- the book with a pass that was handed back
 abbrev pub absorbed : BookView → PassView → BookView
 absorbed b p = record b { passes = b.passes ++ p ∷ [] }
 
--- how many entries a caller has seen who had seen so many, and was told of n of a journal of that length
+-- the number of entries seen by a caller who had seen `seen`, and got n receipts from a journal of that length
 abbrev pub seen_after : ℕ → ℕ → ℕ → ℕ
 seen_after seen journal n = if nat_eq n 0 then seen else max seen journal
 
--- the pass with more receipts, of entries after which the journal has that length
+-- the pass with more receipts, of entries with which the journal has that length
 abbrev pub with_receipts : PassView → ℕ → List Entry → PassView
 with_receipts p journal es = record p { seen = seen_after p.seen journal (length es); share = p.share + length es; receipts = p.receipts ++ es }
 
@@ -65,6 +65,6 @@ with_receipts p journal es = record p { seen = seen_after p.seen journal (length
 abbrev pub with_reading : PassView → Reading → PassView
 with_reading p r = record p { seen = r.front; readings = p.readings ++ r ∷ [] }
 
--- how many receipts the passes have
+-- the number of receipts of the passes
 abbrev pub receipts_of : List PassView → ℕ
 receipts_of ps = sum_by (λ p. length p.receipts) ps

@@ -1,4 +1,4 @@
-//! The book that counts what passes were told.
+//! The book that counts the receipts of passes.
 ghost use Rattle.std.specs.Prelude.{◌≡◌, ◌+◌, ◌<◌, ◌≤◌, length, None, OnOk, IfErr};
 ghost use Rattle.vclock.specs.Answer.{Answers};
 ghost use Rattle.caller_pass.specs.Passes.{new_book, new_passes, counted, absorbed, receipts_of};
@@ -12,8 +12,8 @@ use std::marker::Model;
 use std::sync::ledger::{self, Blank, Ledger, Share};
 use vclock::Refusal;
 
-/// The count of a range's entries, with the passes that came back. Its ledger ties it to the passes that were made with
-/// it, so a pass of another range does not compile in its place.
+/// The count of a range's entries, with the passes that were handed back. Its ledger ties it to the passes that were
+/// made with it, so a pass of another range doesn't compile in its place.
 ///
 /// ```
 /// let (book, mut passes) = open_passes::<L>(blank, alloc, 2)?;
@@ -28,7 +28,7 @@ pub struct Book<L: Ledger> {
     share: Share<L>,
 }
 
-/// A pass that came back, without its share.
+/// A pass that was handed back, without its share.
 #[derive(Drop)]
 struct Kept {
     seat: u16,
@@ -64,7 +64,8 @@ impl<L: Ledger> Model for Book<L> {
     }) b.kept.items)) };
 }
 
-/// The book of a range, and a pass for each of its seats, 1 to 64, in the order of their numbers, from 0. Refused: NoMemory.
+/// Makes the book of a range, and a pass for each of its seats, 1 to 64, in the order of their numbers, from 0.
+/// Refused: NoMemory.
 pub fn open_passes<L: Ledger>(
     blank: Blank,
     alloc: Global,
@@ -105,7 +106,7 @@ pub struct Unabsorbed<L: Ledger> {
 }
 
 impl<L: Ledger> Book<L> {
-    /// How many seats there are.
+    /// The number of seats.
     pub fn seats(&self) -> u16
         ensures value { result ≡ self.now.seats }
         ensures all { self.now.seats ≡ L.parts }
@@ -113,7 +114,7 @@ impl<L: Ledger> Book<L> {
         self.seats
     }
 
-    /// Counts entries that a caller brought.
+    /// Counts new entries of a caller.
     pub(crate) fn count(&mut self, share: &mut Share<L>, entries: u64)
         requires { 0 < share.old.parts }
         ensures book { self.new ≡ counted self.old entries }
@@ -123,7 +124,7 @@ impl<L: Ledger> Book<L> {
         self.count.add(share, entries);
     }
 
-    /// Takes a pass back. Refused: NoMemory, and then the pass is handed back.
+    /// Takes a pass back. Refused: NoMemory, and then returns the pass.
     pub fn absorb(&mut self, pass: Pass<L>) -> Result<(), Unabsorbed<L>>
         ensures ok { OnOk result (self.new ≡ absorbed self.old pass) }
         ensures err { IfErr result (λ refused. (refused.pass ≡ pass) × (self.new ≡ self.old)) }
@@ -149,7 +150,7 @@ impl<L: Ledger> Book<L> {
         Ok(())
     }
 
-    /// Once as many passes came back as there are seats, they have as many receipts as the book has counted entries.
+    /// Proves that the number of the passes' receipts is the book's count. The passes of all seats must be back.
     pub fn settle(&mut self)
         requires { length self.old.passes ≡ self.old.seats }
         ensures same { self.new ≡ self.old }

@@ -1,4 +1,4 @@
-//! Closing a range.
+//! The close of a range.
 ghost use Rattle.std.specs.Prelude.{◌≡◌, ◌<◌, ◌↔◌, false, true, Some, None, slice_get, IsTrue, OnOk, IfOk, IfErr, MatchOption, All};
 ghost use Rattle.vclock.specs.Answer.{Answers};
 ghost use Rattle.caller_pass.specs.Locks.{IsLocked};
@@ -15,7 +15,7 @@ use std::sync::ledger::Ledger;
 use vclock::{PassPart, Refusal};
 
 /// A range that was closed: each pass was handed in and settled, which means that its receipts are the entries of its
-/// seat, and its readings what the journal says.
+/// seat, and its readings agree with the journal.
 ///
 /// ```
 /// let closed = range.close(alloc, passes).ok().ok_or("not closed")?;
@@ -29,7 +29,7 @@ pub struct Closed<L: Ledger> {
     pub passes: Vec<Pass<L>>,
 }
 
-/// A range that was not closed, with its passes and the cause, so nothing is lost.
+/// A range that wasn't closed, with its passes and the cause, so nothing is lost.
 ///
 /// ```
 /// let unclosed = range.close(alloc, passes).err().ok_or("closed")?;
@@ -41,17 +41,18 @@ pub struct Unclosed<L: Ledger> {
     pub range: LockedRange<L>,
     /// The passes.
     pub passes: Vec<Pass<L>>,
-    /// Why: Stranger, Unsettled or NoMemory.
+    /// The cause: Stranger, Unsettled or NoMemory.
     pub refusal: Refusal,
 }
 
 impl<L: Ledger> LockedRange<L> {
-    /// Closes the range, if each seat has a pass, and each pass was told what the journal has: its receipts are the entries of
-    /// its seat, in order, and each of its readings is what the journal held for the key at the reading's front.
+    /// Closes the range, if each seat has a pass, and each pass agrees with the journal: its receipts are the entries
+    /// of its seat, in order, and each of its readings has the versions that the journal held for the key at the
+    /// reading's front.
     ///
-    /// Refused, in order: Stranger (a seat has no pass), Unsettled (a pass and the journal differ; the first
-    /// difference: by seat, in a pass receipts before readings), NoMemory, which may stand in place of Unsettled. Range
-    /// and passes are then handed back.
+    /// Refused, in order: Stranger (a seat has no pass), Unsettled (a pass and the journal differ; it has the first
+    /// difference: by seat, in a pass receipts before readings), NoMemory, which may replace Unsettled. On error range
+    /// and passes are returned.
     pub fn close(self, alloc: Global, passes: Vec<Pass<L>>) -> Result<Closed<L>, Unclosed<L>>
         ensures closed { IfOk result (λ closed. (closed.state ≡ self.state) × (closed.passes.items ≡ passes.items)) }
         ensures there { OnOk result (AllThere L.parts passes.items) }
@@ -101,7 +102,7 @@ fn compare<L: Ledger>(
     Ok(())
 }
 
-/// Each pass has a seat of the ledger.
+/// Proves that each pass has a seat of the ledger.
 fn seats_below<L: Ledger>(passes: &Vec<Pass<L>>)
     ensures { All (λ p. p.seat < L.parts) passes.now.items }
 {
@@ -110,7 +111,7 @@ fn seats_below<L: Ledger>(passes: &Vec<Pass<L>>)
     }
 }
 
-/// Whether each seat has a pass.
+/// Returns true if each seat has a pass.
 fn all_there<L: Ledger>(seats: u16, passes: &Vec<Pass<L>>) -> bool
     ensures yes { result ≡ true → AllThere seats passes.now.items }
     ensures no { result ≡ false → SomeIsMissing seats passes.now.items }
@@ -123,14 +124,14 @@ fn all_there<L: Ledger>(seats: u16, passes: &Vec<Pass<L>>) -> bool
     true
 }
 
-/// Whether some pass has the seat.
+/// Returns true if some pass has the seat.
 fn has_seat<L: Ledger>(passes: &Vec<Pass<L>>, seat: u16) -> bool
     ensures { IsTrue result ↔ HasSeat passes.now.items seat }
 {
     passes.iter().any(|pass| pass.seat() == seat)
 }
 
-/// The first difference of the pass of a seat and the journal.
+/// Finds the first difference between the pass of a seat and the journal.
 fn seat_differs<L: Ledger>(
     alloc: Global,
     state: &RangeState,
@@ -152,7 +153,7 @@ fn seat_differs<L: Ledger>(
     Ok(None)
 }
 
-/// The first difference of a pass and the journal.
+/// Finds the first difference between a pass and the journal.
 fn pass_differs<L: Ledger>(
     alloc: Global,
     state: &RangeState,
@@ -170,7 +171,7 @@ fn pass_differs<L: Ledger>(
     Ok(None)
 }
 
-/// The first place at which the receipts are not the entries of the seat.
+/// Finds the first place at which the receipts differ from the entries of the seat.
 fn receipts_differ(receipts: &[Receipt], seat: u16, entries: &[Entry]) -> Option<usize>
     ensures { MatchOption result (receipts.now ≡ of_seat seat entries.now)
         (DifferAt receipts.now (of_seat seat entries.now)) }
@@ -191,7 +192,7 @@ fn receipts_differ(receipts: &[Receipt], seat: u16, entries: &[Entry]) -> Option
     }
 }
 
-/// Whether an entry is at a place.
+/// Returns true if an entry is at a place.
 fn is_at(receipts: &[Receipt], place: usize, entry: &Entry) -> bool
     ensures { IsTrue result ↔ (slice_get receipts.now place ≡ Some entry.now) }
 {
@@ -201,8 +202,8 @@ fn is_at(receipts: &[Receipt], place: usize, entry: &Entry) -> bool
     }
 }
 
-/// The first reading that is not what the journal held at its front. The journal is replayed once for all readings, which are
-/// in order.
+/// Finds the first reading that differs from the versions that the journal held at its front. The journal is replayed
+/// once for all readings, which are in order.
 fn readings_differ(
     alloc: Global,
     state: &RangeState,

@@ -1,4 +1,4 @@
-//! What the definitions say of what callers are told.
+//! Laws of receipts and readings, proved from their definitions.
 ghost use Rattle.std.specs.Prelude.{◌≡◌, ◌<◌, ◌≤◌, ℕ, List, None, Some, All, Any, Contains, IsTrue, length, slice_get};
 ghost use Rattle.version_set.specs.Version.{covered};
 ghost use Rattle.range_journal.specs.declared.journal.Entry.{Entry};
@@ -8,15 +8,15 @@ ghost use Rattle.caller_pass.specs.Passes.{PassView, new_pass, new_passes};
 ghost use Rattle.caller_pass.specs.Locks.{Locked, IsLocked, behind_fault};
 ghost use Rattle.caller_pass.specs.Closings.{IsTrueReading, IsSettled, AllThere};
 
-/// A caller reads its own writes: if a read is not refused as Behind, the journal is at least as long as what the
-/// caller has seen, and what is held for the key covers each receipt of the caller for it.
+/// A caller reads its own writes. If a read isn't refused as Behind, the journal is at least as long as the part that
+/// the caller has seen, and the versions that are held for the key cover each receipt of the caller for it.
 pub fn reads_cover_receipts()
     ensures { (entries : List Entry) (pass : PassView) (key : List ℕ) → behind_fault entries pass key ≡ None
         → (pass.seen ≤ length entries)
         × All (λ e. e.key ≡ key → IsTrue (covered e.version (held entries key))) pass.receipts }
 {}
 
-/// What callers read of a key never goes back: a true reading covers each version of an earlier one.
+/// A caller's readings of a key never go back: a true reading covers each version of an earlier one.
 pub fn readings_never_go_back()
     ensures { (entries : List Entry) (r s : Reading) → IsTrueReading entries r → IsTrueReading entries s
         → r.key ≡ s.key → r.front ≤ s.front

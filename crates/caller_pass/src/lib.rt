@@ -1,12 +1,21 @@
-//! What a range told each of its callers, and the range that a lock keeps.
+//! Passes, which record for each caller of a range the entries that it made and the versions that it read, and the
+//! range that a lock keeps. Use them to prove for each thread that it reads its own writes, and to compare its record
+//! with the journal when the range is closed.
 //!
-//! - [`reading`], [`pass`]: what one caller was told.
-//! - [`receipt_index`]: where a pass has its receipts of each key.
+//! - [`reading`], [`pass`]: the record of one caller.
 //! - [`book`]: the count of a range's entries, and the passes of its seats.
-//! - [`locked_range`]: a range with its book; its calls tell the pass that they are lent.
-//! - [`unread`]: why a pass was not told what a key holds.
-//! - [`close`]: a range that is closed, once each pass was told what the journal has.
-//! - [`laws`]: what the definitions say: a caller reads its own writes, and what it reads never goes back.
+//! - [`locked_range`]: a range with its book; its calls record their outcome in the pass that they are lent.
+//! - [`unread`]: the refusal of a read.
+//! - [`close`]: the close of a range, once each pass agrees with the journal.
+//! - [`laws`]: laws proved from the definitions: a caller reads its own writes, and its readings of a key never go
+//!   back.
+//!
+//! ```
+//! let (book, mut passes) = open_passes::<L>(blank, alloc, 2)?;
+//! let one = passes.pop().ok_or("no pass")?;
+//! let zero = passes.pop().ok_or("one pass")?;
+//! Ok((LockedRange::new(state, book), one, zero))
+//! ```
 #![tactic(auto)]
 
 pub mod book;

@@ -31,8 +31,8 @@ use vclock::{Bytes, Clock, Refusal};
 use version_set::{Kind, Version, VersionSet};
 use walk_messages::Offer;
 
-/// A range with its book, as a lock keeps it. Each call is one step of the range. The pass that it is lent gets exactly the
-/// receipts of the entries that came, or the one reading that is returned; no other call adds to a pass.
+/// A range with its book, as a lock keeps it. Each call is one step of the range. The pass that it is lent gets exactly
+/// the receipts of the new entries, or the one reading that is returned; no other call adds to a pass.
 ///
 /// ```
 /// let context = Clock::from_pairs(alloc, &[])?;
@@ -57,7 +57,8 @@ impl<L: Ledger> Model for LockedRange<L> {
 }
 
 impl<L: Ledger> LockedRange<L> {
-    /// A range that has accepted nothing, with a book that has counted nothing. It takes no memory.
+    /// Makes the locked range of a state that has accepted nothing and a book that has counted nothing. Doesn't
+    /// allocate.
     pub fn new(state: RangeState, book: Book<L>) -> LockedRange<L>
         requires empty { state.entries ≡ [] }
         requires none { book.number ≡ 0 }
@@ -68,8 +69,8 @@ impl<L: Ledger> LockedRange<L> {
         LockedRange { state, book }
     }
 
-    /// Which range it is, in which format, and the limit of its journal. The clause `valid` is what holds whenever the lock
-    /// is free.
+    /// The number of the range, its format, and the limit of its journal. The clause `valid` states the facts that hold
+    /// whenever the lock is free.
     pub fn config(&self) -> RangeConfig
         ensures value { result ≡ self.now.state.config }
         ensures valid { IsLocked L.parts self.now }
@@ -77,9 +78,9 @@ impl<L: Ledger> LockedRange<L> {
         self.state.config()
     }
 
-    /// Puts a value at a node, as `RangeState::put` for the seat of the pass, and tells the pass of the entry.
+    /// Puts a value at a node, as `RangeState::put` does for the seat of the pass, and adds the receipt to the pass.
     ///
-    /// Refused as `RangeState::put`. Range and pass are then as they were.
+    /// Refused as `RangeState::put` is. On error range and pass are unchanged.
     pub fn put(
         &mut self,
         alloc: Global,
@@ -111,10 +112,10 @@ impl<L: Ledger> LockedRange<L> {
         Ok(receipt)
     }
 
-    /// Takes in a version that another node sent, as `RangeState::accept` for the seat of the pass, and tells the pass
-    /// of the entry if the version was not known.
+    /// Accepts a version that another node sent, as `RangeState::accept` does for the seat of the pass, and adds the
+    /// receipt to the pass if the version wasn't known.
     ///
-    /// Refused as `RangeState::accept`. Range and pass are then as they were.
+    /// Refused as `RangeState::accept` is. On error range and pass are unchanged.
     pub fn accept(
         &mut self,
         alloc: Global,
@@ -145,11 +146,12 @@ impl<L: Ledger> LockedRange<L> {
         Ok(Accepted::Taken(receipt))
     }
 
-    /// The versions that are held for a key, in the order of their texts: empty if the key is not held. The pass keeps
-    /// them as a reading.
+    /// Copies the versions that are held for a key, in the order of their texts: an empty set if the key isn't held.
+    /// The pass keeps them as a reading.
     ///
-    /// Refused, in order: Behind (the journal is shorter than what the pass has seen; or what is held does not cover a receipt
-    /// of the pass for the key: then with the number of the first such receipt), NoMemory. The pass is then as it was.
+    /// Refused, in order: Behind (the journal is shorter than the part that the pass has seen; or the held versions
+    /// don't cover a receipt of the pass for the key: then with the number of the first such receipt), NoMemory. On
+    /// error the pass is unchanged.
     pub fn get(&self, alloc: Global, pass: &mut Pass<L>, key: &[u8]) -> Result<VersionSet, Refusal>
         ensures { Does result pass.old pass.new (get_in self.now pass.old key.now) }
     {
@@ -189,7 +191,7 @@ impl<L: Ledger> LockedRange<L> {
         Ok(versions)
     }
 
-    /// The same for a caller who has to show that a refusal comes from a read of this range.
+    /// Reads a key as `get` does, for a caller who has to show that a refusal is that of a read of this range.
     pub fn read(
         &self,
         alloc: Global,
@@ -205,8 +207,8 @@ impl<L: Ledger> LockedRange<L> {
         }
     }
 
-    /// The number of the first of some receipts of a key whose version is not covered by those held. It looks at the receipts
-    /// of the key, from the last one back, and at those that are not indexed.
+    /// Finds the number of the first receipt of a key whose version isn't covered by those held. It looks at the
+    /// receipts of the key, from the last one back, and at those that aren't indexed.
     fn find_missing(&self, receipts: &[Receipt], by_key: &ByKey, key: &[u8]) -> Option<u64>
         requires { IsIndex receipts.now by_key.now }
         ensures { result ≡ first_missing receipts.now key.now (held self.now.state.entries key.now) }
@@ -224,7 +226,7 @@ impl<L: Ledger> LockedRange<L> {
         found
     }
 
-    /// The same, by a walk through all of the receipts.
+    /// Finds that number by a walk through all of the receipts.
     fn first_missing(&self, receipts: &[Receipt], key: &[u8]) -> Option<u64>
         ensures { result ≡ first_missing receipts.now key.now (held self.now.state.entries key.now) }
     {
@@ -236,7 +238,7 @@ impl<L: Ledger> LockedRange<L> {
         None
     }
 
-    /// Whether a receipt is of a key, and its version is not covered by those held.
+    /// Returns true if a receipt is of a key, and its version isn't covered by those held.
     #[tactic(auto, unfolding(crate::specs::Locks::is_missing))]
     fn is_missing(&self, receipt: &Receipt, key: &[u8]) -> bool
         ensures { result ≡ is_missing receipt.now key.now (held self.now.state.entries key.now) }
@@ -244,14 +246,14 @@ impl<L: Ledger> LockedRange<L> {
         receipt.key.as_slice() == key && !self.state.covers(key, &receipt.version)
     }
 
-    /// A job for a node, as `RangeState::take_job`. Refused: NoMemory.
+    /// Returns a job for a node, as `RangeState::take_job` does. Refused: NoMemory.
     pub fn take_job(&self, alloc: Global, skip: u64) -> Result<Option<Job>, Refusal>
         ensures { Answers result None (GivesJob self.now.state) }
     {
         self.state.take_job(alloc, skip)
     }
 
-    /// Gives a node the digest of a text, as `RangeState::install`. It takes no memory. Refused: Stale.
+    /// Installs the digest of a text at a node, as `RangeState::install` does. Doesn't allocate. Refused: Stale.
     pub fn install(&mut self, node: NodeAt, hashed: &Hashed) -> Result<(), Refusal>
         ensures { DoesAtOnce result self.old self.new
             (through (moved self.old) (install self.old.state node hashed.now)) }
@@ -261,15 +263,15 @@ impl<L: Ledger> LockedRange<L> {
         installed
     }
 
-    /// The rows now with the digests of their tree, as `RangeState::snapshot`. Refused, in order: Dirty, NoMemory.
+    /// Makes a snapshot, as `RangeState::snapshot` does. Refused, in order: Dirty, NoMemory.
     pub fn snapshot(&self, alloc: Global) -> Result<Arc<Snapshot, Global>, Refusal>
         ensures { Answers result (dirty_fault self.now.state) (λ snapshot. arc_value snapshot ≡ rows_now self.now.state) }
     {
         self.state.snapshot(alloc)
     }
 
-    /// Opens a session with a partner's offer, as `RangeState::open_session`, and returns its number. Refused as
-    /// `RangeState::open_session`. The range is then as it was.
+    /// Opens a session with a partner's offer, as `RangeState::open_session` does, and returns its number. Refused as
+    /// `RangeState::open_session` is. On error the range is unchanged.
     pub fn open_session(
         &mut self,
         alloc: Global,
@@ -284,11 +286,11 @@ impl<L: Ledger> LockedRange<L> {
         id
     }
 
-    /// Takes a partner's text for a node of a session, as `RangeState::take_answer` for the seat of the pass, and moves the
-    /// receipts into the pass: their number is returned.
+    /// Takes a partner's text for a node of a session, as `RangeState::take_answer` does for the seat of the pass.
+    /// Moves the receipts into the pass, and returns their number.
     ///
-    /// Refused as `RangeState::take_answer`. The pass is then as it was, and the range too, but that NotCanonical has the
-    /// session fail.
+    /// Refused as `RangeState::take_answer` is. On error the pass is unchanged, and so is the range, except that
+    /// NotCanonical makes the session fail.
     pub fn take_answer(
         &mut self,
         alloc: Global,
@@ -317,7 +319,7 @@ impl<L: Ledger> LockedRange<L> {
         Ok(taken)
     }
 
-    /// Ends a session that is open, as `RangeState::cancel_session`. It takes no memory. Refused: UnknownSession.
+    /// Cancels a session that is open, as `RangeState::cancel_session` does. Doesn't allocate. Refused: UnknownSession.
     pub fn cancel_session(&mut self, id: u64) -> Result<(), Refusal>
         ensures { DoesAtOnce result self.old self.new
             (through (moved self.old) (cancel_session self.old.state id)) }
@@ -327,8 +329,8 @@ impl<L: Ledger> LockedRange<L> {
         ended
     }
 
-    /// Takes the range over to format 2, as `RangeState::migrate`: what passes were told stays true. Refused: NoMemory. The
-    /// range is then as it was.
+    /// Migrates the range to format 2, as `RangeState::migrate` does. The receipts and readings of passes stay true.
+    /// Refused: NoMemory. On error the range is unchanged.
     pub fn migrate(&mut self, alloc: Global) -> Result<(), Refusal>
         ensures { Does result self.old self.new
             (through (moved self.old) (migrate self.old.state)) }
@@ -338,14 +340,14 @@ impl<L: Ledger> LockedRange<L> {
         migrated
     }
 
-    /// The records of all sessions, in the order of their numbers. It takes no memory.
+    /// The records of all sessions, in the order of their numbers. Doesn't allocate.
     pub fn records(&self) -> &[Record]
         ensures { result.now ≡ self.now.state.records }
     {
         self.state.records()
     }
 
-    /// The first node that a session has outstanding, if any is. It takes no memory. Refused: UnknownSession.
+    /// The first outstanding node of a session, if any. Doesn't allocate. Refused: UnknownSession.
     pub fn outstanding(&self, id: u64) -> Result<Option<NodeAt>, Refusal>
         ensures { AnswersAtOnce result (unknown_fault self.now.state id)
             (λ first. MatchOption (slice_get self.now.state.records id) ⊥
@@ -355,8 +357,8 @@ impl<L: Ledger> LockedRange<L> {
     }
 }
 
-/// How many entries a caller has seen, who had seen `seen`, and was told of `count` entries of a journal of length
-/// `journal`.
+/// Returns the number of entries that a caller has seen. It had seen `seen`, and got `count` receipts from a journal of
+/// length `journal`.
 fn seen_after(seen: u64, journal: u64, count: u64) -> u64
     ensures { result ≡ seen_after seen journal count }
 {

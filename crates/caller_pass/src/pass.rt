@@ -9,10 +9,9 @@ use std::alloc::Global;
 use std::marker::Model;
 use std::sync::ledger::{Ledger, Share};
 
-/// What a range told one of its callers: the entries that the caller brought, and the readings that it was given. A
-/// thread that uses a range has a pass of its own, and hands it in when the range is closed. Only the range's own calls
-/// add to it. It has one share of the book's count, which is the number of its receipts. An index finds its receipts of
-/// a key.
+/// The record of one caller of a range: the entries that the caller made, and its readings. A thread that uses a range
+/// has its own pass, and hands it in when the range is closed. Only the range's calls add to it. It has one share of
+/// the book's count, which is the number of its receipts. An index finds its receipts of a key.
 ///
 /// ```
 /// let held = range.get(alloc, one, b"a")?;
@@ -65,28 +64,28 @@ impl<L: Ledger> Pass<L> {
         self.seat
     }
 
-    /// How many entries of the journal the caller has seen.
+    /// The number of entries of the journal that the caller has seen.
     pub fn seen(&self) -> u64
         ensures { result ≡ self.now.seen }
     {
         self.seen
     }
 
-    /// The entries that the caller brought, in order. It takes no memory.
+    /// The entries that the caller made, in order. Doesn't allocate.
     pub fn receipts(&self) -> &[Receipt]
         ensures { result.now ≡ self.now.receipts }
     {
         &self.receipts
     }
 
-    /// What the caller was told that keys hold, in order. It takes no memory.
+    /// The readings of the caller, in order. Doesn't allocate.
     pub fn readings(&self) -> &[Reading]
         ensures { result.now ≡ self.now.readings }
     {
         &self.readings
     }
 
-    /// Indexes the receipts that came since it was called last, so that the next read of a key looks at the receipts of
+    /// Indexes the receipts that are new since the last call, so that the next read of a key looks at the receipts of
     /// that key alone. If memory runs out, it leaves the others to the reads.
     pub fn index(&mut self, alloc: Global)
         ensures { self.new ≡ self.old }

@@ -1,14 +1,14 @@
-//! What a caller was told that a key holds.
+//! Readings of keys.
 use vclock::Bytes;
 use version_set::VersionSet;
 
-/// What a caller was told that a key held, and the length of the journal then.
+/// The versions that a caller read for a key, and the length of the journal then.
 #[derive(Debug, Drop)]
 pub struct Reading {
-    /// How many entries the journal had.
+    /// The number of entries of the journal.
     pub front: u64,
     /// The key.
     pub key: Bytes,
-    /// The versions that were held for it.
+    /// The versions that were held for the key.
     pub versions: VersionSet,
 }

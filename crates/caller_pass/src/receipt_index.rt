@@ -1,4 +1,4 @@
-//! Where a pass has its receipts of each key.
+//! The places of a pass's receipts, by key.
 ghost use Rattle.std.specs.Prelude.{◌≡◌, ◌+◌, ◌<◌, [], Some, length, slice_get, OnOk};
 ghost use Rattle.caller_pass.specs.Indexes.{IsIndex, found_in};
 
@@ -6,17 +6,17 @@ use range_state::Receipt;
 use std::alloc::{AllocError, Global};
 use std::collections::HashMap;
 
-/// An index of a pass's receipts by key, of the first few of them: as many as `earlier` has. A place is kept as one
-/// more than it is, so that 0 stands for no receipt.
+/// An index, by key, of the first few of a pass's receipts: `earlier.len()` of them. A place is kept plus one, so that
+/// 0 means no receipt.
 pub(crate) struct ByKey {
-    /// By key: the last receipt that is of it.
+    /// By key: its last receipt.
     last: HashMap<Vec<u8>, usize>,
-    /// By place of a receipt: the receipt before it that is of its key.
+    /// By place of a receipt: the receipt before it with an equal key.
     earlier: Vec<usize>,
 }
 
 impl ByKey {
-    /// The index of no receipts. It takes no memory.
+    /// Makes the index of no receipts. Doesn't allocate.
     pub(crate) fn new(alloc: Global) -> ByKey
         ensures { IsIndex [] result }
     {
@@ -26,21 +26,21 @@ impl ByKey {
         }
     }
 
-    /// How many receipts are indexed.
+    /// The number of receipts that are indexed.
     pub(crate) fn len(&self) -> usize
         ensures { result ≡ length self.now.earlier.items }
     {
         self.earlier.len()
     }
 
-    /// One more than the place of the last receipt of a key, or 0.
+    /// The place of the last receipt of a key plus one, or 0.
     pub(crate) fn last(&self, key: &[u8]) -> usize
         ensures { result ≡ found_in self.now key.now }
     {
         self.last.get(key).copied().unwrap_or(0)
     }
 
-    /// One more than the place of the receipt before a receipt that is of the same key, or 0.
+    /// The place, plus one, of the receipt before a receipt with an equal key, or 0.
     pub(crate) fn earlier(&self, place: usize) -> usize
         requires { place < length self.now.earlier.items }
         ensures { slice_get self.now.earlier.items place ≡ Some result }
@@ -48,7 +48,7 @@ impl ByKey {
         self.earlier[place]
     }
 
-    /// Indexes the receipts that are not indexed yet, or the first few of them if memory runs out.
+    /// Indexes the receipts that aren't indexed yet, or the first few of them if memory runs out.
     pub(crate) fn index(&mut self, alloc: Global, receipts: &[Receipt])
         requires { IsIndex receipts.now self.old }
         ensures { IsIndex receipts.now self.new }
@@ -60,7 +60,7 @@ impl ByKey {
         }
     }
 
-    /// Indexes the first receipt that is not indexed yet. All room for it is asked for before anything changes.
+    /// Indexes the first receipt that isn't indexed yet. Allocates before it changes anything.
     fn push(&mut self, alloc: Global, receipts: &[Receipt]) -> Result<(), AllocError>
         requires index { IsIndex receipts.now self.old }
         requires more { length self.old.earlier.items < length receipts.now }

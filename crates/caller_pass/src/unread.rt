@@ -1,11 +1,11 @@
-//! Why a pass was not told what a key holds.
+//! Refusals of reads.
 ghost use Rattle.std.specs.Prelude.{◌≡◌};
 
 use std::marker::{Model, PhantomData};
 use std::sync::ledger::Ledger;
 use vclock::Refusal;
 
-/// Why a read was refused. Only a read of the range of this ledger makes one, for the pass that it was lent.
+/// The refusal of a read. Only a read of the range of this ledger makes one, for the pass that it was lent.
 ///
 /// ```
 /// match range.get(rt, alloc, pass, key) {
@@ -29,7 +29,7 @@ impl<L: Ledger> Model for Unread<L> {
 }
 
 impl<L: Ledger> Unread<L> {
-    /// Why a read by the pass of that seat was refused.
+    /// Makes the refusal of a read by the pass of that seat.
     pub(crate) fn new(seat: u16, refusal: Refusal) -> Unread<L>
         ensures { result ≡ record { seat = seat; refusal = refusal } }
     {

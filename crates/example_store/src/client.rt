@@ -1,4 +1,4 @@
-//! What a client's thread does.
+//! The calls of a client's thread.
 use caller_pass::Pass;
 use ring_node::SharedRange;
 use std::alloc::Global;
@@ -7,7 +7,7 @@ use std::sync::ledger::Ledger;
 use vclock::{Bytes, Clock, Refusal};
 use version_set::{Kind, Version, VersionSet};
 
-/// The versions of a key. If there are several, they are concurrent. Refused: Behind, NoMemory.
+/// Returns the versions of a key. If there are several, they are concurrent. Refused: Behind, NoMemory.
 pub(crate) fn read<L: Ledger, R: Wait>(
     rt: &R,
     alloc: Global,
@@ -21,7 +21,7 @@ pub(crate) fn read<L: Ledger, R: Wait>(
     }
 }
 
-/// The context that has seen these versions: their clocks, merged. Refused: ClockFull, NoMemory.
+/// Returns the context that has seen these versions: their clocks, merged. Refused: ClockFull, NoMemory.
 fn context_of(alloc: Global, versions: &VersionSet) -> Result<Clock, Refusal> {
     let mut context = Clock::from_pairs(alloc, &[])?;
     for version in versions.iter() {
@@ -30,8 +30,8 @@ fn context_of(alloc: Global, versions: &VersionSet) -> Result<Clock, Refusal> {
     Ok(context)
 }
 
-/// Puts a value for a key, in place of the versions that the context has seen, and returns the new version. Refused as
-/// [`SharedRange::put`].
+/// Puts a value for a key in place of the versions that the context has seen, and returns the new version. Refused as
+/// [`SharedRange::put`] is.
 pub(crate) fn put<L: Ledger, R: Wait>(
     rt: &R,
     alloc: Global,
@@ -46,7 +46,7 @@ pub(crate) fn put<L: Ledger, R: Wait>(
     Ok(receipt.version)
 }
 
-/// Reads a key, and puts a value in place of all that was found. Refused as [`read`] and [`put`].
+/// Reads a key, and puts a value in place of all versions found. Refused as [`read`] and [`put`] are.
 pub(crate) fn update<L: Ledger, R: Wait>(
     rt: &R,
     alloc: Global,

@@ -1,4 +1,4 @@
-//! The day of a range, and what it prints.
+//! The day of a range, and its output.
 ghost use Rattle.std.specs.Prelude.{◌≡◌, ◌^◌, ◌<◌};
 
 use crate::client::{put, read, update};
@@ -23,16 +23,16 @@ use vclock::{Clock, Refusal};
 /// The number of the format of both replicas.
 const FORMAT: u64 = 1;
 
-/// How many entries a journal takes.
+/// The maximum number of entries in a journal.
 const JOURNAL_LIMIT: u64 = 1_000_000;
 
-/// How many carts there are in both ranges.
+/// The number of carts in both ranges together.
 const CARTS: u64 = 6;
 
-/// How many orders there are in both ranges.
+/// The number of orders in both ranges together.
 const ORDERS: u64 = 100;
 
-/// Where a byte of the root's text stands in its answer: after the 16 bytes of the head and the first byte of the text.
+/// The place of a byte of the root's text in its answer: after the 16 bytes of the head and the first byte of the text.
 const BYTE_OF_THE_TEXT: usize = 17;
 
 /// Both replicas of a range, the slots of their background work, and the keys of the day.
@@ -46,7 +46,7 @@ struct Day<A: Ledger, B: Ledger, C: Ledger> {
     orders: Vec<String>,
 }
 
-/// Runs the day of a range, from its opening to its close, with ledgers of its own.
+/// Runs the day of a range, from its opening to its close, with new ledgers.
 pub(crate) fn run_day<R: Threads + Wait + Print + Sync>(
     rt: &R,
     alloc: Global,
@@ -107,7 +107,7 @@ where
     B: Ledger + Send + Sync,
     C: Ledger + Send + Sync,
 {
-    /// All that is done before the close, in order.
+    /// Does everything before the close, in order.
     fn run<R: Threads + Wait + Print + Sync>(&mut self, rt: &R) -> Result<(), Fault> {
         self.morning(rt)?;
         self.outage(rt)?;
@@ -171,7 +171,7 @@ where
         Ok(())
     }
 
-    /// Both nodes take puts, and nothing of them reaches the other one.
+    /// Puts at both nodes while no message reaches the other one.
     fn partition<R: Threads + Wait + Print + Sync>(&mut self, rt: &R) -> Result<(), Fault> {
         let (range, pass) = (&self.first.range, &mut self.first.client);
         put_beside_rehash(rt, self.alloc, &self.slots, range, pass, &self.orders)?;
@@ -202,7 +202,7 @@ where
         Ok(())
     }
 
-    /// Syncs the first replica with the second one, over a link that is lost, and over one that changes a byte.
+    /// Syncs the first replica with the second one: over a link that loses a call, and over one that changes a byte.
     fn sync_first<R: Wait + Print>(&mut self, rt: &R) -> Result<(), Fault> {
         self.second.publish(rt, self.alloc, &self.slots)?;
         let (alloc, slots, first, second) = (
@@ -233,7 +233,7 @@ where
         Ok(())
     }
 
-    /// Takes both replicas over to format 2, and ends their day.
+    /// Migrates both replicas to format 2, and ends their day.
     fn evening<R: Wait + Print>(&self, rt: &R) -> Result<(), Fault> {
         self.first.range.migrate(rt, self.alloc)?;
         self.second.range.migrate(rt, self.alloc)?;
@@ -254,7 +254,7 @@ where
     }
 }
 
-/// Says what a sync worker did.
+/// Prints the report of a sync worker.
 fn tell<R: Print>(rt: &R, link: &str, report: &SyncReport) -> io::Result<()> {
     println!(rt;
         "  sync over a {link}: {:?}, {} nodes asked, {} accepted, {} known, {} bad",

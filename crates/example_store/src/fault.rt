@@ -1,16 +1,16 @@
-//! What ends the program before its work is done.
+//! The faults that end the program before its work is done.
 use std::alloc::{AllocError, AllocFailed};
 use std::io;
 use thiserror::Error;
 use vclock::Refusal;
 
-/// Why the program could not do its work. Its text goes to standard error.
+/// The reason why the program could not do its work. Its text goes to standard error.
 #[derive(Debug, Drop, Error)]
 pub(crate) enum Fault {
     /// A call of the libraries was refused, or memory ran out.
     #[error("{0}")]
     Refused(#[from] Refusal),
-    /// Nothing can be written.
+    /// The output can't be written.
     #[error("{0}")]
     Device(#[from] io::Error),
 }

@@ -1,4 +1,4 @@
-//! How a version gets to the other replica.
+//! The way of a version to the other replica.
 use crate::replica::Replica;
 use range_journal::Source;
 use ring_node::{DeliverReport, SharedController, deliver};
@@ -8,10 +8,10 @@ use std::sync::ledger::Ledger;
 use vclock::{Bytes, Refusal};
 use version_set::Version;
 
-/// How many hints a round delivers at the most.
+/// The maximum number of hints that a round delivers.
 const MOST_HINTS: u64 = 1_000;
 
-/// Whether a node is up, as the failure detector of the store has it.
+/// The state of a node, as the store's failure detector sees it.
 #[derive(Clone, Copy, Debug, PartialEq, Eq)]
 pub(crate) enum Health {
     Up,
@@ -19,9 +19,9 @@ pub(crate) enum Health {
 }
 
 impl<A: Ledger> Replica<A> {
-    /// Sends a version to another replica, or keeps it as a hint while that one is down.
+    /// Sends a version to another replica, or keeps it as a hint while that replica is down.
     ///
-    /// Refused as [`ring_node::SharedRange::copy`], or as [`SharedHints::keep`](ring_node::SharedHints).
+    /// Refused as [`ring_node::SharedRange::copy`] is, or as [`SharedHints::keep`](ring_node::SharedHints) is.
     pub(crate) fn send<B: Ledger, R: Wait>(
         &self,
         rt: &R,

@@ -8,8 +8,8 @@ use std::thread;
 use std::thread::Threads;
 use vclock::Refusal;
 
-/// Syncs a replica over a channel with another one, whose offers a thread serves meanwhile. Refused as [`Replica::sync`];
-/// LinkLost also if the thread can't be made.
+/// Syncs a replica with another one over a channel, while a thread serves the other one's offers. Refused as
+/// [`Replica::sync`] is; LinkLost also if the thread can't be made.
 pub(crate) fn sync_over_channel<A, B, C, R>(
     rt: &R,
     alloc: Global,
@@ -33,7 +33,8 @@ where
     })
 }
 
-/// Syncs a replica with another one over a link that does these deeds, one in each call. Refused as [`Replica::sync`].
+/// Syncs a replica with another one over a link that does these deeds, one in each call. Refused as [`Replica::sync`]
+/// is.
 pub(crate) fn sync_over_deeds<A: Ledger, B: Ledger, C: Ledger, R: Wait>(
     rt: &R,
     alloc: Global,

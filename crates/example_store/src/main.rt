@@ -1,7 +1,7 @@
-//! A store of two nodes, written to be read and copied: what a program does with these crates, in the order of a day.
+//! A store of two nodes, to read and to copy: a program that uses these crates in the order of a day.
 //! `docs/EMBEDDING.md` goes through it.
 //!
-//! The ring has two ranges, and both nodes keep each of them. Each range has a day of its own, with its own ledgers.
+//! The ring has two ranges, and both nodes keep each of them. Each range has its day, with its ledgers.
 #![tactic(auto)]
 
 mod client;

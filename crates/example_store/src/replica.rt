@@ -8,11 +8,11 @@ use std::alloc::Global;
 use std::sync::ledger::{Blank, Ledger};
 use vclock::Refusal;
 
-/// How many callers a replica has.
+/// The number of callers of a replica.
 const SEATS: u16 = 3;
 
-/// A node's replica of a range: the range, the hints that the node keeps for the other replica, the offers that it makes
-/// to it, and a pass for each caller of the range: who serves clients, who takes copies and hints, and who syncs.
+/// A node's replica of a range: the range, the hints that the node keeps for the other replica, the offers that it
+/// makes to it, and a pass for each caller: one for clients, one for copies and hints, and one for syncs.
 #[derive(Drop)]
 pub(crate) struct Replica<L: Ledger> {
     pub(crate) range: SharedRange<L>,
@@ -24,7 +24,7 @@ pub(crate) struct Replica<L: Ledger> {
 }
 
 impl<L: Ledger> Replica<L> {
-    /// A replica that has accepted nothing. Refused: NoMemory.
+    /// Opens a replica that has accepted nothing. Refused: NoMemory.
     pub(crate) fn open(
         alloc: Global,
         blank: Blank,

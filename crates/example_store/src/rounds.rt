@@ -12,15 +12,15 @@ use std::thread::Threads;
 use vclock::Refusal;
 use walk_messages::Offer;
 
-/// How many turns a rehash has at the most: more than a tree has nodes, which are 273, or 4,369 in format 2. The others
-/// are for nodes that a put makes dirty meanwhile.
+/// The maximum number of turns of a rehash: more than the number of nodes of a tree, which is 273, or 4,369 in format
+/// 2. The others are for nodes that a put makes dirty meanwhile.
 const REHASH_TURNS: u64 = 5_000;
 
-/// How many turns a sync has at the most: two for each node of a tree, and more.
+/// The maximum number of turns of a sync: more than two for each node of a tree.
 const SYNC_TURNS: u64 = 10_000;
 
-/// Hashes the dirty nodes of a range. Workers have different numbers, so that they take different nodes. Refused: NoSlot,
-/// NoMemory.
+/// Hashes the dirty nodes of a range. Workers have different numbers, so that they take different nodes. Refused:
+/// NoSlot, NoMemory.
 pub(crate) fn rehash<L: Ledger, C: Ledger, R: Wait>(
     rt: &R,
     alloc: Global,
@@ -34,8 +34,8 @@ pub(crate) fn rehash<L: Ledger, C: Ledger, R: Wait>(
     report
 }
 
-/// Puts keys while two workers hash the range's tree. Refused as the puts or the workers are; NoMemory also if a thread
-/// can't be made.
+/// Puts keys while two workers hash the range's tree. Refused as the puts and the workers are; NoMemory also if a
+/// thread can't be made.
 pub(crate) fn put_beside_rehash<L, C, R>(
     rt: &R,
     alloc: Global,
@@ -67,7 +67,7 @@ where
 }
 
 impl<L: Ledger> Replica<L> {
-    /// Hashes what is dirty, and offers a snapshot. Refused: NoSlot, Dirty (a put came after the rehash), SessionsFull,
+    /// Hashes the dirty nodes, and offers a snapshot. Refused: NoSlot, Dirty (a put followed the rehash), SessionsFull,
     /// NoMemory.
     pub(crate) fn publish<C: Ledger, R: Wait>(
         &self,
@@ -80,8 +80,8 @@ impl<L: Ledger> Replica<L> {
         self.offers.publish(rt, snapshot)
     }
 
-    /// Hashes what is dirty, and takes over a link what the partner has and this replica lacks. Refused: NoSlot, or as
-    /// [`SharedRange::sync_worker`].
+    /// Hashes the dirty nodes, and takes over a link the versions that the partner has and this replica lacks. Refused:
+    /// NoSlot, or as [`SharedRange::sync_worker`] is.
     pub(crate) fn sync<C: Ledger, K: Link, R: Wait>(
         &mut self,
         rt: &R,
@@ -98,9 +98,8 @@ impl<L: Ledger> Replica<L> {
         report
     }
 
-    /// What a node does with a replica at the end of a day: it hashes what is dirty, and returns the digest of the root.
-    /// Replicas that hold the same versions have the same root. Refused: NoSlot, Dirty (a put came after the rehash),
-    /// NoMemory.
+    /// Ends a replica's day: hashes the dirty nodes, and returns the digest of the root. Replicas that hold equal
+    /// versions have equal roots. Refused: NoSlot, Dirty (a put followed the rehash), NoMemory.
     pub(crate) fn end_day<C: Ledger, R: Wait>(
         &self,
         rt: &R,

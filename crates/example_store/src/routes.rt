@@ -1,4 +1,4 @@
-//! Where keys go.
+//! The ranges and the nodes of keys.
 ghost use Rattle.std.specs.Prelude.{◌^◌, ◌<◌, ◌≤◌};
 
 use key_ring::Ring;
@@ -14,7 +14,7 @@ pub(crate) struct Homes {
     ghost other: { 1 ≤ second },
 }
 
-/// The nodes that keep a range. Refused: BadRing (the ring has fewer than two nodes).
+/// Returns the nodes that keep a range. Refused: BadRing (the ring has fewer than two nodes).
 pub(crate) fn homes_of(ring: &Ring, range: u16) -> Result<Homes, Refusal>
     requires { range < 2 ^ ring.now.bits }
 {
@@ -27,7 +27,7 @@ pub(crate) fn homes_of(ring: &Ring, range: u16) -> Result<Homes, Refusal>
     })
 }
 
-/// Those of the keys `NAME-0`, `NAME-1` and so on, so many, that lie in a range. Refused: NoMemory.
+/// Returns the keys in a range among the first `count` of `NAME-0`, `NAME-1` and so on. Refused: NoMemory.
 pub(crate) fn keys_in(
     alloc: Global,
     ring: &Ring,

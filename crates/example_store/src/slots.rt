@@ -8,16 +8,16 @@ use std::sync::Wait;
 use std::sync::ledger::{Blank, Ledger};
 use vclock::Refusal;
 
-/// How many slots there are at the least.
+/// The minimum number of slots.
 const FLOOR: u32 = 1;
 
-/// How many slots there are at the most.
+/// The maximum number of slots.
 const CEILING: u32 = 8;
 
-/// The latency, in microseconds, over which slots are taken away.
+/// The latency, in microseconds, above which slots are taken away.
 const THRESHOLD: u32 = 50_000;
 
-/// A node's slots. Refused: NoMemory.
+/// Opens a node's slots. Refused: NoMemory.
 pub(crate) fn open_slots<C: Ledger>(
     alloc: Global,
     blank: Blank,
@@ -28,8 +28,8 @@ pub(crate) fn open_slots<C: Ledger>(
     Ok(SharedController::new(controller))
 }
 
-/// Reports the latency of a foreground call, in microseconds, at a moment in milliseconds, and returns how many slots
-/// there may be then. Refused: ClockBack.
+/// Reports the latency of a foreground call, in microseconds, at a moment in milliseconds, and returns the number of
+/// slots allowed then. Refused: ClockBack.
 pub(crate) fn report_latency<C: Ledger, R: Wait>(
     rt: &R,
     slots: &SharedController<C>,

@@ -1,6 +1,6 @@
-//! Makes each library call that takes memory and no lock, and prints what it returns. `examples/check` refuses its growths
-//! in turn. Each call then returns NoMemory, or what it returns with ample memory. After NoMemory what was to be changed is as
-//! it was, but that a call of many steps keeps what it has done so far.
+//! Makes each library call that takes memory and no lock, and prints its result. `examples/check` refuses the growths
+//! of memory in turn. Each call then returns NoMemory, or its result with ample memory. After NoMemory the value that
+//! was to be changed is unchanged; a call of many steps keeps the steps that are done.
 mod events;
 mod hints;
 mod histories;

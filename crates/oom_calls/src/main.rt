@@ -1,8 +1,9 @@
-//! Makes each library call that takes memory, and prints what it returns. `examples/check` refuses its growths in turn. Each
-//! call then returns NoMemory, or what it returns with ample memory. The word on the command line says which calls:
+//! Makes each library call that takes memory, and prints its result. `examples/check` refuses the growths of memory in
+//! turn. Each call then returns NoMemory, or its result with ample memory. The word on the command line chooses the
+//! calls:
 //!
 //! - `core`: those that take no lock.
-//! - `threads`: those of locked and shared ranges, and of what else threads share.
+//! - `threads`: those of locked and shared ranges, and of the other values that threads share.
 #![tactic(auto)]
 
 mod core_calls;
@@ -14,10 +15,10 @@ mod thread_calls;
 use std::env::Env;
 use std::process::ExitCode;
 
-/// How the program is called.
+/// The usage line.
 const USAGE: &str = "usage: oom_calls core|threads";
 
-/// The calls to make.
+/// The calls that are made.
 #[derive(Clone, Copy)]
 enum Calls {
     Core,
@@ -40,7 +41,7 @@ fn main(rt: HostRuntime) -> ExitCode {
     }
 }
 
-/// The calls that the word on the command line names. It takes no memory, so that each growth is one of a call.
+/// Returns the calls that the word on the command line names. Takes no memory, so that each growth belongs to a call.
 fn read_word(rt: &impl Env) -> Option<Calls> {
     let mut bytes = [0u8; 8];
     let length = rt.arg(1, &mut bytes).ok()?;

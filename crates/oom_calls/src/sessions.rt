@@ -1,7 +1,7 @@
-//! Sessions, compared by all their readers.
+//! Comparisons of sessions, by all their readers.
 use sync_session::{Session, SessionState, Taken};
 
-/// Whether two sessions are the same.
+/// Returns true if two sessions are equal.
 pub(crate) fn is_same_session(session: &Session, other: &Session) -> bool {
     is_of_same_walk(session, other)
         && session.state() == other.state()
@@ -11,7 +11,7 @@ pub(crate) fn is_same_session(session: &Session, other: &Session) -> bool {
         && has_taken_first(session, other)
 }
 
-/// Whether a session was cancelled on the way of another one.
+/// Returns true if a session was cancelled before it took all that another one took.
 pub(crate) fn is_cancelled(session: &Session, whole: &Session) -> bool {
     let mut asked = session.asked().iter().zip(whole.asked());
     is_of_same_walk(session, whole)
@@ -22,12 +22,12 @@ pub(crate) fn is_cancelled(session: &Session, whole: &Session) -> bool {
         && has_taken_first(session, whole)
 }
 
-/// Whether two sessions compare the same roots.
+/// Returns true if two sessions compare the same roots.
 fn is_of_same_walk(session: &Session, other: &Session) -> bool {
     session.root() == other.root() && session.own().root() == other.own().root()
 }
 
-/// Whether what a session took is what another one took first.
+/// Returns true if the texts that a session took are the first ones that another session took.
 fn has_taken_first(session: &Session, other: &Session) -> bool {
     let mut pairs = session.taken().iter().zip(other.taken());
     session.taken().len() <= other.taken().len()

@@ -1,16 +1,16 @@
-//! States of ranges, compared by all their readers.
+//! Comparisons of range states, by all their readers.
 use crate::sessions::{is_cancelled, is_same_session};
 use hash_tree::NodeAt;
 use range_journal::Entry;
 use range_state::{RangeState, Record};
 use version_set::Version;
 
-/// How many nodes a tree has at a depth at the most.
+/// The maximum number of nodes of a tree at one depth.
 const MOST_NODES: u16 = 4_096;
 
-/// Whether a state lies between two others: its entries are those before and the first few of those after, its rows and
-/// digests are those of one of both, and a session that is new after may be there, cancelled halfway. With `before` as
-/// `after` it is exactly that state.
+/// Returns true if a state is between two others: its entries are those before and the first few of those after, its
+/// rows and digests are each those of before or after, and a session that is new after may be there, cancelled halfway.
+/// If `before` and `after` are equal, the state equals both.
 pub(crate) fn is_between(state: &RangeState, before: &RangeState, after: &RangeState) -> bool {
     let entries = state.journal().entries();
     state.config() == before.config()
@@ -21,12 +21,12 @@ pub(crate) fn is_between(state: &RangeState, before: &RangeState, after: &RangeS
         && are_records_between(state.records(), before.records(), after.records())
 }
 
-/// Whether two states are the same.
+/// Returns true if two states are equal.
 pub(crate) fn is_same(state: &RangeState, other: &RangeState) -> bool {
     is_between(state, other, other)
 }
 
-/// Whether entries begin with others, word for word.
+/// Returns true if entries begin with others, word for word.
 pub(crate) fn begins(entries: &[Entry], others: &[Entry]) -> bool {
     others.len() <= entries.len()
         && entries
@@ -35,7 +35,8 @@ pub(crate) fn begins(entries: &[Entry], others: &[Entry]) -> bool {
             .all(|(entry, other)| entry.same(other))
 }
 
-/// Whether each key has the versions of before or of after. The keys are those of a byte, and those of the journal after.
+/// Returns true if each key has the versions of before or of after. The keys are those of one byte, and those of the
+/// journal after.
 fn are_rows_between(state: &RangeState, before: &RangeState, after: &RangeState) -> bool {
     let mut keys = after.journal().entries().iter();
     (0..=255u8).all(|key| is_row_between(&[key], state, before, after))
@@ -56,7 +57,7 @@ fn are_same_versions(versions: &[Version], others: &[Version]) -> bool {
             .all(|(version, other)| version.same(other))
 }
 
-/// Whether each node has the digest of before or of after, or no digest as before or after.
+/// Returns true if each node has the digest of before or of after, or no digest if before or after has none there.
 fn are_digests_between(state: &RangeState, before: &RangeState, after: &RangeState) -> bool {
     for depth in 0..4u8 {
         for index in 0..MOST_NODES {
@@ -71,7 +72,7 @@ fn are_digests_between(state: &RangeState, before: &RangeState, after: &RangeSta
     true
 }
 
-/// How many nodes are clean.
+/// Returns the number of clean nodes.
 pub(crate) fn clean_nodes(state: &RangeState) -> u64 {
     let mut count = 0u64;
     for depth in 0..4u8 {
@@ -86,7 +87,7 @@ pub(crate) fn clean_nodes(state: &RangeState) -> u64 {
     count
 }
 
-/// Whether the records are those before, and perhaps a session of after that is cancelled.
+/// Returns true if the records are those before, possibly with a session of after that is cancelled.
 fn are_records_between(records: &[Record], before: &[Record], after: &[Record]) -> bool {
     let old = before.len();
     let mut pairs = records.iter().zip(before);

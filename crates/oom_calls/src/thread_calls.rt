@@ -1,6 +1,7 @@
-//! Makes each call of locked and shared ranges, and of what else threads share, that takes memory, and prints what it
-//! returns. `examples/check` refuses its growths in turn. Each call then returns NoMemory, or what it returns with ample
-//! memory. After NoMemory all is as it was, but that a worker keeps what it has done so far; and the ranges close.
+//! Makes each call that takes memory of locked and shared ranges, and of the other values that threads share, and
+//! prints its result. `examples/check` refuses the growths of memory in turn. Each call then returns NoMemory, or its
+//! result with ample memory. After NoMemory everything is unchanged, except that a worker keeps the steps it has done;
+//! and the ranges close.
 mod books;
 mod calls;
 mod channels;

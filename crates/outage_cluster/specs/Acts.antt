@@ -1,4 +1,4 @@
--- What the commands do to the state, and what they answer.
+-- The effects of the commands on the state, and their answers.
 use Rattle.std.specs.Prelude.{ℕ, ◌^◌, Bool, true, false, not, ◌==◌, ◌&&◌, ◌-◌, nat_le, nat_lt, slice_index_or, List, [], ◌∷◌, length, map, filter, if◌then◌else◌, Option, Some, None, is_some}
 use Rattle.std.specs.List.{list_any, list_all}
 use Rattle.vclock.specs.Answer.{first_fault}
@@ -42,11 +42,11 @@ use Rattle.outage_cluster.specs.declared.answer.Answer.TheVariants.{Refused}
 abbrev pub places_of : RingAsk → Places
 places_of r = record { bits = r.bits; nodes = r.nodes; copies = r.copies }
 
--- the configuration of range 0, if the format and the limit are some
+-- the configuration of range 0, if the format and the limit are valid
 abbrev pub ring_config : RingAsk → Option Config
 ring_config r = config_of r.format r.bits 0 r.limit
 
--- everything anew
+-- a new cluster, with new slots
 abbrev pub ring_act : RingAsk → Option Config → Outcome Answer State
 ring_act r None = refuses BadRing
 ring_act r (Some c) = do
@@ -55,15 +55,15 @@ ring_act r (Some c) = do
 
 -- ---- nodes
 
--- why the nodes that a command names are refused: one is not on the ring
+-- the fault of the nodes that a command names: one is not on the ring
 abbrev pub ring_nodes_fault : Cluster → ℕ → List ℕ → Option Refusal
 ring_nodes_fault s node others = if is_member s node && list_all (is_member s) others then None else Some BadRing
 
--- why a node is refused: it is down
+-- the fault of a node that is down
 abbrev pub down_fault : Cluster → ℕ → Option Refusal
 down_fault s node = if is_down s node then Some Down else None
 
--- why nodes are refused: one is not on the ring, or the first is down
+-- the fault of nodes: one is not on the ring, or the first is down
 abbrev pub nodes_fault : Cluster → ℕ → List ℕ → Option Refusal
 nodes_fault s node others = first_fault (ring_nodes_fault s node others) (down_fault s node)
 
@@ -88,23 +88,23 @@ abbrev pub value_of : Option (List ℕ) → List ℕ
 value_of (Some value) = value
 value_of None = []
 
--- why a put is refused before its range is looked for
+-- the fault of a put before its range is looked for
 abbrev pub ask_fault : PutAsk → Cluster → Option Refusal
 ask_fault p s = first_fault (nodes_fault s p.node p.lose) (first_fault (pairs_fault p.context) (first_fault (key_fault p.key) (value_fault s.format (kind_of p.value) (value_of p.value))))
 
--- a put with what its node keeps: the script's seat is 0
+-- a put into the state of its node: the script's seat is 0
 unfoldable pub put_at : PutAsk → range.State → Outcome Entry range.State
 put_at p h = range.put h 0 p.node p.key (clock_of p.context) (kind_of p.value) (value_of p.value)
 
--- whether a replica is to have a put: it is another node, and not one that is to get nothing
+-- a replica is to have a put: it is another node, and not one that gets no copy
 abbrev pub is_sent_to : ℕ → List ℕ → ℕ → Bool
 is_sent_to node lose n = not (n == node) && not (list_any (λ m. m == n) lose)
 
--- whether a replica is sent a copy of a put: it is to have it, and is up
+-- a replica is sent a copy of a put: it is to have it, and is up
 abbrev pub gets_copy : List ℕ → ℕ → List ℕ → ℕ → Bool
 gets_copy down node lose n = is_sent_to node lose n && not (list_any (λ m. m == n) down)
 
--- whether a replica is to have a hint of a put: it is to have the put, and is down
+-- a replica is to have a hint of a put: it is to have the put, and is down
 abbrev pub gets_hint : List ℕ → ℕ → List ℕ → ℕ → Bool
 gets_hint down node lose n = is_sent_to node lose n && list_any (λ m. m == n) down
 
@@ -112,15 +112,15 @@ gets_hint down node lose n = is_sent_to node lose n && list_any (λ m. m == n) d
 unfoldable pub copied_to : Entry → Replica → Outcome Accepted Replica
 copied_to e r = in_replica r (range.accept r.range 0 Copy e.key e.version)
 
--- whether a replica is sent a copy of an entry, and takes it or knows it
+-- a replica is sent a copy of an entry, and takes it or knows it
 abbrev pub takes : List ℕ → ℕ → List ℕ → Entry → Replica → Bool
 takes down node lose e r = gets_copy down node lose r.node && is_given (copied_to e r)
 
--- a replica after the copies were sent: one that refuses its copy is as it was
+-- a replica after the copies were sent: one that refuses its copy is unchanged
 abbrev pub after_copy : List ℕ → ℕ → List ℕ → Entry → Replica → Replica
 after_copy down node lose e r = if gets_copy down node lose r.node then left (copied_to e r) r else r
 
--- a put and its copies: the entry, and how many replicas take a copy or know it
+-- a put and its copies: the entry, and the number of replicas that take a copy or know it
 unfoldable pub put_into : List ℕ → PutAsk → List Replica → Outcome (Entry × ℕ) (List Replica)
 put_into down p reps = do
   at ← at_home p.node (put_at p) reps
@@ -136,14 +136,14 @@ put_act p s = do
   at ← put_into s.down p (replicas_of s p.key)
   put_told at.0 (hinted at.0.0 (owners_of (gets_hint s.down p.node p.lose) (replicas_of s p.key)) (with_replicas s p.key at.1) (carrier_of s (range_at s.ring.bits p.key)))
 
--- ---- what a node keeps
+-- ---- reads of a node
 
--- what is shown of what a node keeps
+-- the answer about the state of a range at a node, if the node keeps the range
 abbrev pub shown : Cluster → (range.State → Answer) → Option range.State → Outcome Answer Cluster
 shown s show None = refuses OtherRange
 shown s show (Some h) = gives (show h) s
 
--- what is shown of a key at a node
+-- the answer about a key at a node
 unfoldable pub key_act : (range.State → Answer) → GetAsk → Cluster → Outcome Answer Cluster
 key_act show g s = do
   nodes_fault s g.node []
@@ -153,7 +153,7 @@ key_act show g s = do
 abbrev pub held_at : GetAsk → range.State → Answer
 held_at g h = Answers.Versions (held h.entries g.key)
 
--- a row's text in a format, or nothing if nothing is held
+-- a row's text in a format, or no bytes if no version is held
 abbrev pub text_of : Format → List ℕ → List Version → List ℕ
 text_of format key [] = []
 text_of format key (v ∷ vs) = row_text format (record { key = key; versions = v ∷ vs })
@@ -161,11 +161,11 @@ text_of format key (v ∷ vs) = row_text format (record { key = key; versions = 
 abbrev pub row_at : GetAsk → range.State → Answer
 row_at g h = Answers.Row (text_of h.config.format g.key (held h.entries g.key))
 
--- what a node keeps of the range of that number: nothing too if the ring has no such range
+-- the state of the range of that number at a node: None if the node does not keep it or the ring has no such range
 abbrev pub kept_at : Cluster → ℕ → ℕ → Option range.State
 kept_at s node r = home node (slice_index_or s.replicas r [])
 
--- the digest of a node, shown if it is clean: that of the node's text for the rows now
+-- the digest of a node if it is clean: that of the node's text for the rows now
 abbrev pub shown_digest : ℕ → ℕ → range.State → Option (List ℕ)
 shown_digest depth index h = if is_some (digest_at h.marks (place_at depth index)) then Some (node_digest h.config.format (range.leaf_in h.config) (rows_of h.entries) (tree_depth h.config.format - depth) index) else None
 
@@ -179,16 +179,16 @@ node_act q s = do
 
 -- ---- background work
 
--- why a node is refused that keeps nothing
+-- the fault of a node that does not keep the range
 abbrev pub kept_fault : Option range.State → Option Refusal
 kept_fault None = Some OtherRange
 kept_fault (Some h) = None
 
--- why a command on a range at a node is refused
+-- the fault of a command on a range at a node
 abbrev pub range_fault : Cluster → ℕ → ℕ → Option Refusal
 range_fault s node r = first_fault (nodes_fault s node []) (kept_fault (kept_at s node r))
 
--- all nodes of a range's tree made clean: how many were dirty
+-- all nodes of a range's tree made clean, and the number of those that were dirty
 abbrev pub clean_at : range.State → Outcome ℕ range.State
 clean_at h = gives (dirty_count h.marks) (rehashed h)
 
@@ -197,7 +197,7 @@ rehash_at q s = do
   hashed ← at_home q.node clean_at (slice_index_or s.replicas q.range [])
   gives (Answers.Rehash hashed.0) (with_range s q.range hashed.1)
 
--- why a sync is refused for its nodes: one is not on the ring, one is down, or one does not keep the range
+-- the fault of the nodes of a sync: one is not on the ring, one is down, or one does not keep the range
 abbrev pub pair_fault : SyncAsk → Cluster → Option Refusal
 pair_fault q s = first_fault (ring_nodes_fault s q.node (q.from ∷ [])) (first_fault (down_fault s q.node) (down_fault s q.from))
 
@@ -208,7 +208,7 @@ keepers_fault q s = first_fault (pair_fault q s) (first_fault (kept_fault (kept_
 abbrev pub replica_in : Cluster → ℕ → ℕ → Option Replica
 replica_in s node r = replica_at node (slice_index_or s.replicas r [])
 
--- a sync of a replica with what another node keeps
+-- a sync of a replica with the range of another node
 abbrev pub synced_in : SyncAsk → Cluster → Option range.State → Option Replica → Outcome Answer Cluster
 synced_in q s None own = refuses OtherRange
 synced_in q s (Some h) None = do
@@ -225,7 +225,7 @@ sync_at q s = synced_in q s (kept_at s q.from q.range) (replica_in s q.node q.ra
 
 -- ---- the commands
 
--- what is done in the cluster, or with the slots, as done with the state
+-- a change of the cluster, or of the slots, as a change of the state
 abbrev pub in_cluster : State → Outcome Answer Cluster → Outcome Answer State
 in_cluster s done = through (λ c. record s { cluster = c }) done
 
@@ -251,7 +251,7 @@ sync_act q s = do
   keepers_fault q s.cluster
   with_slot s (sync_at q s.cluster)
 
--- what a command tells, and the state after it
+-- the answer of a command, and the state after it
 unfoldable pub act : Ask → State → Outcome Answer State
 act (ring r) s = ring_act r (ring_config r)
 act (put p) s = in_cluster s (put_act p s.cluster)
@@ -266,11 +266,12 @@ act (show_node q) s = in_cluster s (node_act q s.cluster)
 act (slot x) s = in_slots s (slot_act x s.slots)
 act (sample q) s = in_slots s (sample_act q s.slots)
 
--- whether the tree of a range in a format has a node
+-- the tree of a range in a format has a node
 abbrev pub is_tree_node : Format → ℕ → ℕ → Bool
 is_tree_node format depth index = nat_le depth (tree_depth format) && nat_lt index (16 ^ depth)
 
--- whether the ring in force has such a command: in format 1 no value is null, and the tree has the node
+-- the ring in force has such a command: in format 1 no value is null, the tree has the node, and the controller may
+-- have the target
 abbrev pub has_value : Format → Option (List ℕ) → Bool
 has_value One value = is_some value
 has_value Two value = true
@@ -281,7 +282,7 @@ suits s (show_node q) = is_tree_node s.cluster.format q.depth q.index
 suits s (slot x) = is_target s.slots x
 suits s ask = true
 
--- what is answered: what the command tells, or why it is refused
+-- the answer of a command: its own, or its refusal
 abbrev pub replied : {S : Type 0} → Outcome Answer S → Answer
 replied (gives answer s) = answer
 replied (refuses refusal) = Refused refusal

@@ -1,4 +1,4 @@
--- Hints in a script: who keeps them, and how they are delivered: the paper of 2007, section 4.6.
+-- Hints in a script: the nodes that keep them, and their delivery: the paper of 2007, section 4.6.
 use Rattle.std.specs.Prelude.{ℕ, ◌+◌, ◌-◌, Bool, true, false, not, ◌&&◌, nat_eq, slice_index_or, slice_set, List, [], length, map, filter, find, fold, drop, if◌then◌else◌, Option, Some, None}
 use Rattle.std.specs.List.{list_any}
 use Rattle.vclock.specs.Outcome.{Outcome, gives, refuses}
@@ -21,7 +21,7 @@ use Rattle.outage_cluster.specs.State.{Cluster, Replica, at_home, left, is_down,
 abbrev pub owners_of : (ℕ → Bool) → List Replica → List ℕ
 owners_of gets_hint reps = filter gets_hint (map (λ r. r.node) reps)
 
--- who keeps the hints of a range: the first node after its replicas in its preference list that is up
+-- the node that keeps the hints of a range: the first one that is up after the range's replicas in its preference list
 abbrev pub carrier_of : Cluster → ℕ → Option ℕ
 carrier_of s r = find (λ n. not (is_down s n)) (drop s.ring.copies (preference_list s.ring.nodes r))
 
@@ -33,37 +33,37 @@ kept_for e hs owner = left (keep hs owner e.key e.version) hs
 abbrev pub kept_all : Entry → List ℕ → List Kept → List Kept
 kept_all e owners hs = fold (kept_for e) hs owners
 
--- what a put's hints do, if the node with these hints carries them: how many are kept, and the cluster with them
+-- the hints of a put at the node that carries them: the number that are kept, and the cluster with them
 abbrev pub hinted_at : Entry → List ℕ → Cluster → ℕ → Option (List Kept) → ℕ × Cluster
 hinted_at e owners s carrier None = (0, s)
 hinted_at e owners s carrier (Some hs) = (length (kept_all e owners hs) - length hs, with_hints s carrier (kept_all e owners hs))
 
--- the same for the carrier, if there is one
+-- the hints of a put at their carrier, if any
 abbrev pub hinted : Entry → List ℕ → Cluster → Option ℕ → ℕ × Cluster
 hinted e owners s None = (0, s)
 hinted e owners s (Some carrier) = hinted_at e owners s carrier (hints_of s carrier)
 
--- what the owner of a hint, if it is among these replicas, makes of it
+-- a hint offered to its owner, if the owner is among these replicas
 unfoldable pub asked : Hint → List Replica → Outcome Accepted (List Replica)
 asked hint reps = at_home hint.owner (λ h. range.accept h 0 Sources.Hint hint.key hint.version) reps
 
--- the same in a ring of 2^bits ranges
+-- a hint offered to its owner in a ring of 2^bits ranges
 abbrev pub asked_in : ℕ → List (List Replica) → Hint → Outcome Accepted (List Replica)
 asked_in bits replicas hint = asked hint (slice_index_or replicas (range_at bits hint.key) [])
 
--- a delivery in progress: the replicas and the carrier's hints now, and how many hints were taken and known
+-- a delivery in progress: the replicas and the carrier's hints now, and the numbers of hints that were taken and known
 pub record Round : Type 0 where
   pub replicas : List (List Replica)
   pub hints : List Kept
   pub taken : ℕ
   pub known : ℕ
 
--- whether an owner knew a version
+-- an owner knew a version
 abbrev pub was_known : Accepted → Bool
 was_known Known = true
 was_known (Taken e) = false
 
--- the delivery after an owner took a hint or knew it, and these are the replicas of the range
+-- the delivery after an owner took a hint or knew it, with these replicas of the range
 abbrev pub round_after : ℕ → Round → Hint → Bool → List Replica → Round
 round_after bits r h known reps = record {
   replicas = slice_set r.replicas (range_at bits h.key) reps;
@@ -77,7 +77,7 @@ abbrev pub offered_to : ℕ → Round → Hint → Outcome Accepted (List Replic
 offered_to bits r h (refuses e) = r
 offered_to bits r h (gives reply reps) = round_after bits r h (was_known reply) reps
 
--- whether a hint is offered: it is pending, and its owner is up
+-- a hint is offered: it is pending, and its owner is up
 abbrev pub is_offered : List ℕ → Kept → Bool
 is_offered up k = is_pending k && list_any (nat_eq k.hint.owner) up
 
@@ -96,11 +96,11 @@ up_nodes s = filter (λ n. not (is_down s n)) s.ring.nodes
 abbrev pub round_of : Cluster → List Kept → Round
 round_of s hs = fold (offer_one (up_nodes s) s.ring.bits) (first_round s.replicas hs) hs
 
--- a delivery that is over: its answer, and the cluster after it
+-- the answer of a delivery that is over, and the cluster after it
 abbrev pub delivered : Cluster → ℕ → Round → Outcome Answer Cluster
 delivered s n r = gives (Answers.Deliver r.taken r.known (pending_count r.hints)) (with_hints (record s { replicas = r.replicas }) n r.hints)
 
--- a delivery of the hints that a node keeps; one that is not on the ring keeps none
+-- a delivery of the hints that a node keeps; it is refused if the node is not on the ring
 abbrev pub deliver_at : Cluster → ℕ → Option (List Kept) → Outcome Answer Cluster
 deliver_at s n None = refuses BadRing
 deliver_at s n (Some hs) = delivered s n (round_of s hs)

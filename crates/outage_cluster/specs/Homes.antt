@@ -1,4 +1,4 @@
--- Where a node's replica stands among those of a range.
+-- The place of a node's replica among those of a range.
 use Rattle.std.specs.Prelude.{◌≡◌, ℕ, ◌<◌, length, List, slice_index_or, slice_set, Some}
 use Rattle.std.specs.List.{AllByRecursion}
 use Rattle.snapshot.specs.RowMaps.{RowMap}
@@ -11,7 +11,7 @@ use Rattle.outage_cluster.specs.Syncs.{synced_with}
 abbrev pub AreOf : Config → List Replica → Type 0
 AreOf c reps = AllByRecursion (λ (r : Replica). r.range.config ≡ c) reps
 
--- the node's replica stands at i
+-- the node's replica is at place i
 pub record IsHome (n : ℕ) (reps : List Replica) (i : ℕ) : Type 0 where
   pub within : i < length reps
   pub node : (d : Replica) → (slice_index_or reps i d).node ≡ n

@@ -1,4 +1,4 @@
--- Words for one step of a delivery.
+-- One step of a delivery.
 use Rattle.std.specs.Prelude.{ℕ, ◌+◌, Bool, true, false, List, Option, Some, None}
 use Rattle.vclock.specs.Outcome.{Outcome, gives, refuses}
 use Rattle.range_state.specs.declared.event.Accepted.{Accepted}
@@ -16,13 +16,13 @@ pending_of h = record { hint = h; fate = Pending }
 abbrev pub round_at : List (List Replica) → List Kept → ℕ → ℕ → Round
 round_at replicas hints taken known = record { replicas = replicas; hints = hints; taken = taken; known = known }
 
--- the same after an offer: it was refused, or the owner took the version or knew it
+-- the delivery after an offer: it was refused, or the owner took the version or knew it
 abbrev pub after_offer : Option Bool → List (List Replica) → List Kept → ℕ → ℕ → Round
 after_offer None replicas hints taken known = round_at replicas hints taken known
 after_offer (Some false) replicas hints taken known = round_at replicas hints (taken + 1) known
 after_offer (Some true) replicas hints taken known = round_at replicas hints taken (known + 1)
 
--- what an owner tells, if it is no refusal: whether it knew the version
+-- the reply of an owner: true if it knew the version, None if it refused it
 abbrev pub told_by : Outcome Accepted (List Replica) → Option Bool
 told_by (gives reply reps) = Some (was_known reply)
 told_by (refuses e) = None

@@ -1,4 +1,4 @@
--- What a script does with the slots for background work: the paper of 2007, section 6.5.
+-- The commands for the slots for background work: the paper of 2007, section 6.5.
 use Rattle.std.specs.Prelude.{◌-◌, Bool, true, ◌&&◌, nat_le}
 use Rattle.vclock.specs.Outcome.{Outcome, gives, ◌>>=◌}
 use Rattle.admission.specs.Admission.{Admission, allowance_of, free_of, lend, sample, adjust}
@@ -7,15 +7,15 @@ use Rattle.outage_cluster.specs.declared.answer.Answer.{Answer}
 use Rattle.outage_cluster.specs.declared.answer.Answer.TheVariants as Answers
 use Rattle.outage_cluster.specs.declared.answer.SlotCounts.{SlotCounts}
 
--- the controller after a slot is given back: nothing happens if none is lent
+-- the controller after a slot is given back: unchanged if no slot is lent
 abbrev pub given_back : Admission → Admission
 given_back a = record a { slots = a.slots - 1 }
 
--- how many slots there are or could be, how many could be lent, how many there are, and how many there may be
+-- the numbers of slots that are lent or could be, that could be lent, that are lent, and that there may be
 abbrev pub counts : Admission → SlotCounts
 counts a = record { allowance = allowance_of a; free = free_of a; lent = a.slots; target = a.target }
 
--- what is done with the slots, and what is told of them after it
+-- the answer of a command for the slots, and the controller after it
 unfoldable pub slot_act : SlotAsk → Admission → Outcome Answer Admission
 slot_act lend_slot a = do
   lent ← lend a
@@ -26,13 +26,13 @@ slot_act (adjust_target now) a = do
   found ← adjust a now
   gives (Answers.Adjusted (counts found.1) found.0) found.1
 
--- a sample: how many are kept
+-- a sample, and the number that are kept
 unfoldable pub sample_act : SampleAsk → Admission → Outcome Answer Admission
 sample_act q a = do
   kept ← sample a q.moment q.micros
   gives (Answers.Sample kept.0) kept.1
 
--- whether the controller may have such a target
+-- the controller may have such a target
 abbrev pub is_target : Admission → SlotAsk → Bool
 is_target a (set_target n) = nat_le a.floor n && nat_le n a.ceiling
 is_target a ask = true

@@ -14,8 +14,9 @@ use Rattle.range_state.specs.Sessions.{standings}
 use Rattle.range_state.specs.State as range
 use Rattle.sync_session.specs.declared.state.SessionState.{SessionState}
 
--- a node that keeps a range: which range, the entries of the node's journal of it, and which nodes of its tree are clean;
--- and how each of its sessions stands, in the order in which they were opened. No session itself is kept.
+-- a node that keeps a range, with the state of the range: its number, the entries of the journal, and the clean nodes
+-- of its tree; and the state of each of its sessions, in the order in which they were opened. The sessions themselves
+-- are not kept.
 pub record Replica : Type 0 where
   pub node : ℕ
   pub range : range.State
@@ -25,12 +26,12 @@ pub record Replica : Type 0 where
 abbrev pub without_records : range.State → range.State
 without_records s = record { config = s.config; entries = s.entries; marks = s.marks; records = [] }
 
--- the replica of a node whose state of the range is that
+-- the replica of a node that has this state of the range
 abbrev pub replica_of : ℕ → range.State → Replica
 replica_of n s = record { node = n; range = without_records s; sessions = standings s.records }
 
--- the ring, its format, the nodes that are down, the hints of each node in the order of the ring, and range by range the
--- replicas, in the order of the range's preference list
+-- the ring, its format, the nodes that are down, the hints of each node in the order of the ring, and range by range
+-- the replicas, in the order of the range's preference list
 pub record Cluster : Type 0 where
   pub ring : Places
   pub format : Format
@@ -51,12 +52,12 @@ empty_range c r = range.fresh (record { format = c.format; bits = c.bits; range 
 abbrev pub replicas_made : Places → Config → ℕ → List Replica
 replicas_made ring c r = map (λ n. record { node = n; range = empty_range c r; sessions = [] }) (take ring.copies (preference_list ring.nodes r))
 
--- everything anew: each node is up and has no hints; each replica of each range has an empty journal, and no node of its
+-- a new cluster: each node is up and has no hints; each replica of each range has an empty journal, and no node of its
 -- tree is clean
 unfoldable pub made : Places → Config → Cluster
 made ring c = record { ring = ring; format = c.format; down = []; hints = replicate (length ring.nodes) []; replicas = map (replicas_made ring c) (range_with_len 0 (2 ^ ring.bits)) }
 
--- a range that may not have come about yet: then it has accepted nothing
+-- a range that may have no state yet: then it has accepted nothing
 abbrev pub range_in : Config → Option range.State → range.State
 range_in c None = range.fresh c
 range_in c (Some s) = s
@@ -68,7 +69,7 @@ first_ring = record { bits = 0; nodes = 1 ∷ []; copies = 1 }
 abbrev pub first_config : Config
 first_config = record { format = One; bits = 0; range = 0; limit = 1000000 }
 
--- up to 8 slots, and at least 1, by a latency of 50 milliseconds; none is lent
+-- up to 8 slots, and at least 1, by a latency of 50 milliseconds; no slot is lent
 abbrev pub first_slots : Admission
 first_slots = fresh 1 8 50000
 
@@ -79,41 +80,42 @@ start = record { cluster = made first_ring first_config; slots = first_slots }
 abbrev pub replicas_of : Cluster → List ℕ → List Replica
 replicas_of s key = slice_index_or s.replicas (range_at s.ring.bits key) []
 
--- the same cluster with other replicas of a range
+-- the cluster with other replicas of a range
 abbrev pub with_range : Cluster → ℕ → List Replica → Cluster
 with_range s r reps = record s { replicas = slice_set s.replicas r reps }
 
--- the same cluster with other replicas of a key's range
+-- the cluster with other replicas of a key's range
 abbrev pub with_replicas : Cluster → List ℕ → List Replica → Cluster
 with_replicas s key reps = with_range s (range_at s.ring.bits key) reps
 
--- a node's replica, if the node is one of those that keep the range
+-- a node's replica, if the node keeps the range
 abbrev pub replica_at : ℕ → List Replica → Option Replica
 replica_at n [] = None
 replica_at n (r ∷ reps) = if r.node == n then Some r else replica_at n reps
 
--- what it keeps of the range
+-- the state of the range at a node, if the node keeps it
 abbrev pub home : ℕ → List Replica → Option range.State
 home n reps = option_map (λ (r : Replica). r.range) (replica_at n reps)
 
--- the replicas, of which a node's was changed so
+-- the replicas after a change of a node's replica by f
 abbrev pub at_node : ℕ → (Replica → Replica) → List Replica → List Replica
 at_node n f [] = []
 at_node n f (r ∷ reps) = if r.node == n then f r ∷ reps else r ∷ at_node n f reps
 
--- a replica that keeps that now
+-- a replica with another state of the range
 abbrev pub keeping : range.State → Replica → Replica
 keeping h r = record { node = r.node; range = h; sessions = r.sessions }
 
--- the replicas, of which the node keeps that now
+-- the replicas with another state of the range at a node
 abbrev pub with_home : ℕ → range.State → List Replica → List Replica
 with_home n h reps = at_node n (keeping h) reps
 
--- what is done with what a replica keeps, as done with the replica
+-- a change of a range's state, as a change of the replica
 abbrev pub in_replica : {T : Type 0} → Replica → Outcome T range.State → Outcome T Replica
 in_replica r done = through (λ h. keeping h r) done
 
--- what is done with what a node keeps, as done with the replicas of the range; it is refused if the node keeps nothing of it
+-- a call on the state of a range at a node, as a change of the replicas; it is refused if the node does not keep the
+-- range
 abbrev pub in_home : {T : Type 0} → ℕ → List Replica → (range.State → Outcome T range.State) → Option range.State → Outcome T (List Replica)
 in_home n reps call None = refuses OtherRange
 in_home n reps call (Some h) = through (λ new. with_home n new reps) (call h)
@@ -121,16 +123,16 @@ in_home n reps call (Some h) = through (λ new. with_home n new reps) (call h)
 abbrev pub at_home : {T : Type 0} → ℕ → (range.State → Outcome T range.State) → List Replica → Outcome T (List Replica)
 at_home n call reps = in_home n reps call (home n reps)
 
--- the state after a call: one that is refused changes nothing
+-- the state after a call: a refused call changes nothing
 abbrev pub left : {T S : Type 0} → Outcome T S → S → S
 left (gives x s) old = s
 left (refuses e) old = old
 
--- whether a node is on the ring
+-- a node is on the ring
 abbrev pub is_member : Cluster → ℕ → Bool
 is_member s n = list_any (λ m. m == n) s.ring.nodes
 
--- whether a node is down
+-- a node is down
 abbrev pub is_down : Cluster → ℕ → Bool
 is_down s n = list_any (λ m. m == n) s.down
 
@@ -150,6 +152,6 @@ abbrev pub set_at : {A : Type 0} → List A → Option ℕ → A → List A
 set_at xs None x = xs
 set_at xs (Some i) x = slice_set xs i x
 
--- the cluster, in which the node keeps these hints now
+-- the cluster with these hints at a node
 abbrev pub with_hints : Cluster → ℕ → List Kept → Cluster
 with_hints s n hs = record s { hints = set_at s.hints (position (λ m. m == n) s.ring.nodes) hs }

@@ -1,4 +1,4 @@
--- What a sync returns and leaves: the paper of 2007, section 4.7.
+-- The results of a sync, and the state after it: the paper of 2007, section 4.7.
 use Rattle.std.specs.Prelude.{◌≡◌, ◌+◌, ◌-◌, ◌++◌, [], ◌∷◌, length, Option, Some, None}
 use Rattle.vclock.specs.Answer.{first_fault}
 use Rattle.vclock.specs.declared.refusal.Refusal.{Refusal}
@@ -12,29 +12,31 @@ use Rattle.range_state.specs.Syncs.{Progress, synced, ended}
 use Rattle.range_state.specs.declared.state.sync.Synced.{Synced}
 use Rattle.outage_cluster.specs.State.{Replica}
 
--- why a node opens no session: it does not keep the range, too many sessions are open, or a node of its own tree is dirty
+-- the fault of a node that cannot open a session: it does not keep the range, too many sessions are open, or a node of
+-- its tree is dirty
 abbrev pub session_fault : Option Replica → Option Refusal
 session_fault None = Some OtherRange
 session_fault (Some r) = first_fault (crowd_fault r.sessions) (dirty_fault r.range)
 
--- why a node does not take what another keeps: the other keeps nothing of the range, or a node of its tree is dirty; or this
--- one opens no session
+-- the fault of a sync of a node with another: the other does not keep the range, or a node of its tree is dirty; or
+-- this one cannot open a session
 abbrev pub walk_fault : Option range.State → Option Replica → Option Refusal
 walk_fault None own = Some OtherRange
 walk_fault (Some h) own = first_fault (dirty_fault h) (session_fault own)
 
--- how far a replica comes that takes what another has, in the leaves where their trees differ, at the script's seat
+-- the progress of a replica that fetches the versions that another has, in the leaves at which their trees differ, at
+-- the script's seat
 abbrev pub progress : RowMap → Replica → Progress
 progress other r = synced r.range 0 other
 
--- the replica after that
+-- the replica after a sync
 abbrev pub after_sync : Progress → Replica → Replica
 after_sync p r = record { node = r.node; range = p.state; sessions = r.sessions ++ ended p.fault ∷ [] }
 
 abbrev pub synced_with : RowMap → Replica → Replica
 synced_with other r = after_sync (progress other r) r
 
--- what is told of it: each node where the trees differ was asked
+-- the report of a sync: each node at which the trees differ was asked
 abbrev pub told_of : Replica → RowMap → Progress → Synced
 told_of r other p = record { accepted = length p.state.entries - length r.range.entries; known = p.known; asked = length (differ (rows_now r.range) other); fault = p.fault }
 

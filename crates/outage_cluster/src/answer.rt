@@ -9,23 +9,23 @@ use std::sync::ledger::Ledger;
 use vclock::{Clock, Refusal};
 use version_set::VersionSet;
 
-/// What a command answers.
+/// The answer of a command.
 #[derive(Drop)]
 pub enum Answer {
     /// A new ring.
     Ring {
-        /// How many nodes it has.
+        /// The number of nodes.
         nodes: u64,
-        /// How many ranges it has.
+        /// The number of ranges.
         ranges: u64,
     },
     /// A put.
     Put {
         /// The clock of the new version.
         clock: Clock,
-        /// How many replicas took a copy or knew it.
+        /// The number of replicas that took a copy or knew it.
         copied: u64,
-        /// How many hints are kept.
+        /// The number of hints that are kept.
         hinted: u64,
         /// The number of the entry.
         number: u64,
@@ -34,55 +34,55 @@ pub enum Answer {
     Versions(VersionSet),
     /// The text of the row of a key.
     Row(Text),
-    /// How many nodes a rehash found dirty.
+    /// The number of nodes that a rehash found dirty.
     Rehash(u64),
-    /// What came of a sync.
+    /// The report of a sync.
     Sync(Synced),
     /// The digest of a tree's node, or `None` if it is dirty.
     Node(Option<Digest>),
-    /// A node that is taken down or up.
+    /// A node that was taken down or up.
     Up {
         /// The node.
         node: u64,
-        /// Whether it is up now.
+        /// True if it is up now.
         up: bool,
     },
     /// A delivery of hints.
     Deliver {
-        /// How many their owners took.
+        /// The number that their owners took.
         delivered: u64,
-        /// How many their owners knew.
+        /// The number that their owners knew.
         known: u64,
-        /// How many are pending after it.
+        /// The number that are pending after it.
         pending: u32,
     },
     /// The slots.
     Slots(SlotCounts),
     /// The slots, and the percentile by which their target was adjusted, or `None` if there was no sample.
     Adjusted(SlotCounts, Option<u32>),
-    /// How many samples are kept.
+    /// The number of samples that are kept.
     Sample(u32),
-    /// Why a command is refused.
+    /// The refusal of a command.
     Refused(Refusal),
-    /// The line of that number is no command.
+    /// The line of that number isn't a command.
     BadLine(u64),
 }
 
-/// How many slots there are.
+/// The counts of slots.
 #[derive(Clone, Copy)]
 pub struct SlotCounts {
-    /// How many are lent or could be.
+    /// The number that are lent or could be.
     pub allowance: u64,
-    /// How many could be lent.
+    /// The number that could be lent.
     pub free: u64,
-    /// How many are lent.
+    /// The number that are lent.
     pub lent: u64,
-    /// How many there may be.
+    /// The maximum number.
     pub target: u64,
 }
 
 impl SlotCounts {
-    /// The slots of a controller.
+    /// Counts the slots of a controller.
     pub(crate) fn of<L: Ledger>(slots: &Controller<L>) -> SlotCounts
         ensures { result ≡ counts slots.now }
     {

@@ -49,7 +49,7 @@ impl Model for Cluster {
 }
 
 impl Cluster {
-    /// The cluster that a script begins with: a ring of node 1, with one range.
+    /// Makes the cluster at the start of a script: a ring of node 1, with one range.
     pub(crate) fn start(alloc: Global) -> Result<Cluster, AllocError>
         ensures { IfOk result (λ cluster. cluster ≡ made first_ring first_config) }
     {
@@ -60,7 +60,7 @@ impl Cluster {
         }
     }
 
-    /// The cluster of a ring whose nodes are up, have no hints, and have accepted nothing.
+    /// Makes the cluster of a ring. Its nodes are up, have no hints, and have accepted nothing.
     #[tactic(auto, unfolding(crate::specs::State::made))]
     pub(crate) fn new(alloc: Global, ring: Ring, config: RangeConfig) -> Result<Cluster, AllocError>
         requires { config.bits ≡ ring.bits }
@@ -113,7 +113,8 @@ impl Cluster {
         })
     }
 
-    /// Keeps a hint of an entry for each of these owners at the carrier of a range, and returns how many were kept.
+    /// Keeps a hint of an entry for each of these owners at the carrier of a range, and returns the number that were
+    /// kept.
     fn keep_hints(&mut self, range: u16, owners: &[u16], entry: &Receipt) -> Result<u64, AllocError>
         requires { range < 2 ^ self.old.ring.bits }
         ensures count { IfOk result (λ n. n ≡ (hinted entry.now owners.now self.old (carrier_of self.old range)).0) }
@@ -128,7 +129,7 @@ impl Cluster {
         }
     }
 
-    /// The node that keeps a range's hints: the first live one after its replicas in the preference list.
+    /// Finds the node that keeps a range's hints: the first live one after its replicas in the preference list.
     #[tactic(auto, using(crate::proofs::ListSteps::find_end))]
     fn carrier_of(&self, range: u16) -> Option<u16>
         requires { range < 2 ^ self.now.ring.bits }
@@ -143,7 +144,7 @@ impl Cluster {
         None
     }
 
-    /// The place of a node in the ring.
+    /// Finds the place of a node in the ring.
     fn place_of(&self, node: u64) -> Option<usize>
         ensures { result ≡ position (λ m. m == node) self.now.ring.nodes }
     {
@@ -172,14 +173,14 @@ impl Cluster {
         Ok(Answer::Up { node, up: true })
     }
 
-    /// Whether a node is down.
+    /// Returns true if a node is down.
     fn is_down(&self, node: u64) -> bool
         ensures { result ≡ is_down self.now node }
     {
         self.down.contains(&node)
     }
 
-    /// The nodes that are up, in the order of the ring.
+    /// Lists the nodes that are up, in the order of the ring.
     fn up_nodes(&self, alloc: Global) -> Result<Vec<u16>, AllocError>
         ensures { IfOk result (λ nodes. nodes.items ≡ up_nodes self.now) }
     {
@@ -191,15 +192,15 @@ impl Cluster {
             .collect(alloc)
     }
 
-    /// Whether a node is on the ring and up, so that its hints can be delivered.
+    /// Tests that a node is on the ring and up, so that its hints can be delivered.
     pub(crate) fn check_carrier(&self, node: u64) -> Result<(), Refusal>
         ensures { AnswersAtOnce result (nodes_fault self.now node []) (λ _. ⊤) }
     {
         self.check_nodes(node, &[])
     }
 
-    /// Offers the hints that a node keeps to their owners. Returns the answer with how many were taken, known, and
-    /// still pending.
+    /// Offers the hints that a node keeps to their owners. Returns the answer with the numbers of those that were
+    /// taken, known, and still pending.
     pub(crate) fn deliver(&mut self, alloc: Global, node: u64) -> Result<Answer, AllocError>
         requires { nodes_fault self.old node [] ≡ None }
         ensures { IfOk result (λ a. deliver_at self.old node (hints_of self.old node) ≡ gives a self.new) }
@@ -246,7 +247,7 @@ impl Cluster {
         Ok(Answer::Row(text))
     }
 
-    /// Whether a node that is up keeps a range of that number.
+    /// Tests that a node that is up keeps a range of that number.
     pub(crate) fn check_range(&self, node: u64, range: u64) -> Result<(), Refusal>
         ensures { AnswersAtOnce result (range_fault self.now node range) (λ _. ⊤) }
     {
@@ -257,7 +258,8 @@ impl Cluster {
         }
     }
 
-    /// Makes every node of the tree of a range at a node clean. Returns the answer with how many were dirty.
+    /// Makes every node of the tree of a range at a node clean. Returns the answer with the number of those that were
+    /// dirty.
     #[tactic(auto, unfolding(crate::specs::Acts::rehash_at))]
     pub(crate) fn rehash(
         &mut self,
@@ -274,7 +276,7 @@ impl Cluster {
         Ok(Answer::Rehash(hashed))
     }
 
-    /// Whether both nodes of a sync are up and keep the range.
+    /// Tests that both nodes of a sync are up and keep the range.
     pub(crate) fn check_sync(&self, ask: &SyncFrom) -> Result<(), Refusal>
         ensures { AnswersAtOnce result (keepers_fault (sync_ask ask.now) self.now) (λ _. ⊤) }
     {
@@ -289,7 +291,7 @@ impl Cluster {
         Ok(())
     }
 
-    /// Makes a node take what another has of a range. Returns the answer with what came of it.
+    /// Makes a node fetch the versions of a range that another has. Returns the answer with the report.
     #[tactic(auto, unfolding(crate::specs::Acts::sync_at))]
     pub(crate) fn sync(&mut self, alloc: Global, ask: &SyncFrom) -> Result<Answer, Refusal>
         ensures { DoesOrBreaksOff result self.old self.new (sync_at (sync_ask ask.now) self.old) }
@@ -317,7 +319,7 @@ impl Cluster {
         Ok(Answer::Node(replica.digest_at(node)))
     }
 
-    /// The replica at a node of the range of that number, if the ring has such a range.
+    /// Finds the replica at a node of the range of that number, if the ring has such a range.
     fn replica_at(&self, node: u64, range: u64) -> Option<&Replica>
         ensures { option_map (λ r. r.now.range) result ≡ kept_at self.now node range }
     {
@@ -327,7 +329,7 @@ impl Cluster {
         self.ranges[range as usize].find(node)
     }
 
-    /// The replica of a key's range at a node.
+    /// Finds the replica of a key's range at a node.
     fn replica_of(&self, node: u64, key: &[u8]) -> Option<&Replica>
         ensures { option_map (λ r. r.now.range) result ≡ home node (replicas_of self.now key.now) }
     {
@@ -335,7 +337,7 @@ impl Cluster {
         self.ranges[range].find(node)
     }
 
-    /// The context of a put, if nothing that it names is refused.
+    /// Makes the context of a put, if no part of the put is refused.
     fn check_put(&self, alloc: Global, put: &Put) -> Result<Clock, Refusal>
         ensures { AnswersOrNoMemory result (ask_fault (put_ask put.now) self.now)
             (λ context. context ≡ clock_of put.now.context.items) }
@@ -347,7 +349,7 @@ impl Cluster {
         Ok(context)
     }
 
-    /// Whether a node and the others that a command names are on the ring, and the node is up.
+    /// Tests that a node and the others that a command names are on the ring, and the node is up.
     fn check_nodes(&self, node: u64, others: &[u64]) -> Result<(), Refusal>
         ensures { AnswersAtOnce result (nodes_fault self.now node others.now) (λ _. ⊤) }
     {
@@ -355,7 +357,7 @@ impl Cluster {
         self.check_up(node)
     }
 
-    /// Whether a node is up.
+    /// Tests that a node is up.
     fn check_up(&self, node: u64) -> Result<(), Refusal>
         ensures { AnswersAtOnce result (down_fault self.now node) (λ _. ⊤) }
     {
@@ -365,7 +367,7 @@ impl Cluster {
         Ok(())
     }
 
-    /// Whether a node and the others that a command names are on the ring.
+    /// Tests that a node and the others that a command names are on the ring.
     fn check_ring_nodes(&self, node: u64, others: &[u64]) -> Result<(), Refusal>
         ensures { AnswersAtOnce result (ring_nodes_fault self.now node others.now) (λ _. ⊤) }
     {
@@ -376,7 +378,7 @@ impl Cluster {
         }
     }
 
-    /// Whether each of these is on the ring.
+    /// Returns true if each of these is on the ring.
     fn are_nodes(&self, nodes: &[u64]) -> bool
         ensures { result ≡ list_all (is_member self.now) nodes.now }
     {
@@ -384,7 +386,7 @@ impl Cluster {
     }
 }
 
-/// That many stores without hints.
+/// Makes `count` stores without hints.
 #[tactic(auto, using(crate::proofs::ListSteps::copies_more))]
 fn empty_stores(alloc: Global, count: usize) -> Result<Vec<HintStore>, AllocError>
     ensures { IfOk result (λ stores. stores.items ≡ replicate count []) }
@@ -396,7 +398,7 @@ fn empty_stores(alloc: Global, count: usize) -> Result<Vec<HintStore>, AllocErro
     Ok(stores)
 }
 
-/// The node of the tree of a format, if it has one of that depth and index.
+/// Returns the node of the tree of a format, if it has one of that depth and index.
 pub(crate) fn tree_node(format: Format, depth: u64, index: u64) -> Option<NodeAt>
     ensures some { is_some result ≡ is_tree_node format depth index }
     ensures depth { IfSome result (λ n. n.depth ≡ depth) }
@@ -408,7 +410,7 @@ pub(crate) fn tree_node(format: Format, depth: u64, index: u64) -> Option<NodeAt
     NodeAt::new(depth as u8, index as u16)
 }
 
-/// Whether a put may have the value, or the tombstone, in a format.
+/// Tests that a put may have the value, or the tombstone, in a format.
 fn check_value(format: Format, value: &Option<Bytes>) -> Result<(), Refusal>
     ensures { AnswersAtOnce result (value_fault format (kind_of value.now) (value_of value.now)) (λ _. ⊤) }
 {
@@ -418,7 +420,7 @@ fn check_value(format: Format, value: &Option<Bytes>) -> Result<(), Refusal>
     }
 }
 
-/// The text of the row of a key, or no bytes if no version is held.
+/// Writes the text of the row of a key: no bytes if no version is held.
 fn row_text(
     alloc: Global,
     format: Format,

@@ -13,16 +13,17 @@ use range_state::{Accepted, Receipt};
 use std::alloc::{AllocError, Global};
 use vclock::Refusal;
 
-/// What became of the hints that were offered.
+/// The outcome of the hints that were offered.
 #[derive(Clone, Copy)]
 pub(crate) struct Delivered {
-    /// How many their owners took.
+    /// The number that their owners took.
     pub(crate) taken: u64,
-    /// How many their owners knew.
+    /// The number that their owners knew.
     pub(crate) known: u64,
 }
 
-/// Keeps a hint of an entry for each of these owners, unless too many are pending, and returns how many were kept.
+/// Keeps a hint of an entry for each of these owners, unless too many are pending, and returns the number that were
+/// kept.
 pub(crate) fn keep_all(
     hints: &mut HintStore,
     owners: &[u16],
@@ -38,7 +39,7 @@ pub(crate) fn keep_all(
     Ok(kept)
 }
 
-/// Keeps a hint of an entry for an owner, unless too many are pending, and returns whether it was kept.
+/// Keeps a hint of an entry for an owner, unless too many are pending. Returns true if it was kept.
 fn keep_one(hints: &mut HintStore, owner: u16, entry: &Receipt) -> Result<bool, AllocError>
     ensures test { IfOk result (λ kept. kept ≡ is_given (keep hints.old owner entry.now.key entry.now.version)) }
     ensures kept { OnOk result (hints.new ≡ kept_for entry.now hints.old owner) }
@@ -85,7 +86,7 @@ pub(crate) fn deliver_all(
     Ok(done)
 }
 
-/// The next pending hint whose owner is up.
+/// Finds the next pending hint whose owner is up.
 fn next(
     alloc: Global,
     hints: &HintStore,
@@ -103,8 +104,8 @@ fn next(
     }
 }
 
-/// Offers a pending hint to its owner, and confirms it if the owner took it or knew it. Returns whether it knew it, or
-/// `None` if it refused it.
+/// Offers a pending hint to its owner, and confirms it if the owner took it or knew it. Returns true if the owner knew
+/// it, and `None` if the owner refused it.
 fn offer(
     alloc: Global,
     ring: &Ring,
@@ -126,7 +127,7 @@ fn offer(
     Ok(Some(known))
 }
 
-/// Asks the owner of a hint to take it, and returns whether the owner knew it, or `None` if it refused it.
+/// Asks the owner of a hint to take it. Returns true if the owner knew it, and `None` if the owner refused it.
 fn ask_owner(
     alloc: Global,
     replicas: &mut Replicas,

@@ -1,4 +1,15 @@
-//! The cluster that a script drives: a ring, the replicas of its ranges, its nodes' hints, and the slots for background work.
+//! The cluster of an outage script: a ring, the replicas of its ranges, its nodes' hints, and the slots for background
+//! work. Use it to act on commands, each with one answer.
+//!
+//! - [`world`]: the world that commands change.
+//! - [`answer`]: the answers of the commands.
+//!
+//! ```
+//! if !world.suits(&command) {
+//!     return Ok(None);
+//! }
+//! let answer = world.act(rt, alloc, command)?;
+//! ```
 #![tactic(auto)]
 
 pub mod answer;

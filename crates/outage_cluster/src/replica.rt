@@ -24,10 +24,11 @@ use std::thread::Threads;
 use vclock::{Bytes, Clock, Format, Refusal};
 use version_set::{Kind, Version, VersionSet};
 
-/// The seat that the script has in each journal.
+/// The script's seat in each journal.
 const SEAT: u16 = 0;
 
-/// A node that keeps a range. It has no state as long as it was sent nothing, for a ring may have thousands of replicas.
+/// A node that keeps a range. It has no state before the first put, copy, hint or rehash, since a ring may have
+/// thousands of replicas.
 pub(crate) struct Replica {
     node: u16,
     config: RangeConfig,
@@ -46,7 +47,7 @@ impl Model for Replica {
 }
 
 impl Replica {
-    /// A replica that has accepted nothing.
+    /// Makes a replica that has accepted nothing.
     pub(crate) fn new(node: u16, config: RangeConfig) -> Replica
         requires { 1 ≤ node }
         ensures { result ≡ replica_of node (fresh config) }
@@ -82,7 +83,7 @@ impl Replica {
         }
     }
 
-    /// A copy of the versions that are held for a key, each of which has a text.
+    /// Copies the versions that are held for a key, each of which has a text.
     pub(crate) fn version_set(&self, alloc: Global, key: &[u8]) -> Result<VersionSet, Refusal>
         ensures held { Answers result None (λ set. set ≡ held self.now.range.entries key.now) }
         ensures fit { IfOk result (AllByRecursion (λ v.
@@ -116,8 +117,8 @@ impl Replica {
         Ok(receipt)
     }
 
-    /// Makes every node of the range's tree clean, and returns how many were dirty. If memory runs out, some of them
-    /// may be clean.
+    /// Makes every node of the range's tree clean, and returns the number of those that were dirty. If memory runs out,
+    /// some of them may be clean.
     pub(crate) fn rehash(
         &mut self,
         rt: &(impl Threads + Sync),
@@ -145,7 +146,7 @@ impl Replica {
         }
     }
 
-    /// The rows now and their tree, to be offered to another node.
+    /// Makes a snapshot of the rows now and their tree, to offer to another node.
     pub(crate) fn snapshot(&self, alloc: Global) -> Result<Arc<Snapshot, Global>, Refusal>
         ensures { Answers result (dirty_fault self.now.range) (λ snapshot. arc_value snapshot ≡ rows_now self.now.range) }
     {
@@ -155,7 +156,7 @@ impl Replica {
         }
     }
 
-    /// Takes what another node has, in a session with it.
+    /// Fetches the versions that another node has, in a session with it.
     pub(crate) fn sync_with(
         &mut self,
         alloc: Global,
@@ -174,7 +175,7 @@ impl Replica {
         Err(Refusal::Dirty)
     }
 
-    /// Sends the replica a copy of an entry, if it is to get one, and returns whether it took it or knew it.
+    /// Sends the replica a copy of an entry, if it is to get one. Returns true if it took it or knew it.
     pub(crate) fn send(
         &mut self,
         alloc: Global,
@@ -197,7 +198,7 @@ impl Replica {
         }
     }
 
-    /// Takes in a copy of an entry's version, unless it is known.
+    /// Accepts a copy of an entry's version, unless it is known.
     #[tactic(auto, unfolding(crate::specs::Acts::copied_to))]
     fn take_copy(&mut self, alloc: Global, entry: &Receipt) -> Result<Accepted, Refusal>
         ensures copies { DoesOrNoMemory result self.old self.new (copied_to entry.now self.old) }
@@ -207,7 +208,7 @@ impl Replica {
         self.accept(alloc, Source::Copy, entry.key.as_slice(), version)
     }
 
-    /// Takes in a version that was made elsewhere, unless it is known.
+    /// Accepts a version of another node, unless it is known.
     pub(crate) fn accept(
         &mut self,
         alloc: Global,
@@ -230,14 +231,14 @@ impl Replica {
     }
 }
 
-/// Whether a replica is to have a hint of a put: it is to have the put, and is down.
+/// Returns true if a replica is to have a hint of a put: it is to have the put, and is down.
 pub(crate) fn gets_hint(down: &[u64], node: u64, lose: &[u64], other: u16) -> bool
     ensures { result ≡ gets_hint down.now node lose.now other }
 {
     is_sent_to(node, lose, other) && down.contains(&u64::from(other))
 }
 
-/// Whether a replica is to have a put: it is another node, and not one that is to get nothing.
+/// Returns true if a replica is to have a put: it is another node, and not one that gets no copy.
 fn is_sent_to(node: u64, lose: &[u64], other: u16) -> bool
     ensures { result ≡ is_sent_to node lose.now other }
 {

@@ -43,19 +43,19 @@ impl Model for Replicas {
     ghost invariant = { λ r. AreOf r.config r.replicas.items };
 }
 
-/// What a put and its copies did.
+/// The outcome of a put and its copies.
 #[derive(Drop)]
 pub(crate) struct Sent {
     /// The entry of the put.
     pub(crate) receipt: Receipt,
-    /// How many replicas took a copy or knew it.
+    /// The number of replicas that took a copy or knew it.
     pub(crate) copied: u64,
     /// The nodes that are to have a hint of it.
     pub(crate) owners: Vec<u16>,
 }
 
 impl Replicas {
-    /// The replicas of a range that have accepted nothing: the first nodes of its preference list.
+    /// Makes the replicas of a range, which have accepted nothing: the first nodes of its preference list.
     pub(crate) fn new(
         alloc: Global,
         ring: &Ring,
@@ -74,7 +74,7 @@ impl Replicas {
         Ok(Replicas { config, replicas })
     }
 
-    /// The replica at a node.
+    /// Finds the replica at a node.
     pub(crate) fn find(&self, node: u64) -> Option<&Replica>
         ensures { option_map (λ r. r.now.range) result ≡ home node self.now }
     {
@@ -82,7 +82,7 @@ impl Replicas {
         Some(&self.replicas[place])
     }
 
-    /// Makes every node of the tree clean that a node keeps, and returns how many were dirty.
+    /// Makes every node of the tree of a node's replica clean, and returns the number of those that were dirty.
     pub(crate) fn rehash(
         &mut self,
         rt: &(impl Threads + Sync),
@@ -97,7 +97,7 @@ impl Replicas {
         self.replicas[place].rehash(rt, alloc)
     }
 
-    /// Makes a node take what another has, in a session with it.
+    /// Makes a node fetch the versions that another has, in a session with it.
     pub(crate) fn sync(&mut self, alloc: Global, node: u64, from: u64) -> Result<Synced, Refusal>
         ensures answers { AnswersOrNoMemory result
             (walk_fault (home from self.old) (replica_at node self.old))
@@ -116,7 +116,7 @@ impl Replicas {
         self.replicas[place].sync_with(alloc, partner, &other)
     }
 
-    /// The nodes that are to have a hint of a put, for they are down, in the order of the preference list.
+    /// Lists the nodes that are to have a hint of a put, since they are down, in the order of the preference list.
     fn owners(&self, alloc: Global, down: &[u64], put: &Put) -> Result<Vec<u16>, AllocError>
         ensures { IfOk result (λ owners. owners.items ≡ owners_of (gets_hint down.now put.now.node put.now.lose.items) self.now) }
     {
@@ -181,7 +181,7 @@ impl Replicas {
     }
 }
 
-/// Sends the replicas a copy of an entry, and returns how many took it or knew it.
+/// Sends the replicas a copy of an entry, and returns the number of those that took it or knew it.
 fn send_to(
     alloc: Global,
     replicas: &mut [Replica],
@@ -201,7 +201,7 @@ fn send_to(
     Ok(copied)
 }
 
-/// The place of a node's replica.
+/// Finds the place of a node's replica.
 fn place_of(replicas: &[Replica], node: u64) -> Option<usize>
     ensures some { IfSome result (λ i. IsHome node replicas.now i) }
     ensures none { IfNone result (replica_at node replicas.now ≡ None) }
@@ -214,7 +214,7 @@ fn place_of(replicas: &[Replica], node: u64) -> Option<usize>
     None
 }
 
-/// The kind and the value of a put: a tombstone's value is empty.
+/// Returns the kind and the value of a put: a tombstone's value is empty.
 fn payload(value: Option<Bytes>) -> (Kind, Bytes)
     ensures kind { result.0 ≡ kind_of value }
     ensures bytes { result.1 ≡ value_of value }

@@ -15,13 +15,13 @@ use std::marker::Model;
 use std::sync::ledger::{Blank, Ledger};
 use vclock::Refusal;
 
-/// The least number of slots.
+/// The minimum number of slots.
 const FLOOR: u32 = 1;
 
-/// The greatest number of slots.
+/// The maximum number of slots.
 const CEILING: u32 = 8;
 
-/// The latency in microseconds over which the number of slots falls.
+/// The latency, in microseconds, over which the number of slots falls.
 const THRESHOLD: u32 = 50_000;
 
 /// A controller of slots, and the slots that are lent.
@@ -43,7 +43,7 @@ impl<L: Ledger> Model for Slots<L> {
 }
 
 impl<L: Ledger> Slots<L> {
-    /// Slots, all of them free.
+    /// Makes slots, all of them free.
     pub(crate) fn new(blank: Blank, alloc: Global) -> Result<Slots<L>, Refusal>
         requires ledger { (blank.name ≡ L.name) × (blank.parts ≡ L.parts) × (blank.parts ≡ 1024) }
         ensures { Answers result None (λ slots. slots ≡ first_slots) }
@@ -55,7 +55,7 @@ impl<L: Ledger> Slots<L> {
         })
     }
 
-    /// Whether the controller may have a target.
+    /// Returns true if the controller may have the target.
     pub(crate) fn is_target(&self, command: &SlotCommand) -> bool
         ensures { result ≡ is_target self.now (slot_ask command.now) }
     {
@@ -67,7 +67,7 @@ impl<L: Ledger> Slots<L> {
         }
     }
 
-    /// Lends a slot. There is room for it before it is lent.
+    /// Lends a slot. Makes room for it first.
     pub(crate) fn lend(&mut self) -> Result<(), Refusal>
         ensures { Does result self.old self.new (lend self.old) }
     {
@@ -89,7 +89,7 @@ impl<L: Ledger> Slots<L> {
         }
     }
 
-    /// Takes all slots back, and forgets what was measured.
+    /// Takes all slots back, and discards all samples.
     pub(crate) fn renew(&mut self)
         ensures { self.new ≡ first_slots }
     {
@@ -111,7 +111,7 @@ impl<L: Ledger> Slots<L> {
         lent.destroy_empty();
     }
 
-    /// Does what a command says with the slots.
+    /// Acts on a command for the slots.
     #[tactic(auto, unfolding(crate::specs::Slots::slot_act))]
     pub(crate) fn act(&mut self, command: SlotCommand) -> Result<Answer, Refusal>
         requires { IsTrue (is_target self.old (slot_ask command)) }
@@ -129,7 +129,7 @@ impl<L: Ledger> Slots<L> {
         Ok(Answer::Slots(SlotCounts::of(&self.controller)))
     }
 
-    /// Takes a sample, and returns how many are kept.
+    /// Takes a sample, and returns the number that are kept.
     #[tactic(auto, unfolding(crate::specs::Slots::sample_act))]
     pub(crate) fn sample(&mut self, sample: Sample) -> Result<Answer, Refusal>
         ensures { DoesOrBreaksOff result self.old self.new (sample_act (sample_ask sample) self.old) }

@@ -18,7 +18,7 @@ use std::sync::ledger::{Blank, Ledger};
 use std::thread::Threads;
 use vclock::{Format, Refusal};
 
-/// What becomes of the memory that the replicas hold, at the end of a run.
+/// The treatment of the replicas' memory at the end of a run.
 #[derive(Clone, Copy, Debug, PartialEq, Eq)]
 pub enum AtEnd {
     /// It is freed.
@@ -27,7 +27,7 @@ pub enum AtEnd {
     Leave,
 }
 
-/// What the commands change.
+/// The world that the commands change.
 pub struct World<L: Ledger> {
     cluster: Cluster,
     slots: Slots<L>,
@@ -42,7 +42,7 @@ impl<L: Ledger> Model for World<L> {
 }
 
 impl<L: Ledger> World<L> {
-    /// The world that a script begins with: a ring of node 1 with one range, and no slot lent.
+    /// Makes the world at the start of a script: a ring of node 1 with one range, and no slot lent.
     pub fn start(blank: Blank, alloc: Global) -> Result<World<L>, AllocError>
         requires ledger { (blank.name ≡ L.name) × (blank.parts ≡ L.parts) × (blank.parts ≡ 1024) }
         ensures { IfOk result (λ world. world ≡ start) }
@@ -54,7 +54,7 @@ impl<L: Ledger> World<L> {
         }
     }
 
-    /// Gives all slots back, and frees what the replicas hold or leaves it.
+    /// Takes all slots back, and frees the memory of the replicas or leaves it.
     pub fn close(self, at_end: AtEnd) {
         let World { slots, cluster } = self;
         slots.close();
@@ -64,8 +64,8 @@ impl<L: Ledger> World<L> {
         }
     }
 
-    /// Whether the ring in force has such a command: in format 1 no value is null, the tree has the node, and the
-    /// controller may have the target.
+    /// Returns true if the ring in force has such a command: in format 1 no value is null, the tree has the node, and
+    /// the controller may have the target.
     pub fn suits(&self, command: &Command) -> bool
         ensures { result ≡ suits self.now (ask_of command.now) }
     {
@@ -77,8 +77,8 @@ impl<L: Ledger> World<L> {
         }
     }
 
-    /// The answer of a command, and the world after it. If memory runs out the script ends, and what a part of the
-    /// command did does not matter.
+    /// Acts on a command, and returns its answer. If memory runs out the script ends, and the part of the command that
+    /// was done doesn't matter.
     pub fn act(
         &mut self,
         rt: &(impl Threads + Sync),
@@ -93,7 +93,7 @@ impl<L: Ledger> World<L> {
         answered(answer)
     }
 
-    /// Does what a command says.
+    /// Acts on a command.
     #[tactic(auto, unfolding(crate::specs::Acts::act))]
     fn perform(
         &mut self,
@@ -120,7 +120,7 @@ impl<L: Ledger> World<L> {
         }
     }
 
-    /// Makes everything anew.
+    /// Makes a new cluster, with new slots.
     fn renew(&mut self, alloc: Global, ask: &NewRing) -> Result<Answer, Refusal>
         ensures { DoesOrBreaksOff result self.old self.new (ring_act (ring_ask ask.now) (ring_config (ring_ask ask.now))) }
     {
@@ -163,7 +163,7 @@ impl<L: Ledger> World<L> {
         answer
     }
 
-    /// Makes a node take what another has of a range, with a slot that is given back.
+    /// Makes a node fetch the versions of a range that another has, with a slot that is given back.
     #[tactic(auto, unfolding(crate::specs::Acts::sync_act))]
     fn sync(&mut self, alloc: Global, ask: &SyncFrom) -> Result<Answer, Refusal>
         ensures { DoesOrBreaksOff result self.old self.new (sync_act (sync_ask ask.now) self.old) }
@@ -176,7 +176,7 @@ impl<L: Ledger> World<L> {
     }
 }
 
-/// The answer of a command, or that of its refusal. Want of memory has no answer.
+/// Returns the answer of a command, or that of its refusal. NoMemory has no answer.
 fn answered(answer: Result<Answer, Refusal>) -> Result<Answer, AllocError>
     ensures ok { IfOk answer (λ a. result ≡ Ok a) }
     ensures refused { IfErr answer

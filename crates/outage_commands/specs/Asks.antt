@@ -1,8 +1,9 @@
--- What a command asks for.
+-- The requests of commands.
 use Rattle.std.specs.Prelude.{ℕ, List, Option}
 use Rattle.vclock.specs.Clock.{Pairs}
 
--- a new ring: 2^bits ranges, the nodes in order, how many of them keep a range, the limit of each journal, and the number of the format
+-- a new ring: the number of bits of a range's number, the number of nodes that keep a range, the nodes in order, the
+-- limit of each journal, and the number of the format
 pub record RingAsk : Type 0 where
   pub bits : ℕ
   pub copies : ℕ
@@ -10,7 +11,7 @@ pub record RingAsk : Type 0 where
   pub limit : ℕ
   pub format : ℕ
 
--- a value, or none for a tombstone, put at a node under a key, later than a context; the nodes that are to get no copy
+-- a value, or None for a tombstone, put at a node under a key, later than a context; the nodes that are to get no copy
 pub record PutAsk : Type 0 where
   pub node : ℕ
   pub key : List ℕ
@@ -18,7 +19,7 @@ pub record PutAsk : Type 0 where
   pub value : Option (List ℕ)
   pub lose : List ℕ
 
--- what is held at a node for a key
+-- the versions that are held at a node for a key
 pub record GetAsk : Type 0 where
   pub node : ℕ
   pub key : List ℕ
@@ -28,7 +29,7 @@ pub record RehashAsk : Type 0 where
   pub node : ℕ
   pub range : ℕ
 
--- a range, and two nodes that keep it: one is to have what the other has
+-- a range, and two nodes that keep it: `node` is to have the rows of `from`
 pub record SyncAsk : Type 0 where
   pub from : ℕ
   pub node : ℕ
@@ -41,20 +42,20 @@ pub record NodeAsk : Type 0 where
   pub depth : ℕ
   pub index : ℕ
 
--- what is done with the slots: one lent, or the last one given back; a new target; an adjustment at a moment
+-- a command for the slots: lend one, or give the last one back; set a target; adjust it at a moment
 pub data SlotAsk : Type 0 where
   lend_slot : SlotAsk
   give_slot_back : SlotAsk
   set_target : ℕ → SlotAsk
   adjust_target : ℕ → SlotAsk
 
--- a latency in microseconds, and the moment when it was measured
+-- the moment of a measurement, and its latency in microseconds
 pub record SampleAsk : Type 0 where
   pub moment : ℕ
   pub micros : ℕ
 
--- a new ring, a put, the versions that are held, the text of their row, a node taken down or up, the delivery of a node's
--- hints, a rehash, a sync, the digest of a node, something done with the slots, or a sample
+-- a new ring, a put, the versions that are held, the text of their row, a node taken down or up, the delivery of a
+-- node's hints, a rehash, a sync, the digest of a node, a command for the slots, or a sample
 pub data Ask : Type 0 where
   ring : RingAsk → Ask
   put : PutAsk → Ask

@@ -1,4 +1,4 @@
--- Which command a line is.
+-- The commands of lines.
 use Rattle.std.specs.Prelude.{ℕ, ◌^◌, nat_lt, List, [], ◌∷◌, codes, if◌then◌else◌, Option, Some, None, option_map, option_and_then}
 use Rattle.std.specs.Str.{bytes_eq}
 use Rattle.serde_json.specs.Data.{Data}
@@ -6,7 +6,7 @@ use Rattle.serde_json.specs.Find.{as_str}
 use Rattle.outage_commands.specs.Asks.{RingAsk, PutAsk, GetAsk, RehashAsk, SyncAsk, NodeAsk, SlotAsk, SampleAsk, Ask, ring, put, get, row, take_down, bring_up, deliver, rehash, sync, show_node, slot, sample, lend_slot, give_slot_back, set_target, adjust_target}
 use Rattle.outage_commands.specs.Reading.{◌>>=◌, ◌>>◌, has_only, number_of, bytes_of, numbers_of, pairs_of, nullable, member_of, default_of, maybe_of, sole_member}
 
--- what the members of a ring say, if it has no others
+-- the ring of these members, if there are no others
 unfoldable pub ring_of : Data → Option RingAsk
 ring_of d = do
   has_only (codes "bits" ∷ codes "copies" ∷ codes "nodes" ∷ codes "limit" ∷ codes "format" ∷ []) d
@@ -17,7 +17,7 @@ ring_of d = do
   format ← default_of 1 number_of (codes "format") d
   Some (record { bits = bits; copies = copies; nodes = nodes; limit = limit; format = format })
 
--- what the members of a put say, if it has no others
+-- the put of these members, if there are no others
 unfoldable pub put_of : Data → Option PutAsk
 put_of d = do
   has_only (codes "node" ∷ codes "key" ∷ codes "context" ∷ codes "value" ∷ codes "lose" ∷ []) d
@@ -28,7 +28,7 @@ put_of d = do
   lose ← default_of [] numbers_of (codes "lose") d
   Some (record { node = node; key = key; context = context; value = value; lose = lose })
 
--- what the members of a get or a row say, if it has no others
+-- the get or row of these members, if there are no others
 unfoldable pub get_of : Data → Option GetAsk
 get_of d = do
   has_only (codes "node" ∷ codes "key" ∷ []) d
@@ -36,7 +36,7 @@ get_of d = do
   key ← member_of bytes_of (codes "key") d
   Some (record { node = node; key = key })
 
--- what the members of a rehash say, if it has no others
+-- the rehash of these members, if there are no others
 unfoldable pub rehash_of : Data → Option RehashAsk
 rehash_of d = do
   has_only (codes "node" ∷ codes "range" ∷ []) d
@@ -44,7 +44,7 @@ rehash_of d = do
   range ← member_of number_of (codes "range") d
   Some (record { node = node; range = range })
 
--- what the members of a sync say, if it has no others
+-- the sync of these members, if there are no others
 unfoldable pub sync_of : Data → Option SyncAsk
 sync_of d = do
   has_only (codes "from" ∷ codes "node" ∷ codes "range" ∷ []) d
@@ -53,7 +53,7 @@ sync_of d = do
   range ← member_of number_of (codes "range") d
   Some (record { from = from; node = node; range = range })
 
--- what the members of a node say, if it has no others
+-- the node of a tree of these members, if there are no others
 unfoldable pub node_of : Data → Option NodeAsk
 node_of d = do
   has_only (codes "node" ∷ codes "range" ∷ codes "depth" ∷ codes "index" ∷ []) d
@@ -63,24 +63,24 @@ node_of d = do
   index ← member_of number_of (codes "index") d
   Some (record { node = node; range = range; depth = depth; index = index })
 
--- the node of a command that names nothing else
+-- the node of a command that has no other member
 unfoldable pub sole_node_of : Data → Option ℕ
 sole_node_of d = has_only (codes "node" ∷ []) d >> member_of number_of (codes "node") d
 
--- what is done with the slots where there is no number
+-- the command for the slots of a word without a number
 abbrev pub plain_slot : List ℕ → Option SlotAsk
 plain_slot word = if bytes_eq word (codes "lend") then Some lend_slot else if bytes_eq word (codes "back") then Some give_slot_back else None
 
--- what is done with the slots where there is one
+-- the command for the slots of a word with a number
 abbrev pub numbered_slot : ℕ → List ℕ → Option SlotAsk
 numbered_slot n word = if bytes_eq word (codes "target") then Some (set_target n) else if bytes_eq word (codes "adjust") then Some (adjust_target n) else None
 
--- what is done with the slots by a word, with the number or without
+-- the command for the slots of a word, with the number or without
 abbrev pub slot_named : List ℕ → Option ℕ → Option SlotAsk
 slot_named word None = plain_slot word
 slot_named word (Some n) = numbered_slot n word
 
--- what the members of a slot say, if it has no others
+-- the command for the slots of these members, if there are no others
 unfoldable pub slot_of : Data → Option SlotAsk
 slot_of d = do
   has_only (codes "do" ∷ codes "n" ∷ []) d
@@ -92,7 +92,7 @@ slot_of d = do
 abbrev pub short_number_of : Data → Option ℕ
 short_number_of d = option_and_then (λ n. if nat_lt n (2 ^ 32) then Some n else None) (number_of d)
 
--- what the members of a sample say, if it has no others
+-- the sample of these members, if there are no others
 unfoldable pub sample_of : Data → Option SampleAsk
 sample_of d = do
   has_only (codes "at" ∷ codes "micros" ∷ []) d
@@ -100,7 +100,7 @@ sample_of d = do
   micros ← member_of short_number_of (codes "micros") d
   Some (record { moment = moment; micros = micros })
 
--- a command's name, and how its members are read
+-- a command's name, and the reading of its members
 abbrev pub Form : Type 0
 Form = List ℕ × (Data → Option Ask)
 

@@ -1,4 +1,4 @@
--- What a command that was read asks for.
+-- The requests of the commands that were read.
 use Rattle.outage_commands.specs.Asks.{RingAsk, PutAsk, GetAsk, RehashAsk, SyncAsk, NodeAsk, SlotAsk, SampleAsk, Ask, ring, put, get, row, take_down, bring_up, deliver, rehash, sync, show_node, slot, sample, lend_slot, give_slot_back, set_target, adjust_target}
 use Rattle.outage_commands.specs.declared.command.Command.{Command}
 use Rattle.outage_commands.specs.declared.command.Command.TheVariants as Variants

@@ -8,7 +8,7 @@ use Rattle.serde_json.specs.Data.{Data, Items, no_items, item, Members, no_membe
 use Rattle.serde_json.specs.Find.{get, as_null, as_number, as_u64, as_str, as_array, as_object}
 use Rattle.serde_json.specs.Read.{read}
 
--- the second step, if the first gave a value
+-- the second step, if the first has a value
 infixl 10 ◌>>=◌
 abbrev pub ◌>>=◌ : {A B : Type 0} → Option A → (A → Option B) → Option B
 o >>= f = option_and_then f o
@@ -18,12 +18,12 @@ infixl 10 ◌>>◌
 abbrev pub ◌>>◌ : {A : Type 0} → Bool → Option A → Option A
 holds >> o = if holds then o else None
 
--- whether each name of the members is one that fits
+-- each name of the members fits
 abbrev pub all_named : (List ℕ → Bool) → Members → Bool
 all_named fits no_members = true
 all_named fits (member name d more) = fits name && all_named fits more
 
--- whether a name is among these
+-- a name is among these
 abbrev pub is_among : List (List ℕ) → List ℕ → Bool
 is_among names name = list_any (λ n. bytes_eq n name) names
 
@@ -39,7 +39,7 @@ has_only names d = only_named names (as_object d)
 abbrev pub number_of : Data → Option ℕ
 number_of d = option_and_then as_u64 (as_number d)
 
--- what was decoded, if anything was
+-- the decoded bytes, if the text is right
 abbrev pub right : {A : Type 0} → Result A FromHexError → Option A
 right (Ok a) = Some a
 right (Err e) = None
@@ -48,7 +48,7 @@ right (Err e) = None
 abbrev pub bytes_of : Data → Option (List ℕ)
 bytes_of d = option_and_then (λ text. right (decode_of text)) (as_str d)
 
--- what the items are, if each is one
+-- the items, each read by f, if f reads all of them
 abbrev pub each_of : {A : Type 0} → (Data → Option A) → Items → Option (List A)
 each_of f no_items = Some []
 each_of f (item d ds) = option_and_then (λ a. option_map (λ more. a ∷ more) (each_of f ds)) (f d)
@@ -74,7 +74,7 @@ pair_of d = option_and_then two_of (numbers_of d)
 abbrev pub pairs_of : Data → Option (List (ℕ × ℕ))
 pairs_of d = list_of pair_of d
 
--- the member of a name, read so
+-- the member of a name, read by f
 abbrev pub member_of : {A : Type 0} → (Data → Option A) → List ℕ → Data → Option A
 member_of f name d = option_and_then f (get name d)
 
@@ -82,20 +82,20 @@ member_of f name d = option_and_then f (get name d)
 abbrev pub nullable : {A : Type 0} → (Data → Option A) → Data → Option (Option A)
 nullable f d = if is_some (as_null d) then Some None else option_map Some (f d)
 
--- what f reads, or that where there is nothing
+-- the value read by f, or absent if there is no value
 abbrev pub read_or : {A : Type 0} → A → (Data → Option A) → Option Data → Option A
 read_or absent f None = Some absent
 read_or absent f (Some d) = f d
 
--- a member that may be missing, and is then taken to be that
+-- a member that may be missing, and is then absent
 abbrev pub default_of : {A : Type 0} → A → (Data → Option A) → List ℕ → Data → Option A
 default_of absent f name d = read_or absent f (get name d)
 
--- what f reads, or nothing where there is nothing
+-- the value read by f, or Some None if there is no value
 abbrev pub maybe_of : {A : Type 0} → (Data → Option A) → List ℕ → Data → Option (Option A)
 maybe_of f name d = default_of None (λ e. option_map Some (f e)) name d
 
--- the name and the value of the one member there is
+-- the name and the value of the only member
 abbrev pub sole : Members → Option (List ℕ × Data)
 sole (member name d no_members) = Some (name, d)
 sole ms = None

@@ -1,5 +1,5 @@
--- The value that the tree of a line stands for, which serde_json would read: an object has each name once, in order, and
--- keeps the last value of a name that comes twice.
+-- The value of a line's tree, which is the one that serde_json reads: an object has each name once, in order, and keeps
+-- the last value of a name that is there twice.
 use Rattle.std.specs.Prelude.{ℕ, negsuc, List, Bool, true, ◌&&◌, Option, is_some, unwrap_or, option_and_then}
 use Rattle.json.specs.Json as json
 use Rattle.json.specs.Value.{value_view}
@@ -8,7 +8,7 @@ use Rattle.serde_json.specs.Data.{Num, negative, Data, null, boolean, number, st
 use Rattle.serde_json.specs.Find.{as_u64}
 use Rattle.serde_json.specs.Read as serde
 
--- the number that a text is; one that serde_json takes for out of range stands for none that a command has
+-- the number of a text; one that is out of range for serde_json is -1, which no command has
 abbrev pub num_of : List ℕ → Num
 num_of text = unwrap_or (serde.number_of text) (negative (negsuc 0))
 
@@ -25,7 +25,7 @@ abbrev mutual
   items_data json.no_items = no_items
   items_data (json.item j js) = item (data_of j) (items_data js)
 
-  -- the members go in one after another
+  -- the members are put in one after another
   pub members_data : json.Members → Members → Members
   members_data json.no_members found = found
   members_data (json.member name j ms) found = members_data ms (put name (data_of j) found)
@@ -34,7 +34,7 @@ abbrev mutual
 abbrev pub whole_of : List ℕ → Option ℕ
 whole_of text = option_and_then as_u64 (serde.number_of text)
 
--- each number is such a one
+-- each number is whole and below 2^64
 abbrev mutual
   pub is_whole : json.Json → Bool
   is_whole json.null = true
@@ -52,6 +52,6 @@ abbrev mutual
   members_are_whole json.no_members = true
   members_are_whole (json.member name j ms) = is_whole j && members_are_whole ms
 
--- the value that a tree stands for
+-- the value of a tree
 abbrev pub seen : {A : Type 0} → Value A → Data
 seen v = data_of (value_view v)

@@ -1,4 +1,4 @@
-//! From a line to the command that it is.
+//! Commands, and how they are read from lines.
 ghost use Rattle.std.specs.Prelude.{◌≡◌, IfOk, option_map, option_and_then};
 ghost use Rattle.outage_commands.specs.Commands.{ring_of, put_of, get_of, rehash_of, sync_of, node_of, named, other_forms, sole_node_of, slot_of, plain_slot, numbered_slot, sample_of, command_of};
 ghost use Rattle.outage_commands.specs.Reading.{value_of};
@@ -14,32 +14,32 @@ use std::alloc::{AllocError, Global};
 use vclock::Bytes;
 use vclock::limits::ENTRIES_MAX;
 
-/// The number of the format of a ring that does not say it.
+/// The number of the format of a ring that doesn't name one.
 const FIRST_FORMAT: u64 = 1;
 
 /// A new ring.
 #[derive(Drop)]
 pub struct NewRing {
-    /// How many bits the number of a range has.
+    /// The number of bits of a range's number.
     pub bits: u64,
-    /// How many nodes keep a range.
+    /// The number of nodes that keep a range.
     pub copies: u64,
     /// The nodes in order.
     pub nodes: Vec<u64>,
-    /// How many entries each journal may have.
+    /// The limit of each journal, in entries.
     pub limit: u64,
     /// The number of the format.
     pub format: u64,
 }
 
-/// A value put at a node under a key.
+/// A put of a value at a node under a key.
 #[derive(Drop)]
 pub struct Put {
     /// The node that takes the put.
     pub node: u64,
     /// The key.
     pub key: Bytes,
-    /// The pairs of the clock that the put is later than.
+    /// The pairs of the put's context.
     pub context: Vec<(u64, u64)>,
     /// The value, or `None` for a tombstone.
     pub value: Option<Bytes>,
@@ -47,10 +47,10 @@ pub struct Put {
     pub lose: Vec<u64>,
 }
 
-/// What is held at a node for a key.
+/// A get of the versions that are held at a node for a key.
 #[derive(Drop)]
 pub struct Get {
-    /// The node that is asked.
+    /// The node that returns them.
     pub node: u64,
     /// The key.
     pub key: Bytes,
@@ -65,7 +65,7 @@ pub struct Rehash {
     pub range: u64,
 }
 
-/// A sync: a node is to have what another has of a range.
+/// A sync: a node fetches the versions of a range that it lacks and another has.
 #[derive(Drop)]
 pub struct SyncFrom {
     /// The node whose rows are taken.
@@ -83,29 +83,29 @@ pub struct ShowNode {
     pub node: u64,
     /// The number of the range.
     pub range: u64,
-    /// The depth of the tree's node.
+    /// The depth of the node in the tree.
     pub depth: u64,
-    /// Its index there.
+    /// The index of the node at that depth.
     pub index: u64,
 }
 
-/// What is done with the slots for background work.
+/// A command for the slots for background work.
 #[derive(Clone, Copy)]
 pub enum SlotCommand {
-    /// One is lent.
+    /// Lends a slot.
     Lend,
-    /// The one that was lent last is given back.
+    /// Takes the slot back that was lent last.
     Back,
-    /// The target is set.
+    /// Sets the target.
     Target(u64),
-    /// The target is adjusted at that moment, in milliseconds.
+    /// Adjusts the target at that moment, in milliseconds.
     Adjust(u64),
 }
 
 /// A latency of the foreground.
 #[derive(Clone, Copy)]
 pub struct Sample {
-    /// When it was measured, in milliseconds.
+    /// The moment of the measurement, in milliseconds.
     pub moment: u64,
     /// The latency in microseconds.
     pub micros: u32,
@@ -120,11 +120,11 @@ pub enum Command {
     Put(Put),
     /// `get`.
     Get(Get),
-    /// `row`: a get of the row's text.
+    /// `row`: the text of a key's row.
     Row(Get),
-    /// `down`: the node is down from here on.
+    /// `down`: the node goes down.
     Down(u64),
-    /// `up`: the node is up again.
+    /// `up`: the node goes up again.
     Up(u64),
     /// `deliver`: the hints that the node keeps are offered to their owners.
     Deliver(u64),
@@ -140,7 +140,7 @@ pub enum Command {
     Sample(Sample),
 }
 
-/// The command that a line is, if it is one.
+/// Reads the command of a line. `None` if the line isn't a command.
 pub fn command_in(
     alloc: Global,
     line: &[u8],
@@ -155,7 +155,7 @@ pub fn command_in(
     }
 }
 
-/// The command that the one member of an object names.
+/// Reads the command that the one member of an object names.
 #[tactic(auto, unfolding(crate::specs::Commands::command_of))]
 fn named_in(alloc: Global, value: &Value<'_>) -> Result<Option<Command>, AllocError>
     ensures { IfOk result (λ o. option_map ask_of o ≡ command_of (seen value.now)) }
@@ -176,7 +176,7 @@ fn named_in(alloc: Global, value: &Value<'_>) -> Result<Option<Command>, AllocEr
     }
 }
 
-/// The command of that name, of those that touch no key.
+/// Reads the command of that name, of those that touch no key.
 fn other_in(name: &str, members: &Value<'_>) -> Option<Command>
     ensures { option_map ask_of result ≡ named other_forms (name.now, seen members.now) }
 {
@@ -201,7 +201,7 @@ fn other_in(name: &str, members: &Value<'_>) -> Option<Command>
     }
 }
 
-/// The ring of these members.
+/// Reads the ring of these members.
 #[tactic(auto, unfolding(crate::specs::Commands::ring_of))]
 fn ring_in(alloc: Global, members: &Value<'_>) -> Result<Option<NewRing>, AllocError>
     ensures { IfOk result (λ o. option_map ring_ask o ≡ ring_of (seen members.now)) }
@@ -231,7 +231,7 @@ fn ring_in(alloc: Global, members: &Value<'_>) -> Result<Option<NewRing>, AllocE
     }))
 }
 
-/// The put of these members.
+/// Reads the put of these members.
 #[tactic(auto, unfolding(crate::specs::Commands::put_of))]
 fn put_in(alloc: Global, members: &Value<'_>) -> Result<Option<Put>, AllocError>
     ensures { IfOk result (λ o. option_map put_ask o ≡ put_of (seen members.now)) }
@@ -261,7 +261,7 @@ fn put_in(alloc: Global, members: &Value<'_>) -> Result<Option<Put>, AllocError>
     }))
 }
 
-/// The get of these members.
+/// Reads the get of these members.
 #[tactic(auto, unfolding(crate::specs::Commands::get_of))]
 fn get_in(alloc: Global, members: &Value<'_>) -> Result<Option<Get>, AllocError>
     ensures { IfOk result (λ o. option_map get_ask o ≡ get_of (seen members.now)) }
@@ -276,7 +276,7 @@ fn get_in(alloc: Global, members: &Value<'_>) -> Result<Option<Get>, AllocError>
     Ok(key.map(|key| Get { node, key }))
 }
 
-/// The rehash of these members.
+/// Reads the rehash of these members.
 #[tactic(auto, unfolding(crate::specs::Commands::rehash_of))]
 fn rehash_in(members: &Value<'_>) -> Option<Rehash>
     ensures { option_map rehash_ask result ≡ rehash_of (seen members.now) }
@@ -290,7 +290,7 @@ fn rehash_in(members: &Value<'_>) -> Option<Rehash>
     })
 }
 
-/// The sync of these members.
+/// Reads the sync of these members.
 #[tactic(auto, unfolding(crate::specs::Commands::sync_of))]
 fn sync_in(members: &Value<'_>) -> Option<SyncFrom>
     ensures { option_map sync_ask result ≡ sync_of (seen members.now) }
@@ -305,7 +305,7 @@ fn sync_in(members: &Value<'_>) -> Option<SyncFrom>
     })
 }
 
-/// The node of these members.
+/// Reads the node of a tree of these members.
 #[tactic(auto, unfolding(crate::specs::Commands::node_of))]
 fn node_in(members: &Value<'_>) -> Option<ShowNode>
     ensures { option_map node_ask result ≡ node_of (seen members.now) }
@@ -321,7 +321,7 @@ fn node_in(members: &Value<'_>) -> Option<ShowNode>
     })
 }
 
-/// The node of a command that has no other member.
+/// Reads the node of a command that has no other member.
 #[tactic(auto, unfolding(crate::specs::Commands::sole_node_of))]
 fn sole_node_in(members: &Value<'_>) -> Option<u64>
     ensures { result ≡ sole_node_of (seen members.now) }
@@ -332,7 +332,8 @@ fn sole_node_in(members: &Value<'_>) -> Option<u64>
     number_at(members, "node")
 }
 
-/// What these members do with the slots: there is a number with `target` and `adjust`, and no number with the others.
+/// Reads the command for the slots of these members. There is a number with `target` and `adjust`, and no number with
+/// the others.
 #[tactic(auto, unfolding(crate::specs::Commands::slot_of))]
 fn slot_in(members: &Value<'_>) -> Option<SlotCommand>
     ensures { option_map slot_ask result ≡ slot_of (seen members.now) }
@@ -347,7 +348,7 @@ fn slot_in(members: &Value<'_>) -> Option<SlotCommand>
     }
 }
 
-/// What is done with the slots by that word alone.
+/// Returns the command for the slots of a word without a number.
 fn plain_slot(word: &str) -> Option<SlotCommand>
     ensures { option_map slot_ask result ≡ plain_slot word.now }
 {
@@ -358,7 +359,7 @@ fn plain_slot(word: &str) -> Option<SlotCommand>
     }
 }
 
-/// What is done with the slots by that word and a number.
+/// Returns the command for the slots of a word and a number.
 fn numbered_slot(word: &str, n: u64) -> Option<SlotCommand>
     ensures { option_map slot_ask result ≡ numbered_slot n word.now }
 {
@@ -369,7 +370,7 @@ fn numbered_slot(word: &str, n: u64) -> Option<SlotCommand>
     }
 }
 
-/// The sample of these members.
+/// Reads the sample of these members.
 #[tactic(auto, unfolding(crate::specs::Commands::sample_of))]
 fn sample_in(members: &Value<'_>) -> Option<Sample>
     ensures { option_map sample_ask result ≡ sample_of (seen members.now) }

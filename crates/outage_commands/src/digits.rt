@@ -7,10 +7,10 @@ use hex::FromHexError;
 use std::alloc::{AllocError, Global};
 use vclock::Bytes;
 
-/// How many bytes are decoded with no allocation but their own.
+/// The number of bytes up to which decoding allocates only the result.
 const FEW_BYTES: usize = 64;
 
-/// The bytes that a text spells in hexadecimal digits.
+/// Decodes the bytes that a text spells in hexadecimal digits.
 pub(crate) fn spelled(alloc: Global, text: &str) -> Result<Option<Bytes>, AllocError>
     ensures { IfOk result (λ o. o ≡ right (decode_of text.now)) }
 {
@@ -25,7 +25,7 @@ pub(crate) fn spelled(alloc: Global, text: &str) -> Result<Option<Bytes>, AllocE
     }
 }
 
-/// So many bytes, which a text of twice as many digits spells.
+/// Decodes `len` bytes from a text with two digits a byte.
 fn few_spelled(alloc: Global, text: &str, len: usize) -> Result<Option<Bytes>, AllocError>
     requires twice { length text.now ≡ 2 * len }
     requires few { len ≤ 64 }
@@ -39,7 +39,7 @@ fn few_spelled(alloc: Global, text: &str, len: usize) -> Result<Option<Bytes>, A
     }
 }
 
-/// The bytes of a slice.
+/// Copies the bytes of a slice.
 fn copy_of(alloc: Global, bytes: &[u8]) -> Result<Bytes, AllocError>
     ensures { IfOk result (λ copy. copy ≡ bytes.now) }
 {

@@ -1,6 +1,6 @@
 //! The reason why a line isn't a command, for its author.
 ghost use Rattle.std.specs.Prelude.{◌≡◌, IfOk, is_some, option_map};
-ghost use Rattle.outage_commands.specs.Faults.{IsFaultOf, is_command};
+ghost use Rattle.outage_commands.specs.Faults.{IsFaultOf, IsOfMembers, IsOfName, is_command};
 ghost use Rattle.outage_commands.specs.Reading.{sole_member};
 ghost use Rattle.serde_json.specs.View.{view};
 
@@ -81,12 +81,31 @@ pub fn fault_of(alloc: Global, line: &[u8]) -> Result<LineFault, AllocError>
     let Some((name, members)) = sole_member(&value) else {
         return Ok(LineFault::NoName);
     };
-    if let Some(wants) = members_of(name) {
-        return match wrong_member(alloc, name, members)? {
-            Some(wrong) => Ok(LineFault::Member { wants, wrong }),
-            None => Ok(LineFault::Members(wants)),
-        };
+    match members_of(name) {
+        Some(wants) => member_fault(alloc, name, members, wants),
+        None => name_fault(alloc, name),
     }
+}
+
+/// Returns the fault of a command with wrong members.
+fn member_fault(
+    alloc: Global,
+    name: &str,
+    members: &Value,
+    wants: &'static str,
+) -> Result<LineFault, AllocError>
+    ensures { IfOk result IsOfMembers }
+{
+    match wrong_member(alloc, name, members)? {
+        Some(wrong) => Ok(LineFault::Member { wants, wrong }),
+        None => Ok(LineFault::Members(wants)),
+    }
+}
+
+/// Returns the fault of a name that no command has.
+fn name_fault(alloc: Global, name: &str) -> Result<LineFault, AllocError>
+    ensures { IfOk result IsOfName }
+{
     let name = beginning_of(alloc, name)?;
     match nearest_to(alloc, name.as_str())? {
         Some(nearest) => Ok(LineFault::Misspelled { name, nearest }),
@@ -107,7 +126,7 @@ fn sole_member(value: &Value) -> Option<(&str, &Value)>
     Some((name.as_str(), inner))
 }
 
-/// Returns the members that the command of a name wants. `None` if there is no such command.
+/// Returns the members that the command of a name wants. `None` if no command has the name.
 fn members_of(name: &str) -> Option<&'static str>
     ensures { is_some result ≡ is_command name.now }
 {

@@ -1,4 +1,14 @@
-//! The commands of a script, which are read from lines of JSON, and why a line is no command.
+//! The commands of an outage script, read from lines of JSON. Use it to read a line's command, and to explain to the
+//! line's author why it isn't one.
+//!
+//! - [`command`]: the commands, and how they are read.
+//! - [`fault`]: the reason why a line isn't a command.
+//!
+//! ```
+//! let Some(command) = command_in(alloc, line, scratch)? else {
+//!     return Ok(None);
+//! };
+//! ```
 #![tactic(auto)]
 
 pub mod command;

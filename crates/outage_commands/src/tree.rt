@@ -1,4 +1,4 @@
-//! A line as a tree of JSON values that borrow its text, and what they are read as.
+//! Lines as trees of JSON values that borrow their text, and the reading of the values.
 ghost use Rattle.std.specs.Prelude.{◌≡◌, ◌==◌, [], false, IfOk, is_some, map, option_map, option_and_then, slice_index};
 ghost use Rattle.std.specs.List.{list_all, list_any};
 ghost use Rattle.std.specs.Str.{bytes_eq};
@@ -18,10 +18,10 @@ use std::alloc::{AllocError, Global};
 use std::str::from_utf8;
 use vclock::Bytes;
 
-/// How deep arrays and objects may nest, as `serde_json` has it.
+/// The maximum depth of nested arrays and objects, that of `serde_json`.
 const MAX_DEPTH: usize = 127;
 
-/// The tree of a line, if it is the text of a JSON value.
+/// Reads the tree of a line, if it is the text of a JSON value.
 #[tactic(auto, unfolding(crate::specs::Reading::value_of))]
 pub(crate) fn tree_in<'a>(
     alloc: Global,
@@ -51,7 +51,7 @@ pub(crate) fn tree_in<'a>(
     }
 }
 
-/// Whether `serde_json` reads the line, which it does not if a number is out of range.
+/// Returns true if `serde_json` reads the line. It doesn't if a number is out of range.
 fn is_in_range(alloc: Global, line: &[u8]) -> Result<bool, AllocError>
     ensures { IfOk result (λ yes. yes ≡ is_some (value_of line.now)) }
 {
@@ -62,7 +62,7 @@ fn is_in_range(alloc: Global, line: &[u8]) -> Result<bool, AllocError>
     }
 }
 
-/// Whether all numbers in it are whole, and below 2^64.
+/// Returns true if all numbers in a value are whole, and below 2^64.
 #[cycle(whole)]
 fn is_whole(value: &Value<'_>) -> bool
     ensures { result ≡ is_whole (value_view value.now) }
@@ -75,7 +75,7 @@ fn is_whole(value: &Value<'_>) -> bool
     }
 }
 
-/// The same of each item.
+/// Returns true if all numbers in the items are.
 #[cycle(whole)]
 fn items_are_whole(items: &Vec<Value<'_>>) -> bool
     ensures { result ≡ items_are_whole (items_view items.now.items) }
@@ -88,7 +88,7 @@ fn items_are_whole(items: &Vec<Value<'_>>) -> bool
     true
 }
 
-/// The same of each member's value.
+/// Returns true if all numbers in the members' values are.
 #[cycle(whole)]
 fn members_are_whole(members: &Vec<(&str, Value<'_>)>) -> bool
     ensures { result ≡ members_are_whole (members_view members.now.items) }
@@ -101,7 +101,7 @@ fn members_are_whole(members: &Vec<(&str, Value<'_>)>) -> bool
     true
 }
 
-/// The number that a text is, if it is whole, without sign, point or exponent, and below 2^64.
+/// Reads a text as a number, if it is whole, without sign, point or exponent, and below 2^64.
 fn whole(text: &str) -> Option<u64>
     ensures { result ≡ whole_of text.now }
 {
@@ -112,28 +112,28 @@ fn whole(text: &str) -> Option<u64>
     without_sign(&Numeral::scan(digits))
 }
 
-/// Whether a minus stands before the digits.
+/// Returns true if there is a minus before the digits.
 fn has_minus(digits: &[u8]) -> bool
     ensures { result ≡ (slice_index digits.now 0 == 45) }
 {
     !digits.is_empty() && digits[0] == b'-'
 }
 
-/// The number, if it is whole and below 2^64.
+/// Returns the number of a numeral, if it is whole and below 2^64.
 fn without_sign(numeral: &Numeral<'_>) -> Option<u64>
     ensures { result ≡ option_and_then as_u64 (number_from false numeral.now) }
 {
     numeral.to_u64()
 }
 
-/// What a JSON value can be read as.
+/// A type that can be read from a JSON value.
 pub(crate) trait FromValue: Sized + Drop {
     ghost use Rattle.std.specs.Prelude.{Option};
     ghost use Rattle.serde_json.specs.Data.{Data};
 
     ghost reads: { Data → Option Self };
 
-    /// What the value is, if it is one.
+    /// Reads the value. `None` if it isn't of this type.
     fn from_value(alloc: Global, value: &Value<'_>) -> Result<Option<Self>, AllocError>
         ensures { IfOk result (λ o. o ≡ reads (seen value.now)) };
 }
@@ -141,7 +141,7 @@ pub(crate) trait FromValue: Sized + Drop {
 impl FromValue for u64 {
     ghost reads = { number_of };
 
-    /// A whole number, without sign, point or exponent.
+    /// Reads a whole number, without sign, point or exponent.
     fn from_value(_alloc: Global, value: &Value<'_>) -> Result<Option<u64>, AllocError> {
         Ok(number_in(value))
     }
@@ -150,7 +150,7 @@ impl FromValue for u64 {
 impl FromValue for Bytes {
     ghost reads = { bytes_of };
 
-    /// The bytes that a text spells in hexadecimal digits.
+    /// Reads the bytes that a text spells in hexadecimal digits.
     fn from_value(alloc: Global, value: &Value<'_>) -> Result<Option<Bytes>, AllocError> {
         match text_in(value) {
             Some(text) => spelled(alloc, text),
@@ -162,7 +162,7 @@ impl FromValue for Bytes {
 impl FromValue for Option<Bytes> {
     ghost reads = { nullable bytes_of };
 
-    /// Null, or bytes.
+    /// Reads null, or bytes.
     fn from_value(alloc: Global, value: &Value<'_>) -> Result<Option<Option<Bytes>>, AllocError> {
         if is_null(value) {
             return Ok(Some(None));
@@ -174,13 +174,13 @@ impl FromValue for Option<Bytes> {
 impl FromValue for (u64, u64) {
     ghost reads = { pair_of };
 
-    /// A list of two numbers.
+    /// Reads a list of two numbers.
     fn from_value(_alloc: Global, value: &Value<'_>) -> Result<Option<(u64, u64)>, AllocError> {
         Ok(pair_in(value))
     }
 }
 
-/// The two numbers of a list.
+/// Reads the two numbers of a list.
 #[tactic(auto, using(crate::proofs::TreeLemmas::other_items))]
 fn pair_in(value: &Value<'_>) -> Option<(u64, u64)>
     ensures { result ≡ pair_of (seen value.now) }
@@ -192,7 +192,7 @@ fn pair_in(value: &Value<'_>) -> Option<(u64, u64)>
     Some((number_in(&items[0])?, number_in(&items[1])?))
 }
 
-/// The whole number that it is.
+/// Returns a value's whole number.
 #[tactic(auto, using(crate::proofs::TreeLemmas::a_number))]
 fn number_in(value: &Value<'_>) -> Option<u64>
     ensures { result ≡ number_of (seen value.now) }
@@ -200,7 +200,7 @@ fn number_in(value: &Value<'_>) -> Option<u64>
     whole(value.as_number()?)
 }
 
-/// The text that it is.
+/// Returns a value's text.
 #[tactic(auto, using(crate::proofs::TreeLemmas::a_text))]
 fn text_in<'a>(value: &Value<'a>) -> Option<&'a str>
     ensures { option_map (λ s. s.now) result ≡ as_str (seen value.now) }
@@ -208,7 +208,7 @@ fn text_in<'a>(value: &Value<'a>) -> Option<&'a str>
     value.as_str()
 }
 
-/// Whether it is null.
+/// Returns true if the value is null.
 #[tactic(auto, using(crate::proofs::TreeLemmas::a_null))]
 fn is_null(value: &Value<'_>) -> bool
     ensures { result ≡ is_some (as_null (seen value.now)) }
@@ -216,7 +216,7 @@ fn is_null(value: &Value<'_>) -> bool
     value.is_null()
 }
 
-/// Its items, if it is a list.
+/// Returns a value's items, if it is a list.
 fn items_in<'v, 'a>(value: &'v Value<'a>) -> Option<&'v Vec<Value<'a>>>
     ensures { option_map (λ items. items_data (items_view items.now.items)) result
         ≡ as_array (seen value.now) }
@@ -227,7 +227,7 @@ fn items_in<'v, 'a>(value: &'v Value<'a>) -> Option<&'v Vec<Value<'a>>>
     }
 }
 
-/// Its members, if it is an object.
+/// Returns a value's members, if it is an object.
 fn members_in<'v, 'a>(value: &'v Value<'a>) -> Option<&'v Vec<(&'a str, Value<'a>)>>
     ensures { option_map (λ members. members_data (members_view members.now.items) no_members) result
         ≡ as_object (seen value.now) }
@@ -238,7 +238,7 @@ fn members_in<'v, 'a>(value: &'v Value<'a>) -> Option<&'v Vec<(&'a str, Value<'a
     }
 }
 
-/// What the items of a list are, if each is one.
+/// Reads each item of a list. `None` if one isn't of the type.
 pub(crate) fn list_in<T: FromValue>(
     alloc: Global,
     value: &Value<'_>,
@@ -259,7 +259,7 @@ pub(crate) fn list_in<T: FromValue>(
     Ok(Some(list))
 }
 
-/// Whether it is an object that has no other members than these.
+/// Returns true if the value is an object with no other members than these.
 pub(crate) fn has_only(value: &Value<'_>, names: &[&str]) -> bool
     ensures { result ≡ has_only (map (λ n. n.now) names.now) (seen value.now) }
 {
@@ -269,21 +269,21 @@ pub(crate) fn has_only(value: &Value<'_>, names: &[&str]) -> bool
     }
 }
 
-/// Whether the name of each member is among these.
+/// Returns true if the name of each member is in a list.
 fn are_among(names: &[&str], members: &[(&str, Value<'_>)]) -> bool
     ensures { result ≡ list_all (λ m. list_any (λ n. bytes_eq n.now m.0.now) names.now) members.now }
 {
     members.iter().all(|m| is_among(names, m.0))
 }
 
-/// Whether a name is among these.
+/// Returns true if a name is in a list.
 fn is_among(names: &[&str], name: &str) -> bool
     ensures { result ≡ list_any (λ n. bytes_eq n.now name.now) names.now }
 {
     names.iter().any(|n| *n == name)
 }
 
-/// The value of that name: the last one, if it comes twice.
+/// Returns the value of the member of that name: the last one, if there are several.
 #[tactic(auto, using(crate::proofs::TreeLemmas::found))]
 fn member<'v, 'a>(value: &'v Value<'a>, name: &str) -> Option<&'v Value<'a>>
     ensures { option_map (λ v. seen v.now) result ≡ get name.now (seen value.now) }
@@ -291,7 +291,7 @@ fn member<'v, 'a>(value: &'v Value<'a>, name: &str) -> Option<&'v Value<'a>>
     value.get(name)
 }
 
-/// The name and the value of the one member of an object.
+/// Returns the name and the value of the one member of an object.
 pub(crate) fn sole_member<'v, 'a>(value: &'v Value<'a>) -> Option<(&'a str, &'v Value<'a>)>
     ensures { option_map (λ m. (m.0.now, seen m.1.now)) result ≡ sole_member (seen value.now) }
 {
@@ -306,28 +306,28 @@ pub(crate) fn sole_member<'v, 'a>(value: &'v Value<'a>) -> Option<(&'a str, &'v 
     Some((name, member(value, name)?))
 }
 
-/// The whole number of that name.
+/// Reads the member of that name as a whole number.
 pub(crate) fn number_at(value: &Value<'_>, name: &str) -> Option<u64>
     ensures { result ≡ member_of number_of name.now (seen value.now) }
 {
     number_in(member(value, name)?)
 }
 
-/// The whole number below 2^32 of that name.
+/// Reads the member of that name as a whole number below 2^32.
 pub(crate) fn short_number_at(value: &Value<'_>, name: &str) -> Option<u32>
     ensures { result ≡ member_of short_number_of name.now (seen value.now) }
 {
     u32::try_from(number_at(value, name)?).ok()
 }
 
-/// The text of that name.
+/// Reads the member of that name as a text.
 pub(crate) fn text_at<'a>(value: &Value<'a>, name: &str) -> Option<&'a str>
     ensures { option_map (λ s. s.now) result ≡ member_of as_str name.now (seen value.now) }
 {
     text_in(member(value, name)?)
 }
 
-/// The whole number of that name, or that one if the member is missing.
+/// Reads the member of that name as a whole number, or returns `absent` if it is missing.
 pub(crate) fn number_or(value: &Value<'_>, name: &str, absent: u64) -> Option<u64>
     ensures { result ≡ default_of absent number_of name.now (seen value.now) }
 {
@@ -337,7 +337,7 @@ pub(crate) fn number_or(value: &Value<'_>, name: &str, absent: u64) -> Option<u6
     }
 }
 
-/// The whole number of that name, or `Some(None)` if the member is missing.
+/// Reads the member of that name as a whole number, or returns `Some(None)` if it is missing.
 pub(crate) fn maybe_number_at(value: &Value<'_>, name: &str) -> Option<Option<u64>>
     ensures { result ≡ maybe_of number_of name.now (seen value.now) }
 {
@@ -347,7 +347,7 @@ pub(crate) fn maybe_number_at(value: &Value<'_>, name: &str) -> Option<Option<u6
     }
 }
 
-/// What the member of that name is, if it is one.
+/// Reads the member of that name. `None` if its value isn't of the type.
 pub(crate) fn member_at<T: FromValue>(
     alloc: Global,
     value: &Value<'_>,
@@ -361,7 +361,7 @@ pub(crate) fn member_at<T: FromValue>(
     }
 }
 
-/// What the items of the list of that name are, if each is one.
+/// Reads the items of the member of that name. `None` if one isn't of the type.
 pub(crate) fn list_at<T: FromValue>(
     alloc: Global,
     value: &Value<'_>,
@@ -376,7 +376,7 @@ pub(crate) fn list_at<T: FromValue>(
     }
 }
 
-/// The same, with no item if the member is missing.
+/// Reads the items of the member of that name, or returns no item if it is missing.
 pub(crate) fn list_or_none<T: FromValue>(
     alloc: Global,
     value: &Value<'_>,

@@ -1,4 +1,4 @@
--- The text of what a command answers.
+-- The texts of answers.
 use Rattle.std.specs.Prelude.{ℕ, List, [], ◌∷◌, ◌++◌, codes, Option, Some, None}
 use Rattle.serde_json.specs.Data.{Data, Items, no_items, item, Members, no_members, member, null, boolean, number, unsigned, string, array, object}
 use Rattle.serde_json.specs.Written.{compact_text}
@@ -13,12 +13,12 @@ use Rattle.vclock.specs.declared.refusal.Refusal.TheVariants as Refusals
 use Rattle.outage_cluster.specs.declared.answer.Answer.{Answer}
 use Rattle.outage_cluster.specs.declared.answer.Answer.TheVariants.{Ring, Put, Versions, Row, Rehash, Sync, Node, Up, Deliver, Slots, Adjusted, Sample, Refused, BadLine}
 
--- an item for each of a list
+-- an item for each element of a list
 abbrev pub items_of : {A : Type 0} → (A → Data) → List A → Items
 items_of f [] = no_items
 items_of f (a ∷ more) = item (f a) (items_of f more)
 
--- the list of these
+-- a list of values
 abbrev pub list_data : {A : Type 0} → (A → Data) → List A → Data
 list_data f list = array (items_of f list)
 
@@ -30,7 +30,7 @@ number_data n = number (unsigned n)
 abbrev pub pair_data : ℕ × ℕ → Data
 pair_data p = array (item (number_data p.0) (item (number_data p.1) no_items))
 
--- the pairs of a clock, by rising node
+-- the pairs of a clock, by ascending node
 abbrev pub clock_data : Pairs → Data
 clock_data c = list_data pair_data c
 
@@ -38,7 +38,7 @@ clock_data c = list_data pair_data c
 abbrev pub bytes_data : List ℕ → Data
 bytes_data bytes = string (encode_lower bytes)
 
--- an object of members by rising name
+-- an object of members by ascending name
 abbrev pub members_of : List (List ℕ × Data) → Members
 members_of [] = no_members
 members_of (m ∷ more) = member m.0 m.1 (members_of more)
@@ -46,7 +46,7 @@ members_of (m ∷ more) = member m.0 m.1 (members_of more)
 abbrev pub object_of : List (List ℕ × Data) → Data
 object_of ms = object (members_of ms)
 
--- a value, or null if there is none
+-- a value, or null for a tombstone
 abbrev pub value_data : Kind → List ℕ → Data
 value_data Live value = bytes_data value
 value_data Tombstone value = null
@@ -59,13 +59,13 @@ abbrev pub digest_data : Option (List ℕ) → Data
 digest_data (Some digest) = bytes_data digest
 digest_data None = null
 
--- a number, or null if there is none
+-- a number, or null for None
 abbrev pub maybe_number : Option ℕ → Data
 maybe_number (Some n) = number_data n
 maybe_number None = null
 
--- what came of a sync: how many versions of the other replica came, how many nodes were asked, how many of the versions were
--- known, and why a leaf was refused, if one was
+-- the report of a sync: the number of versions that were accepted, the number of nodes that were asked, the number of
+-- versions that were known, and the refusal of a leaf, if any
 abbrev pub sync_data : ℕ → ℕ → ℕ → Option Refusal → Data
 sync_data accepted asked known None = object_of ((codes "accepted", number_data accepted) ∷ (codes "asked", number_data asked) ∷ (codes "known", number_data known) ∷ (codes "state", string (codes "Finished")) ∷ [])
 sync_data accepted asked known (Some refusal) = object_of ((codes "accepted", number_data accepted) ∷ (codes "asked", number_data asked) ∷ (codes "cause", string (name_of refusal)) ∷ (codes "known", number_data known) ∷ (codes "refused", number_data (number_of refusal)) ∷ (codes "state", string (codes "Open")) ∷ [])

@@ -1,4 +1,4 @@
--- What a run of a script wrote.
+-- The output of a run of a script.
 use Rattle.std.specs.Prelude.{◌≡◌, ℕ, List, [], ◌++◌, Option, Some, None, ⊤}
 use Rattle.std.specs.Io.KnownBytes.{Appends}
 use Rattle.outage_script.specs.declared.ScriptEnd.{ScriptEnd}
@@ -7,7 +7,7 @@ use Rattle.outage_commands.specs.declared.fault.LineFault.{LineFault}
 use Rattle.outage_script.specs.Script.{Outcome, script_outcome}
 use Rattle.outage_commands.specs.Faults.{IsExplained}
 
--- they begin with these
+-- a list begins with another one
 abbrev pub Begins : List ℕ → List ℕ → Type 0
 Begins whole front = (more : List ℕ) × (whole ≡ front ++ more)
 
@@ -21,27 +21,29 @@ pub record IsBadAt (n : ℕ) (written : List ℕ) (script : Outcome) : Type 0 wh
   pub text : script.text ≡ written
   pub bad : script.bad ≡ Some n
 
--- what was written is right, if these bytes were read and these are left: for what was read, and for the whole input
+-- the output is right, if these bytes were read and these are left: both for the bytes that were read and for the whole
+-- input
 abbrev pub IsRight : ScriptEnd → List ℕ → List ℕ → List ℕ → Type 0
 IsRight Done bytes left written = (left ≡ []) × IsDone written (script_outcome bytes)
 IsRight (BadLine n) bytes left written = IsBadAt n written (script_outcome bytes) × IsBadAt n written (script_outcome (bytes ++ left))
 IsRight Device bytes left written = Begins (script_outcome bytes).text written × Begins (script_outcome (bytes ++ left)).text written
 IsRight NoMemory bytes left written = Begins (script_outcome bytes).text written × Begins (script_outcome (bytes ++ left)).text written
 
--- a run that found and left these in the reader and the writer: it claims nothing if the reader does not tell its bytes
+-- a run that found and left these in the reader and the writer; there is no claim if the reader's bytes are unknown
 abbrev pub Runs : ScriptEnd → Option (List ℕ) → Option (List ℕ) → Option (List ℕ) → Option (List ℕ) → Type 0
 Runs end None left before after = ⊤
 Runs end (Some input) None before after = ⊥
 Runs end (Some input) (Some left) before after = (bytes : List ℕ) × (written : List ℕ) × (input ≡ bytes ++ left) × Appends before after written × IsRight end bytes left written
 
--- the same of a run over memory, in terms of the whole input
+-- the output of a run over memory is right for the whole input
 abbrev pub IsAnswer : ScriptEnd → List ℕ → List ℕ → Type 0
 IsAnswer Done input written = IsDone written (script_outcome input)
 IsAnswer (BadLine n) input written = IsBadAt n written (script_outcome input)
 IsAnswer Device input written = Begins (script_outcome input).text written
 IsAnswer NoMemory input written = Begins (script_outcome input).text written
 
--- the reason that comes with the end: at a bad line it is that of the input's first bad line, and no other end has one
+-- the reason that is returned with the end: at a bad line it is that of the input's first bad line, and no other end
+-- has a reason
 abbrev pub Explains : ScriptEnd → Option LineFault → Option (List ℕ) → Type 0
 Explains (BadLine n) why None = ⊤
 Explains (BadLine n) why (Some input) = (line : List ℕ) × ((script_outcome input).spoiled ≡ Some line) × IsExplained why line

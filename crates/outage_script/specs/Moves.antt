@@ -1,4 +1,4 @@
--- What a run in progress has written, and what it is still to write.
+-- The output of a run in progress, and the outcome that is to follow.
 use Rattle.std.specs.Prelude.{◌≡◌, ℕ, List, length, ◌++◌, Bool, true, false, Option, None, Some, IsTrue, nat_lt, nat_le, ⊤}
 use Rattle.std.specs.Io.KnownBytes.{Appends}
 use Rattle.outage_script.specs.declared.ScriptEnd.{ScriptEnd}
@@ -9,8 +9,8 @@ use Rattle.outage_commands.specs.Faults.{line_limit}
 use Rattle.outage_script.specs.Script.{Outcome, outcome_of, preceded, script_outcome}
 use Rattle.outage_script.specs.Ends.{Begins, IsBadAt}
 
--- where a run is: the number of the line that it reads, the state, what has come of that line, and whether the run ended
--- since the line is too long
+-- the place of a run: the number of the line that it reads, the state, the part of that line that was read, and true if
+-- the run ended since the line is too long
 pub record Place : Type 0 where
   pub number : ℕ
   pub state : State
@@ -20,22 +20,22 @@ pub record Place : Type 0 where
 abbrev pub place_of : ℕ → State → List ℕ → Bool → Place
 place_of number state line long = record { number = number; state = state; line = line; long = long }
 
--- the outcome that is still to come, if these bytes are still to come
+-- the outcome that is to follow, if these bytes are still to be read
 unfoldable pub to_come : Place → List ℕ → Outcome
 to_come p rest = outcome_of p.number p.state (lines_of (p.line ++ rest))
 
--- the piece was read and this was written, whatever comes after it
+-- the piece was read and this was written, for any bytes after it
 pub record Moves (old : Place) (piece : List ℕ) (new : Place) (some : List ℕ) : Type 0 where
   pub goes : (rest : List ℕ) → to_come old (piece ++ rest) ≡ preceded some (to_come new rest)
 
--- what was written up to an early end is right for the whole
+-- the output up to an early end is right for the whole
 abbrev pub Ends : ScriptEnd → Outcome → List ℕ → Type 0
 Ends Done whole some = ⊥
 Ends (BadLine n) whole some = IsBadAt n some whole
 Ends Device whole some = Begins whole.text some
 Ends NoMemory whole some = Begins whole.text some
 
--- what is kept of a line: all of it, or that it is too long
+-- the kept part of a line: all of it, or only that it is too long
 abbrev pub IsKept : Bool → List ℕ → List ℕ → Type 0
 IsKept true held line = IsTrue (nat_lt line_limit (length line))
 IsKept false held line = (held ≡ line) × IsTrue (nat_le (length line) line_limit)
@@ -51,7 +51,7 @@ Spoils (BadLine n) p spoiled = KeepsLine p spoiled
 Spoils Device p spoiled = ⊤
 Spoils NoMemory p spoiled = ⊤
 
--- the same of a run over this input: it claims nothing if the reader does not tell its bytes
+-- if a run over this input ended at a bad line, the place keeps it; there is no claim if the reader's bytes are unknown
 abbrev pub Holds : ScriptEnd → Place → Option (List ℕ) → Type 0
 Holds Done p input = ⊤
 Holds (BadLine n) p None = ⊤
@@ -59,17 +59,17 @@ Holds (BadLine n) p (Some input) = KeepsLine p (script_outcome input).spoiled
 Holds Device p input = ⊤
 Holds NoMemory p input = ⊤
 
--- the run ended in this piece, whatever comes after it
+-- the run ended in this piece, for any bytes after it
 pub record Stops (old : Place) (piece : List ℕ) (new : Place) (end : ScriptEnd) (some : List ℕ) : Type 0 where
   pub right : (rest : List ℕ) → Ends end (to_come old (piece ++ rest)) some
   pub keeps : (rest : List ℕ) → Spoils end new (to_come old (piece ++ rest)).spoiled
 
--- the piece was read; the run goes on, or ended so
+-- the piece was read; the run goes on, or ended
 abbrev pub Feeds : Place → List ℕ → Place → Option ScriptEnd → Option (List ℕ) → Option (List ℕ) → Type 0
 Feeds old piece new None before after = (some : List ℕ) × Appends before after some × Moves old piece new some
 Feeds old piece new (Some end) before after = (some : List ℕ) × Appends before after some × Stops old piece new end some
 
--- the end of the input was answered: all is written, or the run ended early
+-- the end of the input was answered: everything is written, or the run ended early
 abbrev pub Finishes : Option ScriptEnd → Place → Outcome → List ℕ → Type 0
 Finishes None new whole some = whole ≡ record { text = some; bad = None; spoiled = None }
 Finishes (Some end) new whole some = Ends end whole some × Spoils end new whole.spoiled

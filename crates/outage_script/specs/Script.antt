@@ -1,4 +1,4 @@
--- What a script writes, and which line of it is bad.
+-- The output of a script, and its first bad line.
 use Rattle.std.specs.Prelude.{◌≡◌, ℕ, ◌+◌, List, [], ◌∷◌, ◌++◌, length, nat_lt, if◌then◌else◌, Option, Some, None, option_map, option_and_then}
 use Rattle.std.specs.List.{list_all}
 use Rattle.outage_script.specs.Lines.{lines_of, is_space}
@@ -11,31 +11,31 @@ use Rattle.outage_commands.specs.Reading.{value_of}
 use Rattle.outage_commands.specs.Commands.{command_of}
 use Rattle.outage_commands.specs.Faults.{line_limit}
 
--- a line's answer and the state after it; None if it is a bad line
+-- a line's answer and the state after it; None if the line is bad
 abbrev pub Turn : Type 0
 Turn = Option (List ℕ × State)
 
 abbrev pub turn_of : State → Ask → List ℕ × State
 turn_of s ask = (answer_line (replied (act ask s)), left (act ask s) s)
 
--- the command, if the ring in force has such a one
+-- the command, if the ring in force has such a command
 abbrev pub suited : State → Ask → Option Ask
 suited s ask = if suits s ask then Some ask else None
 
 unfoldable pub step : State → List ℕ → Turn
 step s line = if nat_lt line_limit (length line) then None else if list_all is_space line then Some ([], s) else option_map (turn_of s) (option_and_then (suited s) (option_and_then command_of (value_of line)))
 
--- what is written for a bad line
+-- the text that answers a bad line
 unfoldable pub bad_line : ℕ → List ℕ
 bad_line n = answer_line (BadLine n)
 
--- what is written, and the number and the text of the first bad line, if there is one
+-- the output, and the number and the text of the first bad line, if any
 pub record Outcome : Type 0 where
   pub text : List ℕ
   pub bad : Option ℕ
   pub spoiled : Option (List ℕ)
 
--- what was written, and then the outcome
+-- the outcome, with this output before it
 abbrev pub preceded : List ℕ → Outcome → Outcome
 preceded some rest = record { text = some ++ rest.text; bad = rest.bad; spoiled = rest.spoiled }
 
@@ -53,7 +53,7 @@ outcome_of n s (line ∷ lines) = goes_on n line (step s line) (λ next. outcome
 unfoldable pub script_outcome : List ℕ → Outcome
 script_outcome bytes = outcome_of 1 start (lines_of bytes)
 
--- what a turn gave: the text and the state after it, or no text for a bad line
+-- the result of a turn: the text and the state after it, or no text for a bad line
 abbrev pub IsTurn : Option (List ℕ) → State → Turn → Type 0
 IsTurn None after t = t ≡ None
 IsTurn (Some text) after t = t ≡ Some (text, after)

@@ -1,4 +1,4 @@
--- The members of answers in the code, and the tokens of their text. (No clause of a public call speaks of these.)
+-- The members of answers in the code, and the tokens of their text. (No clause of a public call uses these.)
 use Rattle.std.specs.Prelude.{List}
 use Rattle.json.specs.Token.{Token}
 use Rattle.json.specs.Tree.{json_tokens}

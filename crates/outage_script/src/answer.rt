@@ -11,10 +11,10 @@ use range_state::Synced;
 use std::alloc::{AllocError, Global};
 use vclock::{Clock, Refusal};
 
-/// For how many bytes a line has room at first.
+/// The initial capacity of a line, in bytes.
 const LINE_ROOM: usize = 128;
 
-/// The text of an answer, with its line feed.
+/// Makes the text of an answer, with its line feed.
 pub(crate) fn answer_line(alloc: Global, answer: &Answer) -> Result<Vec<u8>, AllocError>
     ensures { IfOk result (λ line. line.items ≡ answer_line answer.now) }
 {
@@ -68,7 +68,7 @@ fn write_one(alloc: Global, name: &str, part: Part<'_>, out: &mut Writer) -> Res
     write_object(alloc, &[(name, part)], out)
 }
 
-/// Writes how many nodes and ranges a new ring has.
+/// Writes the numbers of nodes and ranges of a new ring.
 fn write_ring(alloc: Global, nodes: u64, ranges: u64, out: &mut Writer) -> Result<(), AllocError>
     ensures tokens { OnOk result (out.new.tokens
         ≡ out.old.tokens ++ tokens_of (answer_data (Answer.Ring nodes ranges))) }
@@ -84,7 +84,7 @@ fn write_ring(alloc: Global, nodes: u64, ranges: u64, out: &mut Writer) -> Resul
     )
 }
 
-/// Writes what came of a put.
+/// Writes the outcome of a put.
 fn write_put(
     alloc: Global,
     clock: &Clock,
@@ -109,7 +109,7 @@ fn write_put(
     )
 }
 
-/// Writes whether a node is up.
+/// Writes a node, and true if it is up.
 fn write_up(alloc: Global, node: u64, up: bool, out: &mut Writer) -> Result<(), AllocError>
     ensures tokens { OnOk result (out.new.tokens
         ≡ out.old.tokens ++ tokens_of (answer_data (Answer.Up node up))) }
@@ -122,7 +122,7 @@ fn write_up(alloc: Global, node: u64, up: bool, out: &mut Writer) -> Result<(), 
     )
 }
 
-/// Writes what came of a delivery.
+/// Writes the outcome of a delivery.
 fn write_delivery(
     alloc: Global,
     delivered: u64,
@@ -145,7 +145,7 @@ fn write_delivery(
     )
 }
 
-/// Writes how many slots there are.
+/// Writes the counts of slots.
 fn write_slots(alloc: Global, slots: &SlotCounts, out: &mut Writer) -> Result<(), AllocError>
     ensures tokens { OnOk result (out.new.tokens
         ≡ out.old.tokens ++ tokens_of (answer_data (Answer.Slots slots.now))) }
@@ -187,7 +187,7 @@ fn write_adjusted(
     )
 }
 
-/// Writes that a line is no command.
+/// Writes that a line isn't a command.
 fn write_bad_line(alloc: Global, line: u64, out: &mut Writer) -> Result<(), AllocError>
     ensures tokens { OnOk result (out.new.tokens
         ≡ out.old.tokens ++ tokens_of (answer_data (Answer.BadLine line))) }
@@ -205,7 +205,7 @@ fn write_bad_line(alloc: Global, line: u64, out: &mut Writer) -> Result<(), Allo
     )
 }
 
-/// Writes what came of a sync.
+/// Writes the report of a sync.
 fn write_sync(alloc: Global, done: &Synced, out: &mut Writer) -> Result<(), AllocError>
     ensures tokens { OnOk result (out.new.tokens ≡ out.old.tokens
         ++ tokens_of (sync_data done.now.accepted done.now.asked done.now.known done.now.fault)) }
@@ -237,7 +237,7 @@ fn write_sync(alloc: Global, done: &Synced, out: &mut Writer) -> Result<(), Allo
     }
 }
 
-/// Writes why a command is refused.
+/// Writes the refusal of a command.
 fn write_refusal(alloc: Global, refusal: &Refusal, out: &mut Writer) -> Result<(), AllocError>
     ensures tokens { OnOk result (out.new.tokens ≡ out.old.tokens ++ tokens_of (refusal_data refusal.now)) }
     ensures before { out.new.before ≡ out.old.before }
@@ -263,7 +263,7 @@ fn write_refusal(alloc: Global, refusal: &Refusal, out: &mut Writer) -> Result<(
     }
 }
 
-/// A digest, or null for a dirty node.
+/// Returns a digest, or null for a dirty node.
 fn digest_part(digest: &Option<Digest>) -> Part<'_>
     ensures { part_data result ≡ digest_data digest.now }
 {
@@ -273,7 +273,7 @@ fn digest_part(digest: &Option<Digest>) -> Part<'_>
     }
 }
 
-/// A number, or null if there is none.
+/// Returns a number, or null for `None`.
 fn maybe_number<'a>(number: Option<u32>) -> Part<'a>
     ensures { part_data result ≡ maybe_number number }
 {

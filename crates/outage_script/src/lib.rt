@@ -1,12 +1,19 @@
-//! Scripts of outages: a command a line, an answer a line.
+//! Runs of outage scripts, with one command in each line and one line for each answer. Use it to run a script from a
+//! reader to a writer, or over memory.
+//!
+//! ```
+//! let (ended, written) = run_bytes(rt, rt.alloc(), input);
+//! assert_eq!(rt; str::from_utf8(&written)?, output);
+//! assert_eq!(rt; ended, end, "after {output}");
+//! ```
 #![tactic(auto)]
 
-/// How a script ended.
+/// The end of a script.
 #[derive(Clone, Copy, Debug, PartialEq, Eq)]
 pub enum ScriptEnd {
     /// The whole input was read and answered.
     Done,
-    /// The line of that number is no command.
+    /// The line of that number isn't a command.
     BadLine(u64),
     /// The reader or the writer failed.
     Device,

@@ -1,4 +1,4 @@
-//! A script over memory, and what its lines are.
+//! A script over memory, and the law of its lines.
 ghost use Rattle.std.specs.Prelude.{◌≡◌, ◌++◌, ◌∷◌, ℕ, List, IsTrue};
 ghost use Rattle.std.specs.List.{list_all};
 ghost use Rattle.outage_script.specs.Ends.{IsAnswer};
@@ -8,7 +8,8 @@ use crate::{ScriptEnd, run_script};
 use std::alloc::Global;
 use std::thread::Threads;
 
-/// Runs the script of these bytes, and returns how it ended and what it wrote. All else that the run held is freed.
+/// Runs the script of these bytes, and returns its end and the bytes that it wrote. Everything else that the run held
+/// is freed.
 #[tactic(auto, using(crate::proofs::RunLemmas::runs_memory))]
 pub fn run_bytes(rt: &(impl Threads + Sync), alloc: Global, input: &[u8]) -> (ScriptEnd, Vec<u8>)
     ensures { IsAnswer result.0 input.now result.1.items }
@@ -19,7 +20,7 @@ pub fn run_bytes(rt: &(impl Threads + Sync), alloc: Global, input: &[u8]) -> (Sc
     (end, out)
 }
 
-/// The law of the lines of a text, in its contract: nothing is run.
+/// The law of a text's lines, in its contract: nothing is run.
 #[tactic(auto, using(crate::proofs::LineLemmas::whole_line))]
 pub fn line_law()
     ensures a_line_feed_ends_a_line { (line : List ℕ) → (rest : List ℕ)

@@ -29,7 +29,7 @@ pub(crate) enum Part<'a> {
     Versions(&'a [Version]),
 }
 
-/// Writes an object of these members, by rising name.
+/// Writes an object of these members, by ascending name.
 pub(crate) fn write_object(
     alloc: Global,
     members: &[(&str, Part<'_>)],
@@ -76,13 +76,13 @@ fn write_hex(alloc: Global, bytes: &[u8], out: &mut Writer) -> Result<(), AllocE
     Ok(())
 }
 
-/// What has a JSON value of its own.
+/// A type with a JSON value.
 trait ToJson {
     ghost use Rattle.serde_json.specs.Data.{Data};
 
     ghost shown: { Self → Data };
 
-    /// Writes its value.
+    /// Writes the value.
     fn write(&self, alloc: Global, out: &mut Writer) -> Result<(), AllocError>
         ensures tokens { OnOk result (out.new.tokens ≡ out.old.tokens ++ tokens_of (shown self.now)) }
         ensures before { out.new.before ≡ out.old.before };
@@ -91,7 +91,7 @@ trait ToJson {
 impl ToJson for (u16, u64) {
     ghost shown = { pair_data };
 
-    /// A node and its counter.
+    /// Writes a node and its counter.
     fn write(&self, _alloc: Global, out: &mut Writer) -> Result<(), AllocError> {
         out.begin_array()?;
         out.u64(u64::from(self.0))?;
@@ -104,7 +104,7 @@ impl ToJson for (u16, u64) {
 impl ToJson for Clock {
     ghost shown = { clock_data };
 
-    /// The pairs, by rising node.
+    /// Writes the pairs, by ascending node.
     fn write(&self, alloc: Global, out: &mut Writer) -> Result<(), AllocError> {
         write_list(alloc, self.pairs(), out)
     }
@@ -113,7 +113,7 @@ impl ToJson for Clock {
 impl ToJson for Version {
     ghost shown = { version_data };
 
-    /// The clock, and the value, which is null for a tombstone.
+    /// Writes the clock, and the value, which is null for a tombstone.
     fn write(&self, alloc: Global, out: &mut Writer) -> Result<(), AllocError> {
         out.begin_object()?;
         out.key("clock")?;

@@ -15,16 +15,16 @@ use std::marker::Brand;
 use std::sync::ledger::{Blank, Ledger};
 use std::thread::Threads;
 
-/// How often the reader is called at the most.
+/// The maximum number of calls of the reader.
 const READ_CALLS: u64 = 4_000_000_000;
 
-/// How many slots a ledger can count.
+/// The number of slots that a ledger can count.
 const SLOTS: u64 = 1_024;
 
-/// How many bytes a read wants.
+/// The size of a read, in bytes.
 const READ_SIZE: usize = 65_536;
 
-/// Runs the script that the reader gives. All that the run held is freed at its end.
+/// Runs a reader's script. Everything that the run held is freed at its end.
 pub fn run_script<T: Threads + Sync, R: Read, W: Write>(
     rt: &T,
     alloc: Global,
@@ -38,9 +38,9 @@ pub fn run_script<T: Threads + Sync, R: Read, W: Write>(
     run_freed::<Brand, T, R, W>(blank, rt, alloc, reader, writer)
 }
 
-/// Runs the script that the reader gives, as the last thing that a process does: what the replicas hold is left to the
-/// system, which takes back all memory of a process at once when it ends. To free it here would take a quarter of a run.
-/// With the end comes why the line is bad, if a bad line ended the run and there is memory to say so.
+/// Runs a reader's script, as the last act of a process: the memory of the replicas is left to the system, which takes
+/// back all memory of a process at once when it ends. Freeing it here would take a quarter of a run. Returns the end,
+/// and the reason why the line is bad, if a bad line ended the run and there is memory to explain it.
 pub fn run_last_script<T: Threads + Sync, R: Read, W: Write>(
     rt: &T,
     alloc: Global,
@@ -55,7 +55,7 @@ pub fn run_last_script<T: Threads + Sync, R: Read, W: Write>(
     run_left::<Brand, T, R, W>(blank, rt, alloc, reader, writer)
 }
 
-/// Runs the script that the reader gives, with slots that are parts of that ledger, and frees what the replicas hold.
+/// Runs a reader's script, with slots that are parts of that ledger, and frees the memory of the replicas.
 fn run_freed<L: Ledger, T: Threads + Sync, R: Read, W: Write>(
     blank: Blank,
     rt: &T,
@@ -75,8 +75,8 @@ fn run_freed<L: Ledger, T: Threads + Sync, R: Read, W: Write>(
     end
 }
 
-/// Runs the script that the reader gives, with slots that are parts of that ledger, works out why a bad line ended it, and
-/// leaves what the replicas hold.
+/// Runs a reader's script, with slots that are parts of that ledger, explains the bad line that ended it, if any, and
+/// leaves the memory of the replicas.
 fn run_left<L: Ledger, T: Threads + Sync, R: Read, W: Write>(
     blank: Blank,
     rt: &T,
@@ -98,7 +98,7 @@ fn run_left<L: Ledger, T: Threads + Sync, R: Read, W: Write>(
     (end, fault)
 }
 
-/// Runs the script that the reader gives in a session that has read nothing.
+/// Runs a reader's script in a session that has read nothing.
 fn run_in<L: Ledger, T: Threads + Sync, R: Read, W: Write>(
     rt: &T,
     alloc: Global,
@@ -120,8 +120,8 @@ fn run_in<L: Ledger, T: Threads + Sync, R: Read, W: Write>(
     drive(rt, alloc, session, buffer, reader, writer)
 }
 
-/// Feeds a session with what the reader gives. What it writes is flushed after each piece, for a caller who sends the
-/// next line only after this one's answer; a batch pays one more write for each piece.
+/// Feeds a session with the reader's bytes. The output is flushed after each piece, for a caller who sends the next
+/// line only after this one's answer; a batch pays one more write for each piece.
 fn drive<L: Ledger, T: Threads + Sync, R: Read, W: Write>(
     rt: &T,
     alloc: Global,
@@ -160,7 +160,7 @@ fn drive<L: Ledger, T: Threads + Sync, R: Read, W: Write>(
     ScriptEnd::Device
 }
 
-/// The end, once the writer is flushed.
+/// Flushes the writer, and returns the end.
 fn flushed<W: Write>(writer: &mut W, end: ScriptEnd) -> ScriptEnd
     ensures kept { Keeps (W.contents writer.old) (W.contents writer.new) }
     ensures end { (result ≡ end) ⊎ (result ≡ ScriptEnd.Device) }
@@ -171,7 +171,7 @@ fn flushed<W: Write>(writer: &mut W, end: ScriptEnd) -> ScriptEnd
     }
 }
 
-/// That many zero bytes.
+/// Makes `count` zero bytes.
 fn zeros(alloc: Global, count: usize) -> Result<Vec<u8>, AllocError>
     ensures { IfOk result (λ bytes. vec_len bytes ≡ count) }
 {

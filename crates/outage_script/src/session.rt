@@ -1,4 +1,4 @@
-//! A run in progress: the world, and what has come of the line that is not whole yet.
+//! A run in progress: the world, and the line that isn't complete yet.
 ghost use Rattle.std.specs.Prelude.{Some, Option, ◌≡◌, ◌≤◌, ◌+◌, ◌^◌, ◌<◌, ◌∷◌, ◌++◌, [], ℕ, List, IsTrue, length, vec_len, false, IfOk, IfNone, option_map};
 ghost use Rattle.std.specs.List.{list_all};
 ghost use Rattle.std.specs.Io.KnownBytes.{Appends};
@@ -20,11 +20,11 @@ use std::io::Write;
 use std::sync::ledger::{Blank, Ledger};
 use std::thread::Threads;
 
-/// How many bytes a line has at the most.
+/// The maximum length of a line, in bytes.
 const LINE_LIMIT: usize = 1_048_576;
 
-/// A run in progress: the world, the line that is not whole yet, the room in which a line is read, the line's number, and
-/// whether the run ended since it is too long.
+/// A run in progress: the world, the line that isn't complete yet, the memory for reading a line, the line's number,
+/// and true if the run ended since the line is too long.
 pub(crate) struct Session<L: Ledger> {
     world: World<L>,
     line: Vec<u8>,
@@ -36,7 +36,7 @@ pub(crate) struct Session<L: Ledger> {
 }
 
 impl<L: Ledger> Session<L> {
-    /// A run that has read nothing.
+    /// Makes a run that has read nothing.
     pub(crate) fn new(blank: Blank, alloc: Global) -> Result<Session<L>, AllocError>
         requires ledger { (blank.name ≡ L.name) × (blank.parts ≡ L.parts) × (blank.parts ≡ 1024) }
         ensures { IfOk result (λ session.
@@ -51,7 +51,7 @@ impl<L: Ledger> Session<L> {
         })
     }
 
-    /// Ends the run: gives all slots back, and frees what the replicas hold or leaves it.
+    /// Ends the run: takes all slots back, and frees the memory of the replicas or leaves it.
     pub(crate) fn close(self, at_end: AtEnd) {
         let Session {
             world,
@@ -63,7 +63,7 @@ impl<L: Ledger> Session<L> {
         world.close(at_end);
     }
 
-    /// Why the line that ended the run is no command, if the run ended so and there is memory to say it.
+    /// Explains why the line that ended the run isn't a command, if the run ended so and there is memory for it.
     pub(crate) fn fault(&self, alloc: Global, end: ScriptEnd) -> Option<LineFault>
         ensures { (input : Option (List ℕ))
             → Holds end (place_of self.now.number self.now.world self.now.line.items self.now.too_long) input
@@ -102,7 +102,7 @@ impl<L: Ledger> Session<L> {
         self.take_part(alloc, rest, writer)
     }
 
-    /// Answers the last line, which lacks its line feed, if there is one.
+    /// Answers the last line, which lacks its line feed, if there is such a line.
     pub(crate) fn finish<T: Threads + Sync, W: Write>(
         &mut self,
         rt: &T,
@@ -120,7 +120,7 @@ impl<L: Ledger> Session<L> {
         self.end_line(rt, alloc, writer)
     }
 
-    /// Takes the bytes that a line ends with, and its line feed.
+    /// Takes the last bytes of a line, and its line feed.
     fn take_line<T: Threads + Sync, W: Write>(
         &mut self,
         rt: &T,
@@ -188,7 +188,7 @@ impl<L: Ledger> Session<L> {
         ) {
             Ok(Some(text)) => text,
             Ok(None) => {
-                // All of the line is kept.
+                // The line is kept in whole.
                 self.too_long = false;
                 return Some(refuse(alloc, self.number, writer));
             }
@@ -203,7 +203,7 @@ impl<L: Ledger> Session<L> {
     }
 }
 
-/// Writes that the line of that number is bad, and returns how the run ends.
+/// Writes that the line of that number is bad, and returns the end of the run.
 fn refuse<W: Write>(alloc: Global, number: u64, writer: &mut W) -> ScriptEnd
     ensures { (some : List ℕ) × Appends (W.contents writer.old) (W.contents writer.new) some
         × ((line : List ℕ)
@@ -219,7 +219,7 @@ fn refuse<W: Write>(alloc: Global, number: u64, writer: &mut W) -> ScriptEnd
     }
 }
 
-/// The text that answers a bad line.
+/// Makes the text that answers a bad line.
 #[tactic(auto, unfolding(crate::specs::Script::bad_line))]
 fn bad_line(alloc: Global, number: u64) -> Result<Vec<u8>, AllocError>
     ensures { IfOk result (λ text. text.items ≡ bad_line number) }
@@ -227,7 +227,7 @@ fn bad_line(alloc: Global, number: u64) -> Result<Vec<u8>, AllocError>
     answer_line(alloc, &Answer::BadLine(number))
 }
 
-/// What is written for a line, or `None` if it is bad, and the world after it.
+/// Returns the text that answers a line, or `None` if the line is bad, and changes the world.
 #[tactic(auto, unfolding(crate::specs::Script::step))]
 fn turn<L: Ledger, T: Threads + Sync>(
     rt: &T,
@@ -255,7 +255,7 @@ fn turn<L: Ledger, T: Threads + Sync>(
     Ok(Some(answer_line(alloc, &answer)?))
 }
 
-/// Whether there is nothing but spaces, tabs and carriage returns.
+/// Returns true if a line has only spaces, tabs and carriage returns.
 fn is_blank(line: &[u8]) -> bool
     ensures { result ≡ list_all is_space line.now }
 {

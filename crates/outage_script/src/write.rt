@@ -5,7 +5,7 @@ ghost use Rattle.outage_script.specs.Ends.{Begins};
 
 use std::io::Write;
 
-/// Writes the bytes. If that fails, a part of them is written.
+/// Writes the bytes, and returns true if all of them are written. On error a part of them is written.
 pub(crate) fn write_whole<W: Write>(writer: &mut W, bytes: &[u8]) -> bool
     ensures written { (some : List ℕ) × Appends (W.contents writer.old) (W.contents writer.new) some
         × Begins bytes.now some × (result ≡ true → some ≡ bytes.now) }

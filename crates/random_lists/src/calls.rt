@@ -1,4 +1,4 @@
-//! Lists of random calls on a range and a partner, compared with a plain program, which is written by the definitions.
+//! Lists of random calls on a range and a partner, compared with a plain program that follows the definitions.
 mod draws;
 mod leaves;
 mod lists;
@@ -13,7 +13,7 @@ use crate::trouble::Trouble;
 use lists::Trial;
 use std::thread::Threads;
 
-/// Runs a list, and returns how many events it has. Says on standard error which event differs, if one does.
+/// Runs a list, and returns its number of events. If an event differs, writes which one on standard error.
 pub(crate) fn run_list<R: Eprint + AllocGlobal + Threads + Sync>(
     rt: &R,
     number: u64,

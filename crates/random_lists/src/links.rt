@@ -1,4 +1,5 @@
-//! Syncs of random ranges with random partners over links that do random deeds, and what must hold whatever a link does.
+//! Syncs of random ranges with random partners over links that do random deeds, and the checks that must hold whatever
+//! a link does.
 mod checks;
 mod deeds;
 mod forger;
@@ -13,7 +14,8 @@ use std::sync::Wait;
 use std::thread::Threads;
 use tally::Tally;
 
-/// Runs a list, and returns whether all is as it must be. Says on standard error what differs, if anything does.
+/// Runs a list, and returns true if all its checks hold. Writes the first difference on standard error, if there is
+/// one.
 pub(crate) fn run_list<R>(rt: &R, number: u64, tally: &mut Tally) -> bool
 where
     R: Eprint + AllocGlobal + Threads + Wait + Sync,

@@ -1,9 +1,9 @@
-//! Makes random lists, and checks what comes of them. The first word on the command line says which:
+//! Runs random lists of calls, and checks the results. The first word on the command line chooses the lists:
 //!
-//! - `calls`: random calls on a range and a partner, compared with a plain program, which is written by the definitions.
+//! - `calls`: random calls on a range and a partner, compared with a plain program that follows the definitions.
 //! - `links`: syncs of random ranges with random partners over links that do random deeds.
 //!
-//! The second word says how many lists: 10,000 if there is none.
+//! The second word is the number of lists; the default is 10,000.
 #![tactic(auto)]
 
 mod calls;
@@ -18,13 +18,13 @@ use std::sync::Wait;
 use std::thread::Threads;
 use std::{env, io};
 
-/// How the program is called.
+/// The usage line.
 const USAGE: &str = "usage: random_lists calls|links [LISTS]";
 
-/// How many lists there are if no word says so.
+/// The default number of lists.
 const LISTS: u64 = 10_000;
 
-/// What the lists are of.
+/// The kind of the lists.
 #[derive(Clone, Copy)]
 enum Kind {
     Calls,
@@ -46,7 +46,7 @@ fn main(rt: HostRuntime) -> ExitCode {
     }
 }
 
-/// What the words on the command line ask for.
+/// Reads the words on the command line.
 fn read_words(rt: &(impl Env + AllocGlobal)) -> Option<(Kind, u64)> {
     let words: Vec<String> = env::args(rt).ok()?.collect(rt.alloc()).ok()?;
     let [_, name, words @ ..] = words.as_slice() else {
@@ -64,7 +64,7 @@ fn read_words(rt: &(impl Env + AllocGlobal)) -> Option<(Kind, u64)> {
     }
 }
 
-/// Runs lists of calls. Returns whether none differs.
+/// Runs lists of calls. Returns true if none differs.
 fn run_calls<R: Print + Eprint + AllocGlobal + Threads + Sync>(
     rt: &R,
     lists: u64,
@@ -80,7 +80,7 @@ fn run_calls<R: Print + Eprint + AllocGlobal + Threads + Sync>(
     Ok(differences == 0)
 }
 
-/// Runs lists of deeds. Returns whether none differs.
+/// Runs lists of deeds. Returns true if none differs.
 fn run_links<R>(rt: &R, lists: u64) -> io::Result<bool>
 where
     R: Print + Eprint + AllocGlobal + Threads + Wait + Sync,

@@ -8,12 +8,12 @@ pub(crate) struct Random {
 }
 
 impl Random {
-    /// The generator of a seed.
+    /// Returns the generator of a seed.
     pub(crate) fn new(seed: u64) -> Random {
         Random { state: seed }
     }
 
-    /// The next number.
+    /// Returns the next number.
     fn next(&mut self) -> u64 {
         self.state = self.state.wrapping_add(0x9e37_79b9_7f4a_7c15);
         let first = (self.state ^ (self.state >> 30)).wrapping_mul(0xbf58_476d_1ce4_e5b9);
@@ -21,7 +21,7 @@ impl Random {
         second ^ (second >> 31)
     }
 
-    /// A number below a bound.
+    /// Returns a number below a bound.
     pub(crate) fn below(&mut self, bound: u64) -> u64
         requires { 0 < bound }
         ensures { result < bound }
@@ -29,7 +29,7 @@ impl Random {
         self.next() % bound
     }
 
-    /// Whether something comes to pass that does so once in so many times.
+    /// Returns true with probability 1 in `times`.
     pub(crate) fn once_in(&mut self, times: u64) -> bool
         requires { 0 < times }
     {

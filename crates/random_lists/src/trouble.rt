@@ -1,15 +1,15 @@
-//! Why a list ends early.
+//! Reasons that end a list early.
 
 use std::alloc::{AllocError, AllocFailed};
 use std::fmt;
 use vclock::Refusal;
 
-/// Why a list ends early.
+/// The reason why a list ends early.
 #[derive(Drop)]
 pub(crate) enum Trouble {
-    /// This isn't as it must be.
+    /// A check that doesn't hold.
     Differs(&'static str),
-    /// A call that must not be refused was.
+    /// The refusal of a call that must not be refused.
     Refused(Refusal),
 }
 
@@ -40,7 +40,7 @@ impl<T: Drop> From<AllocFailed<T>> for Trouble {
     }
 }
 
-/// Ends the list if something isn't as it must be.
+/// Ends the list if a check doesn't hold.
 pub(crate) fn expect(holds: bool, what: &'static str) -> Result<(), Trouble> {
     if holds {
         Ok(())

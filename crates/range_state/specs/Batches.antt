@@ -1,4 +1,4 @@
--- Versions that are prepared, to be accepted all at once.
+-- Versions that are prepared, to be accepted together.
 use Rattle.std.specs.Prelude.{◌≡◌, ℕ, ◌+◌, None, List, ◌++◌, length}
 use Rattle.std.specs.List.{AllByRecursion}
 use Rattle.version_set.specs.declared.version.Version.{Version}
@@ -24,11 +24,11 @@ pub record IsBatch (s : State) (leaf : ℕ) (b : Batch) : Type 0 where
   pub numbered : AreNumberedFrom (length s.entries) b.entries.items
   pub receipts : b.receipts.items ≡ b.entries.items
 
--- how many versions were looked at
+-- the number of versions that were looked at
 abbrev pub seen_count : Batch → ℕ
 seen_count b = length b.entries.items + b.known
 
--- what became of a batch by these versions, each in its turn
+-- the batch after these versions, each in its turn
 pub record IsPrepared (s : State) (seat leaf : ℕ) (offers : List (List ℕ × Version)) (before now : Batch) : Type 0 where
   pub batch : IsBatch s leaf now
   pub entries : (ahead s now).entries ≡ (taken_in (ahead s before) seat offers).entries

@@ -1,4 +1,4 @@
--- Versions that come to a range if its journal has room.
+-- Versions that a range accepts if its journal has room.
 use Rattle.std.specs.Prelude.{◌≡◌, ℕ, false, List, Option, None}
 use Rattle.vclock.specs.Answer.{first_fault}
 use Rattle.vclock.specs.Clock.{raised, Pairs}
@@ -16,10 +16,10 @@ pub record IsFitting (s : State) (leaf : ℕ) (key : List ℕ) (v : Version) : T
   pub news : knows s key v ≡ false
   pub fits : offer_fault v (held s.entries key) ≡ None
 
--- why a put does not come to its entry
+-- the fault of a put, apart from a full journal
 abbrev pub made_fault : State → ℕ → List ℕ → Pairs → Kind → List ℕ → Option Refusal
 made_fault s at key context kind value = first_fault (ask_fault s.config at key context kind value) (first_fault (stale_fault (held s.entries key) (raised context at)) (offer_fault (put_version at context kind value) (held s.entries key)))
 
--- why a version that another node sent neither is known nor comes to its entry
+-- the fault of a version that another node sent, if it is not known, apart from a full journal
 abbrev pub sent_fault : State → List ℕ → Version → Option Refusal
 sent_fault s key v = first_fault (place_fault s.config key v.kind v.value) (offer_fault v (held s.entries key))

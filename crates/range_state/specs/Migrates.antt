@@ -1,4 +1,4 @@
--- A range that goes over to format 2.
+-- The migration of a range to format 2.
 use Rattle.std.specs.Prelude.{map}
 use Rattle.vclock.specs.Outcome.{Outcome, gives}
 use Rattle.vclock.specs.declared.format.Format.{Format}
@@ -8,19 +8,19 @@ use Rattle.range_state.specs.declared.«record».Record.{Record}
 use Rattle.range_state.specs.Config.{Config}
 use Rattle.range_state.specs.State.{State, all_dirty}
 
--- the same configuration in format 2
+-- the configuration in format 2
 abbrev pub config_in_two : Config → Config
 config_in_two c = record c { format = Two }
 
--- a record whose session, if it was open, is cancelled; its own rows keep their format
+-- a record whose session, if it was open, is cancelled; its snapshot keeps its format
 abbrev pub cancelled : Record → Record
 cancelled r = record r { session = cancelled_by r.session r.session.state }
 
--- the state in format 2: the same entries, no node clean, and no session open
+-- the state in format 2: the entries are unchanged, no node is clean, and no session is open
 abbrev pub in_two : State → State
 in_two s = record { config = config_in_two s.config; entries = s.entries; marks = all_dirty Two; records = map cancelled s.records }
 
--- a state of format 1 goes over to format 2, and one of format 2 stays as it is
+-- a state of format 1 is migrated, and one of format 2 is unchanged
 abbrev pub migrated_from : Format → State → State
 migrated_from One s = in_two s
 migrated_from Two s = s

@@ -1,4 +1,4 @@
--- Two replicas of a range that catch up with each other: each runs a whole session on the rows that the other had before.
+-- The reconciliation of two replicas of a range: each runs a whole session on the rows that the other had before.
 use Rattle.std.specs.Prelude.{◌≡◌, ◌⊎◌, ℕ, List, [], ◌∷◌, ◌++◌, length, Option, Some, None, Result, Ok, Err}
 use Rattle.vclock.specs.Answer.{first_fault}
 use Rattle.vclock.specs.Outcome.{gives}
@@ -18,12 +18,12 @@ use Rattle.range_state.specs.Syncs.{HasAskedAll, IsSyncedTo, IsPartWay}
 use Rattle.range_state.specs.Trees.{IsSameRange}
 use Rattle.range_state.specs.Unions.{union_of}
 
--- why two ranges cannot begin: one is dirty, or one has no place for a session
+-- the fault of two ranges that cannot begin: one is dirty, or one has no place for a session
 abbrev pub pair_fault : State → State → Option Refusal
 pair_fault a b = first_fault (dirty_fault a) (first_fault (dirty_fault b) (first_fault (crowd_fault (standings a.records)) (crowd_fault (standings b.records))))
 
--- A whole session on a partner's rows that took every leaf where the trees differ: so many nodes were asked, and so many versions came.
--- It is finished.
+-- A whole session on a partner's rows that took every leaf at which the trees differ: the number of nodes that were
+-- asked, and of versions that were accepted. It is finished.
 pub record HasCaughtUp (s : State) (seat partner : ℕ) (other : RowMap) (nodes versions : ℕ) (new : State) : Type 0 where
   pub told : Synced
   pub synced : IsSyncedTo s seat other new told
@@ -41,13 +41,14 @@ pub record HasGivenUp (s : State) (seat partner : ℕ) (other : RowMap) (e : Ref
   pub cause : told.fault ≡ Some e
   pub cancelled : cancel_session last (length s.records) ≡ gives tt new
 
--- a session that no memory was left for on its way, and that was then cancelled; the leaves that it took stay
+-- a session that ran out of memory midway, and was then cancelled; the leaves that it took stay
 pub record HasBrokenOff (s : State) (seat partner : ℕ) (other : RowMap) (new : State) : Type 0 where
   pub last : State
   pub part : IsPartWay s seat partner other last
   pub cancelled : cancel_session last (length s.records) ≡ gives tt new
 
--- A session that did not catch up, and why: it was refused a leaf, or no memory was left for it, at its opening or on its way.
+-- A session that did not catch up, and the fault: it was refused a leaf, or it ran out of memory, when it was opened or
+-- later.
 abbrev pub HasStopped : State → ℕ → ℕ → RowMap → Refusal → State → Type 0
 HasStopped s seat partner other e new =
     HasGivenUp s seat partner other e new
@@ -59,7 +60,8 @@ HaveStopped a at_a b at_b seat e new_a new_b =
     (HasStopped a seat at_b (rows_now b) e new_a × (new_b ≡ b))
     ⊎ (((nodes : ℕ) × (versions : ℕ) × HasCaughtUp a seat at_b (rows_now b) nodes versions new_a) × HasStopped b seat at_a (rows_now a) e new_b)
 
--- what the two are answered, and both states afterwards: each session is on the rows that the other had at the beginning
+-- the result of the two sessions, and both states afterwards: each session is on the rows that the other had at the
+-- beginning
 abbrev pub Reconciles : State → ℕ → State → ℕ → ℕ → Result Reconciled Refusal → State → State → Type 0
 Reconciles a at_a b at_b seat (Ok r) new_a new_b =
     (pair_fault a b ≡ None)
@@ -75,21 +77,22 @@ pub record HasAsked (s new : State) (nodes : List Node) : Type 0 where
   pub records : new.records ≡ s.records ++ r ∷ []
   pub asked : r.session.asked ≡ nodes
 
--- each of the two asked the nodes where their trees differed, in order, and no others; and that is how many each is told
+-- each of the two asked the nodes at which their trees differed, in order, and no others; and the numbers are the
+-- lengths of these lists
 pub record HaveAskedAlike (a b new_a new_b : State) (asked_a asked_b : ℕ) : Type 0 where
   pub first : HasAsked a new_a (differ (rows_now a) (rows_now b))
   pub second : HasAsked b new_b (differ (rows_now a) (rows_now b))
   pub count_a : asked_a ≡ length (differ (rows_now a) (rows_now b))
   pub count_b : asked_b ≡ length (differ (rows_now a) (rows_now b))
 
--- both hold, for each key, the maximal versions of what they held before
+-- both hold, for each key, the maximal versions of those that they held before
 abbrev pub HoldBoth : State → State → State → State → Type 0
 HoldBoth a b new_a new_b =
     (key : List ℕ)
     → (held new_a.entries key ≡ union_of (held a.entries key) (held b.entries key))
     × (held new_b.entries key ≡ union_of (held a.entries key) (held b.entries key))
 
--- once both are clean, and nothing else of them has changed, their roots have one digest
+-- once both are clean, and nothing else of them has changed, their roots have equal digests
 abbrev pub HaveEqualRoots : State → State → Type 0
 HaveEqualRoots a b =
     (x y : State) → IsSameRange a x → IsSameRange b y → IsRight x → IsRight y

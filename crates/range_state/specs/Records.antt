@@ -1,4 +1,4 @@
--- Records of sessions, and when they are right.
+-- Records of sessions, and the conditions for them to be right.
 use Rattle.std.specs.Prelude.{◌≡◌, ◌≢◌, ◌⊎◌, ℕ, Bool, true, false, length, List, []}
 use Rattle.std.specs.List.{filter}
 use Rattle.range_journal.specs.declared.journal.Entry.{Entry}
@@ -10,7 +10,7 @@ use Rattle.sync_session.specs.declared.state.SessionState.TheVariants.{Open, Fin
 use Rattle.range_state.specs.Config.{Config}
 use Rattle.range_state.specs.declared.«record».Record.{Record}
 
--- whether a session can still take texts
+-- a session can still take texts
 abbrev pub is_open_state : SessionState → Bool
 is_open_state Open = true
 is_open_state Finished = false
@@ -20,7 +20,7 @@ is_open_state Cancelled = false
 unfoldable pub is_open : Record → Bool
 is_open r = is_open_state r.session.state
 
--- how many sessions are open
+-- the number of open sessions
 abbrev pub open_count : List Record → ℕ
 open_count records = length (filter is_open records)
 
@@ -28,20 +28,20 @@ open_count records = length (filter is_open records)
 abbrev pub IsOver : Walk → Type 0
 IsOver w = (w.state ≡ Failed) ⊎ (w.state ≡ Cancelled)
 
--- the own rows of a session are of this range
+-- the snapshot of a session is of this range
 pub record IsHere (c : Config) (w : Walk) : Type 0 where
   pub bits : w.own.bits ≡ c.bits
   pub range : w.own.range ≡ c.range
 
--- a session that was not ended early: all that it has seen is held, and each node that was asked is taken or outstanding, and not
--- both
+-- a session that was not ended early: everything that it has seen is held, and each node that was asked is either taken
+-- or outstanding
 pub record IsGoing (entries : List Entry) (w : Walk) : Type 0 where
   pub walked : Walked (held entries) w
   pub orderly : IsOrderly w
 
--- A record that is right for the entries: its own rows are of this range, and while it is open in the range's format, since what
--- it takes is accepted; what it asked and took agree; if it is not open, nothing is outstanding; and it was ended early, or all that
--- it has seen is held.
+-- A record that is right for the entries. Its snapshot is of this range, and while it is open in the range's format,
+-- since its versions are accepted; the nodes asked and the texts taken agree; if it is not open, no node is
+-- outstanding; and it was ended early, or everything that it has seen is held.
 pub record IsKept (c : Config) (entries : List Entry) (r : Record) : Type 0 where
   pub here : IsHere c r.session
   pub format : r.session.state ≡ Open → r.session.own.format ≡ c.format

@@ -1,4 +1,4 @@
--- Journals that are replayed.
+-- Replays of journals.
 use Rattle.std.specs.Prelude.{ℕ, ◌≤◌, List, length, IsTrue}
 use Rattle.std.specs.List.{AllByRecursion}
 use Rattle.range_journal.specs.Journal.{NeverCrowded}
@@ -6,13 +6,14 @@ use Rattle.range_journal.specs.declared.journal.Entry.{Entry}
 use Rattle.range_state.specs.Config.{Config, is_config}
 use Rattle.range_state.specs.State.{IsOwn}
 
--- the entries of a range, and how many of them are replayed
+-- the entries of a range, and the number of those that are replayed
 pub record Replayed : Type 0 where
   pub config : Config
   pub entries : List Entry
   pub front : ℕ
 
--- the configuration is one, the entries are of the range, no key ever held over 64 versions, and no more are replayed than there are
+-- the configuration is valid, the entries are of the range, no key ever held over 64 versions, and at most all entries
+-- are replayed
 pub record IsReplay (r : Replayed) : Type 0 where
   pub config : IsTrue (is_config r.config)
   pub own : AllByRecursion (IsOwn r.config) r.entries

@@ -1,4 +1,4 @@
--- Runs of the range machine: what each event may answer and leave.
+-- Runs of the range machine: the reply to each event, and the state after it.
 use Rattle.std.specs.Prelude.{◌≡◌, ⊤, Result, Option, List, [], ◌∷◌, ℕ}
 use Rattle.std.specs.Arc.{arc_value}
 use Rattle.std.specs.declared.alloc.Global.{Global}
@@ -29,7 +29,7 @@ use Rattle.sync_session.specs.TreeNodes.{node_of}
 use Rattle.rehash.specs.Jobs.{NodeText}
 use Rattle.snapshot.specs.RowMaps.{RowMap}
 
--- a put: NoMemory stands in place of no cause that is tested before the clock is raised
+-- a put: NoMemory does not replace a cause that is tested before the clock is raised
 abbrev pub PutStep : State → PutEvent → Result Entry Refusal → State → Type 0
 PutStep s p r t = DoesOrNoMemory r s t (put s p.seat p.at p.key p.context p.kind p.value) × IfErr r (λ e. e ≡ NoMemory → ask_fault s.config p.at p.key p.context p.kind p.value ≡ None)
 
@@ -37,19 +37,19 @@ PutStep s p r t = DoesOrNoMemory r s t (put s p.seat p.at p.key p.context p.kind
 abbrev pub AcceptStep : State → AcceptEvent → Result Accepted Refusal → State → Type 0
 AcceptStep s a r t = Does r s t (accept s a.seat a.source a.key a.version)
 
--- the held versions were answered, and nothing changed
+-- the result is the held versions, and nothing changed
 abbrev pub GetStep : State → List ℕ → Result (List Version) Refusal → State → Type 0
 GetStep s key r t = Answers r None (λ set. set ≡ held s.entries key) × (t ≡ s)
 
--- a job was answered, or none, and nothing changed
+-- the result is a job or None, and nothing changed
 abbrev pub TakeJobStep : State → Result (Option NodeText) Refusal → State → Type 0
 TakeJobStep s r t = Answers r None (GivesJob s) × (t ≡ s)
 
--- the digest of a node's text
+-- the digest of a node's text is installed
 abbrev pub InstallStep : State → InstallEvent → Result ⊤ Refusal → State → Type 0
 InstallStep s i r t = DoesAtOnce r s t (install s i.node i.hashed)
 
--- the rows now were answered, or some node had no digest; and nothing changed
+-- the result is the rows now, or some node had no digest; and nothing changed
 abbrev pub SnapshotStep : State → Result (Arc RowMap Global) Refusal → State → Type 0
 SnapshotStep s r t = Answers r (dirty_fault s) (λ snapshot. arc_value snapshot ≡ rows_now s) × (t ≡ s)
 
@@ -65,11 +65,11 @@ TakeAnswerStep s a r t = TakesAnswer s a.seat a.id (record { node = node_of a.no
 abbrev pub CancelStep : State → ℕ → Result ⊤ Refusal → State → Type 0
 CancelStep s id r t = DoesAtOnce r s t (cancel_session s id)
 
--- the range goes over to format 2
+-- the range is migrated to format 2
 abbrev pub MigrateStep : State → Result ⊤ Refusal → State → Type 0
 MigrateStep s r t = Does r s t (migrate s)
 
--- from s, the event is answered by the reply, and leaves t
+-- from s, the event has this reply, and leads to t
 unfoldable pub IsStep : State → Event → Reply → State → Type 0
 IsStep s (events.Put p) reply t = (r : Result Entry Refusal) × (reply ≡ replies.Put r) × PutStep s p r t
 IsStep s (events.Accept a) reply t = (r : Result Accepted Refusal) × (reply ≡ replies.Accept r) × AcceptStep s a r t
@@ -82,7 +82,7 @@ IsStep s (events.TakeAnswer a) reply t = (r : Result AnswerTaken Refusal) × (re
 IsStep s (events.CancelSession id) reply t = (r : Result ⊤ Refusal) × (reply ≡ replies.CancelSession r) × CancelStep s id r t
 IsStep s events.Migrate reply t = (r : Result ⊤ Refusal) × (reply ≡ replies.Migrate r) × MigrateStep s r t
 
--- from s, the events are answered by the replies, one by one, over states that are all right, and leave t
+-- from s, the events have these replies, one by one, over states that are all right, and lead to t
 unfoldable pub Run : State → List Event → List Reply → State → Type 0
 Run s [] [] t = t ≡ s
 Run s [] (r ∷ rs) t = ⊥

@@ -1,4 +1,4 @@
--- What the calls on sessions answer and change.
+-- The calls on sessions: their results, and the states after them.
 use Rattle.std.specs.Prelude.{◌≡◌, ◌⊎◌, ℕ, ◌+◌, ◌<◌, nat_le, ◌==◌, ◌||◌, ◌++◌, List, [], ◌∷◌, length, slice_get, map, slice_set, Option, Some, None, Result, Ok, Err, if◌then◌else◌}
 use Rattle.std.specs.List.{filter, flat_map}
 use Rattle.vclock.specs.Answer.{first_fault}
@@ -26,15 +26,15 @@ use Rattle.range_state.specs.State.{State, rows_now, dirty_fault, accept_step}
 
 -- ---- opening
 
--- why an offer is none for this range
+-- the fault of an offer that is not for this range
 abbrev pub foreign_fault : Config → Offer → Option Refusal
 foreign_fault c offer = if offer.format == number_of c.format then (if offer.range == c.range then None else Some refusals.OtherRange) else Some refusals.OtherFormat
 
--- how each session stands
+-- the state of each session
 abbrev pub standings : List Record → List SessionState
 standings records = map (λ (r : Record). r.session.state) records
 
--- why no session can be opened beside those that stand so: 64 are open, or there are 1,024
+-- the fault of opening a session in addition to those of these states: 64 are open, or there are 1,024
 abbrev pub crowd_fault : List SessionState → Option Refusal
 crowd_fault states = if nat_le 64 (length (filter is_open_state states)) || nat_le 1024 (length states) then Some refusals.SessionsFull else None
 
@@ -65,12 +65,12 @@ cancel_record s id (Some r) = gives tt (walked_to s id r (cancelled_by r.session
 abbrev pub cancel_session : State → ℕ → Outcome (Unit {0}) State
 cancel_session s id = cancel_record s id (slice_get s.records id)
 
--- why a session that may have no record is refused
+-- the fault of a session without a record
 abbrev pub unknown_for : Option Record → Option Refusal
 unknown_for None = Some refusals.UnknownSession
 unknown_for (Some r) = None
 
--- why a session of that number is refused
+-- the fault of a session of that number
 abbrev pub unknown_fault : State → ℕ → Option Refusal
 unknown_fault s id = unknown_for (slice_get s.records id)
 
@@ -83,23 +83,24 @@ offers_in r = map (λ (v : Version). (r.key, v)) r.versions
 abbrev pub offers_of : List Row → List (List ℕ × Version)
 offers_of rows = flat_map offers_in rows
 
--- the state after each was accepted in its turn, as from a partner
+-- the state after each version was accepted in its turn, as from a partner
 abbrev pub taken_in : State → ℕ → List (List ℕ × Version) → State
 taken_in s seat [] = s
 taken_in s seat (o ∷ offers) = taken_in (accept_step s seat Partner o.0 o.1) seat offers
 
--- why they are not all accepted, if the journal has room: in its turn one would be a version too many for its key
+-- the fault of accepting them all, if the journal has room: one of them, in its turn, would be a version too many for
+-- its key
 abbrev pub crowded_in : State → ℕ → List (List ℕ × Version) → Option Refusal
 crowded_in s seat [] = None
 crowded_in s seat (o ∷ offers) = first_fault (offer_fault o.1 (held s.entries o.0)) (crowded_in (accept_step s seat Partner o.0 o.1) seat offers)
 
--- why they are not all accepted
+-- the fault of accepting them all
 abbrev pub leaf_fault : State → ℕ → List (List ℕ × Version) → Option Refusal
 leaf_fault s seat offers = first_fault (crowded_in s seat offers) (if nat_le (length (taken_in s seat offers).entries) s.config.limit then None else Some refusals.JournalFull)
 
 -- ---- taking a text
 
--- a text that a session awaits, of a node with children
+-- a text that a session awaits, of an inner node
 pub record IsInnerRead (s : State) (r : Record) (t : TakenText) : Type 0 where
   pub due : IsDue r.session t
   pub inner : t.node.depth < tree_depth s.config.format
@@ -111,21 +112,21 @@ pub record IsLeafRead (s : State) (r : Record) (t : TakenText) (rows : List Row)
   pub leaf : t.node.depth ≡ tree_depth s.config.format
   pub spelled : AreSpelled r.session.own t.node t.text rows
 
--- a text that a session awaits, of a leaf, and its rows beside the session's own ones
+-- a text that a session awaits, of a leaf, with the news in it
 pub record IsNewsRead (s : State) (r : Record) (t : TakenText) (news : News) : Type 0 where
   pub rows : List Row
   pub read : IsLeafRead s r t rows
   pub parted : AreNews r.session.own.rows rows news.rows.items news.known
 
--- nothing comes of a node with children, and the session alone goes on
+-- an inner node has no versions, and only the session changes
 pub record TakesInner (s : State) (id : ℕ) (r : Record) (t : TakenText) (a : AnswerTaken) (new : State) : Type 0 where
   pub read : IsInnerRead s r t
   pub receipts : a.receipts.items ≡ []
   pub known : a.known ≡ 0
   pub new_is : new ≡ walked_to s id r (after r.session t)
 
--- The versions of a leaf's rows are accepted, each in its turn, and the session goes on. The receipts are the entries that
--- came, in order, and every other version was known.
+-- The versions of a leaf's rows are accepted, each in its turn, and the session goes on. The receipts are the new
+-- entries, in order, and every other version was known.
 pub record TakesLeaf (s : State) (seat id : ℕ) (r : Record) (t : TakenText) (a : AnswerTaken) (new : State) : Type 0 where
   pub rows : List Row
   pub read : IsLeafRead s r t rows
@@ -140,23 +141,24 @@ pub record IsLeafFault (s : State) (seat : ℕ) (r : Record) (t : TakenText) (e 
   pub read : IsLeafRead s r t rows
   pub fault : leaf_fault s seat (offers_of rows) ≡ Some e
 
--- why a text is not taken, and the state afterwards: a session fails by a text that no node can have, else nothing changes
+-- the fault of a text, and the state afterwards: a session fails by a text that no node can have, otherwise nothing
+-- changes
 abbrev pub Refuses : State → ℕ → ℕ → Record → TakenText → Refusal → State → Type 0
 Refuses s seat id r t refusals.Crowded new = IsLeafFault s seat r t refusals.Crowded × (new ≡ s)
 Refuses s seat id r t refusals.JournalFull new = IsLeafFault s seat r t refusals.JournalFull × (new ≡ s)
 Refuses s seat id r t refusals.NotCanonical new = IsTakeFault r.session t refusals.NotCanonical × (new ≡ walked_to s id r (failed r.session))
 Refuses s seat id r t e new = IsTakeFault r.session t e × (new ≡ s)
 
--- what a text is answered for a session, and the state afterwards
+-- the result of a text for a session, and the state afterwards
 abbrev pub TakesText : State → ℕ → ℕ → Record → TakenText → Result AnswerTaken Refusal → State → Type 0
 TakesText s seat id r t (Ok a) new = (a.state ≡ (after r.session t).state) × (TakesInner s id r t a new ⊎ TakesLeaf s seat id r t a new)
 TakesText s seat id r t (Err e) new = Refuses s seat id r t e new
 
--- the same where there may be no record: then nothing changes
+-- the result of a text for a session that may have no record: then nothing changes
 abbrev pub TakesFor : State → ℕ → ℕ → Option Record → TakenText → Result AnswerTaken Refusal → State → Type 0
 TakesFor s seat id (Some r) t result new = TakesText s seat id r t result new
 TakesFor s seat id None t result new = (result ≡ Err refusals.UnknownSession) × (new ≡ s)
 
--- what a text for a session of that number is answered, and the state afterwards
+-- the result of a text for a session of that number, and the state afterwards
 abbrev pub TakesAnswer : State → ℕ → ℕ → TakenText → Result AnswerTaken Refusal → State → Type 0
 TakesAnswer s seat id t result new = TakesFor s seat id (slice_get s.records id) t result new

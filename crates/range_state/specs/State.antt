@@ -1,5 +1,5 @@
--- The range machine: its state, which has no rows, and what its calls answer and change. Trees are those of the paper of 2007,
--- section 4.7.
+-- The range machine: its state, which has no rows, and the results and changes of its calls. Trees are those of the
+-- paper of 2007, section 4.7.
 use Rattle.std.specs.Prelude.{◌≡◌, Any, Contains, ℕ, ◌<◌, ◌≤◌, ◌-◌, ◌^◌, Bool, ◌==◌, ◌&&◌, nat_eq, nat_le, nat_lt, ◌++◌, List, [], ◌∷◌, length, map, take, replicate, slice_index_or, slice_set, IsTrue, Option, Some, None, if◌then◌else◌, true, false}
 use Rattle.std.specs.List.{list_any, AllByRecursion}
 use Rattle.std.specs.Cmp.Lexicographic.{pointwise}
@@ -36,8 +36,8 @@ use Rattle.sync_session.specs.Walks.{Walk, TakenText}
 use Rattle.range_state.specs.Records.{IsKept, open_count}
 use Rattle.range_state.specs.Rows.{rows_of}
 
--- which range it is, the entries of its journal, by place the digests of the clean nodes of its tree, and the records of
--- its sessions, each at the place of its number
+-- the configuration, the entries of the journal, by place the digests of the clean nodes of the tree, and the records
+-- of the sessions, each at the place of its number
 pub record State : Type 0 where
   pub config : Config
   pub entries : List Entry
@@ -56,11 +56,11 @@ fresh c = record { config = c; entries = []; marks = all_dirty c.format; records
 abbrev pub leaf_in : Config → List ℕ → ℕ
 leaf_in c key = leaf_at c.format c.bits key
 
--- how many leaves the range has
+-- the number of leaves of the range
 abbrev pub leaf_count : Config → ℕ
 leaf_count c = 2 ^ leaf_bits c.format
 
--- why a version of this key, kind and value has no place in the range
+-- the fault of a version of this key, kind and value that has no place in the range
 abbrev pub place_fault : Config → List ℕ → Kind → List ℕ → Option Refusal
 place_fault c key kind value = first_fault (key_fault key) (first_fault (value_fault c.format kind value) (if range_at c.bits key == c.range then None else Some OtherRange))
 
@@ -72,11 +72,11 @@ entry_of s seat source key v = record { number = length s.entries; seat = seat; 
 abbrev pub journaled : State → Entry → State
 journaled s e = record s { entries = s.entries ++ e ∷ []; marks = dirtied s.config.format (leaf_in s.config e.key) s.marks }
 
--- why no entry can come
+-- the fault of an entry for which there is no room
 abbrev pub full_fault : State → Option Refusal
 full_fault s = if nat_lt (length s.entries) s.config.limit then None else Some JournalFull
 
--- whether a version is covered by those accepted for its key
+-- a version is covered by those accepted for its key
 abbrev pub knows : State → List ℕ → Version → Bool
 knows s key v = covered v (accepted s.entries key)
 
@@ -103,11 +103,11 @@ accept s seat source key v = do
 abbrev pub put_version : ℕ → Pairs → Kind → List ℕ → Version
 put_version at context kind value = record { clock = raised context at; kind = kind; value = value }
 
--- why a clock cannot be put at a key: some held version has seen all that it has
+-- the fault of a clock that cannot be put at a key: some held version has seen everything that it has
 abbrev pub stale_fault : List Version → Pairs → Option Refusal
 stale_fault versions clock = if list_any (λ v. at_most clock v.clock) versions then Some (StaleContext (map (λ v. v.clock) versions)) else None
 
--- why a put is refused before its clock is compared with those held
+-- the fault of a put before its clock is compared with those held
 abbrev pub ask_fault : Config → ℕ → List ℕ → Pairs → Kind → List ℕ → Option Refusal
 ask_fault c at key context kind value = first_fault (place_fault c key kind value) (raise_fault context at)
 
@@ -124,7 +124,7 @@ put s seat at key context kind value = do
   offer_fault (put_version at context kind value) (held s.entries key)
   admit s (put_entry s seat at key context kind value)
 
--- whether the range's tree has a node
+-- the range's tree has a node
 abbrev pub has_node : Config → NodeAt → Bool
 has_node c node = nat_le node.depth (tree_depth c.format)
 
@@ -142,17 +142,17 @@ pub record IsJob (s : State) (job : NodeText) : Type 0 where
   pub ready : IsTrue (is_ready s.marks (place_of job.node))
   pub text : job.text ≡ text_in s job.node
 
--- a job, or none where no node is dirty
+-- a job, or None if no node is dirty
 abbrev pub GivesJob : State → Option NodeText → Type 0
 GivesJob s (Some job) = IsJob s job
 GivesJob s None = IsTrue (are_clean s.marks)
 
--- jobs of different nodes: of all dirty nodes with clean children, or of that many where there are more
+-- jobs of different nodes: of all dirty nodes with clean children, or of the first `most` if there are more
 pub record AreJobs (s : State) (most : ℕ) (jobs : List NodeText) : Type 0 where
   pub nodes : map (λ (job : NodeText). place_of job.node) jobs ≡ take most (ready_from s.marks 0)
   pub each : AllByRecursion (IsJob s) jobs
 
--- whether a node's digest can be that of a text: the tree has the node, its children are clean, and it has that text now
+-- a node's digest can be that of a text: the tree has the node, its children are clean, and it has that text now
 abbrev pub is_current : State → NodeAt → List ℕ → Bool
 is_current s node text = has_node s.config node && are_clean (children_of s.marks (place_of node)) && pointwise nat_eq text (text_in s node)
 
@@ -160,7 +160,7 @@ is_current s node text = has_node s.config node && are_clean (children_of s.mark
 abbrev pub installed : State → NodeAt → List ℕ → State
 installed s node text = record s { marks = slice_set s.marks (place_of node) (Some (sha256 text)) }
 
--- a text's digest is installed
+-- the digest of a text is installed
 abbrev pub install : State → NodeAt → List ℕ → Outcome (Unit {0}) State
 install s node text = if is_current s node text then gives tt (installed s node text) else refuses Stale
 
@@ -168,7 +168,7 @@ install s node text = if is_current s node text then gives tt (installed s node 
 abbrev pub rows_now : State → RowMap
 rows_now s = record { format = s.config.format; bits = s.config.bits; range = s.config.range; rows = rows_of s.entries }
 
--- why they cannot be offered to another replica: some node has no digest
+-- the fault of rows that cannot be offered to another replica: some node has no digest
 abbrev pub dirty_fault : State → Option Refusal
 dirty_fault s = if are_clean s.marks then None else Some Dirty
 
@@ -190,7 +190,7 @@ pub record IsLeafWith (format : Format) (e : Entry) (t : TakenText) : Type 0 whe
   pub text : t.text ≡ leaf_text format rows
   pub has : Any (λ (r : Row). (r.key ≡ e.key) × Contains r.versions e.version) rows
 
--- a session took a leaf's text, in the format of its own rows, that has the entry's version
+-- a session took a leaf's text, in the format of its snapshot, that has the entry's version
 abbrev pub HasTaken : Walk → Entry → Type 0
 HasTaken w e = Any (IsLeafWith w.own.format e) w.taken
 
@@ -198,10 +198,10 @@ HasTaken w e = Any (IsLeafWith w.own.format e) w.taken
 abbrev pub IsFromPartner : State → Entry → Type 0
 IsFromPartner s e = Any (λ (r : Record). HasTaken r.session e) s.records
 
--- what holds of each state: the entries are of the range, each was news, no key ever held over 64 versions, each row has a text,
--- the children of a clean node are clean, each clean node has the digest of its text for the rows now, each record is right for
--- the entries, there are at most 1,024 records, at most 64 of their sessions are open, and what came from a partner was in a text
--- that a session took
+-- the facts of each state: the entries are of the range, each was new when it was accepted, no key ever held over 64
+-- versions, each row has a text, the children of a clean node are clean, each clean node has the digest of its text for
+-- the rows now, each record is right for the entries, there are at most 1,024 records, at most 64 of their sessions are
+-- open, and each version from a partner was in a text that a session took
 pub record IsRight (s : State) : Type 0 where
   pub config : IsTrue (is_config s.config)
   pub own : AllByRecursion (IsOwn s.config) s.entries
@@ -218,7 +218,7 @@ pub record IsRight (s : State) : Type 0 where
 abbrev pub bucket_of : Config → List Entry → ℕ → Bucket
 bucket_of c entries leaf = record { format = c.format; rows = rows_at (leaf_in c) leaf (rows_of entries) }
 
--- the leaves have the journal's rows, each leaf its own
+-- the leaves have the journal's rows, each row in its leaf
 pub record AreLeaves (c : Config) (entries : List Entry) (leaves : List Bucket) : Type 0 where
   pub all : length leaves ≡ leaf_count c
   pub each : (i : ℕ) (d : Bucket) → i < leaf_count c → slice_index_or leaves i d ≡ bucket_of c entries i

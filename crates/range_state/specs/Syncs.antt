@@ -1,4 +1,4 @@
--- A whole session with a partner that answers truly, as a fold over the leaves where the two trees differ.
+-- A whole session with a partner that answers truly, as a fold over the leaves at which the two trees differ.
 use Rattle.std.specs.Prelude.{◌≡◌, ℕ, ◌+◌, ◌-◌, nat_eq, List, [], ◌∷◌, ◌++◌, length, Option, Some, None}
 use Rattle.std.specs.List.{filter}
 use Rattle.vclock.specs.declared.refusal.Refusal.{Refusal}
@@ -29,7 +29,7 @@ pub record IsOfRange (c : Config) (m : RowMap) : Type 0 where
 abbrev pub leaves_in : Format → List Node → List Node
 leaves_in format nodes = filter (λ n. nat_eq n.depth (tree_depth format)) nodes
 
--- the leaves where two trees differ, in order
+-- the leaves at which two trees differ, in order
 abbrev pub leaves_between : RowMap → RowMap → List Node
 leaves_between own other = leaves_in own.format (differ own other)
 
@@ -37,17 +37,18 @@ leaves_between own other = leaves_in own.format (differ own other)
 abbrev pub offers_at : RowMap → Node → List (List ℕ × Version)
 offers_at other n = offers_of (rows_at (leaf_in other) n.index other.rows)
 
--- how far a session came: the state then, how many versions were known already, and why a leaf was refused, if one was
+-- the progress of a session: the state then, the number of versions that were known already, and the refusal of a leaf,
+-- if any
 pub record Progress : Type 0 where
   pub state : State
   pub known : ℕ
   pub fault : Option Refusal
 
--- how many of these versions bring no entry
+-- the number of these versions that make no entry
 abbrev pub known_in : State → ℕ → List (List ℕ × Version) → ℕ
 known_in s seat offers = (length s.entries + length offers) - length (taken_in s seat offers).entries
 
--- a leaf that is refused is the end, else there is more
+-- a leaf that is refused is the end, otherwise there is more
 abbrev pub unless_refused : Option Refusal → State → ℕ → Progress → Progress
 unless_refused None s known more = more
 unless_refused (Some e) s known more = record { state = s; known = known; fault = Some e }
@@ -59,7 +60,7 @@ taken_leaves s seat other known (n ∷ leaves) =
     unless_refused (leaf_fault s seat (offers_at other n)) s known
     (taken_leaves (taken_in s seat (offers_at other n)) seat other (known + known_in s seat (offers_at other n)) leaves)
 
--- a whole session: the partner's leaves are taken where the trees differ
+-- a whole session: the partner's leaves at which the trees differ are taken
 abbrev pub synced : State → ℕ → RowMap → Progress
 synced s seat other = taken_leaves s seat other 0 (leaves_between (rows_now s) other)
 
@@ -68,8 +69,8 @@ abbrev pub ended : Option Refusal → SessionState
 ended None = Finished
 ended (Some e) = Open
 
--- One record more: a session of the rows now with a partner whose rows these are. Each text that it took is the partner's
--- own; the nodes whose texts it took are the first ones that it asked, and the others are outstanding.
+-- One record more: a session of the rows now with a partner that has these rows. Each text that it took is that of the
+-- partner; the nodes whose texts it took are the first ones that it asked, and the others are outstanding.
 pub record HasOneMore (s : State) (partner : ℕ) (other : RowMap) (new : List Record) : Type 0 where
   pub r : Record
   pub records : new ≡ s.records ++ r ∷ []
@@ -80,12 +81,12 @@ pub record HasOneMore (s : State) (partner : ℕ) (other : RowMap) (new : List R
   pub turn : r.session.asked ≡ nodes_of r.session.taken ++ r.session.outstanding
   pub stands : r.session.state ≡ state_by r.session.outstanding
 
--- one record more, which asked each node where the trees differ, in order
+-- one record more, which asked each node at which the trees differ, in order
 abbrev pub HasAskedAll : State → ℕ → RowMap → List Record → Type 0
 HasAskedAll s partner other new = (more : HasOneMore s partner other new) × (more.r.session.asked ≡ differ (rows_now s) other)
 
--- The state after a whole session, and what is answered: the partner's leaves were taken where the trees differ, there is
--- one more session, and each node where the trees differ was asked.
+-- The state after a whole session, and its report: the partner's leaves at which the trees differ were taken, there is
+-- one more session, and each node at which the trees differ was asked.
 pub record IsSyncedTo (s : State) (seat : ℕ) (other : RowMap) (new : State) (a : Synced) : Type 0 where
   pub config : new.config ≡ (synced s seat other).state.config
   pub entries : new.entries ≡ (synced s seat other).state.entries
@@ -96,8 +97,8 @@ pub record IsSyncedTo (s : State) (seat : ℕ) (other : RowMap) (new : State) (a
   pub asked : a.asked ≡ length (differ (rows_now s) other)
   pub fault : a.fault ≡ (synced s seat other).fault
 
--- The state of a session that stopped on its way, where no memory was left: of the leaves where the trees differ it has taken
--- the first ones, each whole.
+-- The state of a session that ran out of memory midway: of the leaves at which the trees differ it has taken the first
+-- ones, each whole.
 pub record IsPartWay (s : State) (seat partner : ℕ) (other : RowMap) (new : State) : Type 0 where
   pub leaves : List Node
   pub rest : List Node
@@ -108,7 +109,7 @@ pub record IsPartWay (s : State) (seat partner : ℕ) (other : RowMap) (new : St
   pub marks : new.marks ≡ (taken_leaves s seat other 0 leaves).state.marks
   pub session : HasOneMore s partner other new.records
 
--- the first of some nodes, if there is one
+-- the first of some nodes, if any
 abbrev pub IsFirstOf : List Node → Option NodeAt → Type 0
 IsFirstOf nodes None = nodes ≡ []
 IsFirstOf nodes (Some n) = (rest : List Node) × (nodes ≡ node_of n ∷ rest)

@@ -1,4 +1,4 @@
--- What a caller is told who keeps receipts in a list.
+-- The receipts of a caller who keeps them in a list.
 use Rattle.std.specs.Prelude.{◌≡◌, ℕ, List, [], ◌∷◌, ◌++◌, length, Result, Ok, Err}
 use Rattle.vclock.specs.declared.refusal.Refusal.{Refusal}
 use Rattle.range_journal.specs.declared.journal.Entry.{Entry}
@@ -15,13 +15,13 @@ abbrev pub with_put : List Entry → Result Entry Refusal → List Entry
 with_put es (Ok e) = es ++ e ∷ []
 with_put es (Err e) = es
 
--- the receipts after a version of another node: with its receipt at the end, where it was taken
+-- the receipts after a version of another node: with its receipt at the end if it was accepted
 abbrev pub with_sent : List Entry → Result Accepted Refusal → List Entry
 with_sent es (Ok (Taken e)) = es ++ e ∷ []
 with_sent es (Ok Known) = es
 with_sent es (Err e) = es
 
--- the same answer with the number of the receipts in their place
+-- the outcome with the number of the receipts in their place
 abbrev pub count_of : AnswerTaken → AnswerCounted
 count_of a = record { receipts = length a.receipts.items; known = a.known; state = a.state }
 
@@ -32,7 +32,7 @@ pub record IsCounted (s : State) (seat id : ℕ) (t : TakenText) (a : AnswerCoun
   pub count : a ≡ count_of taken
   pub told : now ≡ before ++ taken.receipts.items
 
--- what a text for a session is answered where the receipts go to a list, and state and list afterwards
+-- the result of a text whose receipts go to a list, and state and list afterwards
 abbrev pub CountsAnswer : State → ℕ → ℕ → TakenText → Result AnswerCounted Refusal → State → List Entry → List Entry → Type 0
 CountsAnswer s seat id t (Ok a) new before now = IsCounted s seat id t a new before now
 CountsAnswer s seat id t (Err e) new before now = TakesAnswer s seat id t (Err e) new × (now ≡ before)

@@ -6,11 +6,11 @@ use Rattle.hash_tree.specs.Texts.{node_digest}
 use Rattle.range_state.specs.Rows.{rows_of}
 use Rattle.range_state.specs.State.{State, leaf_in}
 
--- the digests of the nodes of a depth, which are of that height above the leaves
+-- the digests of the nodes of a depth, each at that height above the leaves
 abbrev pub level_digests : State → ℕ → ℕ → List (Option (List ℕ))
 level_digests s depth height = map (λ index. Some (node_digest s.config.format (leaf_in s.config) (rows_of s.entries) height index)) (range_with_len 0 (16 ^ depth))
 
--- the digests of the nodes of that depth and of those below
+-- the digests of the nodes of that depth and of those below it
 unfoldable pub digests_below : State → ℕ → ℕ → List (Option (List ℕ))
 digests_below s depth zero = level_digests s depth zero
 digests_below s depth (suc height) = level_digests s depth (suc height) ++ digests_below s (suc depth) height

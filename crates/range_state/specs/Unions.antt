@@ -1,9 +1,9 @@
--- What two sets of versions have together.
+-- The union of two sets of versions.
 use Rattle.std.specs.Prelude.{List, [], ◌∷◌, ◌++◌}
 use Rattle.version_set.specs.declared.version.Version.{Version}
 use Rattle.version_set.specs.Version.{offered, maximal, set_from}
 
--- the maximal versions of those that two sets have
+-- the maximal versions of two sets
 abbrev pub union_of : List Version → List Version → List Version
 union_of S T = maximal (set_from [] (S ++ T))
 

@@ -1,4 +1,4 @@
-//! Which range a state is of.
+//! The configuration of a range.
 ghost use Rattle.std.specs.Prelude.{◌≡◌, ◌<◌, ◌^◌, IsTrue};
 ghost use Rattle.range_state.specs.Config.{config_of, is_config};
 ghost use Rattle.range_state.specs.Migrates.{config_in_two};
@@ -7,8 +7,8 @@ use std::marker::Model;
 use vclock::Format;
 use vclock::limits::{ENTRIES_MAX, RING_BITS_MAX};
 
-/// Which range a state is of, in which format, and how many entries its journal may have. Replicas of a range have
-/// equal formats, ring bits and ranges; their limits may differ.
+/// The number of a range, its format, and the limit of its journal. Replicas of a range have equal formats, ring bits
+/// and ranges; their limits may differ.
 ///
 /// ```
 /// let config = RangeConfig::new(2, 8, 255, 1_000_000).ok_or("no such range")?;
@@ -36,9 +36,9 @@ impl Model for RangeConfig {
 }
 
 impl RangeConfig {
-    /// Range number `range`, from 0, of a ring of 2^bits ranges, in format 1 or 2, with a journal of at most `limit`
-    /// entries. `None` if the format is neither, the bits are over 8, the ring has no such range, or the limit is not 1
-    /// to 1,000,000. It takes no memory.
+    /// Makes the configuration of range number `range`, from 0, in a ring of 2^bits ranges, in format 1 or 2, with a
+    /// journal of at most `limit` entries. Returns `None` if the format is neither 1 nor 2, the bits are over 8, the
+    /// ring has no such range, or the limit isn't 1 to 1,000,000. Doesn't allocate.
     pub fn new(format: u64, bits: u64, range: u64, limit: u64) -> Option<RangeConfig>
         ensures { result ≡ config_of format bits range limit }
     {
@@ -54,7 +54,7 @@ impl RangeConfig {
         })
     }
 
-    /// The same for another range of the ring.
+    /// Returns this configuration for another range of the ring.
     pub fn for_range(&self, range: u16) -> RangeConfig
         requires { range < 2 ^ self.now.bits }
         ensures { result ≡ record self.now { range = range } }
@@ -62,7 +62,7 @@ impl RangeConfig {
         RangeConfig { range, ..*self }
     }
 
-    /// The same in format 2.
+    /// Returns this configuration in format 2.
     pub(crate) fn in_format_2(&self) -> RangeConfig
         ensures { result ≡ config_in_two self.now }
     {
@@ -79,7 +79,7 @@ impl RangeConfig {
         self.format
     }
 
-    /// How many bits the number of a range has, 0 to 8.
+    /// The number of bits of a range's number, 0 to 8.
     pub fn bits(&self) -> u8
         ensures { result ≡ self.now.bits }
     {
@@ -93,7 +93,7 @@ impl RangeConfig {
         self.range
     }
 
-    /// How many entries the journal may have, 1 to 1,000,000.
+    /// The maximum length of the journal, 1 to 1,000,000 entries.
     pub fn limit(&self) -> u64
         ensures limit { result ≡ self.now.limit }
         ensures valid { IsTrue (is_config self.now) }

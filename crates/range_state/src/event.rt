@@ -1,4 +1,4 @@
-//! The calls of a range as events, and what they return.
+//! The calls of a range as events, and their replies.
 ghost use Rattle.std.specs.Prelude.{◌≤◌, IsTrue};
 ghost use Rattle.range_state.specs.State.{is_sent};
 
@@ -13,10 +13,10 @@ use vclock::{Bytes, Clock, Refusal};
 use version_set::{Kind, Version, VersionSet};
 use walk_messages::Offer;
 
-/// What a range tells a caller whose version it journaled: the entry.
+/// The entry that a call journaled, as its caller gets it.
 pub type Receipt = Entry;
 
-/// What became of a version that was accepted: whether it was new to the range.
+/// The outcome of accepting a version: it was new to the range, or known.
 ///
 /// ```
 /// match state.accept(alloc, 0, Source::Copy, b"a", copy)? {
@@ -28,11 +28,11 @@ pub type Receipt = Entry;
 pub enum Accepted {
     /// It was journaled.
     Taken(Receipt),
-    /// It was covered by those accepted before: nothing was journaled.
+    /// It was covered by versions accepted before, so nothing was journaled.
     Known,
 }
 
-/// What became of a text that a session took.
+/// The outcome of a text that a session took.
 ///
 /// ```
 /// let node = first(state)?;
@@ -41,26 +41,26 @@ pub enum Accepted {
 /// ```
 #[derive(Debug, Drop)]
 pub struct AnswerTaken {
-    /// The entries of the versions that came, in order. A node with children brings none.
+    /// The new entries, in order: empty for an inner node.
     pub receipts: Vec<Receipt>,
-    /// How many versions were covered by those accepted before: none of them was journaled.
+    /// The number of versions that were covered by those accepted before, and weren't journaled.
     pub known: u64,
-    /// How the session stands.
+    /// The state of the session.
     pub state: SessionState,
 }
 
-/// What became of a text that a session took, if the receipts went to a list of the caller's.
+/// The outcome of a text that a session took, if its receipts went to a list of the caller.
 #[derive(Clone, Copy, Debug)]
 pub struct AnswerCounted {
-    /// How many receipts there are: 0 for a node with children.
+    /// The number of receipts: 0 for an inner node.
     pub receipts: u64,
-    /// How many versions were covered by those accepted before: none of them was journaled.
+    /// The number of versions that were covered by those accepted before, and weren't journaled.
     pub known: u64,
-    /// How the session stands.
+    /// The state of the session.
     pub state: SessionState,
 }
 
-/// A value put at a node.
+/// A value to put at a node.
 #[derive(Debug, Drop)]
 pub struct PutEvent {
     /// The seat of the caller.
@@ -71,7 +71,7 @@ pub struct PutEvent {
     pub key: Bytes,
     /// The clock that the caller has seen.
     pub context: Clock,
-    /// Whether there is a value.
+    /// The kind of the version: live, or a tombstone.
     pub kind: Kind,
     /// The value.
     pub value: Bytes,
@@ -83,7 +83,7 @@ pub struct PutEvent {
 pub struct AcceptEvent {
     /// The seat of the caller.
     pub seat: u16,
-    /// How it comes here: as a copy or as a hint.
+    /// The way that it was sent: as a copy or as a hint.
     pub source: Source,
     /// The key.
     pub key: Bytes,
@@ -101,12 +101,12 @@ pub struct InstallEvent {
     pub hashed: Hashed,
 }
 
-/// A partner's offer, with which a session is to be opened.
+/// A partner's offer, to open a session with.
 #[derive(Debug, Drop)]
 pub struct OpenEvent {
     /// The number of the partner.
     pub partner: u16,
-    /// What the partner offers.
+    /// The offer.
     pub offer: Offer,
 }
 
@@ -137,7 +137,7 @@ pub enum Event {
     Accept(AcceptEvent),
     /// `get` of a key.
     Get(Bytes),
-    /// `take_job` with a number that tells workers apart.
+    /// `take_job` with the number of a worker.
     TakeJob(u64),
     /// `install`.
     Install(InstallEvent),
@@ -153,27 +153,27 @@ pub enum Event {
     Migrate,
 }
 
-/// What a call returned.
+/// The reply to an event.
 #[derive(Debug, Drop)]
 pub enum Reply {
     /// The entry of a put.
     Put(Result<Receipt, Refusal>),
-    /// Whether a version was new.
+    /// The outcome of a version that was sent.
     Accept(Result<Accepted, Refusal>),
     /// The versions that are held for a key.
     Get(Result<VersionSet, Refusal>),
     /// A job, or `None` if every node is clean.
     TakeJob(Result<Option<Job>, Refusal>),
-    /// Whether a node got its digest.
+    /// The result of installing a digest.
     Install(Result<(), Refusal>),
     /// The rows with the digests of their tree.
     Snapshot(Result<Arc<Snapshot, Global>, Refusal>),
     /// The number of a new session.
     OpenSession(Result<u64, Refusal>),
-    /// What became of a partner's text.
+    /// The outcome of a partner's text.
     TakeAnswer(Result<AnswerTaken, Refusal>),
-    /// Whether there is a session of that number.
+    /// The result of cancelling a session.
     CancelSession(Result<(), Refusal>),
-    /// Whether there was the memory to go over to format 2.
+    /// The result of the migration.
     Migrate(Result<(), Refusal>),
 }

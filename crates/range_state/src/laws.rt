@@ -1,4 +1,4 @@
-//! What the definitions say of rows and sessions.
+//! Laws of rows and sessions, proved from their definitions.
 ghost use Rattle.std.specs.Prelude.{◌≡◌, ◌≢◌, ◌≤◌, ◌↔◌, [], ℕ, List, None, Any, Contains, true};
 ghost use Rattle.std.specs.List.{AllByRecursion};
 ghost use Rattle.range_journal.specs.declared.journal.Entry.{Entry};
@@ -22,8 +22,8 @@ ghost use Rattle.version_set.specs.Version.{maximal, Ascends as AscendsByText};
 ghost use Rattle.range_state.specs.State.{State, IsRight, IsFromPartner, rows_now, dirty_fault};
 ghost use Rattle.range_state.specs.Syncs.{IsOfRange, synced};
 
-/// The rows of a journal are a map: they have each key that has an entry, and no other one, each with the versions that
-/// are held for it.
+/// The rows of a journal have each key that has an entry, and no other key, each with the versions that are held for
+/// it.
 pub fn rows_are_of_the_entries()
     ensures { (entries : List Entry) (row : Row)
         → Contains (rows_of entries) row
@@ -35,29 +35,32 @@ pub fn rows_ascend()
     ensures { (entries : List Entry) → AscendByKey (rows_of entries) }
 {}
 
-/// After a finished session each version that the partner's rows had is held or is below one that is: of any rows of the
-/// range, in the format of the session's own rows, whose root is the one that was offered, provided that no two different
-/// texts among those compared share a digest. It holds from then on, whatever else the range accepts, and nothing is
-/// supposed of the answers.
+/// After a finished session each version of the partner's rows is held or is below a held version. The partner's rows
+/// are any rows of the range, in the format of the session's snapshot, whose root is the offered one. The law assumes
+/// that no two different texts among those compared share a digest, and nothing about the answers. It holds from then
+/// on, whatever else the range accepts.
 pub fn finished_sessions_are_held()
     ensures { (s : State) → IsRight s → (r : Record) → Contains s.records r → r.session.state ≡ Finished
         → (other : RowMap) → IsPartners r.session other → NoTwoShareADigest r.session.own other r.session.taken
         → Held other.rows (held s.entries) }
 {}
 
-/// What came from a partner is in a leaf's text that some session took, which spells rows in the format of that session's
-/// own rows.
+/// Each version received from a partner is in a leaf's text that some session took, and that spells rows in the format
+/// of that session's snapshot.
 pub fn partners_versions_were_taken()
     ensures { (s : State) → IsRight s → (e : Entry) → Contains s.entries e → e.source ≡ Partner → IsFromPartner s e }
 {}
 
-/// Each text that a session took can be its node's, and had the digest that was expected there. Nodes, texts and partners
-/// are in the format of the session's own rows, which is that of the range while the session is open. A session asks no node
-/// twice, and by depth, and then by index, if the texts came in the order of the asks. If each text that it took is the
-/// partner's own, it asks nodes where the trees differ and no others, and the partner's text of an outstanding node is never
-/// refused. All that holds of a session that failed or was cancelled as well. One that was not asks all the nodes where the
-/// trees differ, once no node with children is outstanding, as when it is finished. A session that is not open has nothing
-/// outstanding.
+/// Each text that a session took is one that its node can have, and had the digest that was expected there. Nodes,
+/// texts and partners are in the format of the session's snapshot, which is that of the range while the session is
+/// open. A session asks no node twice. It asks by depth and then by index if the texts were taken in the order of the
+/// asks.
+///
+/// If each text that it took is that of the partner, it asks only nodes at which the trees differ, and the partner's
+/// text of an outstanding node is never refused. All of this holds for a session that failed or was cancelled, too.
+///
+/// A session that neither failed nor was cancelled has asked all the nodes at which the trees differ once no inner node
+/// is outstanding, as when it is finished. A session that isn't open has no outstanding nodes.
 pub fn sessions_ask_where_the_trees_differ()
     ensures texts { (s : State) → IsRight s → (r : Record) → Contains s.records r
         → AllByRecursion (IsRightlyTaken r.session) r.session.taken }
@@ -81,15 +84,15 @@ pub fn sessions_ask_where_the_trees_differ()
         → r.session.state ≢ Open → r.session.outstanding ≡ [] }
 {}
 
-/// Offering the members of one set to another, one by one, gives the maximal versions of both, and the same whichever of the two
-/// is offered to the other.
+/// Offering the members of one set to another, one by one, makes the maximal versions of both, and the union is equal
+/// with the two sets exchanged.
 pub fn offers_make_the_union()
     ensures each { (S T : List Version) → AscendsByText S → maximal S ≡ S → offered_all S T ≡ union_of S T }
     ensures sides { (S T : List Version) → union_of S T ≡ union_of T S }
 {}
 
-/// Two replicas of a range that each take the leaves where their trees differ hold what both held, key by key, provided that no
-/// two different texts of their nodes share a digest.
+/// Two replicas of a range that each take the leaves at which their trees differ hold the union of both, key by key, if
+/// no two different texts of their nodes share a digest.
 pub fn synced_ranges_hold_what_both_held()
     ensures first { (a b : State) (seat : ℕ) → IsRight a → IsRight b → IsOfRange a.config (rows_now b)
         → NoTwoShareADigest (rows_now a) (rows_now b) [] → (synced a seat (rows_now b)).fault ≡ None
@@ -101,7 +104,8 @@ pub fn synced_ranges_hold_what_both_held()
         ≡ union_of (held a.entries key) (held b.entries key) }
 {}
 
-/// Two replicas of a range that hold the same have the same rows, and so, once both are clean, the same digest at the root.
+/// Two replicas of a range that hold equal versions have equal rows, and so, once both are clean, equal digests at the
+/// root.
 pub fn ranges_that_hold_the_same_have_equal_roots()
     ensures rows { (a b : State) → IsOfRange a.config (rows_now b)
         → ((key : List ℕ) → held a.entries key ≡ held b.entries key) → rows_now a ≡ rows_now b }

@@ -1,14 +1,28 @@
-//! The state of a range: the journal of what it accepted, the rows that the journal makes, the digests of their tree, and
-//! its sessions with partners.
+//! A replica of a range, for one thread: the journal of the accepted versions, the rows that the journal makes, the
+//! digests of their tree (the paper of 2007, section 4.7), and the sessions with partners. Use it to put, accept and
+//! read versions, and to synchronise replicas.
 //!
-//! - [`config`]: which range a state is of, and its limits.
-//! - [`state`]: the state and its calls: `put`, `accept`, `get`; for the tree `take_job`, `take_jobs`, `install`,
-//!   `digest_at`, `rehash` and `snapshot`; for sessions with partners `open_session`, `take_answer`, `cancel_session` and
-//!   `records`, and `sync_with` for a whole session; `reconcile` for one each way.
-//! - [`record`]: a session of a range, and with whom.
+//! - [`config`]: the number of a range, its format, and the limit of its journal.
+//! - [`state`]: the state and its calls: `put`, `accept`, `get`, `versions` and `rows`; for the tree `take_job`,
+//!   `take_jobs`, `install`, `digest_at`, `rehash` and `snapshot`; for sessions with partners `open_session`,
+//!   `take_answer`, `cancel_session` and `records`, and `sync_with` for a whole session; `reconcile` for a session each
+//!   way; `migrate` to format 2.
+//! - [`record`]: a session of a range, and its partner.
 //! - [`replay`]: the rows that a range had at each length of its journal.
-//! - [`event`], [`run`]: the same calls as events, and lists of them.
-//! - [`laws`]: what the definitions say: a range that finished a session holds what the partner had.
+//! - [`event`], [`run`]: the calls as events, and lists of events.
+//! - [`laws`]: laws proved from the definitions, such as that a range that finished a session holds the versions that
+//!   its partner had, if no two different texts share a digest.
+//!
+//! ```
+//! let config = RangeConfig::new(1, 0, 0, 1_000).ok_or("no such range")?;
+//! let mut state = RangeState::new(alloc, config)?;
+//! if has_a {
+//!     let context = Clock::from_pairs(alloc, &[])?;
+//!     let value = Bytes::copy_of(alloc, b"x")?;
+//!     state.put(alloc, 0, 1, b"a", &context, Kind::Live, value)?;
+//! }
+//! state.rehash(rt, alloc)?;
+//! ```
 #![tactic(auto)]
 
 pub mod config;

@@ -3,8 +3,8 @@ ghost use Rattle.std.specs.Prelude.{◌≡◌};
 
 use sync_session::Session;
 
-/// A session of a range, and its partner. Its number is its place among the records, from 0. Records are never taken
-/// out, so what a session compared and took can be looked up for good.
+/// A session of a range, and its partner. Its number is its place among the records, from 0. Records are never removed,
+/// so the texts that a session compared and took can be looked up later.
 ///
 /// ```
 /// let record = state.records().get(id).ok_or("no record")?;

@@ -1,4 +1,4 @@
-//! Journals that are replayed.
+//! Replays of journals.
 ghost use Rattle.std.specs.Prelude.{◌≡◌, ◌+◌, ◌<◌, ◌≤◌, ◌↔◌, length, take, None, IsTrue};
 ghost use Rattle.vclock.specs.Answer.{Answers};
 ghost use Rattle.vclock.specs.Outcome.{Does, DoesOrBreaksOff, gives};
@@ -16,7 +16,8 @@ use std::marker::Model;
 use vclock::Refusal;
 use version_set::VersionSet;
 
-/// The rows that a range had when its journal was shorter: they begin empty, and take in entries as they are asked for.
+/// The rows that a range had when its journal was shorter. A replay begins without rows, and takes in entries on
+/// demand.
 #[derive(Drop)]
 pub struct Replay<'a> {
     config: RangeConfig,
@@ -39,7 +40,7 @@ impl<'a> Model for Replay<'a> {
 }
 
 impl<'a> Replay<'a> {
-    /// The replay of a range's journal, from no entry on. Refused: NoMemory.
+    /// Makes the replay of a range's journal, with no entry replayed. Refused: NoMemory.
     pub fn new(alloc: Global, state: &'a RangeState) -> Result<Replay<'a>, Refusal>
         ensures { Answers result None (λ replay. replay
             ≡ record { config = state.now.config; entries = state.now.entries; front = 0 }) }
@@ -53,7 +54,7 @@ impl<'a> Replay<'a> {
         })
     }
 
-    /// Goes on until as many entries are replayed. Refused: NoMemory, and then fewer may be.
+    /// Replays entries until `front` of them are replayed. Refused: NoMemory, and then fewer may be replayed.
     pub fn advance(&mut self, alloc: Global, front: u64) -> Result<(), Refusal>
         requires later { self.old.front ≤ front }
         requires within { front ≤ length self.old.entries }
@@ -65,7 +66,7 @@ impl<'a> Replay<'a> {
         Ok(())
     }
 
-    /// Whether these versions were held for a key. It takes no memory.
+    /// Returns true if these versions were held for a key. Doesn't allocate.
     pub fn holds(&self, key: &[u8], versions: &VersionSet) -> bool
         ensures { IsTrue result ↔ (held (take self.now.front self.now.entries) key.now ≡ versions.now) }
     {
@@ -89,7 +90,7 @@ impl<'a> Replay<'a> {
         Ok(())
     }
 
-    /// The leaf of a key.
+    /// Returns the leaf of a key.
     fn leaf_of(&self, key: &[u8]) -> usize
         ensures { result ≡ leaf_in self.now.config key.now }
     {
@@ -97,7 +98,7 @@ impl<'a> Replay<'a> {
     }
 }
 
-/// The leaves of the rows that entries make in a configuration: each entry is looked at once. Refused: NoMemory.
+/// Makes the leaves of the rows that entries make in a configuration. Each entry is looked at once. Refused: NoMemory.
 pub(crate) fn leaves_of(
     alloc: Global,
     config: RangeConfig,

@@ -12,10 +12,10 @@ use std::alloc::Global;
 use vclock::Refusal;
 
 impl RangeState {
-    /// Runs events in order, and returns the reply of each. A refused event is its reply, and changes nothing; the
-    /// events after it are run.
+    /// Runs events in order, and returns the reply to each. The refusal of an event is its reply, and the later events
+    /// are run.
     ///
-    /// Refused: NoMemory, before any event is run: then nothing changes, and the events are dropped.
+    /// Refused: NoMemory, before any event is run. Then nothing changes, and the events are dropped.
     pub fn run_events(&mut self, alloc: Global, events: Vec<Event>) -> Result<Vec<Reply>, Refusal>
         ensures run { Answers result None (λ replies. Run self.old events.items replies.items self.new) }
         ensures err { OnErr result (self.new ≡ self.old) }
@@ -71,7 +71,7 @@ impl RangeState {
         )
     }
 
-    /// Takes in a version that another node sent.
+    /// Accepts a version that another node sent.
     fn run_accept(&mut self, alloc: Global, accept: AcceptEvent) -> Result<Accepted, Refusal>
         ensures { AcceptStep self.old accept result self.new }
     {

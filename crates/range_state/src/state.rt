@@ -38,8 +38,10 @@ mod tree;
 
 /// One replica of a range, for one thread: the journal of the versions that it accepted; its rows, which are exactly
 /// the maximal versions of the journal, key by key, in the leaves of the range's tree; and the digests of the tree's
-/// clean nodes, each of which is that of the node's text for the rows now. A program whose threads share a range keeps
-/// it in `ring_node`'s `SharedRange`, which has the same calls.
+/// clean nodes, each that of the node's text for the rows now.
+///
+/// Threads that share a range keep it in `ring_node`'s `SharedRange`, which has `copy` in place of `accept`, workers in
+/// place of `rehash` and `sync_with`, and no `versions`, `rows` or `reconcile`.
 ///
 /// ```
 /// let config = RangeConfig::new(1, 0, 0, 1_000).ok_or("no such range")?;
@@ -74,7 +76,7 @@ impl Model for RangeState {
 }
 
 impl RangeState {
-    /// A range that has accepted nothing. Refused: NoMemory.
+    /// Makes a range that has accepted nothing. Refused: NoMemory.
     pub fn new(alloc: Global, config: RangeConfig) -> Result<RangeState, Refusal>
         ensures { Answers result None (λ state. state ≡ fresh config) }
     {
@@ -88,15 +90,15 @@ impl RangeState {
         })
     }
 
-    /// Which range it is, in which format, and the limit of its journal.
+    /// The number of the range, its format, and the limit of its journal.
     pub fn config(&self) -> RangeConfig
         ensures { result ≡ self.now.config }
     {
         self.config
     }
 
-    /// The journal. Its entries are of this range, and each was news when it came; no key ever held over 64 versions; the
-    /// rows that it makes have texts; and the marks of the tree are right for them. It takes no memory.
+    /// The journal. Its entries are of this range, and each was new when it was accepted; no key ever held over 64
+    /// versions; the rows that it makes have texts; and the marks of the tree are right for them. Doesn't allocate.
     pub fn journal(&self) -> &Journal
         ensures entries { result.now.entries ≡ self.now.entries }
         ensures limit { result.now.limit ≡ self.now.config.limit }
@@ -105,7 +107,7 @@ impl RangeState {
         &self.journal
     }
 
-    /// A leaf: its rows in ascending order of key, and their text. It takes no memory.
+    /// The rows of a leaf, in ascending order of key, and their text. Doesn't allocate.
     pub fn rows(&self, leaf: u16) -> &SharedLeaf
         requires { leaf < leaf_count self.now.config }
         ensures { result.now ≡ record { format = self.now.config.format; rows = rows_at (leaf_in self.now.config) leaf (rows_of self.now.entries) } }
@@ -113,8 +115,8 @@ impl RangeState {
         &self.leaves[usize::from(leaf)]
     }
 
-    /// The versions that are held for a key, in the order of their texts: empty if the key is not held. It takes no
-    /// memory.
+    /// The versions that are held for a key, in the order of their texts: empty if the key isn't held. Doesn't
+    /// allocate.
     pub fn versions(&self, key: &[u8]) -> &[Version]
         ensures held { result.now ≡ held self.now.entries key.now }
         ensures fit { AllByRecursion (λ v. value_fault self.now.config.format v.kind v.value ≡ None) result.now }
@@ -125,7 +127,7 @@ impl RangeState {
         }
     }
 
-    /// The versions that are held for a key: an empty set if the key is not held. Refused: NoMemory.
+    /// Copies the versions that are held for a key: an empty set if the key isn't held. Refused: NoMemory.
     pub fn get(&self, alloc: Global, key: &[u8]) -> Result<VersionSet, Refusal>
         ensures held { Answers result None (λ set. set ≡ held self.now.entries key.now) }
         ensures fit { IfOk result (AllByRecursion (λ v. value_fault self.now.config.format v.kind v.value ≡ None)) }
@@ -136,12 +138,12 @@ impl RangeState {
         }
     }
 
-    /// Takes in a version that another node sent, as a copy or as a hint, unless it is known: it is the same as one that
-    /// was accepted before, or below one.
+    /// Accepts a version that another node sent, as a copy or as a hint. A version that is equal to or below one
+    /// accepted before is known, and isn't journaled again.
     ///
     /// Refused, in order: BadKey, BadValue (of the range's format), OtherRange (the key is of another range); then, if
-    /// the version is not known, Crowded (the key would hold over 64 versions), JournalFull, NoMemory. The state is
-    /// then as it was.
+    /// the version isn't known, Crowded (the key would hold over 64 versions), JournalFull, NoMemory. On error the
+    /// state is unchanged.
     pub fn accept(
         &mut self,
         alloc: Global,
@@ -164,10 +166,10 @@ impl RangeState {
     /// counter raised by one (the paper of 2007, section 4.4).
     ///
     /// Refused, in order: BadKey, BadValue (of the range's format), OtherRange (the key is of another range), ClockFull
-    /// and CounterFull (the context cannot be raised), StaleContext (some held version has seen all that the raised clock
-    /// has: with the clocks that are held), Crowded (the key would hold over 64 versions), JournalFull, NoMemory. The
-    /// state is then as it was. The raised clock and the list of clocks take memory, so from StaleContext on NoMemory
-    /// may stand in place of the cause.
+    /// and CounterFull (the context can't be raised), StaleContext with the clocks that are held (some held version has
+    /// seen everything that the raised clock has), Crowded (the key would hold over 64 versions), JournalFull,
+    /// NoMemory. On error the state is unchanged. The raised clock and the list of clocks are allocated, so NoMemory
+    /// may replace a cause from StaleContext on.
     pub fn put(
         &mut self,
         alloc: Global,
@@ -188,7 +190,7 @@ impl RangeState {
         self.admit(alloc, leaf, seat, Source::Client, key, version)
     }
 
-    /// The version of a put, with the leaf of its key. Refused as a put that has room in the journal.
+    /// Makes the version of a put, and finds the leaf of its key. Refused as a put that has room in the journal is.
     fn make_put(
         &self,
         alloc: Global,
@@ -217,7 +219,7 @@ impl RangeState {
         Ok((leaf, version))
     }
 
-    /// The leaf of a version that another node sent, or `None` if the version is known.
+    /// Returns the leaf of a version that another node sent, or `None` if the version is known.
     fn home_of_news(&self, key: &[u8], version: &Version) -> Result<Option<u16>, Refusal>
         ensures { AnswersAtOnce result (sent_fault self.now key.now version.now)
             (λ home. MatchOption home (knows self.now key.now version.now ≡ true)
@@ -234,14 +236,14 @@ impl RangeState {
         Ok(Some(leaf))
     }
 
-    /// The leaf of a key.
+    /// Returns the leaf of a key.
     fn leaf_of(&self, key: &[u8]) -> u16
         ensures { result ≡ leaf_in self.now.config key.now }
     {
         place(self.config.format(), self.config.bits(), key).leaf
     }
 
-    /// The leaf of a key, if a version of that kind and value can be in this range.
+    /// Returns the leaf of a key, if a version of that kind and value can be in this range.
     fn home(&self, key: &[u8], kind: Kind, value: &[u8]) -> Result<u16, Refusal>
         ensures { AnswersAtOnce result (place_fault self.now.config key.now kind value.now)
             (λ leaf. leaf ≡ leaf_in self.now.config key.now) }
@@ -255,7 +257,7 @@ impl RangeState {
         Ok(at.leaf)
     }
 
-    /// What is held for a key, which is of that leaf.
+    /// Returns the set that is held for a key of that leaf.
     fn find(&self, leaf: u16, key: &[u8]) -> Option<&VersionSet>
         requires { leaf ≡ leaf_in self.now.config key.now }
         ensures set { unwrap_or (option_map (λ s. s.now) result) [] ≡ held self.now.entries key.now }
@@ -273,8 +275,8 @@ impl RangeState {
         self.journal.reserve(1)
     }
 
-    /// Journals a version that is not known, whose key is of that leaf. Every cause is tested before any growth, and every
-    /// growth is made before anything changes.
+    /// Journals a version that isn't known, whose key is of that leaf. Tests every cause before it allocates, and
+    /// allocates before it changes anything.
     fn admit(
         &mut self,
         alloc: Global,
@@ -289,7 +291,7 @@ impl RangeState {
         ensures { Does result self.old self.new
             (admit self.old (entry_of self.old seat source key.now version)) }
     {
-        // Called for its clause alone: the version's clock is one.
+        // Called for its clause alone: the version's clock is valid.
         let _valid = version.clock.pairs();
         self.journal.reserve(1)?;
         let receipt = Receipt {
@@ -309,7 +311,7 @@ impl RangeState {
     }
 }
 
-/// The leaves of a range without rows.
+/// Makes the leaves of a range without rows.
 pub(crate) fn empty_leaves(alloc: Global, format: Format) -> Result<Vec<SharedLeaf>, Refusal>
     ensures { Answers result None (λ leaves. leaves.items
         ≡ replicate (2 ^ leaf_bits format) (record { format = format; rows = [] })) }
@@ -325,7 +327,7 @@ pub(crate) fn empty_leaves(alloc: Global, format: Format) -> Result<Vec<SharedLe
     Ok(leaves)
 }
 
-/// Whether a set, if there is one, covers the version: it is a member or below one.
+/// Returns true if a set, if any, covers the version: it has the version as a member, or a member above it.
 fn covers(found: Option<&VersionSet>, version: &Version) -> bool
     ensures { result ≡ covered version.now (unwrap_or (option_map (λ s. s.now) found.entry) []) }
 {
@@ -335,7 +337,7 @@ fn covers(found: Option<&VersionSet>, version: &Version) -> bool
     }
 }
 
-/// Whether a set, which may have no member yet, would have too many with the version.
+/// Returns true if a set, which may be absent, would have too many members with the version.
 fn crowds(found: Option<&VersionSet>, version: &Version) -> bool
     ensures { offer_fault version.now (unwrap_or (option_map (λ s. s.now) found.entry) [])
         ≡ (if result then Some Refusal.Crowded else None) }
@@ -346,7 +348,7 @@ fn crowds(found: Option<&VersionSet>, version: &Version) -> bool
     }
 }
 
-/// Whether no version of a set, if there is one, has seen all that the clock has.
+/// Refuses a clock if some version of a set, if any, has seen everything that the clock has.
 fn check_context(alloc: Global, found: Option<&VersionSet>, clock: &Clock) -> Result<(), Refusal>
     ensures { AnswersOrNoMemory result
         (stale_fault (unwrap_or (option_map (λ s. s.now) found.entry) []) clock.now) (λ _. ⊤) }
@@ -359,14 +361,14 @@ fn check_context(alloc: Global, found: Option<&VersionSet>, clock: &Clock) -> Re
     Ok(())
 }
 
-/// Whether some version has seen all that the clock has.
+/// Returns true if some version has seen everything that the clock has.
 fn any_has_seen(versions: &[Version], clock: &Clock) -> bool
     ensures { result ≡ list_any (λ v. at_most clock.now v.clock) versions.now }
 {
     versions.iter().any(|version| has_seen(version, clock))
 }
 
-/// Whether a version has seen all that the clock has.
+/// Returns true if a version has seen everything that the clock has.
 fn has_seen(version: &Version, clock: &Clock) -> bool
     ensures { result ≡ at_most clock.now version.now.clock }
 {

@@ -1,4 +1,5 @@
--- The offers that a node makes of its snapshots: the paper of 2007, section 4.7. How many are kept is this project's profile.
+-- The offers that a node makes of its snapshots: the paper of 2007, section 4.7. The number of kept offers is this
+-- project's profile.
 use Rattle.std.specs.Prelude.{◌≡◌, ℕ, ◌+◌, ◌-◌, ◌≤◌, ◌^◌, nat_lt, ◌==◌, List, [], ◌∷◌, ◌++◌, length, drop, find, slice_get, Option, Some, None, MatchOption, if◌then◌else◌}
 use Rattle.std.specs.List.{AllByRecursion}
 use Rattle.std.specs.Option.{option_map}
@@ -18,12 +19,12 @@ pub record Offered : Type 0 where
   pub number : ℕ
   pub rows : RowMap
 
--- the number of the newest offer, 0 before the first, and what is kept, the oldest first
+-- the number of the newest offer, 0 before the first, and the kept ones, the oldest first
 pub record Offers : Type 0 where
   pub last : ℕ
   pub kept : List Offered
 
--- What holds whenever the lock is free: no more are kept than that, and the rows of each are right.
+-- The facts that hold whenever the lock is free: at most 16 offers are kept, and the rows of each are right.
 pub record AreOffers (o : Offers) : Type 0 where
   pub few : length o.kept ≤ 16
   pub right : AllByRecursion (λ (p : Offered). IsRowMap p.rows) o.kept
@@ -36,11 +37,11 @@ unpublished = record { last = 0; kept = [] }
 abbrev pub offer_of : Offered → Offer
 offer_of p = record { offer = p.number; format = number_of p.rows.format; range = p.rows.range; root = root_of p.rows }
 
--- why nothing can be published: the last number was used
+-- the fault if nothing can be published: the last number was used
 abbrev pub number_fault : Offers → Option Refusal
 number_fault o = if nat_lt o.last (2 ^ 32 - 1) then None else Some SessionsFull
 
--- what is kept without the oldest, if no more can be kept
+-- the kept offers, without the oldest if there are 16
 abbrev pub with_room : List Offered → List Offered
 with_room kept = if nat_lt (length kept) 16 then kept else drop 1 kept
 
@@ -50,15 +51,15 @@ publish o m = do
   number_fault o
   gives (offer_of (record { number = o.last + 1; rows = m })) (record { last = o.last + 1; kept = with_room o.kept ++ (record { number = o.last + 1; rows = m }) ∷ [] })
 
--- the newest offer, if there is one
+-- the newest offer, if any
 abbrev pub latest : Offers → Option Offer
 latest o = option_map offer_of (slice_get o.kept (length o.kept - 1))
 
--- what is kept under a number, if it is kept
+-- the offer of that number, if it is kept
 abbrev pub kept_under : Offers → ℕ → Option Offered
 kept_under o number = find (λ (p : Offered). p.number == number) o.kept
 
--- why the text of a node is refused: the offer is not kept, or its tree has no such node
+-- the fault of an ask for the text of a node: the offer is not kept, or its tree has no such node
 abbrev pub text_fault : Option Offered → NodeAt → Option Refusal
 text_fault None node = Some Gone
 text_fault (Some p) node = answer_fault p.rows node

@@ -1,4 +1,5 @@
--- What a pass is told through a lock, and why it is told nothing, as far as the pass and what the call is lent tell it.
+-- The changes of a pass by a call through a lock, and the refusals of the call, as far as they follow from the pass and
+-- the arguments.
 use Rattle.std.specs.Prelude.{◌≡◌, ℕ, ◌+◌, ◌<◌, ◌≤◌, List, [], ◌∷◌, Some, None, MatchOption}
 use Rattle.vclock.specs.Clock.{raise_fault, Pairs}
 use Rattle.vclock.specs.Bytes.{key_fault}
@@ -15,18 +16,18 @@ use Rattle.range_state.specs.declared.event.Accepted.TheVariants.{Taken, Known}
 use Rattle.caller_pass.specs.Passes.{PassView, with_receipts, with_reading}
 use Rattle.caller_pass.specs.Locks.{first_missing}
 
--- the receipt has that seat, source, key and version; its number is the range's own
+-- the receipt has that seat, source, key and version; the range chooses its number
 pub record IsReceiptOf (seat : ℕ) (source : Source) (key : List ℕ) (version : Version) (e : Entry) : Type 0 where
   pub seat_is : e.seat ≡ seat
   pub source_is : e.source ≡ source
   pub key_is : e.key ≡ key
   pub version_is : e.version ≡ version
 
--- the pass was told of that entry alone, and has seen the journal up to it
+-- the pass got the receipt of that entry alone, and has seen the journal up to it
 abbrev pub IsToldOf : PassView → PassView → Entry → Type 0
 IsToldOf p q e = q ≡ with_receipts p (e.number + 1) (e ∷ [])
 
--- the pass was told of the entry of a version that was taken, and of nothing if the version is known
+-- the pass got the receipt of a version that was accepted, and is unchanged if the version was known
 abbrev pub IsSent : PassView → Source → List ℕ → Version → PassView → Accepted → Type 0
 IsSent p source key version q (Taken e) = IsReceiptOf p.seat source key version e × IsToldOf p q e
 IsSent p source key version q Known = q ≡ p
@@ -35,8 +36,8 @@ IsSent p source key version q Known = q ≡ p
 abbrev pub IsOddValue : Kind → List ℕ → Type 0
 IsOddValue kind value = (format : Format) × (value_fault format kind value ≡ Some BadValue)
 
--- Why a put is refused: the key comes first, then what the range says of place and value, then the clock, and then what the
--- range holds.
+-- The refusal of a put: the key is tested first, then place and value in the range, then the clock, and then the held
+-- versions.
 abbrev pub IsPutRefusal : ℕ → List ℕ → Pairs → Kind → List ℕ → Refusal → Type 0
 IsPutRefusal at key context kind value BadKey = key_fault key ≡ Some BadKey
 IsPutRefusal at key context kind value BadValue = (key_fault key ≡ None) × IsOddValue kind value
@@ -49,7 +50,7 @@ IsPutRefusal at key context kind value JournalFull = (key_fault key ≡ None) ×
 IsPutRefusal at key context kind value NoMemory = (key_fault key ≡ None) × (raise_fault context at ≡ None)
 IsPutRefusal at key context kind value _ = ⊥
 
--- why a version of another node is refused: the key comes first
+-- the refusal of a version of another node: the key is tested first
 abbrev pub IsSentRefusal : List ℕ → Version → Refusal → Type 0
 IsSentRefusal key v BadKey = key_fault key ≡ Some BadKey
 IsSentRefusal key v BadValue = (key_fault key ≡ None) × IsOddValue v.kind v.value
@@ -59,8 +60,8 @@ IsSentRefusal key v JournalFull = key_fault key ≡ None
 IsSentRefusal key v NoMemory = key_fault key ≡ None
 IsSentRefusal key v _ = ⊥
 
--- The pass has one more reading, of these versions of the key: they cover all that the pass was told of it, and come from a
--- journal that is no shorter than what it had seen.
+-- The pass has one more reading, of these versions of the key: they cover each receipt of the pass for it, and are
+-- those of a journal that is at least as long as the part that it had seen.
 pub record IsRead (p : PassView) (key : List ℕ) (q : PassView) (versions : List Version) : Type 0 where
   pub journal : ℕ
   pub seen : p.seen ≤ journal
@@ -71,7 +72,8 @@ pub record IsRead (p : PassView) (key : List ℕ) (q : PassView) (versions : Lis
 abbrev pub IsMissing : PassView → List ℕ → ℕ → Type 0
 IsMissing p key number = (versions : List Version) × (first_missing p.receipts key versions ≡ Some number)
 
--- why a read is refused: the journal is shorter than what the pass has seen, or a receipt of the pass is not covered
+-- the refusal of a read: the journal is shorter than the part that the pass has seen, or a receipt of the pass is not
+-- covered
 abbrev pub IsBehind : PassView → List ℕ → Refusal → Type 0
 IsBehind p key (Behind seen journal missing) = (seen ≡ p.seen) × MatchOption missing (journal < p.seen) (λ number. (p.seen ≤ journal) × IsMissing p key number)
 IsBehind p key NoMemory = Unit {0}

@@ -1,4 +1,4 @@
--- What a pool of offers replies to the messages of a link.
+-- The replies of a pool of offers to the messages of a link.
 use Rattle.std.specs.Prelude.{◌≡◌, List, ℕ, None, MatchOption}
 use Rattle.walk_messages.specs.Messages.{message_text}
 use Rattle.walk_messages.specs.declared.message.Answer.{Answer}
@@ -10,13 +10,13 @@ use Rattle.ring_node.specs.Offers.{Offers, AreOffers, latest, kept_under, IsAnsw
 use Rattle.ring_node.specs.declared.server.Reply.{Reply}
 use Rattle.ring_node.specs.declared.server.Reply.TheVariants.{Bytes, Gone, Refused}
 
--- the message of the newest offer, or Gone if there is none
+-- the message of the newest offer, or Gone if there is no offer
 abbrev pub RepliesOffer : Reply → Type 0
 RepliesOffer (Bytes bytes) = FoundAtSomeMoment AreOffers (λ o. MatchOption (latest o) ⊥ (λ offer. bytes.items ≡ message_text (messages.Offer offer)))
 RepliesOffer Gone = FoundAtSomeMoment AreOffers (λ o. latest o ≡ None)
 RepliesOffer Refused = Unit {0}
 
--- the bytes of a message, or nothing
+-- the bytes of a message, or a refusal
 abbrev pub IsEncoded : Message → Reply → Type 0
 IsEncoded message (Bytes bytes) = bytes.items ≡ message_text message
 IsEncoded message Gone = ⊥

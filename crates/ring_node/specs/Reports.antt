@@ -4,7 +4,7 @@ use Rattle.ring_node.specs.declared.rehasher.RehashReport.{RehashReport}
 use Rattle.admission.specs.Admission.{Admission, free_of, allowance_of}
 use Rattle.ring_node.specs.declared.controller.Counts.{Counts}
 
--- the turns: one for each digest, and one for a job that there was not; if there was one each time, all are used
+-- the turns: one for each digest, and one for finding no dirty node; if a job was found each time, all are used
 abbrev pub IsRehashReport : ℕ → RehashReport → Type 0
 IsRehashReport turns r = (r.installed + r.stale + (if r.clean then 1 else 0) ≤ turns) × ((r.clean ≡ false) → r.installed + r.stale ≡ turns)
 

@@ -1,4 +1,4 @@
--- Sync workers: why they are refused, and what they report.
+-- Sync workers: their refusals and their reports.
 use Rattle.std.specs.Prelude.{◌≡◌, ◌≢◌, ℕ, length, slice_get, List, Some}
 use Rattle.vclock.specs.Outcome.{gives, through}
 use Rattle.vclock.specs.declared.refusal.Refusal.{Refusal}
@@ -10,7 +10,7 @@ use Rattle.range_state.specs.Sessions.{open_session}
 use Rattle.range_state.specs.declared.«record».Record.{Record}
 use Rattle.caller_pass.specs.Locks.{Locked, moved}
 
--- why a partner's offer is not reached
+-- the refusals of fetching a partner's offer
 abbrev pub IsOfferRefusal : Refusal → Type 0
 IsOfferRefusal LinkLost = Unit {0}
 IsOfferRefusal Gone = Unit {0}
@@ -18,7 +18,7 @@ IsOfferRefusal BadMessage = Unit {0}
 IsOfferRefusal NoMemory = Unit {0}
 IsOfferRefusal e = ⊥
 
--- why a session is not opened
+-- the refusals of opening a session
 abbrev pub IsOpenRefusal : Refusal → Type 0
 IsOpenRefusal OtherFormat = Unit {0}
 IsOpenRefusal OtherRange = Unit {0}
@@ -27,14 +27,14 @@ IsOpenRefusal Dirty = Unit {0}
 IsOpenRefusal NoMemory = Unit {0}
 IsOpenRefusal e = ⊥
 
--- why a partner is not asked
+-- the refusals of asking a partner
 abbrev pub IsAskRefusal : Refusal → Type 0
 IsAskRefusal LinkLost = Unit {0}
 IsAskRefusal Gone = Unit {0}
 IsAskRefusal NoMemory = Unit {0}
 IsAskRefusal e = ⊥
 
--- why a partner's text is not taken
+-- the refusals of taking a partner's text
 abbrev pub IsTakeRefusal : Refusal → Type 0
 IsTakeRefusal UnknownSession = Unit {0}
 IsTakeRefusal NotAsked = Unit {0}
@@ -45,7 +45,7 @@ IsTakeRefusal JournalFull = Unit {0}
 IsTakeRefusal NoMemory = Unit {0}
 IsTakeRefusal e = ⊥
 
--- why a session that was opened is broken off
+-- the refusals of a session after it was opened
 abbrev pub IsWalkRefusal : Refusal → Type 0
 IsWalkRefusal LinkLost = Unit {0}
 IsWalkRefusal Gone = Unit {0}
@@ -59,7 +59,7 @@ IsWalkRefusal e = ⊥
 abbrev pub IsOpening : ℕ → ℕ → Locked → Locked → Type 0
 IsOpening id partner before after = (offer : Offer) × (through (moved before) (open_session before.state partner offer) ≡ gives id after)
 
--- some records have one of that number that stands so, with so many nodes asked, and it is not open
+-- some records have one of that number in this state, with this number of nodes asked, and it is not open
 pub record IsEndIn (records : List Record) (id : ℕ) (state : SessionState) (asked : ℕ) : Type 0 where
   pub r : Record
   pub there : slice_get records id ≡ Some r

@@ -10,21 +10,21 @@ use std::alloc::Global;
 use std::sync::Wait;
 use vclock::Refusal;
 
-/// How many messages a channel holds.
+/// The capacity of a channel, in messages.
 const CAPACITY: usize = 16;
 
-/// What a link sends to its server.
+/// A request of a link to its server.
 #[derive(Drop)]
 enum Request {
-    /// Wants the newest offer.
+    /// A request for the newest offer.
     Offer,
-    /// Wants the answer to the ask of these bytes.
+    /// A request for the answer to the ask of these bytes.
     Ask(Vec<u8>),
-    /// Wants nothing more.
+    /// The end of the requests.
     Stop,
 }
 
-/// A link over channels, in any thread. It fails if its server does, or has ended.
+/// A link over channels, in any thread. It fails if its server fails or has ended.
 ///
 /// ```
 /// let (mut link, server) = channel_link(alloc)?;
@@ -44,7 +44,7 @@ pub struct ChannelLink {
     failures: u64,
 }
 
-/// What answers the asks of a link over channels, in a thread of its own.
+/// A server that answers the asks of a link over channels, in another thread.
 #[derive(Drop)]
 pub struct ChannelServer {
     alloc: Global,
@@ -52,7 +52,7 @@ pub struct ChannelServer {
     replies: Sender<Reply>,
 }
 
-/// A link that hasn't failed, and its server. Refused: NoMemory.
+/// Makes a link that hasn't failed, and its server. Refused: NoMemory.
 pub fn channel_link(alloc: Global) -> Result<(ChannelLink, ChannelServer), Refusal>
     ensures fresh { IfOk result (λ ends. ends.0.failures ≡ 0) }
     ensures refusal { IfErr result (λ e. e ≡ Refusal.NoMemory) }
@@ -74,13 +74,13 @@ pub fn channel_link(alloc: Global) -> Result<(ChannelLink, ChannelServer), Refus
 }
 
 impl ChannelLink {
-    /// Tells the server to end.
+    /// Stops the server.
     pub fn stop<R: Wait>(self, rt: &R) {
-        // A server that has ended already needs no telling.
+        // A server that has ended already needs no request.
         let _ = self.requests.send(rt, Request::Stop);
     }
 
-    /// What the server replies to a request.
+    /// Sends a request to the server, and returns its reply.
     fn call<R: Wait>(&mut self, rt: &R, request: Request) -> Reached
         ensures { IsCounted self.old.failures self.new.failures result }
     {
@@ -114,7 +114,7 @@ impl Link for ChannelLink {
 }
 
 impl ChannelServer {
-    /// Answers from a pool of offers until the link tells it to stop, or is dropped.
+    /// Answers from a pool of offers until the link stops the server, or is dropped.
     pub fn run<R: Wait>(&self, rt: &R, pool: &OfferPool) {
         for _ in rt.forever() {
             let reply = match self.requests.recv(rt) {

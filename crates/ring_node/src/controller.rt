@@ -10,20 +10,20 @@ use std::sync::ledger::Ledger;
 use std::sync::{Mutex, Wait};
 use vclock::Refusal;
 
-/// How many slots there were at one moment.
+/// The counts of slots at one moment.
 #[derive(Clone, Copy, Debug, PartialEq, Eq)]
 pub struct Counts {
-    /// How many were lent, 0 to 1,024.
+    /// The number of slots that were lent, 0 to 1,024.
     pub lent: u32,
-    /// How many more could be lent.
+    /// The number of slots that could be lent.
     pub free: u32,
-    /// How many were lent or could be.
+    /// The number of slots that were lent or could be.
     pub allowance: u32,
 }
 
-/// A controller of slots, that threads share: a [`Controller`] in a lock.
+/// A controller of slots that threads share: a [`Controller`] in a lock.
 ///
-/// A slot can't be dropped, and is part of one controller's ledger. So a program that doesn't give a slot back to the
+/// A slot can't be dropped, and is part of one controller's ledger. So a program that doesn't return a slot to the
 /// controller that lent it doesn't compile.
 ///
 /// ```
@@ -37,16 +37,16 @@ pub struct SharedController<L: Ledger> {
 }
 
 impl<L: Ledger> SharedController<L> {
-    /// A controller, to be shared. It takes no memory.
+    /// Makes a shared controller. Doesn't allocate.
     pub fn new(controller: Controller<L>) -> SharedController<L> {
         SharedController {
             controller: Mutex::new(controller),
         }
     }
 
-    /// Lends a slot, as [`Controller::lend`]. It takes no memory.
+    /// Lends a slot, as [`Controller::lend`] does. Doesn't allocate.
     ///
-    /// Refused: NoSlot (as many slots as the target, or more, are lent).
+    /// Refused: NoSlot (the number of lent slots is the target or more).
     pub fn lend<R: Wait>(&self, rt: &R) -> Result<Slot<L>, Refusal>
         ensures { ChangedAtSomeMoment IsAdmission (λ before after. ChangesAtOnce result before after (lend before)) }
     {
@@ -55,15 +55,15 @@ impl<L: Ledger> SharedController<L> {
         controller.lend()
     }
 
-    /// Takes a slot back. It takes no memory.
+    /// Takes a slot back. Doesn't allocate.
     pub fn give_back<R: Wait>(&self, rt: &R, slot: Slot<L>) {
         self.controller.lock(rt).give_back(slot);
     }
 
-    /// Keeps the latency of a foreground call, in microseconds, with its moment in milliseconds, and returns how many
-    /// samples are kept, 1 to 1,024, as [`Controller::sample`]. It takes no memory.
+    /// Keeps the latency of a foreground call, in microseconds, with its moment in milliseconds, and returns the number
+    /// of samples that are kept, 1 to 1,024, as [`Controller::sample`] does. Doesn't allocate.
     ///
-    /// Refused: ClockBack (a later moment was accepted before). Nothing is then kept.
+    /// Refused: ClockBack (a later moment was accepted before). On error the sample isn't kept.
     pub fn sample<R: Wait>(&self, rt: &R, moment: u64, micros: u32) -> Result<u32, Refusal>
         ensures { ChangedAtSomeMoment IsAdmission
             (λ before after. DoesAtOnce result before after (sample before moment micros)) }
@@ -74,9 +74,9 @@ impl<L: Ledger> SharedController<L> {
     }
 
     /// Sets the target by the samples of the last 60,000 milliseconds, and returns their 99th percentile in
-    /// microseconds, as [`Controller::adjust`]. It takes no memory.
+    /// microseconds, as [`Controller::adjust`] does. Doesn't allocate.
     ///
-    /// Refused: ClockBack (a later moment was accepted before). Nothing then changes.
+    /// Refused: ClockBack (a later moment was accepted before). On error nothing changes.
     pub fn adjust<R: Wait>(&self, rt: &R, now: u64) -> Result<Option<u32>, Refusal>
         ensures { ChangedAtSomeMoment IsAdmission (λ before after. DoesAtOnce result before after (adjust before now)) }
     {
@@ -85,7 +85,7 @@ impl<L: Ledger> SharedController<L> {
         controller.adjust(now)
     }
 
-    /// How many slots are lent, how many are free, and their sum, all at one moment. It takes no memory.
+    /// Returns the number of lent slots, that of free slots, and their sum, all at one moment. Doesn't allocate.
     pub fn counts<R: Wait>(&self, rt: &R) -> Counts
         ensures sum { result.lent + result.free ≡ result.allowance }
         ensures moment { FoundAtSomeMoment IsAdmission (λ state. AreCounts state result) }

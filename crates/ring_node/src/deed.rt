@@ -1,10 +1,10 @@
-//! What a scripted link does.
+//! The deeds of a scripted link.
 ghost use Rattle.std.specs.Prelude.{◌≡◌};
 ghost use Rattle.ring_node.specs.Deeds.{done_to, renumbered};
 
 use hash_tree::NodeAt;
 
-/// What a scripted link does in one call.
+/// The deed of a scripted link in one call.
 ///
 /// ```
 /// let deeds = [Deed::Pass, Deed::Change(BYTE_OF_THE_TEXT)];
@@ -12,26 +12,26 @@ use hash_tree::NodeAt;
 /// ```
 #[derive(Clone, Copy, Debug)]
 pub enum Deed {
-    /// Hands on what came.
+    /// Passes the message on.
     Pass,
     /// Raises the byte at that place by one, 255 to 0.
     Change(usize),
-    /// Keeps that many of the first bytes.
+    /// Keeps this number of bytes, from the front.
     Cut(usize),
-    /// Gives the message that offer number: each message has one in the same place.
+    /// Puts this number in the message's place for the number of an offer, which is the same in all messages.
     Renumber(u32),
-    /// Hands on what it handed on last: Lost if it has handed on nothing.
+    /// Passes the last message on again: Lost if no message was passed on before.
     Repeat,
-    /// Asks for that node in place of the one that is asked for.
+    /// Asks for this node in place of the requested one.
     Node(NodeAt),
     /// Loses the call: the partner isn't reached.
     Lost,
-    /// Says that the partner has no such offer: the partner isn't reached.
+    /// Returns Gone, as if the partner had no such offer: the partner isn't reached.
     Gone,
 }
 
 impl Deed {
-    /// Does it to the bytes of a message. It takes no memory.
+    /// Applies the deed to the bytes of a message. Doesn't allocate.
     pub(crate) fn work(self, bytes: &mut Vec<u8>)
         ensures { bytes.new.items ≡ done_to self bytes.old.items }
     {
@@ -48,7 +48,7 @@ impl Deed {
     }
 }
 
-/// Puts another number in the place of a message's offer, if there are as many bytes.
+/// Puts another number in the place of a message's offer, if the message is long enough.
 fn renumber(bytes: &mut [u8], number: u32)
     ensures { bytes.new ≡ renumbered bytes.old number }
 {

@@ -19,7 +19,7 @@ use std::sync::ledger::Ledger;
 use vclock::Refusal;
 use version_set::Version;
 
-/// What became of the hints of a delivery: how many were taken, known and left pending.
+/// The report of a delivery: the number of hints that were taken, known and left pending.
 ///
 /// ```
 /// let slot = slots.lend(rt)?;
@@ -30,16 +30,16 @@ use version_set::Version;
 /// ```
 #[derive(Clone, Copy, Debug, PartialEq, Eq)]
 pub struct DeliverReport {
-    /// How many versions the owner journaled.
+    /// The number of versions that the owner journaled.
     pub delivered: u64,
-    /// How many were known there.
+    /// The number of versions that the owner knew.
     pub known: u64,
-    /// How many hints the owner refused: they stay pending.
+    /// The number of hints that the owner refused: they stay pending.
     pub kept: u64,
 }
 
 impl DeliverReport {
-    /// The report with one answer more.
+    /// The report with the outcome of one more hint.
     fn with(self, answered: Answered) -> DeliverReport
         requires { self.delivered + self.known + self.kept < u64.MAX }
         ensures delivered { result.delivered ≡ self.delivered + count_of answered }
@@ -55,7 +55,7 @@ impl DeliverReport {
     }
 }
 
-/// What the owner of a hint did with it.
+/// The outcome of a hint at its owner.
 #[derive(Clone, Copy, Debug, PartialEq, Eq)]
 enum Answered {
     /// It journaled the version.
@@ -66,15 +66,15 @@ enum Answered {
     Refused,
 }
 
-/// Delivers the pending hints of an owner to its range, one in each turn, by rising id from 1, until no hint is left or
-/// the turns are used. The pass is told of what the owner journals.
+/// Delivers the pending hints of an owner to its range, one in each turn, by ascending id from 1, until no hint is left
+/// or the turns are used. The pass gets the receipts of the owner's entries.
 ///
-/// The owner is offered each version as a hint, and the hint is confirmed if it journals the version or knows it, even
-/// if somebody else confirmed it meanwhile. A hint that the owner refuses by another cause than NoMemory is kept: it
-/// stays pending, and is passed over. No two locks are held at once. The slot is the leave to do so.
+/// The owner is offered each version as a hint. The hint is confirmed if the owner journals the version or knows it,
+/// even if another caller confirmed it meanwhile. A hint that the owner refuses by a cause other than NoMemory stays
+/// pending, and is passed over. No two locks are held at once. The slot is the permission to deliver.
 ///
-/// Refused: Stranger (the owner isn't the range's node: then nothing is done), NoMemory. What was delivered until then
-/// stays so.
+/// Refused: Stranger (the owner isn't the range's node: then nothing is done), NoMemory. On error the deliveries made
+/// before stay.
 #[tactic(auto, using(crate::proofs::GainLaws::gains_none, crate::proofs::GainLaws::gains_more))]
 pub fn deliver<R: Wait, C: Ledger, L: Ledger>(
     rt: &R,
@@ -155,16 +155,16 @@ fn send<R: Wait, L: Ledger>(
     }
 }
 
-/// Confirms a hint that its owner has taken or known.
+/// Confirms a hint whose version its owner took or knew.
 fn confirm<R: Wait>(rt: &R, hints: &SharedHints, hint: Hint, answered: Answered) {
     let id = hint.id;
     if let Some(delivery) = delivery_of(hint, answered) {
-        // UnknownHint: somebody else confirmed the hint meanwhile. Its owner has the version all the same.
+        // UnknownHint: another caller confirmed the hint meanwhile. Its owner has the version anyway.
         let _ = hints.confirm(rt, id, delivery);
     }
 }
 
-/// The delivery of a hint to its owner, unless the owner refused it.
+/// Returns the delivery of a hint to its owner, unless the owner refused it.
 fn delivery_of(hint: Hint, answered: Answered) -> Option<Delivery>
     ensures { result ≡ option_map (delivery_by hint) (was_known answered) }
 {

@@ -1,4 +1,4 @@
-//! Gates, at which a test holds a worker.
+//! Gates, at which a test can hold a worker.
 ghost use Rattle.std.specs.Prelude.{◌≡◌};
 ghost use Rattle.ring_node.specs.Steps.{step_number};
 
@@ -18,7 +18,7 @@ pub enum Step {
 }
 
 impl Step {
-    /// The number of the step, from 1, in the order above.
+    /// Returns the number of the step, from 1, in the order above.
     pub fn number(self) -> u32
         ensures { result ≡ step_number self }
     {
@@ -31,13 +31,13 @@ impl Step {
     }
 }
 
-/// A gate that a worker passes between its steps, with no lock held. It may make the worker wait.
+/// A gate that a worker passes between its steps, holding no lock. It may make the worker wait.
 pub trait Gate {
     /// Passes the gate after a step. At [`Step::Round`], passes it before the round.
     fn pass<R: Wait>(&self, rt: &R, step: Step);
 }
 
-/// A gate that holds no worker: the one for production. Tests write their own, and decide by them how threads meet.
+/// A gate that holds no worker, for production. Tests write other gates, to decide how threads meet.
 #[derive(Clone, Copy, Debug, PartialEq, Eq)]
 pub struct OpenGate;
 

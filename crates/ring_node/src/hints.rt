@@ -11,7 +11,7 @@ use std::sync::{Mutex, Wait};
 use vclock::{Bytes, Refusal};
 use version_set::Version;
 
-/// The hints of a carrier, that threads share: a [`HintStore`] in a lock.
+/// The hints of a carrier that threads share: a [`HintStore`] in a lock.
 ///
 /// ```
 /// let key = Bytes::copy_of(alloc, key)?;
@@ -23,17 +23,17 @@ pub struct SharedHints {
 }
 
 impl SharedHints {
-    /// No hint. It takes no memory.
+    /// Makes a store without hints. Doesn't allocate.
     pub fn new(alloc: Global) -> SharedHints {
         SharedHints {
             hints: Mutex::new(HintStore::new(alloc)),
         }
     }
 
-    /// Keeps a version for a replica that is down, and gives the hint's id, as [`HintStore::keep`].
+    /// Keeps a version for a replica that is down, and returns the hint's id, as [`HintStore::keep`] does.
     ///
-    /// Refused, in order: HintsFull (10,000 hints are pending, or the last id was used), NoMemory. Nothing is then
-    /// kept.
+    /// Refused, in order: HintsFull (10,000 hints are pending, or the last id was used), NoMemory. On error the version
+    /// isn't kept.
     pub fn keep<R: Wait>(
         &self,
         rt: &R,
@@ -49,7 +49,7 @@ impl SharedHints {
         hints.keep(owner, key, version)
     }
 
-    /// A copy of the pending hint of an owner with the least id over `after`, as [`HintStore::next`].
+    /// Copies the pending hint of an owner with the least id over `after`, as [`HintStore::next`] does.
     ///
     /// Refused: NoMemory.
     pub fn next<R: Wait>(
@@ -68,9 +68,10 @@ impl SharedHints {
         hints.next(alloc, owner, after)
     }
 
-    /// Records that the owner of a hint took it or knew it, as [`HintStore::confirm`]. It takes no memory.
+    /// Records that the owner of a hint took it or knew it, as [`HintStore::confirm`] does. Doesn't allocate.
     ///
-    /// Refused: UnknownHint (no pending hint has this id with this owner, key and version). Nothing is then recorded.
+    /// Refused: UnknownHint (no pending hint has this id with this owner, key and version). On error nothing is
+    /// recorded.
     pub fn confirm<R: Wait>(&self, rt: &R, id: u32, delivery: Delivery) -> Result<(), Refusal>
         ensures { ChangedAtSomeMoment AreHints
             (λ before after. DoesAtOnce result before after (confirm before id delivery)) }

@@ -1,9 +1,23 @@
-//! What the threads of a node share: its hints, the controller of its slots, and the ranges of which it is a replica.
+//! The parts of a node that its threads share: its hints, the controller of its slots, the ranges that it replicates,
+//! and the offers of its snapshots. Use it to write a node in which puts, rehashing, syncs and deliveries run in
+//! different threads.
 //!
-//! Each of these is a lock round a value that is proved. A call takes the lock once, for one call of the value, and
-//! lets it go. So threads see whole calls alone, in some order, and what the types of the values promise holds of
-//! running threads. Nothing outside can name the value behind a lock. So a contract says what the call returned, and
-//! that at some moment there was a right value of which it is the outcome.
+//! Each shared part is a lock around a proved value. A call takes the lock once, for one call of the value, and
+//! releases it. So threads see only whole calls, in some order, and the invariants of the values' types hold for
+//! running threads. No code outside can name the value behind a lock. So a contract says what the call returned, and
+//! that at some moment there was a right value with this outcome.
+//!
+//! - [`range`], [`hints`], [`controller`], [`offers`]: the shared parts.
+//! - [`rehasher`], [`syncer`], [`delivery`]: background work, in turns.
+//! - [`link`]: the trait of a link to a partner. [`channel`], [`memory`]: links over channels, and to a pool in the
+//!   same memory.
+//! - [`gate`], [`scripted_link`], [`deed`]: gates and links for tests.
+//!
+//! ```
+//! let slot = slots.lend(rt)?;
+//! let report = range.rehash_worker(rt, alloc, &slot, &OpenGate, worker, REHASH_TURNS);
+//! slots.give_back(rt, slot);
+//! ```
 #![tactic(auto)]
 
 pub mod channel;

@@ -1,24 +1,24 @@
-//! Links: how a node reaches a partner.
+//! Links, over which a node reaches a partner.
 ghost use Rattle.std.specs.Prelude.{◌≡◌, ℕ};
 ghost use Rattle.ring_node.specs.Links.{IsCounted};
 
 use std::sync::Wait;
 
-/// What came over a link.
+/// The outcome of a call over a link.
 #[derive(Debug, Drop)]
 pub enum Reached {
-    /// The bytes of a message, or whatever the link made of them.
+    /// The bytes of a message, or anything else that the link made of them.
     Bytes(Vec<u8>),
     /// Nothing: the link failed.
     Lost,
-    /// Nothing: the partner has no such offer.
+    /// Nothing: the partner doesn't have the offer.
     Gone,
 }
 
-/// A way to a partner, which isn't trusted: it may fail, and its bytes may be anything. A store implements it over its
-/// own network.
+/// A way to a partner. It isn't trusted: it may fail, and its bytes may be anything. A store implements it over its
+/// network.
 ///
-/// It counts its failures. A call is Lost exactly if that count rises. At 2^64 - 1 a link returns Gone in place of
+/// It counts its failures. A call is Lost if and only if that count rises. At 2^64 - 1 a link returns Gone in place of
 /// Lost.
 ///
 /// ```
@@ -28,15 +28,15 @@ pub enum Reached {
 pub trait Link {
     ghost failed: { Self → ℕ };
 
-    /// How often the link failed.
+    /// The number of failures of the link.
     fn failures(&self) -> u64
         ensures { result ≡ failed self.now };
 
-    /// The message of the partner's newest offer.
+    /// Fetches the message of the partner's newest offer.
     fn offer<R: Wait>(&mut self, rt: &R) -> Reached
         ensures { IsCounted (failed self.old) (failed self.new) result };
 
-    /// The message that answers an ask, which is sent as the bytes of its message.
+    /// Fetches the message that answers an ask, which is sent as the bytes of its message.
     fn ask<R: Wait>(&mut self, rt: &R, message: &[u8]) -> Reached
         ensures { IsCounted (failed self.old) (failed self.new) result };
 }

@@ -6,7 +6,7 @@ use crate::offers::OfferPool;
 use std::alloc::Global;
 use std::sync::Wait;
 
-/// A link to a pool of offers in the same memory. It fails if its pool refuses a message by another cause than Gone.
+/// A link to a pool of offers in the same memory. It fails if its pool refuses a message by a cause other than Gone.
 ///
 /// ```
 /// let link = MemoryLink::new(alloc, &partner.offers);
@@ -21,7 +21,7 @@ pub struct MemoryLink<'a> {
 }
 
 impl<'a> MemoryLink<'a> {
-    /// A link to a pool, which hasn't failed. It takes no memory.
+    /// Makes a link to a pool, which hasn't failed. Doesn't allocate.
     pub fn new(alloc: Global, pool: &'a OfferPool) -> MemoryLink<'a>
         ensures { result.failures ≡ 0 }
     {

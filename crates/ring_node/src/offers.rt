@@ -1,4 +1,4 @@
-//! Offers: what a node publishes of its snapshots.
+//! Offers of a node's snapshots.
 ghost use Rattle.std.specs.Prelude.{◌≡◌, ◌⊎◌, ◌==◌, IfOk, IfErr, MatchOption, find};
 ghost use Rattle.std.specs.Option.{option_copied};
 ghost use Rattle.std.specs.Arc.{arc_value};
@@ -52,7 +52,7 @@ impl Model for Offers {
 }
 
 impl Offers {
-    /// Nothing that was published. It takes no memory.
+    /// Makes an empty list of offers. Doesn't allocate.
     fn new(alloc: Global) -> Offers
         ensures { result ≡ unpublished }
     {
@@ -62,9 +62,9 @@ impl Offers {
         }
     }
 
-    /// Keeps a snapshot, and returns its offer. If no more can be kept, the oldest goes to `oldest`.
+    /// Keeps a snapshot, and returns its offer. If 16 are kept already, the oldest goes to `oldest`.
     ///
-    /// Refused, in order: SessionsFull, NoMemory. Nothing is then kept.
+    /// Refused, in order: SessionsFull, NoMemory. On error the snapshot isn't kept.
     fn publish(
         &mut self,
         snapshot: Arc<Snapshot, Global>,
@@ -87,7 +87,7 @@ impl Offers {
         Ok(offer)
     }
 
-    /// The newest offer, if there is one.
+    /// The newest offer, if any.
     fn latest(&self) -> Option<Offer>
         ensures newest { result ≡ latest self.now }
         ensures valid { AreOffers self.now }
@@ -96,7 +96,8 @@ impl Offers {
         Some(published.snapshot.offer(published.number))
     }
 
-    /// The snapshot that has the text of an ask, with one owner more. Refused, in order: Gone, BadMessage, NoMemory.
+    /// Finds the snapshot that has the text of an ask, and makes one more owner of it. Refused, in order: Gone,
+    /// BadMessage, NoMemory.
     fn find(&self, ask: Ask) -> Result<Arc<Snapshot, Global>, Refusal>
         ensures { Answers result (serve_fault self.now ask)
             (λ snapshot. MatchOption (kept_under self.now ask.offer) ⊥ (λ p. p.rows ≡ arc_value snapshot)) }
@@ -111,7 +112,7 @@ impl Offers {
     }
 }
 
-/// What is kept under a number, if it is kept.
+/// Returns the snapshot under a number, if it is kept.
 fn published_as(kept: &[Published], number: u32) -> Option<&Published>
     ensures { option_copied result ≡ find (λ (p : Offered). p.number == number) kept.now }
 {
@@ -123,8 +124,8 @@ fn published_as(kept: &[Published], number: u32) -> Option<&Published>
     None
 }
 
-/// The offers that a node makes of its snapshots, which threads share. Offers are numbered from 1. The last 16 are kept,
-/// with their snapshots: the paper of 2007, section 4.7.
+/// The offers that a node makes of its snapshots, which threads share (the paper of 2007, section 4.7). Offers are
+/// numbered from 1. The last 16 are kept, with their snapshots.
 ///
 /// ```
 /// rehash(rt, alloc, slots, &self.range, 0)?;
@@ -137,7 +138,7 @@ pub struct OfferPool {
 }
 
 impl OfferPool {
-    /// A pool without offers. It takes no memory.
+    /// Makes a pool without offers. Doesn't allocate.
     pub fn new(alloc: Global) -> OfferPool {
         OfferPool {
             offers: Mutex::new(Offers::new(alloc)),
@@ -146,7 +147,8 @@ impl OfferPool {
 
     /// Publishes a snapshot, and returns its offer. From the 17th on the oldest offer is dropped.
     ///
-    /// Refused, in order: SessionsFull (the last number, 2^32 - 1, was used), NoMemory. Nothing is then published.
+    /// Refused, in order: SessionsFull (the last number, 2^32 - 1, was used), NoMemory. On error the snapshot isn't
+    /// published.
     pub fn publish<R: Wait>(
         &self,
         rt: &R,
@@ -167,16 +169,16 @@ impl OfferPool {
         offers.publish(snapshot, &mut oldest)
     }
 
-    /// The newest offer, if there is one. It takes no memory.
+    /// The newest offer, if any. Doesn't allocate.
     pub fn latest<R: Wait>(&self, rt: &R) -> Option<Offer>
         ensures { FoundAtSomeMoment AreOffers (λ offers. result ≡ latest offers) }
     {
         self.offers.lock(rt).latest()
     }
 
-    /// The answer to an ask: the text of its node in the tree that was offered.
+    /// Answers an ask: with the text of its node in the tree that was offered.
     ///
-    /// Refused, in order: Gone (the offer is not kept), BadMessage (its tree has no such node), NoMemory.
+    /// Refused, in order: Gone (the offer isn't kept), BadMessage (its tree has no such node), NoMemory.
     pub fn serve<R: Wait>(&self, rt: &R, alloc: Global, ask: Ask) -> Result<Answer, Refusal>
         ensures asked { IfOk result (λ answer. (answer.offer ≡ ask.offer) × (answer.node ≡ ask.node)) }
         ensures refusal { IfErr result
@@ -193,7 +195,8 @@ impl OfferPool {
         })
     }
 
-    /// The snapshot that has the text of an ask, with one owner more. Refused, in order: Gone, BadMessage, NoMemory.
+    /// Finds the snapshot that has the text of an ask, and makes one more owner of it. Refused, in order: Gone,
+    /// BadMessage, NoMemory.
     fn find<R: Wait>(&self, rt: &R, ask: Ask) -> Result<Arc<Snapshot, Global>, Refusal>
         ensures { FoundAtSomeMoment AreOffers (λ offers. Answers result (serve_fault offers ask)
             (λ snapshot. MatchOption (kept_under offers ask.offer) ⊥ (λ p. p.rows ≡ arc_value snapshot))) }

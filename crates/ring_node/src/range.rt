@@ -23,10 +23,10 @@ use std::sync::{Arc, Mutex, Wait};
 use vclock::{Bytes, Clock, Refusal};
 use version_set::{Kind, Version, VersionSet};
 
-/// A range of which a node is a replica, that threads share: a [`LockedRange`] in a lock.
+/// A node's replica of a range, that threads share: a [`LockedRange`] in a lock.
 ///
-/// Contracts see the node. A caller has a pass of the range's own ledger, so a pass of another range doesn't compile
-/// here. No call holds two locks, and none hashes, encodes or waits for anything while it holds one.
+/// Contracts see the node. A caller has a pass of the range's ledger, so a pass of another range doesn't compile here.
+/// No call holds two locks, and none hashes, encodes or waits for anything while it holds one.
 ///
 /// ```
 /// let value = Bytes::copy_of(alloc, value)?;
@@ -48,7 +48,7 @@ impl<L: Ledger> Model for SharedRange<L> {
     ghost view = { λ s. s.node };
 }
 
-/// A range that was not closed, with the cause and all that was handed in, so nothing is lost.
+/// A range that wasn't closed, with its passes and the cause, so nothing is lost.
 ///
 /// ```
 /// match self.range.close(alloc, passes) {
@@ -62,13 +62,13 @@ pub struct NotClosed<L: Ledger> {
     pub range: SharedRange<L>,
     /// The passes.
     pub passes: Vec<Pass<L>>,
-    /// Why: Stranger, Unsettled or NoMemory.
+    /// The cause: Stranger, Unsettled or NoMemory.
     pub refusal: Refusal,
 }
 
 impl<L: Ledger> SharedRange<L> {
-    /// A range that has accepted nothing, of a node, 1 to 65,535, with a book that has counted nothing. It takes no
-    /// memory.
+    /// Makes the shared range of a node, 1 to 65,535, with a state that has accepted nothing and a book that has
+    /// counted nothing. Doesn't allocate.
     pub fn new(node: u16, state: RangeState, book: Book<L>) -> SharedRange<L>
         requires node { 1 ≤ node }
         requires empty { state.entries ≡ [] }
@@ -87,11 +87,11 @@ impl<L: Ledger> SharedRange<L> {
         self.node
     }
 
-    /// Puts a value at the range's node, or a tombstone, as [`LockedRange::put`]. The pass is told of the entry.
+    /// Puts a value at the range's node, or a tombstone, as [`LockedRange::put`] does. The pass gets the receipt.
     ///
-    /// Refused as [`LockedRange::put`], in order: BadKey, BadValue (of the range's format), OtherRange, ClockFull,
-    /// CounterFull, StaleContext (with the clocks that are held), Crowded, JournalFull, NoMemory. Range and pass are
-    /// then as they were. From StaleContext on NoMemory may stand in place of the cause.
+    /// Refused as [`LockedRange::put`] is, in order: BadKey, BadValue (of the range's format), OtherRange, ClockFull,
+    /// CounterFull, StaleContext (with the clocks that are held), Crowded, JournalFull, NoMemory. On error range and
+    /// pass are unchanged. NoMemory may replace a cause from StaleContext on.
     pub fn put<R: Wait>(
         &self,
         rt: &R,
@@ -119,11 +119,11 @@ impl<L: Ledger> SharedRange<L> {
         range.put(alloc, pass, node, key, context, kind, value)
     }
 
-    /// Takes in a version that another node sent, as a copy or as a hint, as [`LockedRange::accept`]. The pass is told
-    /// of the entry if the version was not known.
+    /// Accepts a version that another node sent, as a copy or as a hint, as [`LockedRange::accept`] does. The pass gets
+    /// the receipt if the version wasn't known.
     ///
-    /// Refused as [`LockedRange::accept`], in order: BadKey, BadValue (of the range's format), OtherRange, Crowded,
-    /// JournalFull, NoMemory. Range and pass are then as they were.
+    /// Refused as [`LockedRange::accept`] is, in order: BadKey, BadValue (of the range's format), OtherRange, Crowded,
+    /// JournalFull, NoMemory. On error range and pass are unchanged.
     pub fn copy<R: Wait>(
         &self,
         rt: &R,
@@ -147,12 +147,12 @@ impl<L: Ledger> SharedRange<L> {
         range.accept(alloc, pass, source, key, version)
     }
 
-    /// The versions that are held for a key, in the order of their texts, as [`LockedRange::read`]: they cover each
-    /// receipt of the pass for the key. The pass keeps them as a reading.
+    /// Copies the versions that are held for a key, in the order of their texts, as [`LockedRange::read`] does: they
+    /// cover each receipt of the pass for the key. The pass keeps them as a reading.
     ///
-    /// Refused, in order: Behind (the journal is shorter than what the pass has seen; or what is held does not cover a
-    /// receipt of the pass for the key: then with the number of the first such receipt), NoMemory. The pass is then as
-    /// it was. Only a read of this range makes the refusal.
+    /// Refused, in order: Behind (the journal is shorter than the part that the pass has seen; or the held versions
+    /// don't cover a receipt of the pass for the key: then with the number of the first such receipt), NoMemory. On
+    /// error the pass is unchanged. Only a read of this range makes the refusal.
     pub fn get<R: Wait>(
         &self,
         rt: &R,
@@ -175,7 +175,7 @@ impl<L: Ledger> SharedRange<L> {
         range.read(alloc, pass, key)
     }
 
-    /// The rows at one moment with the digests of their tree, as [`LockedRange::snapshot`].
+    /// Makes a snapshot of the rows at one moment with the digests of their tree, as [`LockedRange::snapshot`] does.
     ///
     /// Refused, in order: Dirty (some node of the tree has no digest), NoMemory.
     pub fn snapshot<R: Wait>(&self, rt: &R, alloc: Global) -> Result<Arc<Snapshot, Global>, Refusal>
@@ -189,9 +189,9 @@ impl<L: Ledger> SharedRange<L> {
         range.snapshot(alloc)
     }
 
-    /// Takes the range over to format 2, as [`LockedRange::migrate`]: the journal stays, open sessions are cancelled, and
-    /// all nodes are dirty. The lock is held for as long as the journal is replayed. Refused: NoMemory. The range is then
-    /// as it was.
+    /// Migrates the range to format 2, as [`LockedRange::migrate`] does: the journal is unchanged, open sessions are
+    /// cancelled, and all nodes are dirty. The lock is held while the journal is replayed. Refused: NoMemory. On error
+    /// the range is unchanged.
     pub fn migrate<R: Wait>(&self, rt: &R, alloc: Global) -> Result<(), Refusal>
         ensures refusal { IfErr result (λ e. e ≡ Refusal.NoMemory) }
         ensures moment { ChangedAtSomeMoment (IsLocked L.parts) (λ before after.
@@ -203,10 +203,10 @@ impl<L: Ledger> SharedRange<L> {
         range.migrate(alloc)
     }
 
-    /// Closes the range, if each of its seats has a pass and each pass was told what the journal has, as
-    /// [`LockedRange::close`]. It takes no lock, since nobody else has the range any more.
+    /// Closes the range, if each of its seats has a pass and each pass agrees with the journal, as
+    /// [`LockedRange::close`] does. Takes no lock, since no other thread has the range any more.
     ///
-    /// Refused as [`LockedRange::close`]: Stranger, Unsettled, NoMemory. Range and passes are then handed back.
+    /// Refused as [`LockedRange::close`] is: Stranger, Unsettled, NoMemory. On error range and passes are returned.
     pub fn close(self, alloc: Global, passes: Vec<Pass<L>>) -> Result<Closed<L>, NotClosed<L>>
         ensures back { IfOk result (λ closed. closed.passes.items ≡ passes.items) }
         ensures there { OnOk result (AllThere L.parts passes.items) }
@@ -228,7 +228,7 @@ impl<L: Ledger> SharedRange<L> {
     }
 }
 
-/// A range that was not closed, with its node.
+/// Adds its node to a range that wasn't closed.
 fn not_closed<L: Ledger>(node: u16, unclosed: Unclosed<L>) -> NotClosed<L>
     requires { 1 ≤ node }
     ensures range { result.range ≡ node }

@@ -15,26 +15,26 @@ use std::sync::Wait;
 use std::sync::ledger::Ledger;
 use vclock::Refusal;
 
-/// What a rehash worker did.
+/// The report of a rehash worker.
 #[derive(Clone, Copy, Debug, PartialEq, Eq)]
 pub struct RehashReport {
-    /// How many digests it installed.
+    /// The number of digests that it installed.
     pub installed: u64,
-    /// How many digests were too late: the node had another text by then, or a child of it was dirty.
+    /// The number of digests that were too late: by then the node had another text, or a child of it was dirty.
     pub stale: u64,
-    /// Whether it ended because no node was dirty.
+    /// True if it ended because no node was dirty.
     pub clean: bool,
 }
 
 impl<L: Ledger> SharedRange<L> {
-    /// Hashes dirty nodes, one in each turn, until a job is asked for and no node is dirty, which uses a turn as well,
-    /// or until the turns are used. `skip` is as in [`LockedRange::take_job`], so that workers take different nodes.
+    /// Hashes dirty nodes, one in each turn, until it finds no dirty node, which uses a turn too, or until the turns
+    /// are used. `skip` is as in [`LockedRange::take_job`], so that workers take different nodes.
     ///
-    /// A node's text is written and hashed with no lock held, so puts go on meanwhile. A digest that comes too late is
+    /// A node's text is written and hashed with no lock held, so puts go on meanwhile. A digest that is too late is
     /// counted, and its node is hashed again in a later turn. The worker passes the gate after it took a job
     /// ([`Step::Taken`]) and after it hashed the text ([`Step::Hashed`]), with no lock held.
     ///
-    /// Refused: NoMemory. What was installed until then stays.
+    /// Refused: NoMemory. On error the digests installed before stay.
     pub fn rehash_worker<R: Wait, C: Ledger, G: Gate>(
         &self,
         rt: &R,
@@ -68,7 +68,7 @@ impl<L: Ledger> SharedRange<L> {
         Ok(report)
     }
 
-    /// A job for a dirty node with clean children, or `None` if no node is dirty.
+    /// Returns a job for a dirty node with clean children, or `None` if no node is dirty.
     fn take_job<R: Wait>(&self, rt: &R, alloc: Global, skip: u64) -> Result<Option<Job>, Refusal>
         ensures refusal { IfErr result (λ e. e ≡ Refusal.NoMemory) }
         ensures moment { FoundAtSomeMoment (IsLocked L.parts) (λ locked. IfOk result (GivesJob locked.state)) }
@@ -79,7 +79,7 @@ impl<L: Ledger> SharedRange<L> {
         range.take_job(alloc, skip)
     }
 
-    /// Hashes the text of a job, and installs its digest unless it is too late: whether it was installed.
+    /// Hashes the text of a job, and installs its digest. Returns false if it was too late.
     fn hash<R: Wait, G: Gate>(&self, rt: &R, gate: &G, job: Job) -> bool {
         gate.pass(rt, Step::Taken);
         let node = job.node();

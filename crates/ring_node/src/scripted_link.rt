@@ -1,4 +1,4 @@
-//! Links that follow a script, to try what a link can do.
+//! Links that follow a script, for tests of what a link can do.
 ghost use Rattle.std.specs.Prelude.{◌≡◌};
 ghost use Rattle.ring_node.specs.Links.{IsCounted};
 
@@ -10,9 +10,9 @@ use std::sync::Wait;
 use vclock::Refusal;
 use walk_messages::{Ask, Message, decode, encode};
 
-/// A link round another one that does, call by call, what a list of deeds says. After the list it hands on what comes.
+/// A link around another one that does one deed of a list in each call. After the list it passes each message on.
 ///
-/// It fails if a deed or the other link does, or if there is no memory. Its count is its own.
+/// It fails if a deed or the other link fails, or if there is no memory. It counts its failures itself.
 ///
 /// ```
 /// let deeds = Vec::from_slice(alloc, deeds)?;
@@ -30,7 +30,7 @@ pub struct ScriptedLink<K: Link> {
 }
 
 impl<K: Link> ScriptedLink<K> {
-    /// A link that follows the deeds, and hasn't failed. It takes no memory.
+    /// Makes a link that follows the deeds, and hasn't failed. Doesn't allocate.
     pub fn new(alloc: Global, link: K, deeds: Vec<Deed>) -> ScriptedLink<K>
         ensures fresh { (result.next ≡ 0) × (result.failures ≡ 0) }
         ensures given { (result.link ≡ link) × (result.deeds ≡ deeds) }
@@ -45,7 +45,7 @@ impl<K: Link> ScriptedLink<K> {
         }
     }
 
-    /// The deed of this call.
+    /// Returns the deed of this call.
     fn deed(&mut self) -> Deed
         ensures { self.new.failures ≡ self.old.failures }
     {
@@ -58,7 +58,7 @@ impl<K: Link> ScriptedLink<K> {
         }
     }
 
-    /// Does a deed to what came from the other link, and hands it on.
+    /// Applies a deed to the outcome of the other link, and passes it on.
     fn hand_on(&mut self, deed: Deed, reached: Reached) -> Reached
         ensures { IsCounted self.old.failures self.new.failures result }
     {
@@ -77,7 +77,7 @@ impl<K: Link> ScriptedLink<K> {
         }
     }
 
-    /// Hands on what it handed on last.
+    /// Passes the last message on again.
     fn repeat(&mut self) -> Reached
         ensures { IsCounted self.old.failures self.new.failures result }
     {
@@ -130,8 +130,8 @@ impl<K: Link> Link for ScriptedLink<K> {
     }
 }
 
-/// The message of an ask, for another node. Refused, in order: BadMessage (the bytes are no message of an ask),
-/// NoMemory.
+/// Makes the message of an ask for another node. Refused, in order: BadMessage (the bytes aren't the message of an
+/// ask), NoMemory.
 fn ask_for(alloc: Global, message: &[u8], node: NodeAt) -> Result<Vec<u8>, Refusal> {
     match decode(alloc, message)? {
         Message::Ask(ask) => encode(

@@ -1,4 +1,4 @@
-//! How a pool of offers replies to messages.
+//! The replies of a pool of offers to messages.
 ghost use Rattle.ring_node.specs.Links.{IsCounted};
 ghost use Rattle.ring_node.specs.Replies.{RepliesOffer, RepliesAsk, IsEncoded};
 
@@ -9,19 +9,19 @@ use std::sync::Wait;
 use vclock::Refusal;
 use walk_messages::{Message, decode, encode};
 
-/// What a pool replies.
+/// The reply of a pool.
 #[derive(Debug, Drop)]
 pub(crate) enum Reply {
     /// The bytes of a message.
     Bytes(Vec<u8>),
-    /// There is no such offer.
+    /// The pool doesn't have the offer.
     Gone,
-    /// The bytes are no ask, or the tree has no such node, or there is no memory.
+    /// The bytes aren't an ask, or the tree has no such node, or there is no memory.
     Refused,
 }
 
 impl Reply {
-    /// The reply as a link hands it on: a refused reply is a failure of the link.
+    /// Returns the reply as a link passes it on: a refused reply is a failure of the link.
     pub(crate) fn over(self, failures: &mut u64) -> Reached
         ensures { IsCounted failures.old failures.new result }
     {
@@ -34,7 +34,7 @@ impl Reply {
 }
 
 impl OfferPool {
-    /// The message of the newest offer.
+    /// Replies with the message of the newest offer.
     pub(crate) fn reply_with_offer<R: Wait>(&self, rt: &R, alloc: Global) -> Reply
         ensures { RepliesOffer result }
     {
@@ -44,7 +44,7 @@ impl OfferPool {
         }
     }
 
-    /// The message that answers an ask.
+    /// Replies with the message that answers an ask.
     pub(crate) fn reply_to<R: Wait>(&self, rt: &R, alloc: Global, message: &[u8]) -> Reply
         ensures { RepliesAsk message.now result }
     {
@@ -59,7 +59,7 @@ impl OfferPool {
     }
 }
 
-/// The bytes of a message.
+/// Encodes a message.
 fn encoded(alloc: Global, message: Message) -> Reply
     ensures { IsEncoded message result }
 {

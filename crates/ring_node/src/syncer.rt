@@ -1,4 +1,4 @@
-//! Workers that take what a partner has and a range lacks.
+//! Workers that fetch the versions that a partner has and a range lacks.
 ghost use Rattle.std.specs.Prelude.{◌≡◌, ◌⊎◌, ◌+◌, ◌<◌, ◌≤◌, None, IfOk, IfErr, IfSome, OnErr, MatchOption, slice_get};
 ghost use Rattle.vclock.specs.Answer.{AnswersAtOnce};
 ghost use Rattle.vclock.specs.Outcome.{Does, through};
@@ -26,7 +26,7 @@ use sync_session::SessionState;
 use vclock::Refusal;
 use walk_messages::{Answer, Ask, Message, Offer, decode, encode};
 
-/// What a sync worker did.
+/// The report of a sync worker.
 ///
 /// ```
 /// let slot = slots.lend(rt)?;
@@ -37,19 +37,19 @@ use walk_messages::{Answer, Ask, Message, Offer, decode, encode};
 pub struct SyncReport {
     /// The number of the session among those of the range.
     pub id: u64,
-    /// How the session ended: Finished, Failed or Cancelled.
+    /// The state in which the session ended: Finished, Failed or Cancelled.
     pub state: SessionState,
-    /// How many nodes the session asked for.
+    /// The number of nodes that the session asked for.
     pub asked: u64,
-    /// How many versions were journaled: the pass got as many receipts.
+    /// The number of versions that were journaled, each with a receipt in the pass.
     pub accepted: u64,
-    /// How many versions were known.
+    /// The number of versions that were known.
     pub known: u64,
-    /// How many messages came that were no answer to an ask of the session, or not the true one.
+    /// The number of messages that weren't the true answer to an ask of the session.
     pub bad: u64,
 }
 
-/// What came of the turns of a session.
+/// Running totals of a session.
 #[derive(Clone, Copy, Debug, PartialEq, Eq)]
 struct Walk {
     known: u64,
@@ -57,8 +57,8 @@ struct Walk {
 }
 
 impl Walk {
-    /// The walk after what became of an answer: `None` if the session failed by it. Refused as the answer was, but that
-    /// NotAsked and WrongDigest make it a bad one.
+    /// The totals after the outcome of an answer: `None` if the session failed by it. Refused as the answer was, except
+    /// that NotAsked and WrongDigest count as a bad message.
     fn after(self, answered: Result<AnswerCounted, Refusal>) -> Result<Option<Walk>, Refusal>
         requires turns { self.bad < u64.MAX }
         requires refusal { IfErr answered IsTakeRefusal }
@@ -81,7 +81,7 @@ impl Walk {
     }
 }
 
-/// How a session ended.
+/// The end of a session.
 #[derive(Clone, Copy, Debug, PartialEq, Eq)]
 struct End {
     state: SessionState,
@@ -89,17 +89,18 @@ struct End {
 }
 
 impl<L: Ledger> SharedRange<L> {
-    /// Opens a session with the offer that a link to the partner gives, and asks for the first outstanding node in each
-    /// turn, until nothing is outstanding or the turns are used. The pass is told of what the range journals. A session
-    /// that is open at the end is cancelled. The slot is the leave to do so.
+    /// Opens a session with the offer of a link's partner, and asks for the first outstanding node in each turn, until
+    /// no node is outstanding or the turns are used. The pass gets the receipts of the new entries. A session that is
+    /// open at the end is cancelled. The slot is the permission to sync.
     ///
-    /// The partner isn't trusted. A message that is no answer, is of another offer, or is refused as NotAsked or
-    /// WrongDigest is counted as bad, and the node is asked for again; a text that has the right digest and can be no
-    /// node's has the session fail. The link is asked, and texts are hashed, with no lock held, so puts go on meanwhile.
+    /// The partner isn't trusted. A message that isn't an answer, is of another offer, or is refused as NotAsked or
+    /// WrongDigest counts as bad, and the node is asked for again. A text with the right digest that no node can have
+    /// makes the session fail. The link is asked, and texts are hashed, with no lock held, so puts go on meanwhile.
     ///
-    /// Refused, in order: LinkLost (the link failed), Gone (the partner has no such offer), BadMessage (no offer came),
-    /// OtherFormat, OtherRange, SessionsFull, Dirty (some node of the own tree has no digest), UnknownSession (no run
-    /// meets it), Crowded, JournalFull, NoMemory. What was taken until then stays, and the session is cancelled.
+    /// Refused, in order: LinkLost (the link failed), Gone (the partner doesn't have the offer), BadMessage (the
+    /// message isn't an offer), OtherFormat, OtherRange, SessionsFull, Dirty (some node of the local tree has no
+    /// digest), UnknownSession (no run meets it), Crowded, JournalFull, NoMemory. On error the versions accepted before
+    /// stay, and the session is cancelled.
     #[tactic(auto, using(crate::proofs::GainLaws::some_none, crate::proofs::GainLaws::some_same, crate::proofs::WalkLaws::gains_grow, crate::proofs::WalkLaws::gains_counted, crate::proofs::WalkLaws::open_keeps, crate::proofs::WalkLaws::session_opened))]
     pub fn sync_worker<R: Wait, C: Ledger, K: Link>(
         &self,
@@ -125,7 +126,7 @@ impl<L: Ledger> SharedRange<L> {
         let offer = reach_offer(rt, alloc, link)?;
         let id = self.open_session(rt, alloc, partner, offer)?;
         let walk = self.walk(rt, alloc, link, pass, id, offer.offer, turns);
-        // After a refusal too.
+        // After a refusal, too.
         let end = self.end_session(rt, id);
         let Walk { known, bad } = walk?;
         let End { state, asked } = end?;
@@ -139,7 +140,7 @@ impl<L: Ledger> SharedRange<L> {
         })
     }
 
-    /// Opens a session, as [`LockedRange::open_session`].
+    /// Opens a session, as [`LockedRange::open_session`] does.
     fn open_session<R: Wait>(
         &self,
         rt: &R,
@@ -157,7 +158,7 @@ impl<L: Ledger> SharedRange<L> {
         range.open_session(alloc, partner, offer)
     }
 
-    /// The turns of a session with an offer of that number.
+    /// Runs the turns of a session with an offer of that number.
     #[tactic(auto, using(crate::proofs::GainLaws::some_none, crate::proofs::WalkLaws::take_keeps))]
     fn walk<R: Wait, K: Link>(
         &self,
@@ -192,7 +193,7 @@ impl<L: Ledger> SharedRange<L> {
         Ok(walk)
     }
 
-    /// The first node that a session has outstanding, as [`LockedRange::outstanding`].
+    /// The first outstanding node of a session, as [`LockedRange::outstanding`] returns it.
     fn outstanding<R: Wait>(&self, rt: &R, id: u64) -> Result<Option<NodeAt>, Refusal>
         ensures refusal { IfErr result (λ e. e ≡ Refusal.UnknownSession) }
         ensures moment { FoundAtSomeMoment (IsLocked L.parts) (λ locked.
@@ -229,7 +230,7 @@ impl<L: Ledger> SharedRange<L> {
         range.take_answer(alloc, pass, id, answer.node, text)
     }
 
-    /// Ends a session if it is open, and tells how it ended. Refused: UnknownSession.
+    /// Ends a session if it is open, and returns how it ended. Refused: UnknownSession.
     fn end_session<R: Wait>(&self, rt: &R, id: u64) -> Result<End, Refusal>
         ensures end { IfOk result (λ end. FoundAtSomeMoment (IsLocked L.parts)
             (λ locked. IsEndIn locked.state.records id end.state end.asked)) }
@@ -248,7 +249,7 @@ impl<L: Ledger> SharedRange<L> {
     }
 }
 
-/// The offer that a link gives.
+/// Fetches the offer of a link's partner.
 fn reach_offer<R: Wait, K: Link>(rt: &R, alloc: Global, link: &mut K) -> Result<Offer, Refusal>
     ensures lost { IsLostExactly (K.failed link.old) (K.failed link.new) result }
     ensures refusal { IfErr result IsOfferRefusal }
@@ -260,7 +261,7 @@ fn reach_offer<R: Wait, K: Link>(rt: &R, alloc: Global, link: &mut K) -> Result<
     }
 }
 
-/// The answer that a link gives to an ask: `None` if what comes is no answer, or is of another offer.
+/// Fetches the answer to an ask: `None` if the message isn't an answer, or is of another offer.
 fn reach_answer<R: Wait, K: Link>(
     rt: &R,
     alloc: Global,
@@ -279,7 +280,7 @@ fn reach_answer<R: Wait, K: Link>(
     }
 }
 
-/// The offer whose message has these bytes. Refused, in order: BadMessage, NoMemory.
+/// Reads the offer whose message has these bytes. Refused, in order: BadMessage, NoMemory.
 fn offer_in(alloc: Global, bytes: &[u8]) -> Result<Offer, Refusal>
     ensures { IfErr result (λ e. (e ≡ Refusal.BadMessage) ⊎ (e ≡ Refusal.NoMemory)) }
 {
@@ -289,7 +290,7 @@ fn offer_in(alloc: Global, bytes: &[u8]) -> Result<Offer, Refusal>
     }
 }
 
-/// The answer to an ask of that offer, if the bytes are the message of one. Refused: NoMemory.
+/// Reads the answer to an ask of that offer, if the bytes are the message of one. Refused: NoMemory.
 fn answer_in(alloc: Global, bytes: &[u8], offer: u32) -> Result<Option<Answer>, Refusal>
     ensures offer { IfOk result (λ found. IfSome found (λ answer. answer.offer ≡ offer)) }
     ensures refusal { IfErr result (λ e. e ≡ Refusal.NoMemory) }

@@ -1,6 +1,8 @@
-//! A storm: two nodes that write, rehash, and sync with each other, each in threads of its own.
+//! A storm: a stress test of two nodes that write, rehash, and sync with each other, with a thread for each of these.
+//! Use it to see that background work goes on while writes do, and that both nodes agree in the end.
 //!
-//! It shows that background work goes on beside writes, and that both nodes agree in the end.
+//! - [`storm`]: the run of a storm, and its end.
+//! - [`tally`]: the progress of the threads.
 #![tactic(auto)]
 
 mod node;

@@ -15,7 +15,8 @@ use std::thread::Threads;
 use vclock::Refusal;
 use vclock::limits::ENTRIES_MAX;
 
-/// A node: its replica of the one range, the offers of its snapshots, what it has done, and the number of the other node.
+/// A node: its replica of the one range, the offers of its snapshots, the tally of its threads, and the number of the
+/// other node.
 pub(crate) struct Node<'a, L: Ledger> {
     pub(crate) range: SharedRange<L>,
     pub(crate) pool: OfferPool,
@@ -23,21 +24,21 @@ pub(crate) struct Node<'a, L: Ledger> {
     pub(crate) partner: u16,
 }
 
-/// The passes of a node: the first is its writer's, the second that of its sync worker.
+/// The passes of a node: one for its writer, and one for its sync worker.
 #[derive(Drop)]
 pub(crate) struct Passes<L: Ledger> {
     pub(crate) writer: Pass<L>,
     pub(crate) syncer: Pass<L>,
 }
 
-/// The link of a node to the other one, and the server at the end of the other one's link.
+/// The link of a node to the other one, and the server for the other one's link.
 #[derive(Drop)]
 pub(crate) struct Ends {
     pub(crate) link: ChannelLink,
     pub(crate) server: ChannelServer,
 }
 
-/// What the threads of both nodes share, and how much they do.
+/// The slots and the gate that the threads of both nodes share, and the number of puts of each writer.
 #[derive(Drop)]
 pub(crate) struct Plan<'a, C: Ledger, G: Gate> {
     pub(crate) slots: &'a SharedController<C>,
@@ -46,7 +47,7 @@ pub(crate) struct Plan<'a, C: Ledger, G: Gate> {
 }
 
 impl<'a, L: Ledger> Node<'a, L> {
-    /// A node that has accepted nothing, and its passes. Refused: NoMemory.
+    /// Makes a node that has accepted nothing, and its passes. Refused: NoMemory.
     pub(crate) fn open(
         alloc: Global,
         blank: Blank,
@@ -71,7 +72,7 @@ impl<'a, L: Ledger> Node<'a, L> {
         Ok((node, Passes { writer, syncer }))
     }
 
-    /// Closes the range: whether its passes were told what its journal has. Refused: NoMemory.
+    /// Closes the range. Returns true if its passes agree with its journal. Refused: NoMemory.
     pub(crate) fn close(self, alloc: Global, passes: Passes<L>) -> Result<bool, Refusal> {
         let passes = listed(alloc, passes)?;
         let Node {
@@ -102,7 +103,7 @@ impl<'a, L: Ledger> Drop for Node<'a, L> {
     }
 }
 
-/// The passes of a node as a list.
+/// Lists the passes of a node.
 fn listed<L: Ledger>(alloc: Global, passes: Passes<L>) -> Result<Vec<Pass<L>>, Refusal> {
     let mut list = Vec::with_capacity(alloc, 2)?;
     let Passes { writer, syncer } = passes;
@@ -111,11 +112,11 @@ fn listed<L: Ledger>(alloc: Global, passes: Passes<L>) -> Result<Vec<Pass<L>>, R
     Ok(list)
 }
 
-/// Runs the threads of a node until all have ended, and hands its passes back.
+/// Runs the threads of a node until all have ended, and returns its passes.
 ///
-/// Refused as the writer, the rehash worker and the sync worker are; NoMemory also if a thread can't be made. Then the
-/// others have ended too: what a thread would have had, its ends of channels among it, is dropped before they are
-/// waited for.
+/// Refused as the writer, the rehash worker and the sync worker are; also NoMemory, if a thread can't be made. Then the
+/// others have ended, too: the parts of a thread that can't be made, such as its ends of channels, are dropped before
+/// the others are waited for.
 pub(crate) fn run_node<L, C, R, G>(
     rt: &R,
     alloc: Global,

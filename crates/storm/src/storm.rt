@@ -15,31 +15,30 @@ use std::thread;
 use std::thread::Threads;
 use vclock::Refusal;
 
-/// How many puts a writer does at the most.
+/// The maximum number of puts of a writer.
 pub const MOST_PUTS: u64 = 10_000;
 
-/// How a storm ended.
+/// The end of a storm.
 #[derive(Clone, Copy, Debug, PartialEq, Eq)]
 pub struct StormEnd {
-    /// How many puts both writers did.
+    /// The number of puts of both writers.
     pub puts: u64,
-    /// Whether the roots of both trees are equal.
+    /// True if the roots of both trees are equal.
     pub equal: bool,
-    /// Whether each pass was told what its range's journal has.
+    /// True if each pass agrees with its range's journal.
     pub settled: bool,
 }
 
-/// Two nodes, 1 and 2, are replicas of one range. Each has a writer that does that many puts, 1 to 10,000, a rehash worker, a
-/// sync worker and a server of its offers, each in a thread. When all have ended, both nodes are rehashed, synced both
-/// ways, rehashed and closed.
+/// Runs a storm. Two nodes, 1 and 2, are replicas of one range. Each has a writer that does `puts` puts, 1 to 10,000, a
+/// rehash worker, a sync worker and a server of its offers, each in a thread. When all have ended, both nodes are
+/// rehashed, synced both ways, rehashed and closed.
 ///
-/// The workers have as many rounds as there are puts, at most 100, each with a slot from one controller of 1 to 8 slots;
-/// in a round NoSlot, Dirty, Gone and LinkLost are passed over. The gate is passed by each rehash worker (steps 1 and 2),
-/// by each writer after each put (step 3) and by each sync worker before each round (step 4). The tallies show how far
-/// the nodes are.
+/// Each worker has one round for each put, but at most 100, and each round has a slot from one controller of 1 to 8
+/// slots. In a round NoSlot, Dirty, Gone and LinkLost are passed over. The gate is passed by each rehash worker (steps
+/// 1 and 2), by each writer after each put (step 3) and by each sync worker before each round (step 4). The tallies
+/// show the progress of the nodes.
 ///
-/// Refused by each other refusal of a part. NoMemory also if a thread can't be made, and if the last sync loses its
-/// link.
+/// Refused: any other refusal of a part. Also NoMemory, if a thread can't be made, or if the last sync loses its link.
 pub fn run_storm<R: Threads + Wait + Sync, G: Gate + Sync>(
     rt: &R,
     alloc: Global,
@@ -54,7 +53,7 @@ pub fn run_storm<R: Threads + Wait + Sync, G: Gate + Sync>(
     storm::<Brand, Brand, Brand, R, G>(rt, alloc, puts, gate, tallies, one, two, slots)
 }
 
-/// A storm with the ledgers of both ranges and of the slots.
+/// Runs a storm with the ledgers of both ranges and of the slots.
 fn storm<S, T, C, R, G>(
     rt: &R,
     alloc: Global,
@@ -130,7 +129,7 @@ where
     })
 }
 
-/// Brings both nodes together, and closes them.
+/// Rehashes and syncs both nodes, and closes them.
 fn end_storm<S: Ledger, T: Ledger, C: Ledger, R: Wait, G: Gate>(
     rt: &R,
     alloc: Global,
@@ -173,7 +172,7 @@ fn bring_together<S: Ledger, T: Ledger, C: Ledger, R: Wait, G: Gate>(
     rehash(rt, alloc, two, plan)
 }
 
-/// Syncs a node with what a pool offers. A link over memory is lost for want of memory alone.
+/// Syncs a node with the offers of a pool. A link over memory is lost only if memory runs out.
 fn sync_with<L: Ledger, C: Ledger, R: Wait, G: Gate>(
     rt: &R,
     alloc: Global,
@@ -189,7 +188,7 @@ fn sync_with<L: Ledger, C: Ledger, R: Wait, G: Gate>(
     }
 }
 
-/// Whether the roots of both trees are equal.
+/// Returns true if the roots of both trees are equal.
 fn have_one_root<S: Ledger, T: Ledger, R: Wait>(
     rt: &R,
     alloc: Global,

@@ -1,29 +1,29 @@
-//! What the threads of a storm have done so far.
+//! Tallies of a storm's threads.
 ghost use Rattle.std.specs.Prelude.{◌≡◌};
 
 use ring_node::{RehashReport, SyncReport};
 use std::sync::{Mutex, Wait};
 use sync_session::SessionState;
 
-/// How much the threads of a node have done. The counts stop at 2^64 - 1.
+/// The work of a node's threads so far. The counts stop at 2^64 - 1.
 #[derive(Clone, Copy, Debug, PartialEq, Eq)]
 pub struct Tally {
-    /// How many puts were done.
+    /// The number of puts.
     pub puts: u64,
-    /// How many digests were installed.
+    /// The number of digests that were installed.
     pub installed: u64,
-    /// How many digests came too late.
+    /// The number of digests that were too late.
     pub stale: u64,
-    /// How many snapshots were published.
+    /// The number of snapshots that were published.
     pub published: u64,
-    /// How many sessions were finished.
+    /// The number of sessions that were finished.
     pub syncs: u64,
-    /// How many versions the sessions journaled.
+    /// The number of versions that the sessions journaled.
     pub taken: u64,
 }
 
 impl Tally {
-    /// The tally of a node that has done nothing.
+    /// Returns the tally of a node that has done nothing.
     fn nothing() -> Tally
         ensures work { (result.puts ≡ 0) × (result.installed ≡ 0) × (result.stale ≡ 0) }
         ensures syncs { (result.published ≡ 0) × (result.syncs ≡ 0) × (result.taken ≡ 0) }
@@ -48,14 +48,14 @@ pub struct SharedTally {
 /// The tallies of both nodes of a storm.
 #[derive(Drop)]
 pub struct Tallies {
-    /// That of node 1.
+    /// The tally of node 1.
     pub one: SharedTally,
-    /// That of node 2.
+    /// The tally of node 2.
     pub two: SharedTally,
 }
 
 impl Tallies {
-    /// Tallies of nothing.
+    /// Makes tallies of zero.
     pub fn new() -> Tallies {
         Tallies {
             one: SharedTally::new(),
@@ -65,14 +65,14 @@ impl Tallies {
 }
 
 impl SharedTally {
-    /// A tally of nothing.
+    /// Makes a tally of zero.
     fn new() -> SharedTally {
         SharedTally {
             tally: Mutex::new(Tally::nothing()),
         }
     }
 
-    /// What was done so far.
+    /// Returns the tally at this moment.
     pub fn look<R: Wait>(&self, rt: &R) -> Tally {
         *self.tally.lock(rt)
     }
@@ -83,7 +83,7 @@ impl SharedTally {
         tally.puts = tally.puts.saturating_add(1);
     }
 
-    /// Counts what a rehash worker did.
+    /// Counts the digests of a rehash worker.
     pub(crate) fn count_rehash<R: Wait>(&self, rt: &R, report: &RehashReport) {
         let mut tally = self.tally.lock(rt);
         tally.installed = tally.installed.saturating_add(report.installed);
@@ -96,7 +96,7 @@ impl SharedTally {
         tally.published = tally.published.saturating_add(1);
     }
 
-    /// Counts what a sync worker did.
+    /// Counts the session of a sync worker.
     pub(crate) fn count_sync<R: Wait>(&self, rt: &R, report: &SyncReport) {
         let mut tally = self.tally.lock(rt);
         if report.state == SessionState::Finished {

@@ -8,17 +8,17 @@ use std::sync::Wait;
 use std::sync::ledger::Ledger;
 use vclock::Refusal;
 
-/// How many turns a rehash worker has: enough for the 273 nodes of a tree, and for finding it clean.
+/// The number of turns of a rehash worker: enough for the 273 nodes of a tree, and for finding it clean.
 const REHASH_TURNS: u64 = 300;
 
-/// How many turns a sync worker has: enough to ask for each node twice.
+/// The number of turns of a sync worker: enough to ask for each node twice.
 const SYNC_TURNS: u64 = 600;
 
-/// How many rounds a worker has at the most.
+/// The maximum number of rounds of a worker.
 const MOST_ROUNDS: u64 = 100;
 
-/// Rehashes a node's tree, and publishes a snapshot if it is clean then, in as many rounds as there are puts, at most
-/// 100. Refused: NoMemory, SessionsFull.
+/// Rehashes a node's tree, and publishes a snapshot if it is clean then, in one round for each put, but at most 100.
+/// Refused: NoMemory, SessionsFull.
 pub(crate) fn rehash_rounds<L: Ledger, C: Ledger, R: Wait, G: Gate>(
     rt: &R,
     alloc: Global,
@@ -31,8 +31,8 @@ pub(crate) fn rehash_rounds<L: Ledger, C: Ledger, R: Wait, G: Gate>(
     Ok(())
 }
 
-/// Syncs a node over a link, in as many rounds as there are puts, at most 100, and stops the link. Refused as
-/// [`ring_node::SharedRange::sync_worker`], but that NoSlot, Dirty, Gone and LinkLost are passed over.
+/// Syncs a node over a link, in one round for each put, but at most 100, and stops the link. Refused as
+/// [`ring_node::SharedRange::sync_worker`] is, except that NoSlot, Dirty, Gone and LinkLost are passed over.
 pub(crate) fn sync_rounds<L: Ledger, C: Ledger, R: Wait, G: Gate>(
     rt: &R,
     alloc: Global,
@@ -58,7 +58,7 @@ pub(crate) fn sync_rounds<L: Ledger, C: Ledger, R: Wait, G: Gate>(
 
 /// Rehashes a node's tree with a slot, and publishes a snapshot if it is clean then.
 ///
-/// Refused: NoSlot, Dirty (a put came after the rehash), SessionsFull, NoMemory.
+/// Refused: NoSlot, Dirty (there was a put after the rehash), SessionsFull, NoMemory.
 pub(crate) fn rehash<L: Ledger, C: Ledger, R: Wait, G: Gate>(
     rt: &R,
     alloc: Global,
@@ -80,8 +80,8 @@ pub(crate) fn rehash<L: Ledger, C: Ledger, R: Wait, G: Gate>(
     Ok(())
 }
 
-/// Takes over a link, with a slot, what the other node has and this one lacks. Refused: NoSlot, or as
-/// [`ring_node::SharedRange::sync_worker`].
+/// Fetches over a link, with a slot, the versions that the other node has and this one lacks. Refused: NoSlot, or as
+/// [`ring_node::SharedRange::sync_worker`] is.
 pub(crate) fn sync<L: Ledger, C: Ledger, R: Wait, G: Gate, K: Link>(
     rt: &R,
     alloc: Global,
@@ -98,7 +98,7 @@ pub(crate) fn sync<L: Ledger, C: Ledger, R: Wait, G: Gate, K: Link>(
     Ok(())
 }
 
-/// What is left of a round's refusal: NoSlot, Dirty, Gone and LinkLost are passed over.
+/// Passes over NoSlot, Dirty, Gone and LinkLost, and returns any other refusal of a round.
 fn pass_over(round: Result<(), Refusal>) -> Result<(), Refusal> {
     match round {
         Err(Refusal::NoSlot | Refusal::Dirty | Refusal::Gone | Refusal::LinkLost) => Ok(()),

@@ -8,8 +8,8 @@ use std::sync::ledger::Ledger;
 use vclock::{Bytes, Clock, Refusal};
 use version_set::Kind;
 
-/// Puts the keys `w-0`, `w-1` and so on at a node, w being its number, each with its own number as the value, and passes
-/// the gate after each. Refused as [`ring_node::SharedRange::put`].
+/// Puts the keys `w-0`, `w-1` and so on at a node, w being its number, each with its number as the value, and passes
+/// the gate after each. Refused as [`ring_node::SharedRange::put`] is.
 pub(crate) fn write<L: Ledger, C: Ledger, R: Wait, G: Gate>(
     rt: &R,
     alloc: Global,

@@ -3,7 +3,7 @@ use std::alloc::{AllocError, Global};
 use std::test::Fail;
 use vclock::{Bytes, Clock, ClockOrder, Clocks, PassPart, Refusal, check_key};
 
-/// A pair with the counter 1 for each node from the first up to the last.
+/// Returns a pair with the counter 1 for each node from the first up to the last.
 fn pairs_of(alloc: Global, first: u64, last: u64) -> Result<Vec<(u64, u64)>, AllocError> {
     let mut pairs = Vec::new(alloc);
     for node in first..=last {
@@ -12,7 +12,7 @@ fn pairs_of(alloc: Global, first: u64, last: u64) -> Result<Vec<(u64, u64)>, All
     Ok(pairs)
 }
 
-/// The greatest number of a node.
+/// Returns the greatest number of a node.
 fn last_node() -> u64 {
     u64::from(u16::MAX)
 }
@@ -95,7 +95,7 @@ fn bytes_are_kept(rt: HostRuntime) -> Result<(), Fail> {
     Ok(())
 }
 
-/// Why a key of so many bytes is none.
+/// Returns the refusal of a key of this length, or `None` if it is accepted.
 fn fault_of_key(alloc: Global, length: usize) -> Result<Option<Refusal>, AllocError> {
     Ok(check_key(&vec![in alloc; 0x61; length]?).err())
 }

@@ -1,4 +1,4 @@
-//! The vectors of RFC 1321, A.5: MD5 of four of its messages, whole.
+//! The vectors of RFC 1321, A.5: MD5 of four of its messages.
 use md5::{Digest, Md5};
 use std::process::Abort;
 use std::test::Fail;

@@ -11,7 +11,7 @@ use vclock::{Bytes, Clock, Refusal};
 use version_set::Kind;
 use walk_messages::{Ask, Offer};
 
-/// A range of format 1 without rows, whose nodes are all clean.
+/// Returns a range of format 1 without rows, whose nodes are all clean.
 fn empty_range(rt: &(impl Threads + Sync), alloc: Global) -> Result<RangeState, Fail> {
     let config = RangeConfig::new(1, 0, 0, 1_000).ok_or("no such range")?;
     let mut state = RangeState::new(alloc, config)?;
@@ -19,7 +19,7 @@ fn empty_range(rt: &(impl Threads + Sync), alloc: Global) -> Result<RangeState, 
     Ok(state)
 }
 
-/// The snapshot of a partner with the row of `a`.
+/// Returns the snapshot of a partner with the row of `a`.
 fn partner(rt: &(impl Threads + Sync), alloc: Global) -> Result<Arc<Snapshot, Global>, Fail> {
     let mut state = empty_range(rt, alloc)?;
     let context = Clock::from_pairs(alloc, &[])?;
@@ -29,7 +29,7 @@ fn partner(rt: &(impl Threads + Sync), alloc: Global) -> Result<Arc<Snapshot, Gl
     Ok(state.snapshot(alloc)?)
 }
 
-/// The partner's answer at a node, for the first session.
+/// Returns the partner's answer at a node, for the first session.
 fn answer(alloc: Global, partner: &Snapshot, depth: u8, index: u16) -> Result<Event, Fail> {
     let node = NodeAt::new(depth, index).ok_or("no such node")?;
     let text: Hashed = hash(Text::from(partner.answer(alloc, Ask { offer: 1, node })?));
@@ -41,7 +41,7 @@ fn answer(alloc: Global, partner: &Snapshot, depth: u8, index: u16) -> Result<Ev
     }))
 }
 
-/// A session is opened, answered up to its end, and cancelled; and so is one that there is not.
+/// Returns events that open a session, answer it up to its end and cancel it, and cancel a session that doesn't exist.
 fn six_events(alloc: Global, partner: &Snapshot) -> Result<Vec<Event>, Fail> {
     let offer = Offer {
         offer: 1,
@@ -59,7 +59,7 @@ fn six_events(alloc: Global, partner: &Snapshot) -> Result<Vec<Event>, Fail> {
     Ok(events)
 }
 
-/// How many versions an answer brought, if it was taken.
+/// Returns the number of versions that an answer brought, if it was taken.
 fn brought(reply: Option<&Reply>) -> Option<usize> {
     match reply {
         Some(Reply::TakeAnswer(Ok(taken))) => Some(taken.receipts.len()),
@@ -67,7 +67,7 @@ fn brought(reply: Option<&Reply>) -> Option<usize> {
     }
 }
 
-/// Asserts that a session is opened first, and cancelled last, after which there is no other one.
+/// Asserts that a session is opened first and cancelled last, and that cancelling an unknown session is refused.
 fn expect_opened_and_cancelled(rt: &impl Abort, replies: &[Reply]) {
     assert!(rt; matches!(replies.get(0), Some(Reply::OpenSession(Ok(0)))));
     assert!(rt; matches!(replies.get(4), Some(Reply::CancelSession(Ok(())))));
@@ -79,7 +79,7 @@ fn expect_opened_and_cancelled(rt: &impl Abort, replies: &[Reply]) {
     );
 }
 
-/// Asserts that the third answer alone brought a version.
+/// Asserts that only the third answer brought a version.
 fn expect_brought(rt: &impl Abort, replies: &[Reply]) {
     for (place, count) in [(1, 0), (2, 0), (3, 1)] {
         assert_eq!(rt; brought(replies.get(place)), Some(count));

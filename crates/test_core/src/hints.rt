@@ -8,13 +8,13 @@ use std::test::Fail;
 use vclock::{Bytes, Refusal};
 use version_set::Kind;
 
-/// Keeps the version that node 1 has counted so often.
+/// Keeps the version that node 1 has counted this number of times.
 fn keep(alloc: Global, store: &mut HintStore, owner: u16, count: u64) -> Result<u32, Refusal> {
     let key = Bytes::copy_of(alloc, b"a")?;
     store.keep(owner, key, version(alloc, (1, count), Kind::Live, b"x")?)
 }
 
-/// The answer of an owner that journaled such a version.
+/// Returns the answer of an owner that journaled such a version.
 fn delivery(alloc: Global, owner: u16, count: u64) -> Result<Delivery, Refusal> {
     Ok(Delivery {
         owner,
@@ -39,7 +39,7 @@ fn a_hint_waits_for_its_owner(rt: HostRuntime) -> Result<(), Fail> {
     Ok(())
 }
 
-/// Whether the first hint is confirmed by the answer of owner 2 that it journaled such a version.
+/// Returns true if the answer of owner 2 that it journaled such a version confirms the first hint.
 fn is_confirmed(alloc: Global, store: &mut HintStore, count: u64) -> Result<bool, Refusal> {
     match store.confirm(1, delivery(alloc, 2, count)?) {
         Ok(()) => Ok(true),

@@ -6,7 +6,7 @@ use std::test::Fail;
 use vclock::{Bytes, Refusal};
 use version_set::Kind;
 
-/// Appends a version of `a` that node 1 has counted so often.
+/// Appends a version of `a` that node 1 has counted this number of times.
 fn append(alloc: Global, journal: &mut Journal, count: u64) -> Result<u64, Refusal> {
     let key = Bytes::copy_of(alloc, b"a")?;
     let put = version(alloc, (1, count), Kind::Live, b"x")?;

@@ -1,4 +1,4 @@
-//! Leaves of more rows than a chunk has. The digest was made by another program from the definition.
+//! Leaves with more rows than a chunk holds. Another program made the digest from the definition.
 use crate::versions::version;
 use hash_tree::{SharedLeaf, Text, hash};
 use std::alloc::Global;
@@ -6,8 +6,8 @@ use std::test::Fail;
 use vclock::{Format, check_key};
 use version_set::Kind;
 
-/// The digest of a leaf of format 1 with 300 rows: the keys are the numbers from 0 to 299 as two bytes each, and each has
-/// the value `x` with node 1 counted once.
+/// The digest of a leaf of format 1 with 300 rows: the keys are the numbers from 0 to 299 as two bytes each, and each
+/// has the value `x` with node 1 counted once.
 const DIGEST: &str = "3d4b43aee8c45e9539c33cf37739c0af4a68f2c75518213933079d15d55106bd";
 
 /// Offers the value `x` to the set of a key.

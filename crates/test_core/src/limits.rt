@@ -5,8 +5,8 @@ use std::process::Abort;
 use std::test::Fail;
 use vclock::{Format, Refusal};
 
-/// The text of a key of 255 bytes with 64 versions, none below another: the clock of each counts one node more than once,
-/// and each value has so many bytes.
+/// Returns the text of a key of 255 bytes with 64 versions, none below another: the clock of each has one node that no
+/// other clock has, and each value has this number of bytes.
 fn longest_text(alloc: Global, format: Format, value: u32) -> Result<Vec<u8>, Refusal> {
     let mut text = Vec::from_slice(alloc, b"\x00\xff")?;
     text.extend_from_slice(&[b'k'; 255])?;
@@ -25,7 +25,7 @@ fn longest_text(alloc: Global, format: Format, value: u32) -> Result<Vec<u8>, Re
     Ok(text)
 }
 
-/// Appends 32 pairs: nodes 1 to 31 were counted once, and then one that is another one for each version.
+/// Appends 32 pairs: the nodes 1 to 31, and then a node that differs for each version, each counted once.
 fn put_pairs(text: &mut Vec<u8>, version: u16) -> Result<(), Refusal> {
     for node in 1..32u16 {
         put_pair(text, node)?;
@@ -33,14 +33,14 @@ fn put_pairs(text: &mut Vec<u8>, version: u16) -> Result<(), Refusal> {
     put_pair(text, version.saturating_add(32))
 }
 
-/// Appends a pair of a node that was counted once.
+/// Appends a pair of a node with the counter 1.
 fn put_pair(text: &mut Vec<u8>, node: u16) -> Result<(), Refusal> {
     text.extend_from_slice(&node.to_be_bytes())?;
     text.extend_from_slice(&1u64.to_be_bytes())?;
     Ok(())
 }
 
-/// Reads the text and writes it again, and clones the set.
+/// Reads the text, writes it again, and clones the set.
 fn expect_row(
     rt: &impl Abort,
     alloc: Global,

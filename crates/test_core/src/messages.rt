@@ -7,7 +7,7 @@ use std::test::Fail;
 use vclock::Refusal;
 use walk_messages::{Answer, Ask, Message, Offer, decode, encode};
 
-/// Asserts that a message has these bytes, and that what is read from them has them too.
+/// Asserts that a message has these bytes, and that the message read from them has these bytes too.
 fn expect_bytes(
     rt: &impl Abort,
     alloc: Global,
@@ -20,7 +20,7 @@ fn expect_bytes(
     Ok(())
 }
 
-/// Asserts that no message has these bytes.
+/// Asserts that these bytes are not a message's.
 fn expect_none(rt: &impl Abort, alloc: Global, bytes: &[u8]) {
     let answer = decode(alloc, bytes);
     assert!(rt; matches!(&answer, Err(Refusal::BadMessage)));
@@ -93,7 +93,7 @@ const ASK: &[u8] = b"\x02\x00\x00\x00\x01\x02\x00\x0c";
 /// The bytes of an answer with a text of one byte.
 const ANSWER: &[u8] = b"\x03\x00\x00\x00\x01\x02\x00\x00\x00\x00\x00\x00\x00\x00\x00\x01\x00";
 
-/// Asserts that no message has the bytes less some at their end, or has them with a byte more.
+/// Asserts that the bytes are not a message's if some at their end are missing, or if a byte is added.
 fn expect_whole(rt: &impl Abort, alloc: Global, bytes: &[u8]) -> Result<(), Refusal> {
     assert!(rt; decode(alloc, bytes).is_ok());
     for length in 0..bytes.len() {

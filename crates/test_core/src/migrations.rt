@@ -1,4 +1,4 @@
-//! A range that goes over to format 2.
+//! A range that is migrated to format 2.
 use crate::refusals::is_refused;
 use hash_tree::NodeAt;
 use range_state::{Event, RangeConfig, RangeState, Reply};
@@ -12,7 +12,7 @@ use vclock::{Bytes, Clock, Format, Refusal};
 use version_set::Kind;
 use walk_messages::Offer;
 
-/// A range of format 1 that holds a value of `a`.
+/// Returns a range of format 1 that holds a value of `a`.
 fn range(alloc: Global) -> Result<RangeState, Fail> {
     let config = RangeConfig::new(1, 0, 0, 1_000).ok_or("no such range")?;
     let mut state = RangeState::new(alloc, config)?;
@@ -22,7 +22,7 @@ fn range(alloc: Global) -> Result<RangeState, Fail> {
     Ok(state)
 }
 
-/// An offer of format 1 with a root that no range of it has.
+/// Returns an offer of format 1 with a root that no range of it has.
 fn offer() -> Offer {
     Offer {
         offer: 1,
@@ -32,7 +32,7 @@ fn offer() -> Offer {
     }
 }
 
-/// A range with a value of `a` goes over to format 2, where each node is to be hashed.
+/// Migrates a range with a value of `a` to format 2, and asserts that each node is to be hashed.
 fn expect_format_2(
     rt: &(impl Abort + Threads + Sync),
     alloc: Global,
@@ -54,7 +54,7 @@ fn the_rows_lie_in_the_leaves_of_format_2(rt: HostRuntime) -> Result<(), Fail> {
     expect_format_2(&rt, alloc, &mut range(alloc)?)
 }
 
-/// A job's text is late once its range has gone over.
+/// Asserts that a job's digest is late if its range is migrated meanwhile.
 fn expect_late(rt: &impl Abort, alloc: Global, state: &mut RangeState) -> Result<(), Fail> {
     let job = state.take_job(alloc, 0)?.ok_or("no job")?;
     let node = job.node();
@@ -69,7 +69,7 @@ fn a_job_that_was_taken_before_is_stale(rt: HostRuntime) -> Result<(), Fail> {
     expect_late(&rt, alloc, &mut range(alloc)?)
 }
 
-/// A session that is open when its range goes over is cancelled, and an offer of format 1 is refused then.
+/// Asserts that a migration cancels a session that is open, and that an offer of format 1 is refused then.
 fn expect_cancelled(
     rt: &(impl Abort + Threads + Sync),
     alloc: Global,
@@ -91,7 +91,7 @@ fn open_sessions_are_cancelled(rt: HostRuntime) -> Result<(), Fail> {
     expect_cancelled(&rt, alloc, &mut range(alloc)?)
 }
 
-/// A migration is an event, which is taken.
+/// Asserts that a migration is an event that is done.
 fn expect_migrated(rt: &impl Abort, alloc: Global, state: &mut RangeState) -> Result<(), Fail> {
     let mut events = Vec::with_capacity(alloc, 1)?;
     events.push(Event::Migrate)?;
@@ -100,7 +100,7 @@ fn expect_migrated(rt: &impl Abort, alloc: Global, state: &mut RangeState) -> Re
     Ok(())
 }
 
-/// A range that has gone over does so again, and nothing is to be hashed.
+/// Asserts that another migration of a migrated range leaves no node to be hashed.
 fn expect_unchanged(
     rt: &(impl Abort + Threads + Sync),
     alloc: Global,

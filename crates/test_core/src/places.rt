@@ -7,7 +7,7 @@ use std::process::Abort;
 use std::test::Fail;
 use vclock::{Format, Refusal};
 
-/// Asserts where a key lies.
+/// Asserts the range and the leaf of a key.
 fn expect_place(rt: &impl Abort, format: Format, bits: u8, key: &[u8], range: u16, leaf: u16)
     requires { bits ≤ 8 }
 {

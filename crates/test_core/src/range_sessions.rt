@@ -12,13 +12,13 @@ use vclock::{Bytes, Clock, Refusal};
 use version_set::Kind;
 use walk_messages::{Ask, Offer};
 
-/// A range without rows.
+/// Returns a range without rows.
 fn new_range(alloc: Global, format: u64) -> Result<RangeState, Fail> {
     let config = RangeConfig::new(format, 0, 0, 1_000).ok_or("no such range")?;
     Ok(RangeState::new(alloc, config)?)
 }
 
-/// A range of format 1 without rows, or with the row of `a`, whose nodes are all clean.
+/// Returns a range of format 1 without rows, or with the row of `a`, whose nodes are all clean.
 fn range(rt: &(impl Threads + Sync), alloc: Global, has_a: bool) -> Result<RangeState, Fail> {
     let config = RangeConfig::new(1, 0, 0, 1_000).ok_or("no such range")?;
     let mut state = RangeState::new(alloc, config)?;
@@ -31,7 +31,7 @@ fn range(rt: &(impl Threads + Sync), alloc: Global, has_a: bool) -> Result<Range
     Ok(state)
 }
 
-/// An offer of format 1 and range 0.
+/// Returns an offer of format 1 and range 0.
 fn offer(root: Digest) -> Offer {
     Offer {
         offer: 1,
@@ -41,31 +41,31 @@ fn offer(root: Digest) -> Offer {
     }
 }
 
-/// The text `abc`, which no node can have.
+/// Returns the text `abc`, which no node can have.
 fn abc(alloc: Global) -> Result<Hashed, Refusal> {
     Ok(hash(Text::copy_of(alloc, b"abc")?))
 }
 
-/// How the session of a number stands.
+/// Returns the state of a session, by its number.
 fn state_of(state: &RangeState, id: usize) -> Result<SessionState, Fail> {
     let record = state.records().get(id).ok_or("no record")?;
     Ok(record.session().state())
 }
 
-/// The first node that the first session awaits.
+/// Returns the first node that the first session awaits.
 fn first(state: &RangeState) -> Result<NodeAt, Fail> {
     let record = state.records().get(0).ok_or("no record")?;
     let node = record.session().outstanding().first();
     Ok(*node.ok_or("nothing is outstanding")?)
 }
 
-/// A partner's text of a node.
+/// Returns a partner's text of a node.
 fn text_of(alloc: Global, partner: &Snapshot, node: NodeAt) -> Result<Hashed, Refusal> {
     let text = partner.answer(alloc, Ask { offer: 1, node })?;
     Ok(hash(Text::from(text)))
 }
 
-/// The partner's text of the root with its last byte turned.
+/// Returns the partner's text of the root with its last byte changed.
 fn forged_root(alloc: Global, partner: &Snapshot) -> Result<Hashed, Fail> {
     let node = NodeAt::new(0, 0).ok_or("no root")?;
     let mut text = partner.answer(alloc, Ask { offer: 1, node })?;
@@ -74,7 +74,7 @@ fn forged_root(alloc: Global, partner: &Snapshot) -> Result<Hashed, Fail> {
     Ok(hash(Text::from(text)))
 }
 
-/// Answers the first node that the first session awaits truly, at seat 5.
+/// Answers the first node that the first session awaits with the true text, at seat 5.
 fn answer_first(
     alloc: Global,
     state: &mut RangeState,
@@ -85,8 +85,8 @@ fn answer_first(
     Ok(state.take_answer(alloc, 5, 0, node, text)?)
 }
 
-/// Answers the first node that the first session awaits truly. So many versions come, none is known, and the session
-/// stands so.
+/// Answers the first node that the first session awaits with the true text. Asserts the number of accepted versions,
+/// that none is known, and the state of the session.
 fn expect_answer(
     rt: &impl Abort,
     alloc: Global,
@@ -101,12 +101,12 @@ fn expect_answer(
     Ok(())
 }
 
-/// The digest of the root of a range whose nodes are all clean.
+/// Returns the digest of the root of a range whose nodes are all clean.
 fn root_of(alloc: Global, state: &RangeState) -> Result<Digest, Fail> {
     Ok(state.snapshot(alloc)?.root())
 }
 
-/// Opens so many sessions of a range without any, whose numbers are those from 0 on.
+/// Opens a number of sessions of a range without any, and asserts that they are numbered from 0.
 fn expect_numbers(
     rt: &impl Abort,
     alloc: Global,
@@ -120,7 +120,7 @@ fn expect_numbers(
     Ok(())
 }
 
-/// An offer is refused so.
+/// Asserts the refusal of an offer.
 fn expect_not_opened(
     rt: &impl Abort,
     alloc: Global,
@@ -131,7 +131,7 @@ fn expect_not_opened(
     assert!(rt; is_refused(state.open_session(alloc, 7, offer), refusal));
 }
 
-/// A range opens 64 sessions, and another one once the first is cancelled.
+/// Asserts that a range opens 64 sessions, and another one once the first is cancelled.
 fn expect_64_open(
     rt: &impl Abort,
     alloc: Global,
@@ -154,7 +154,7 @@ fn a_range_has_64_open_sessions_at_the_most(rt: HostRuntime) -> Result<(), Fail>
     expect_64_open(&rt, alloc, &mut range(&rt, alloc, false)?, root)
 }
 
-/// A range keeps 1,024 sessions that have nothing to ask, and no further one.
+/// Asserts that a range keeps 1,024 sessions that have nothing to ask, and no more.
 fn expect_1024_kept(rt: &impl Abort, alloc: Global, state: &mut RangeState) -> Result<(), Fail> {
     let root = root_of(alloc, state)?;
     expect_numbers(rt, alloc, state, root, 1_024)?;
@@ -169,7 +169,7 @@ fn a_range_keeps_1024_records_at_the_most(rt: HostRuntime) -> Result<(), Fail> {
     expect_1024_kept(&rt, alloc, &mut range(&rt, alloc, false)?)
 }
 
-/// An offer of another format is refused, and one of another range.
+/// Asserts that an offer of another format is refused, and one of another range.
 fn expect_own_offers(rt: &impl Abort, alloc: Global, state: &mut RangeState, good: Offer) {
     let other_format = Offer {
         format: 2,
@@ -206,7 +206,8 @@ fn a_session_is_opened_on_a_clean_tree(rt: HostRuntime) -> Result<(), Fail> {
     Ok(())
 }
 
-/// The first session takes the partner's root once, after a forged one, and there is no second session.
+/// Asserts that the first session takes the partner's root once, after a forged one, and that there is no second
+/// session.
 fn expect_once(
     rt: &impl Abort,
     alloc: Global,
@@ -237,7 +238,7 @@ fn a_text_is_taken_once_and_only_if_it_is_true(rt: HostRuntime) -> Result<(), Fa
     expect_once(&rt, alloc, &mut range(&rt, alloc, false)?, &partner)
 }
 
-/// The first session fails by the text `abc` of its root, and asks for no other one.
+/// Asserts that the text `abc` of its root fails the first session, which then no longer asks for the root.
 fn expect_failure(rt: &impl Abort, alloc: Global, state: &mut RangeState) -> Result<(), Fail> {
     state.open_session(alloc, 7, offer(abc(alloc)?.digest()))?;
     let root = first(state)?;
@@ -255,7 +256,8 @@ fn a_text_of_no_node_fails_the_session(rt: HostRuntime) -> Result<(), Fail> {
     expect_failure(&rt, alloc, &mut range(&rt, alloc, false)?)
 }
 
-/// A range's first session ends with the third answer, which brings the partner's version of `a` and its root.
+/// Asserts that the third answer ends a range's first session, and that the range then has the partner's version of `a`
+/// and its root.
 fn expect_version(
     rt: &(impl Abort + Threads + Sync),
     alloc: Global,
@@ -270,7 +272,7 @@ fn expect_version(
     expect_root(rt, alloc, state, partner.root())
 }
 
-/// A range has this root once it is hashed again.
+/// Asserts the root of a range once it is hashed again.
 fn expect_root(
     rt: &(impl Abort + Threads + Sync),
     alloc: Global,
@@ -289,7 +291,7 @@ fn a_session_ends_with_the_partners_version(rt: HostRuntime) -> Result<(), Fail>
     expect_version(&rt, alloc, &mut range(&rt, alloc, false)?, &partner)
 }
 
-/// Puts `abc`, which lies in leaf 144, at node 2.
+/// Puts `abc`, which is in leaf 144, at node 2.
 fn put_abc(alloc: Global, state: &mut RangeState) -> Result<(), Refusal> {
     let context = Clock::from_pairs(alloc, &[])?;
     let value = Bytes::copy_of(alloc, b"y")?;
@@ -309,7 +311,7 @@ fn expect_asked(rt: &impl Abort, state: &RangeState, nodes: &[(u8, u16)]) -> Res
     Ok(())
 }
 
-/// Opens a session with a partner, and answers so many of the nodes that it awaits truly.
+/// Opens a session with a partner, and answers this number of the nodes that it awaits with the true texts.
 fn walk(
     alloc: Global,
     state: &mut RangeState,
@@ -323,7 +325,7 @@ fn walk(
     Ok(())
 }
 
-/// A session of a range without rows asks a partner exactly these nodes, in order, and is finished then.
+/// Asserts that a session of a range without rows asks a partner exactly these nodes, in order, and is finished then.
 fn expect_walk(
     rt: &(impl Abort + Threads + Sync),
     alloc: Global,
@@ -335,7 +337,8 @@ fn expect_walk(
     expect_asked(rt, &state, nodes)
 }
 
-/// A partner with the row of `a` is asked for the nodes above it, and then with that of `abc` for those above both.
+/// Asserts the nodes that a partner with the row of `a` is asked: those above it, and with the row of `abc` those above
+/// both.
 fn expect_walks(
     rt: &(impl Abort + Threads + Sync),
     alloc: Global,

@@ -11,7 +11,7 @@ use std::test::Fail;
 use vclock::{Bytes, Clock, Format, Refusal};
 use version_set::Kind;
 
-/// A range of a ring with one range.
+/// Returns a range of a ring with one range.
 fn range(alloc: Global, format: u64, limit: u64) -> Result<RangeState, Fail> {
     let config = RangeConfig::new(format, 0, 0, limit).ok_or("no such range")?;
     Ok(RangeState::new(alloc, config)?)
@@ -50,7 +50,7 @@ fn accept_a(alloc: Global, state: &mut RangeState, value: &[u8]) -> Result<Optio
     }
 }
 
-/// Two values of `a` with one clock are taken, the first is known then, and both are held.
+/// Asserts that two values of `a` with one clock are accepted, that the first is known then, and that both are held.
 fn expect_both(rt: &impl Abort, alloc: Global, state: &mut RangeState) -> Result<(), Fail> {
     assert_eq!(rt; accept_a(alloc, state, b"q")?, Some(0));
     assert_eq!(rt; accept_a(alloc, state, b"p")?, Some(1));
@@ -67,7 +67,7 @@ fn versions_with_equal_clocks_are_both_kept(rt: HostRuntime) -> Result<(), Fail>
     expect_both(&rt, alloc, &mut range(alloc, 1, 10)?)
 }
 
-/// A put of `a` at node 1.
+/// Returns the event of a put of `a` at node 1.
 fn put_of_a(alloc: Global) -> Result<Event, Refusal> {
     Ok(Event::Put(PutEvent {
         seat: 0,
@@ -79,7 +79,7 @@ fn put_of_a(alloc: Global) -> Result<Event, Refusal> {
     }))
 }
 
-/// A hint that comes without a key.
+/// Returns the event of a hint without a key.
 fn hint_without_a_key(alloc: Global) -> Result<Event, Refusal> {
     Ok(Event::Accept(AcceptEvent {
         seat: 0,
@@ -89,7 +89,7 @@ fn hint_without_a_key(alloc: Global) -> Result<Event, Refusal> {
     }))
 }
 
-/// A put, a version that is refused, and a get.
+/// Returns the events of a put, of a version that is refused, and of a get.
 fn three_events(alloc: Global) -> Result<Vec<Event>, Refusal> {
     let mut events = Vec::with_capacity(alloc, 3)?;
     events.push(put_of_a(alloc)?)?;
@@ -110,7 +110,7 @@ fn events_are_answered_in_order(rt: HostRuntime) -> Result<(), Fail> {
     Ok(())
 }
 
-/// Whether a leaf has a row of `a`: each format has 256 leaves at least.
+/// Returns true if a leaf has a row of `a`. Each format has at least 256 leaves.
 fn has_a(state: &RangeState, leaf: u16) -> bool
     requires { leaf < 256 }
 {
@@ -126,7 +126,7 @@ fn accept_key(alloc: Global, state: &mut RangeState, key: &[u8]) -> Result<Accep
     state.accept(alloc, 3, Source::Copy, key, copy)
 }
 
-/// Asserts that the row of `a` alone is held, in that leaf.
+/// Asserts that `a` has one version, in this leaf and not in leaf 0, and that `b` is not held.
 fn expect_a_in(rt: &impl Abort, state: &RangeState, leaf: u16)
     requires { leaf < 256 }
 {
@@ -148,7 +148,7 @@ fn rows_lie_in_the_leaf_of_their_key(rt: HostRuntime) -> Result<(), Fail> {
     Ok(())
 }
 
-/// A range whose journal has room for an entry alone takes one key, and no other one.
+/// Asserts that a range whose journal has room for one entry takes one key, and no other one.
 fn expect_full(rt: &impl Abort, alloc: Global, state: &mut RangeState) -> Result<(), Fail> {
     accept_key(alloc, state, b"a")?;
     let entry = state.journal().get(0).ok_or("no entry 0")?;

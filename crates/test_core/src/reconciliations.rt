@@ -12,13 +12,13 @@ use sync_session::SessionState;
 use vclock::{Bytes, Clock, Refusal};
 use version_set::Kind;
 
-/// A range without rows.
+/// Returns a range without rows.
 fn range(alloc: Global, format: u64, limit: u64) -> Result<RangeState, Fail> {
     let config = RangeConfig::new(format, 0, 0, limit).ok_or("no such range")?;
     Ok(RangeState::new(alloc, config)?)
 }
 
-/// A first put of a key at a node, 1 to 65,535.
+/// Makes the first put of a key at a node, 1 to 65,535.
 fn put(alloc: Global, state: &mut RangeState, at: u16, key: &[u8], value: &[u8]) -> Result<(), Fail>
     requires { 1 ≤ at }
 {
@@ -28,7 +28,7 @@ fn put(alloc: Global, state: &mut RangeState, at: u16, key: &[u8], value: &[u8])
     Ok(())
 }
 
-/// A range with `a` at the first node, whose nodes are all clean.
+/// Returns a range with `a` at the first node, whose nodes are all clean.
 fn range_of_a(
     rt: &(impl Threads + Sync),
     alloc: Global,
@@ -41,7 +41,7 @@ fn range_of_a(
     Ok(state)
 }
 
-/// A range with `abc` at the second node, whose nodes are all clean.
+/// Returns a range with `abc` at the second node, whose nodes are all clean.
 fn range_of_abc(
     rt: &(impl Threads + Sync),
     alloc: Global,
@@ -70,19 +70,20 @@ fn reconcile_both(
     reconcile(alloc, a, 1, b, 2, 5)
 }
 
-/// With which node the first session of a range is, and how it stands.
+/// Returns the partner's node and the state of the first session of a range.
 fn first_session(state: &RangeState) -> Result<(u16, SessionState), Fail> {
     let record = state.records().first().ok_or("no record")?;
     Ok((record.partner(), record.session().state()))
 }
 
-/// So many nodes were asked each way, and so many versions came.
+/// Asserts the number of nodes asked each way, and the numbers of versions accepted.
 fn expect_counts(rt: &impl Abort, told: &Reconciled, asked: u64, came_to_a: u64, came_to_b: u64) {
     assert_eq!(rt; (told.asked_a, told.asked_b), (asked, asked));
     assert_eq!(rt; (told.accepted_a, told.accepted_b), (came_to_a, came_to_b));
 }
 
-/// Two ranges that have one row each hold both afterwards: so many nodes are asked each way, and so many are hashed again.
+/// Asserts that two ranges with one row each both hold the two rows after a call of `reconcile`, and the numbers of
+/// nodes asked and hashed again.
 fn expect_both(
     rt: &(impl Abort + Threads + Sync),
     alloc: Global,
@@ -96,7 +97,7 @@ fn expect_both(
     expect_equal_roots(rt, alloc, &mut a, &mut b, hashed)
 }
 
-/// Each of two ranges takes a version in a session with the other one.
+/// Asserts that each of two ranges takes a version in a session with the other one.
 fn expect_sessions(
     rt: &impl Abort,
     alloc: Global,
@@ -111,12 +112,12 @@ fn expect_sessions(
     Ok(())
 }
 
-/// The digest of the root of a range whose nodes are all clean.
+/// Returns the digest of the root of a range whose nodes are all clean.
 fn root_of(alloc: Global, state: &RangeState) -> Result<Digest, Fail> {
     Ok(state.snapshot(alloc)?.root())
 }
 
-/// Two ranges have equal roots once so many nodes of each are hashed again, and then nothing to ask.
+/// Asserts that two ranges have equal roots once this number of nodes of each is hashed again, and then nothing to ask.
 fn expect_equal_roots(
     rt: &(impl Abort + Threads + Sync),
     alloc: Global,
@@ -153,7 +154,7 @@ fn one_that_was_migrated_is_reconciled(rt: HostRuntime) -> Result<(), Fail> {
     expect_equal_roots(&rt, alloc, &mut a, &mut b, 4)
 }
 
-/// The second of two ranges takes `a`, and the first takes nothing.
+/// Asserts that the second of two ranges takes `a`, and the first takes nothing.
 fn expect_a_comes(
     rt: &impl Abort,
     alloc: Global,
@@ -175,7 +176,7 @@ fn one_has_nothing_that_the_other_lacks(rt: HostRuntime) -> Result<(), Fail> {
     expect_a_comes(&rt, alloc, &mut a, &mut b)
 }
 
-/// Two ranges have so many records of sessions, and so many journal entries.
+/// Asserts the numbers of sessions' records and of journal entries of two ranges.
 fn expect_lengths(
     rt: &impl Abort,
     a: &RangeState,
@@ -187,7 +188,7 @@ fn expect_lengths(
     assert_eq!(rt; (a.journal().len(), b.journal().len()), entries);
 }
 
-/// Two ranges are refused, and stay as they are, after another put in the second.
+/// Asserts that two ranges are refused and unchanged after another put in the second.
 fn expect_dirty(
     rt: &impl Abort,
     alloc: Global,
@@ -208,7 +209,7 @@ fn a_dirty_one_is_refused(rt: HostRuntime) -> Result<(), Fail> {
     expect_dirty(&rt, alloc, &mut a, &mut b)
 }
 
-/// The first of two ranges has a full journal, which cancels its session.
+/// Asserts that the full journal of the first of two ranges cancels its session.
 fn expect_full(
     rt: &impl Abort,
     alloc: Global,
@@ -229,7 +230,7 @@ fn a_full_journal_cancels_the_session(rt: HostRuntime) -> Result<(), Fail> {
     expect_full(&rt, alloc, &mut a, &mut b)
 }
 
-/// Two ranges are refused, and the first stays as it is, after 64 sessions of the second were opened.
+/// Asserts that two ranges are refused, and the first is unchanged, after 64 sessions of the second were opened.
 fn expect_64_at_the_most(
     rt: &impl Abort,
     alloc: Global,

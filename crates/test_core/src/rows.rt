@@ -10,7 +10,7 @@ use vclock::{Format, Refusal};
 const ONE_VERSION: &[u8] =
     b"\x00\x01a\x00\x01\x01\x00\x01\x00\x00\x00\x00\x00\x00\x00\x01\x00\x00\x00\x01x";
 
-/// The same in format 2.
+/// The text of key `a` with the version of clock (1,1) and value `x`, in format 2.
 const ONE_VERSION_2: &[u8] =
     b"\x00\x01a\x00\x01\x00\x01\x00\x01\x00\x00\x00\x00\x00\x00\x00\x01\x00\x00\x00\x01x";
 
@@ -22,7 +22,7 @@ const EQUAL_CLOCKS: &[u8] =
 const TOMBSTONE: &[u8] =
     b"\x00\x01a\x00\x02\x00\x01\x00\x02\x00\x00\x00\x00\x00\x00\x00\x01\x00\x00\x00\x01p\x01\x01\x00\x02\x00\x00\x00\x00\x00\x00\x00\x01\x00\x00\x00\x00";
 
-/// A row that was read from a text, written again, and how many versions it has.
+/// Reads a row from a text and writes it again. Returns the text written, and the number of versions.
 fn read_and_written(
     alloc: Global,
     format: Format,
@@ -33,8 +33,8 @@ fn read_and_written(
     Ok((write_row(alloc, format, &row)?, row.versions.len()))
 }
 
-/// Asserts that a text is that of one row with so many versions, and nothing after it: what was read is written as it
-/// stood.
+/// Asserts that a text is that of one row with this number of versions, with nothing after it, and that the row is
+/// written back as this text.
 fn expect_row(
     rt: &impl Abort,
     alloc: Global,
@@ -49,7 +49,7 @@ fn expect_row(
     Ok(())
 }
 
-/// Asserts the offset at which a text is broken.
+/// Asserts the offset where a text is broken.
 fn expect_broken(rt: &impl Abort, alloc: Global, format: Format, text: &[u8], offset: u64) {
     let answer = read_row(alloc, format, text);
     assert!(rt;
@@ -117,7 +117,7 @@ fn a_broken_rule_is_broken_at_its_field(rt: HostRuntime) {
         b"\x00\x01a\x00\x02\x00\x00\x00\x00\x01b\x00\x00\x00\x00\x01a",
         11,
     );
-    // One without pairs, which is below one with a pair.
+    // A version without pairs, which is below one with a pair.
     expect_broken(
         &rt,
         alloc,

@@ -1,4 +1,4 @@
-//! Sessions: two trees compared, and what is taken of the partner's answers.
+//! Sessions: the comparison of two trees, and the partner's answers.
 use crate::checks::expect;
 use crate::refusals::is_refused;
 use hash_tree::{Digest, Hashed, NodeAt, Text, hash};
@@ -14,7 +14,7 @@ use vclock::{Bytes, Clock, Refusal};
 use version_set::Kind;
 use walk_messages::Ask;
 
-/// Puts a value under `a`, which lies in leaf 12.
+/// Puts a value under `a`, which is in leaf 12.
 fn put(alloc: Global, state: &mut RangeState) -> Result<(), Refusal> {
     let context = Clock::from_pairs(alloc, &[])?;
     let value = Bytes::copy_of(alloc, b"x")?;
@@ -22,7 +22,7 @@ fn put(alloc: Global, state: &mut RangeState) -> Result<(), Refusal> {
     Ok(())
 }
 
-/// The snapshot of a range without rows, or with the row of `a`.
+/// Returns the snapshot of a range without rows, or with the row of `a`.
 fn snapshot(
     rt: &(impl Threads + Sync),
     alloc: Global,
@@ -37,13 +37,13 @@ fn snapshot(
     Ok(state.snapshot(alloc)?)
 }
 
-/// A session of a range without rows, with a partner whose root is this.
+/// Returns a session of a range without rows, with a partner of this root.
 fn session(rt: &(impl Threads + Sync), alloc: Global, root: Digest) -> Result<Session, Fail> {
     let own = snapshot(rt, alloc, false)?;
     Ok(Session::start(alloc, own, root)?)
 }
 
-/// The first node that is outstanding.
+/// Returns the first node that is outstanding.
 fn first(session: &Session) -> Result<NodeAt, Fail> {
     Ok(
         *session
@@ -53,13 +53,14 @@ fn first(session: &Session) -> Result<NodeAt, Fail> {
     )
 }
 
-/// A partner's text of a node.
+/// Returns a partner's text of a node.
 fn text_of(alloc: Global, partner: &Snapshot, node: NodeAt) -> Result<Hashed, Refusal> {
     let text = partner.answer(alloc, Ask { offer: 1, node })?;
     Ok(hash(Text::from(text)))
 }
 
-/// Answers the first outstanding node truly, and tells how many rows came: none for a node with children.
+/// Answers the first outstanding node with the true text, and returns the number of rows, or `None` for a node with
+/// children.
 fn answer_first(
     alloc: Global,
     session: &mut Session,
@@ -89,7 +90,7 @@ fn expect_news(
     expect(news.rows.len() == rows && news.known == 0, "the news")
 }
 
-/// A session ends with the third answer, which brings a row.
+/// Asserts that the third answer ends a session, and brings a row.
 fn expect_row(
     rt: &impl Abort,
     alloc: Global,
@@ -136,12 +137,12 @@ fn a_cancelled_session_asks_nothing_more(rt: HostRuntime) -> Result<(), Fail> {
     Ok(())
 }
 
-/// The text `abc`, which no node can have.
+/// Returns the text `abc`, which no node can have.
 fn abc(alloc: Global) -> Result<Hashed, Refusal> {
     Ok(hash(Text::copy_of(alloc, b"abc")?))
 }
 
-/// A session takes the root's true text once, after another one.
+/// Asserts that a session takes the root's true text once, after a false one.
 fn expect_once(
     rt: &impl Abort,
     alloc: Global,
@@ -164,7 +165,7 @@ fn a_session_takes_a_true_text_once(rt: HostRuntime) -> Result<(), Fail> {
     expect_once(&rt, alloc, &mut session, &partner)
 }
 
-/// A session fails by the text `abc` of the root, and asks for no other one.
+/// Asserts that the text `abc` of the root fails a session, which then no longer asks for the root.
 fn expect_failure(rt: &impl Abort, alloc: Global, session: &mut Session) -> Result<(), Fail> {
     let root = first(session)?;
     assert!(rt;

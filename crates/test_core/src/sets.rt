@@ -6,7 +6,7 @@ use std::test::Fail;
 use vclock::{Format, Refusal};
 use version_set::{Kind, Offered, VersionSet};
 
-/// Offers a version that node 1 has counted so often, and asserts the answer and the members then.
+/// Offers a version that node 1 has counted this number of times, and asserts the answer and the members then.
 fn expect_offered(
     rt: &impl Abort,
     alloc: Global,

@@ -9,7 +9,7 @@ use std::sync::ledger::{Blank, Ledger};
 use std::test::Fail;
 use vclock::Refusal;
 
-/// What a controller shows: its target, and how many slots are lent, free and allowed.
+/// Returns a controller's target, and its numbers of lent, free and allowed slots.
 fn shown<L: Ledger>(controller: &Controller<L>) -> (u32, u32, u32, u32) {
     (
         controller.target(),

@@ -17,19 +17,19 @@ use vclock::{Bytes, Clock, Format, Refusal};
 use version_set::Kind;
 use walk_messages::{Ask, Offer};
 
-/// A range of a ring with one range, in format 1.
+/// Returns a range of a ring with one range, in format 1.
 fn range(alloc: Global) -> Result<RangeState, Fail> {
     let config = RangeConfig::new(1, 0, 0, 1_000).ok_or("no such range")?;
     Ok(RangeState::new(alloc, config)?)
 }
 
-/// A question for the text of a node.
+/// Returns the ask for the text of a node.
 fn ask(depth: u8, index: u16) -> Result<Ask, Fail> {
     let node = NodeAt::new(depth, index).ok_or("no such node")?;
     Ok(Ask { offer: 1, node })
 }
 
-/// Puts a value under `a`, which lies in leaf 12, with a context.
+/// Puts a value under `a`, which is in leaf 12, with a context.
 fn put(alloc: Global, state: &mut RangeState, context: &[(u64, u64)]) -> Result<(), Fail> {
     let context = Clock::from_pairs(alloc, context)?;
     let value = Bytes::copy_of(alloc, b"x")?;
@@ -37,14 +37,14 @@ fn put(alloc: Global, state: &mut RangeState, context: &[(u64, u64)]) -> Result<
     Ok(())
 }
 
-/// A range without rows whose nodes are all clean.
+/// Returns a range without rows whose nodes are all clean.
 fn clean_range(rt: &(impl Threads + Sync), alloc: Global) -> Result<RangeState, Fail> {
     let mut state = range(alloc)?;
     state.rehash(rt, alloc)?;
     Ok(state)
 }
 
-/// The text of a node.
+/// Returns the text of a node.
 fn text_at(alloc: Global, snapshot: &Snapshot, depth: u8, index: u16) -> Result<Vec<u8>, Fail> {
     Ok(snapshot.answer(alloc, ask(depth, index)?)?)
 }
@@ -89,7 +89,7 @@ fn expect_leaf(
     expect_text(rt, alloc, snapshot, (2, 12), text)
 }
 
-/// A range with a value under `a`, whose nodes are all clean, and with an open session.
+/// Returns a range with a value under `a`, whose nodes are all clean, and with an open session.
 fn range_in_session(rt: &(impl Threads + Sync), alloc: Global) -> Result<RangeState, Fail> {
     let mut state = range(alloc)?;
     put(alloc, &mut state, &[])?;
@@ -115,7 +115,7 @@ fn expect_own_leaf(
     expect_leaf(rt, alloc, &**record.session().own(), text)
 }
 
-/// Whether a new snapshot of a range has this text of leaf 12.
+/// Returns true if a new snapshot of a range has this text of leaf 12.
 fn has_leaf(
     rt: &(impl Threads + Sync),
     alloc: Global,
@@ -127,7 +127,7 @@ fn has_leaf(
     Ok(text_at(alloc, &snapshot, 2, 12)?.as_slice() == text)
 }
 
-/// After another put the snapshots that were taken before have the old text, and a new one has another text.
+/// Asserts that after another put the earlier snapshots have the old text, and a new one has another text.
 fn expect_old_text(
     rt: &(impl Abort + Threads + Sync),
     alloc: Global,
@@ -151,12 +151,12 @@ fn what_was_taken_before_a_put_has_the_old_text(rt: HostRuntime) -> Result<(), F
     expect_old_text(&rt, alloc, &mut state, &snapshot)
 }
 
-/// The next job of a range.
+/// Returns the next job of a range.
 fn next_job(alloc: Global, state: &RangeState) -> Result<Job, Fail> {
     Ok(state.take_job(alloc, 0)?.ok_or("no job")?)
 }
 
-/// Puts two values under `a`: a job that was taken in between has the text with the first alone.
+/// Puts two values under `a`, and asserts that a job taken in between has the text with the first alone.
 fn expect_old_job(rt: &impl Abort, alloc: Global, state: &mut RangeState) -> Result<(), Fail> {
     put(alloc, state, &[])?;
     let old = run_job(next_job(alloc, state)?);
@@ -184,7 +184,7 @@ fn a_snapshot_is_an_event(rt: HostRuntime) -> Result<(), Fail> {
     Ok(())
 }
 
-/// The leaves of a range without rows, in format 1.
+/// Returns the leaves of a range without rows, in format 1.
 fn empty_leaves(alloc: Global) -> Result<Vec<SharedLeaf>, Fail>
     ensures { IfOk result (λ leaves. leaves.items ≡ replicate 256 (record { format = Format.One; rows = [] })) }
 {
@@ -196,7 +196,7 @@ fn empty_leaves(alloc: Global) -> Result<Vec<SharedLeaf>, Fail>
     Ok(leaves)
 }
 
-/// The text of a node above 16 nodes that have all the same text, in format 1.
+/// Returns the text of a node above 16 nodes that all have this text, in format 1.
 fn text_above(alloc: Global, child: &[u8]) -> Result<Vec<u8>, Fail>
     ensures { IfOk result (λ text. text.items ≡ inner_text Format.One (replicate 16 (sha256 child.now))) }
 {
@@ -204,7 +204,7 @@ fn text_above(alloc: Global, child: &[u8]) -> Result<Vec<u8>, Fail>
     Ok(inner_text(alloc, Format::One, &[digest; 16])?)
 }
 
-/// The digests of all nodes by place, if all nodes of a depth have the same text, in format 1.
+/// Returns the digests of all nodes by place, if all nodes of a depth have one text, in format 1.
 fn digests_by_place(
     alloc: Global,
     root: &[u8],

@@ -1,4 +1,4 @@
-//! Trees: node texts, marks, jobs and rehashes. The digests were made by another program from the definition.
+//! Trees: node texts, marks, jobs and rehashes. Another program made the digests from the definition.
 use crate::refusals::is_refused;
 use crate::versions::version;
 use hash_tree::{Digest, Hashed, Marks, NodeAt, Text, hash, inner_text, is_inner_text, leaf_text};
@@ -18,13 +18,13 @@ const EMPTY_LEAF: &str = "6e340b9cffb37a989ca544e6bb780a2c78901d3fb33738768511a3
 /// The SHA-256 of the text `abc`, of FIPS 180-4's examples.
 const ABC: &str = "ba7816bf8f01cfea414140de5dae2223b00361a396177a9cb410ff61f20015ad";
 
-/// Whether a digest is spelled so.
+/// Returns true if a digest has these digits.
 fn is_spelled(alloc: Global, digest: Digest, digits: &str) -> Result<bool, Fail> {
     let spelled = hex::encode(alloc, digest.as_slice())?;
     Ok(spelled.as_str() == digits)
 }
 
-/// A range of a ring with one range.
+/// Returns a range of a ring with one range.
 fn range(alloc: Global, format: u64) -> Result<RangeState, Fail> {
     let config = RangeConfig::new(format, 0, 0, 1_000).ok_or("no such range")?;
     Ok(RangeState::new(alloc, config)?)
@@ -77,7 +77,7 @@ fn a_new_tree_is_dirty(rt: HostRuntime) -> Result<(), Fail> {
     Ok(())
 }
 
-/// The job that is taken, of that node.
+/// Takes a job, and asserts its node.
 fn job_at(
     rt: &impl Abort,
     alloc: Global,
@@ -91,7 +91,7 @@ fn job_at(
     Ok(job)
 }
 
-/// Takes the next job, of that node, and installs what comes of it.
+/// Takes the next job, asserts its node, and installs its digest.
 fn install_next(
     rt: &impl Abort,
     alloc: Global,
@@ -104,7 +104,7 @@ fn install_next(
     Ok(state.install(node, &run_job(job))?)
 }
 
-/// Puts two values under `a`: a digest of its leaf with the first alone comes too late.
+/// Puts two values under `a`, and asserts that the digest of its leaf with the first alone is late.
 fn expect_late(rt: &impl Abort, alloc: Global, state: &mut RangeState) -> Result<(), Fail> {
     put(alloc, state, &[])?;
     let job = job_at(rt, alloc, state, 2, 12)?;
@@ -114,7 +114,7 @@ fn expect_late(rt: &impl Abort, alloc: Global, state: &mut RangeState) -> Result
     Ok(())
 }
 
-/// The nodes above the leaf of `a`, and it, are hashed and installed from the leaf up, and no other one.
+/// Asserts that the leaf of `a` and the nodes above it are hashed and installed, from the leaf up, and no other node.
 fn expect_path(rt: &impl Abort, alloc: Global, state: &mut RangeState) -> Result<(), Fail> {
     for (depth, index) in [(2, 12), (1, 0), (0, 0)] {
         install_next(rt, alloc, state, depth, index)?;
@@ -142,7 +142,7 @@ fn workers_take_different_jobs(rt: HostRuntime) -> Result<(), Fail> {
     Ok(())
 }
 
-/// How many jobs are taken of a new range, if so many are asked for.
+/// Returns the number of jobs of a new range that are taken, if this number is asked for.
 fn count_taken(alloc: Global, format: u64, most: usize) -> Result<usize, Fail> {
     let state = range(alloc, format)?;
     Ok(state.take_jobs(alloc, most)?.len())
@@ -158,7 +158,7 @@ fn as_many_jobs_are_taken_as_there_are(rt: HostRuntime) -> Result<(), Fail> {
     Ok(())
 }
 
-/// A range with three rows.
+/// Returns a range with three rows.
 fn three_rows(alloc: Global) -> Result<RangeState, Fail> {
     let mut state = range(alloc, 2)?;
     for (node, key) in [(1, b"a"), (2, b"b"), (3, b"c")] {
@@ -168,7 +168,7 @@ fn three_rows(alloc: Global) -> Result<RangeState, Fail> {
     Ok(state)
 }
 
-/// Asserts that each is what its job gives when it is run alone.
+/// Asserts that each hashed text is that of its job run alone.
 fn expect_run(rt: &impl Abort, hashed: &[Hashed], jobs: Vec<Job>) {
     for (one, job) in hashed.iter().zip(jobs) {
         let other = run_job(job);
@@ -177,7 +177,7 @@ fn expect_run(rt: &impl Abort, hashed: &[Hashed], jobs: Vec<Job>) {
     }
 }
 
-/// So many jobs of a range are hashed in order.
+/// Asserts that this number of jobs of a range are hashed in order.
 fn expect_hashed(
     rt: &(impl Abort + Threads + Sync),
     alloc: Global,
@@ -200,7 +200,7 @@ fn many_jobs_are_hashed_in_order(rt: HostRuntime) -> Result<(), Fail> {
     Ok(())
 }
 
-/// A job, and a text that is not the root's.
+/// Returns the events of a job, and of a text that is not the root's.
 fn two_events(alloc: Global) -> Result<Vec<Event>, Fail> {
     let node = NodeAt::new(0, 0).ok_or("no root")?;
     let hashed = hash(Text::copy_of(alloc, b"abc")?);

@@ -5,7 +5,7 @@ use std::test::Fail;
 use vclock::{Bytes, Clock, Refusal};
 use version_set::{Kind, Version, VersionSet};
 
-/// The version with a clock of one pair.
+/// Returns the version with a clock of one pair.
 pub fn version(
     alloc: Global,
     pair: (u64, u64),
@@ -19,7 +19,7 @@ pub fn version(
     })
 }
 
-/// The members of a set, each on a line.
+/// Returns the members of a set, each on a line.
 pub fn members(alloc: Global, set: &VersionSet) -> Result<String, Fail> {
     let mut text = String::new(alloc);
     for version in set.iter() {

@@ -10,7 +10,7 @@ use std::process::Abort;
 use std::test::Fail;
 use std::thread::Threads;
 
-/// Which call of a device fails.
+/// The call of a device that fails.
 #[derive(Clone, Copy, Debug, PartialEq, Eq)]
 enum Fault {
     /// A read.
@@ -23,7 +23,7 @@ enum Fault {
     Flush,
 }
 
-/// Calls, of which one fails, and those after it do not.
+/// Calls of which one fails, and the later ones succeed.
 #[derive(Drop)]
 struct Calls {
     before: u64,
@@ -31,7 +31,7 @@ struct Calls {
 }
 
 impl Calls {
-    /// Whether the call that comes now fails.
+    /// Returns true if this call fails.
     fn fails(&mut self) -> bool {
         if self.failed {
             return false;
@@ -71,7 +71,7 @@ struct Sink {
 }
 
 impl Sink {
-    /// Whether no call of its own can fail any more.
+    /// Returns true if none of its calls can fail any more.
     fn has_failed(&self) -> bool {
         self.writes.failed && self.nothings.failed && self.flushes.failed
     }
@@ -98,7 +98,7 @@ impl Write for Sink {
     }
 }
 
-/// The calls of a kind, of which the one after so many fails, if it is of the kind of the fault.
+/// Returns the calls of a kind. The call after the first `before` fails if it is of the fault's kind.
 fn calls_before(before: u64, kind: Fault, fault: Fault) -> Calls {
     Calls {
         before,
@@ -106,9 +106,9 @@ fn calls_before(before: u64, kind: Fault, fault: Fault) -> Calls {
     }
 }
 
-/// Runs the script with a fault after more and more calls of its kind, up to the run that meets no fault: that one is
-/// right. The others end as a device's, and what they write begins the output. Gives how many there are of those. Reads and
-/// writes are of so many bytes at the most.
+/// Runs the script with a fault after more and more calls of its kind, up to the run that meets no fault; that run has
+/// the right output and end. The others end as a device's fault does, and their output is a prefix of the right one.
+/// Returns the number of those runs. Reads and writes have at most `size` bytes.
 fn count_faults(
     rt: &(impl AllocGlobal + Abort + Threads + Sync),
     (input, output, end): (&str, &str, ScriptEnd),
@@ -150,7 +150,7 @@ const UPDATES: &str = r#"{"put":{"node":1,"key":"61","context":[],"value":"78"}}
 {"get":{"node":1,"key":"61"}}
 "#;
 
-/// What it writes.
+/// The script's output.
 const UPDATE_ANSWERS: &str = r#"{"clock":[[1,1]],"copied":0,"hinted":0,"number":0}
 {"clock":[[1,2]],"copied":0,"hinted":0,"number":1}
 {"cause":"StaleContext","held":[[[1,2]]],"refused":6}
@@ -161,7 +161,7 @@ const UPDATE_ANSWERS: &str = r#"{"clock":[[1,1]],"copied":0,"hinted":0,"number":
 const BAD_LINE: &str = "{\"put\":{\"node\":1,\"key\":\"61\",\"context\":[],\"value\":\"78\"}}\n \n\
      {\"put\":{\"node\":1}}\n{\"get\":{\"node\":1,\"key\":\"61\"}}\n";
 
-/// What it writes.
+/// The script's output.
 const BAD_LINE_ANSWERS: &str = r#"{"clock":[[1,1]],"copied":0,"hinted":0,"number":0}
 {"cause":"BadLine","line":3,"refused":29}
 "#;
@@ -180,11 +180,11 @@ fn each_fault_of_a_device_ends_the_script(rt: HostRuntime) {
     }
 }
 
-/// How many bytes a read and a write have at the most in a script of many lines.
+/// The maximum length of a read and of a write in a script of many lines, in bytes.
 const SIZE: usize = 64;
 
-/// Runs the script of these lines with each call of a device failing in turn, and then with a byte a call. Without a fault it
-/// flushes after each read, and writes each answer at least once.
+/// Runs the script of these lines with each call of a device failing in turn, and then with one byte a call. The run
+/// without a fault flushes after each read, and writes each answer at least once.
 fn expect_faults(
     rt: &(impl AllocGlobal + Abort + Threads + Sync),
     lines: &[(&str, &str)],
@@ -206,7 +206,7 @@ fn expect_faults(
     Ok(())
 }
 
-/// Runs the script with a byte a call and no fault.
+/// Runs the script with one byte a call and no fault.
 fn expect_whole(
     rt: &(impl AllocGlobal + Abort + Threads + Sync),
     (input, output, end): (&str, &str, ScriptEnd),
@@ -227,7 +227,7 @@ fn expect_whole(
     assert!(rt; writer.bytes.as_slice() == output.as_bytes());
 }
 
-/// Calls of which none fails.
+/// Returns calls of which none fails.
 fn no_fault() -> Calls {
     Calls {
         before: 0,

@@ -4,19 +4,19 @@ use outage_script::ScriptEnd;
 use std::fmt::Write;
 use std::test::Fail;
 
-/// A ring of three nodes, of which two keep the range.
+/// A ring of three nodes, two of which keep the range.
 const RING: (&str, &str) = (
     r#"{"ring":{"bits":0,"copies":2,"nodes":[1,2,3]}}"#,
     r#"{"nodes":3,"ranges":1}"#,
 );
 
-/// Node 2 goes down.
+/// A command that takes node 2 down.
 const DOWN: (&str, &str) = (r#"{"down":{"node":2}}"#, r#"{"node":2,"up":false}"#);
 
-/// Node 2 comes up.
+/// A command that brings node 2 up.
 const UP: (&str, &str) = (r#"{"up":{"node":2}}"#, r#"{"node":2,"up":true}"#);
 
-/// A put of `x` under `a` at node 1, of which node 3 keeps a hint.
+/// A put of `x` under `a` at node 1. Node 3 keeps a hint for it.
 const PUT: (&str, &str) = (
     r#"{"put":{"node":1,"key":"61","context":[],"value":"78"}}"#,
     r#"{"clock":[[1,1]],"copied":0,"hinted":1,"number":0}"#,
@@ -25,7 +25,7 @@ const PUT: (&str, &str) = (
 /// The delivery of node 3's hints.
 const DELIVER: &str = r#"{"deliver":{"node":3}}"#;
 
-/// A hint whose owner is down and comes up.
+/// A hint whose owner is down and then up.
 pub(crate) const WAITING: &[(&str, &str)] = &[
     RING,
     DOWN,

@@ -7,10 +7,10 @@ use std::test::Fail;
 /// A ring of two nodes that keep one range.
 const PAIR: &str = r#"{"ring":{"bits":0,"copies":2,"nodes":[1,2]}}"#;
 
-/// Its answer.
+/// The answer to that ring.
 const PAIR_ANSWER: &str = r#"{"nodes":2,"ranges":1}"#;
 
-/// The answer of a line that names a ring or a node that is none.
+/// The answer to a line that names a ring or a node that doesn't exist.
 const BAD_RING: &str = r#"{"cause":"BadRing","refused":27}"#;
 
 /// Two puts under one context, and a put that has seen both.
@@ -140,7 +140,7 @@ fn a_full_journal_takes_no_more(rt: HostRuntime) -> Result<(), Fail> {
                 r#"{"put":{"node":1,"key":"62","context":[],"value":"78"}}"#,
                 r#"{"cause":"JournalFull","refused":8}"#,
             ),
-            // (the copy is refused by the full journal, and passed over)
+            // (the full journal refuses the copy, and the put goes on without it)
             (
                 r#"{"put":{"node":2,"key":"62","context":[],"value":"78"}}"#,
                 r#"{"clock":[[2,1]],"copied":0,"hinted":0,"number":0}"#,
@@ -234,7 +234,7 @@ fn a_tombstone_is_shown_as_null(rt: HostRuntime) -> Result<(), Fail> {
                 r#"{"get":{"node":1,"key":"61"}}"#,
                 r#"{"versions":[{"clock":[[1,2]],"value":null}]}"#,
             ),
-            // (live versions come first, whatever their clocks)
+            // (live versions are before tombstones, whatever their clocks)
             (
                 r#"{"put":{"node":2,"key":"61","context":[[1,1],[3,1]],"value":"6161","lose":[1]}}"#,
                 r#"{"clock":[[1,1],[2,1],[3,1]],"copied":0,"hinted":0,"number":1}"#,

@@ -16,10 +16,10 @@ const PUT_ANSWER: &str = r#"{"clock":[[1,1]],"copied":0,"hinted":0,"number":0}"#
 /// A get of `a`.
 const GET: &str = r#"{"get":{"node":1,"key":"61"}}"#;
 
-/// What is written if the first line is bad.
+/// The output if the first line is bad.
 const BAD_FIRST: &str = "{\"cause\":\"BadLine\",\"line\":1,\"refused\":29}\n";
 
-/// Runs a script, which is to write the output and to end so.
+/// Runs a script, and asserts its output and its end.
 pub(crate) fn expect(
     rt: &(impl AllocGlobal + Abort + Threads + Sync),
     input: &[u8],
@@ -32,7 +32,7 @@ pub(crate) fn expect(
     Ok(())
 }
 
-/// Runs the script of these lines, which is to write these answers.
+/// Runs the script of these lines, and asserts their answers.
 pub(crate) fn expect_answers(
     rt: &(impl AllocGlobal + Abort + Threads + Sync),
     lines: &[(&str, &str)],
@@ -46,12 +46,12 @@ pub(crate) fn expect_answers(
     expect(rt, input.as_bytes(), output.as_str(), ScriptEnd::Done)
 }
 
-/// The line of a put of `a` with a context.
+/// Returns the line of a put of `a` with a context.
 fn put_after(alloc: Global, context: &str) -> Result<String, AllocError> {
     format!(in alloc; r#"{{"put":{{"node":1,"key":"61","context":[{context}],"value":"78"}}}}"#)
 }
 
-/// The pairs of the nodes from 1 up to the last, with the counter 1, and then the pair of one more node.
+/// Returns the pairs of the nodes from 1 up to the last, with the counter 1, and then the pair of one more node.
 fn pairs_up_to(alloc: Global, last: u64, node: u64) -> Result<String, AllocError> {
     let mut text = String::new(alloc);
     for node in 1..=last {
@@ -222,7 +222,7 @@ fn refusals_come_in_order(rt: HostRuntime) -> Result<(), Fail> {
     )
 }
 
-/// So many bytes `a` in hexadecimal digits.
+/// Returns this number of bytes `a` in hexadecimal digits.
 fn hex_of(alloc: Global, length: usize) -> Result<String, AllocError> {
     let mut text = String::new(alloc);
     for _ in 0..length {

@@ -1,4 +1,4 @@
-//! Scripts in which a replica takes what another has.
+//! Scripts in which a replica takes the versions of another one.
 use crate::scripts::expect_answers;
 use std::test::Fail;
 
@@ -8,13 +8,13 @@ const RING: (&str, &str) = (
     r#"{"nodes":2,"ranges":1}"#,
 );
 
-/// A put of `x` under `a` at node 1, of which node 2 gets nothing.
+/// A put of `x` under `a` at node 1. Its copy to node 2 is lost.
 const PUT: (&str, &str) = (
     r#"{"put":{"node":1,"key":"61","context":[],"value":"78","lose":[2]}}"#,
     r#"{"clock":[[1,1]],"copied":0,"hinted":0,"number":0}"#,
 );
 
-/// The same of `abc`, after it.
+/// A put of `x` under `abc` after it. Its copy to node 2 is lost too.
 const SECOND_PUT: (&str, &str) = (
     r#"{"put":{"node":1,"key":"616263","context":[],"value":"78","lose":[2]}}"#,
     r#"{"clock":[[1,1]],"copied":0,"hinted":0,"number":1}"#,
@@ -26,13 +26,13 @@ const REHASH: (&str, &str) = (r#"{"rehash":{"node":1,"range":0}}"#, r#"{"hashed"
 /// A rehash at node 2.
 const OTHER_REHASH: &str = r#"{"rehash":{"node":2,"range":0}}"#;
 
-/// Node 2 takes what node 1 has.
+/// A sync in which node 2 takes the versions of node 1.
 const SYNC: &str = r#"{"sync":{"from":1,"node":2,"range":0}}"#;
 
-/// A sync whose node has a dirty tree.
+/// The answer to a sync whose node has a dirty tree.
 const DIRTY: &str = r#"{"cause":"Dirty","refused":10}"#;
 
-/// Syncs of two replicas, of which one has a key that the other lacks.
+/// Syncs of two replicas, one of which has a key that the other lacks.
 pub(crate) const ONE_KEY: &[(&str, &str)] = &[
     RING,
     PUT,

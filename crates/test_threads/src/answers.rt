@@ -28,7 +28,7 @@ fn fill(rt: &(impl Threads + Sync), alloc: Global, state: &mut RangeState) -> Re
     Ok(())
 }
 
-/// The snapshot of a partner of format 1 that has the row of `a`.
+/// Returns the snapshot of a partner of format 1 that has the row of `a`.
 fn partner(rt: &(impl Threads + Sync), alloc: Global) -> Result<Arc<Snapshot, Global>, Fail> {
     let config = RangeConfig::new(1, 0, 0, 1_000).ok_or("no such range")?;
     let mut state = RangeState::new(alloc, config)?;
@@ -36,7 +36,7 @@ fn partner(rt: &(impl Threads + Sync), alloc: Global) -> Result<Arc<Snapshot, Gl
     Ok(state.snapshot(alloc)?)
 }
 
-/// An offer of format 1 and range 0.
+/// Returns an offer of format 1 and range 0.
 fn offer(root: Digest) -> Offer {
     Offer {
         offer: 1,
@@ -46,12 +46,12 @@ fn offer(root: Digest) -> Offer {
     }
 }
 
-/// The text `abc`, which no node can have.
+/// Returns the text `abc`, which no node can have.
 fn abc(alloc: Global) -> Result<Hashed, Refusal> {
     Ok(hash(Text::copy_of(alloc, b"abc")?))
 }
 
-/// Answers a node truly, and tells how many versions came, and how the session stands.
+/// Answers a node with the true text, and returns the number of accepted versions and the session's state.
 fn answer<L: Ledger>(
     alloc: Global,
     range: &mut LockedRange<L>,
@@ -64,12 +64,12 @@ fn answer<L: Ledger>(
     Ok((taken.receipts, taken.state))
 }
 
-/// The node that the first session awaits first.
+/// Returns the node that the first session awaits first.
 fn first<L: Ledger>(range: &LockedRange<L>) -> Result<NodeAt, Fail> {
     Ok(range.outstanding(0)?.ok_or("nothing is outstanding")?)
 }
 
-/// A session takes each true text once, and no forged one.
+/// Asserts that a session takes each true text once, and no forged one.
 fn expect_true_texts<L: Ledger>(
     rt: &impl Abort,
     alloc: Global,
@@ -93,7 +93,7 @@ fn expect_true_texts<L: Ledger>(
     Ok(())
 }
 
-/// A pass whose session takes true texts alone.
+/// Answers the session of a range, whose pass records the versions of true texts alone.
 fn answer_all<L: Ledger>(
     rt: &(impl Abort + Threads + Sync),
     alloc: Global,
@@ -112,7 +112,7 @@ fn a_pass_is_told_of_true_texts_alone(rt: HostRuntime) -> Result<(), Fail> {
     answer_all::<Brand>(&rt, rt.alloc(), Blank::new(2))
 }
 
-/// A session fails whose partner offers the digest of a text that no node can have.
+/// Asserts that a session fails if its partner offers the digest of a text that no node can have.
 fn expect_failure<L: Ledger>(
     rt: &impl Abort,
     alloc: Global,
@@ -129,7 +129,7 @@ fn expect_failure<L: Ledger>(
     Ok(())
 }
 
-/// A pass whose session fails.
+/// Fails the session of a range with one pass.
 fn fail<L: Ledger>(
     rt: &(impl Abort + Threads + Sync),
     alloc: Global,

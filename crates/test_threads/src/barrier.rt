@@ -4,10 +4,10 @@ use std::sync::Wait;
 use std::sync::atomic::{AtomicU64, Ordering};
 use std::thread;
 
-/// How often a thread looks whether it may go on.
+/// The maximum number of times that a thread checks if it may go on.
 const MOST_LOOKS: u64 = 10_000_000;
 
-/// What holds a thread until it is opened. As a gate it holds a worker at one step.
+/// A barrier that holds a thread until it is opened. As a gate it holds a worker at one step.
 #[derive(Drop)]
 pub struct Barrier {
     step: Step,
@@ -17,7 +17,7 @@ pub struct Barrier {
 }
 
 impl Barrier {
-    /// A closed barrier, which nobody has come to.
+    /// Returns a closed barrier that no thread has reached.
     pub fn new(step: Step) -> Barrier {
         Barrier {
             step,
@@ -38,12 +38,12 @@ impl Barrier {
         self.wait_for(&self.arrived);
     }
 
-    /// Lets the thread that is held go on, and each one that comes.
+    /// Lets the held thread go on, and each one that reaches the barrier later.
     pub fn open(&self) {
         self.opened.store(1, Ordering::SeqCst);
     }
 
-    /// Whether a thread looked 10,000,000 times in vain.
+    /// Returns true if a thread checked 10,000,000 times in vain.
     pub fn gave_up(&self) -> bool {
         self.gave_up.load(Ordering::SeqCst) > 0
     }

@@ -28,7 +28,7 @@ fn sync_and_stop<L: Ledger, C: Ledger, R: Threads + Wait + Sync>(
     synced
 }
 
-/// A server and a sync over its link, beside each other.
+/// Runs a server, and a sync over its link, in two threads.
 fn serve_and_sync<L: Ledger + Send + Sync, C: Ledger + Send + Sync, R: Threads + Wait + Sync>(
     rt: &R,
     alloc: Global,
@@ -96,7 +96,8 @@ fn a_server_refuses_what_is_no_ask(rt: HostRuntime) -> Result<(), Fail> {
     Ok(())
 }
 
-/// Asks with bytes that are no ask, and wants an offer that there isn't: how often the link failed.
+/// Asks with bytes that are not an ask, and for an offer that doesn't exist. Returns the number of failures of the
+/// link.
 fn ask_badly<R: Wait>(rt: &R, link: ChannelLink) -> u64 {
     let mut link = link;
     let lost = matches!(link.ask(rt, b"no ask"), Reached::Lost);

@@ -15,7 +15,7 @@ use test_core::versions::version;
 use vclock::{Bytes, Refusal};
 use version_set::Kind;
 
-/// What came of a delivery of one hint.
+/// The outcome of a delivery of one hint.
 #[derive(Drop)]
 struct Delivered {
     report: Result<DeliverReport, Refusal>,
@@ -23,7 +23,7 @@ struct Delivered {
     pending: bool,
 }
 
-/// Delivers one hint to its owner, by a range of node 1 whose journal takes one entry and may have it already.
+/// Delivers one hint to its owner. The range is at node 1; its journal takes one entry, and may already have it.
 fn deliver_one<L: Ledger, C: Ledger, R: Wait>(
     rt: &R,
     alloc: Global,

@@ -10,7 +10,8 @@ use std::sync::ledger::{Blank, Ledger};
 use std::test::Fail;
 use vclock::{Bytes, Clock, Refusal};
 
-/// A range of format 1 with all keys at node 1, whose journal takes so many entries, and the passes of its seats.
+/// Returns a range of format 1 with all keys at node 1, whose journal takes this number of entries, and the passes of
+/// its seats.
 pub fn open_range<L: Ledger>(
     alloc: Global,
     blank: Blank,
@@ -27,7 +28,7 @@ pub fn open_range<L: Ledger>(
     Ok((SharedRange::new(1, state, book), passes))
 }
 
-/// A controller of 1 to 8 slots.
+/// Returns a controller of 1 to 8 slots.
 pub fn open_slots<C: Ledger>(alloc: Global, blank: Blank) -> Result<SharedController<C>, Refusal>
     requires ledger { (blank.name ≡ C.name) × (blank.parts ≡ C.parts) × (blank.parts ≡ 1024) }
 {
@@ -35,12 +36,12 @@ pub fn open_slots<C: Ledger>(alloc: Global, blank: Blank) -> Result<SharedContro
     Ok(SharedController::new(slots))
 }
 
-/// The last pass of a list.
+/// Returns the last pass of a list.
 pub fn last_pass<L: Ledger>(passes: &mut Vec<Pass<L>>) -> Result<Pass<L>, Fail> {
     Ok(passes.pop().ok_or("no pass")?)
 }
 
-/// The clock in which node 1 has counted so often: none for 0.
+/// Returns the clock in which node 1 has counted this number of times. It is empty for 0.
 pub fn counted(alloc: Global, count: u64) -> Result<Clock, Refusal> {
     if count == 0 {
         Clock::from_pairs(alloc, &[])
@@ -49,7 +50,7 @@ pub fn counted(alloc: Global, count: u64) -> Result<Clock, Refusal> {
     }
 }
 
-/// The value `x`.
+/// Returns the value `x`.
 pub fn value(alloc: Global) -> Result<Bytes, Refusal> {
     Ok(Bytes::copy_of(alloc, b"x")?)
 }

@@ -15,8 +15,8 @@ fn keep<R: Wait>(rt: &R, alloc: Global, hints: &SharedHints) -> Result<u32, Refu
     hints.keep(rt, 2, key, version(alloc, (1, 1), Kind::Live, b"x")?)
 }
 
-/// Whether the first hint is confirmed by the answer of node 2 that it journaled the version that node 1 has counted so
-/// often.
+/// Returns true if node 2's answer that it journaled the version that node 1 has counted this number of times confirms
+/// the first hint.
 fn is_confirmed<R: Wait>(
     rt: &R,
     alloc: Global,
@@ -36,7 +36,7 @@ fn is_confirmed<R: Wait>(
     }
 }
 
-/// The id of the hint that is found for an owner.
+/// Returns the id of the hint that is found for an owner.
 fn next_id<R: Wait>(
     rt: &R,
     alloc: Global,

@@ -1,4 +1,4 @@
-//! Syncs that are held while something else is done at their range.
+//! Syncs that are held while another call is made on their range.
 ghost use Rattle.std.specs.Prelude.{◌≡◌};
 
 use crate::barrier::Barrier;
@@ -56,17 +56,17 @@ fn sync_held<L: Ledger, C: Ledger, R: Wait>(
     sync(rt, alloc, range, slots, pass, &mut link, 600)
 }
 
-/// What is done at a range while a sync is held.
+/// A call that is made on a range while a sync is held.
 #[derive(Clone, Copy)]
 enum Deed {
-    /// `b` is put.
+    /// A put of `b`.
     Put,
-    /// The range goes over to format 2.
+    /// A migration to format 2.
     Migrate,
 }
 
 impl Deed {
-    /// Does it, and returns the number of the entry, if there is one.
+    /// Makes the call, and returns the number of its entry, if there is one.
     fn run<L: Ledger, R: Wait>(
         self,
         rt: &R,
@@ -88,7 +88,7 @@ impl Deed {
     }
 }
 
-/// Does a deed when a thread is held at the barrier, and opens it.
+/// Makes a call when a thread is held at the barrier, and opens the barrier.
 fn do_beside<L: Ledger, R: Wait>(
     rt: &R,
     alloc: Global,
@@ -103,7 +103,7 @@ fn do_beside<L: Ledger, R: Wait>(
     done
 }
 
-/// What came of a sync that was held at its asks until a deed was done.
+/// The outcome of a sync that was held at its asks until a call was made.
 #[derive(Drop)]
 struct Passed {
     report: Result<SyncReport, Refusal>,
@@ -111,7 +111,8 @@ struct Passed {
     gave_up: bool,
 }
 
-/// Syncs a clean range with a partner that has `a`, while a deed is done at it. The sync has the last of two passes.
+/// Syncs a clean range with a partner that has `a`, while a call is made on the range. The sync has the last of two
+/// passes.
 fn hold_a_sync<L: Ledger + Send + Sync, C: Ledger + Send + Sync, R: Threads + Wait + Sync>(
     rt: &R,
     alloc: Global,
@@ -140,7 +141,8 @@ fn hold_a_sync<L: Ledger + Send + Sync, C: Ledger + Send + Sync, R: Threads + Wa
     })
 }
 
-/// What came of such a sync of a range without rows, and how many entries the range had when it was closed.
+/// Returns the outcome of such a sync of a range without rows, and the number of entries that the range had when it was
+/// closed.
 fn do_at_a_sync<L: Ledger + Send + Sync, C: Ledger + Send + Sync, R: Threads + Wait + Sync>(
     rt: &R,
     alloc: Global,
@@ -159,7 +161,7 @@ fn do_at_a_sync<L: Ledger + Send + Sync, C: Ledger + Send + Sync, R: Threads + W
     Ok((passed, state.journal().len()))
 }
 
-/// Asserts that a thread was held until the deed was done, what the deed returned, and what the sync reported.
+/// Asserts that a thread was held until the call was made, and asserts the call's result and the sync's report.
 fn expect_passed(
     rt: &impl Abort,
     passed: Passed,

@@ -1,4 +1,5 @@
-//! Tests of passes, of ranges behind a lock, and of what the threads of a node share: offers, links, sync workers and storms.
+//! Tests of passes, of ranges behind a lock, and of the values that a node's threads share: offers, links, sync workers
+//! and storms.
 #![tactic(auto)]
 
 #[cfg(test)]

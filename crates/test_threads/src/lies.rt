@@ -16,7 +16,8 @@ use test_core::checks::expect;
 use vclock::Refusal;
 use walk_messages::{Answer, Message, Offer, decode, encode};
 
-/// Syncs a range that has nothing with a partner that has these keys, over a link that does the deeds, in so many turns.
+/// Syncs an empty range with a partner that has these keys, over a link that does the deeds, in at most this number of
+/// turns.
 fn sync_by<L: Ledger, C: Ledger, R: Threads + Wait + Sync>(
     rt: &R,
     alloc: Global,
@@ -34,7 +35,7 @@ fn sync_by<L: Ledger, C: Ledger, R: Threads + Wait + Sync>(
     sync_over::<L, C, ScriptedLink<MemoryLink>, R>(rt, alloc, blanks, None, &mut link, turns)
 }
 
-/// The report of the first session of a range, if it knew no version.
+/// Returns the report of the first session of a range, if it knew no version.
 fn report(state: SessionState, asked: u64, accepted: u64, bad: u64) -> SyncReport {
     SyncReport {
         id: 0,
@@ -46,7 +47,7 @@ fn report(state: SessionState, asked: u64, accepted: u64, bad: u64) -> SyncRepor
     }
 }
 
-/// A true offer, then four answers that are bad among the true ones to three asks. The first answer has 529 bytes.
+/// A true offer, then four bad answers among the true ones to three asks. The first answer has 529 bytes.
 const LIES: [Deed; 8] = [
     Deed::Pass,
     Deed::Change(528),
@@ -117,7 +118,7 @@ fn the_node_of_the_answer_is_taken(rt: HostRuntime) -> Result<(), Fail> {
     expect_report(&rt, synced, report(SessionState::Finished, 5, 2, 0))
 }
 
-/// What a sync of three asks comes to whose call of that number, counted from 1, has a deed done.
+/// Runs a sync of three asks, in which the call of this number, counted from 1, has a deed done.
 fn sync_until<L: Ledger, C: Ledger, R: Threads + Wait + Sync>(
     rt: &R,
     alloc: Global,
@@ -136,8 +137,8 @@ fn sync_until<L: Ledger, C: Ledger, R: Threads + Wait + Sync>(
     sync_by::<L, C, R>(rt, alloc, blanks, &[b"a".as_slice()], &deeds, 600)
 }
 
-/// A sync that a call ends has so many failures of its link and no entry, and a session, which is cancelled, if the call was
-/// not the first.
+/// Asserts the number of the link's failures after a call that ends a sync, and that there is no entry. There is a
+/// cancelled session unless the call was the first.
 fn expect_end(rt: &impl Abort, synced: &Synced, call: u64, failures: u64) {
     let cancelled = [SessionState::Cancelled];
     let sessions = if call == 1 {
@@ -173,14 +174,14 @@ fn a_call_that_is_gone_ends_the_sync(rt: HostRuntime) -> Result<(), Fail> {
     Ok(())
 }
 
-/// A link to a partner that says that `abc` is the text of each node, the root among them.
+/// A link to a partner whose text of each node is `abc`, the root's too.
 #[derive(Drop)]
 struct Forger {
     alloc: Global,
 }
 
 impl Forger {
-    /// The message of the offer.
+    /// Returns the offer's message.
     fn offered(&self) -> Result<Vec<u8>, Refusal> {
         let root = hash(Text::copy_of(self.alloc, b"abc")?).digest();
         encode(
@@ -194,7 +195,7 @@ impl Forger {
         )
     }
 
-    /// The message that answers an ask.
+    /// Returns the message that answers an ask.
     fn answered(&self, message: &[u8]) -> Result<Vec<u8>, Refusal> {
         let Message::Ask(ask) = decode(self.alloc, message)? else {
             return Err(Refusal::BadMessage);
@@ -244,18 +245,18 @@ fn a_text_of_no_node_fails_the_session(rt: HostRuntime) -> Result<(), Fail> {
     expect_report(&rt, synced, report(SessionState::Failed, 1, 0, 0))
 }
 
-/// How many bytes a flood has.
+/// The length of a flood, in bytes.
 const FLOOD: usize = 16 * 1_024 * 1_024;
 
-/// How the floods begin: as no message, as an answer that says to have a text of 2^64 - 1 bytes, and as one that says truly
-/// how long its text is.
+/// The first bytes of the floods: of no message, of an answer whose text should have 2^64 - 1 bytes, and of one with
+/// the true length of its text.
 const HEADS: [&[u8]; 3] = [
     b"\xff",
     b"\x03\x00\x00\x00\x01\x00\x00\x00\xff\xff\xff\xff\xff\xff\xff\xff",
     b"\x03\x00\x00\x00\x01\x00\x00\x00\x00\x00\x00\x00\x00\xff\xff\xf0",
 ];
 
-/// A link to a partner that offers truly, and answers each ask with a flood.
+/// A link to a partner whose offer is true, and whose answer to each ask is a flood.
 #[derive(Drop)]
 struct Flood<K: Link> {
     alloc: Global,
@@ -264,7 +265,7 @@ struct Flood<K: Link> {
 }
 
 impl<K: Link> Flood<K> {
-    /// The bytes that answer an ask of that number.
+    /// Returns the bytes that answer an ask of that number.
     fn flooded(&self, ask: usize) -> Result<Vec<u8>, Refusal> {
         let head = HEADS.get(ask).ok_or(Refusal::BadMessage)?;
         let mut bytes = Vec::from_slice(self.alloc, head)?;

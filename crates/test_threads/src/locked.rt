@@ -8,7 +8,7 @@ use std::sync::ledger::{Blank, Ledger};
 use std::test::Fail;
 use std::thread::Threads;
 
-/// The state of a range of format 1 that has accepted nothing, whose nodes are all clean.
+/// Returns the state of a range of format 1 that has accepted nothing, whose nodes are all clean.
 fn clean_state(rt: &(impl Threads + Sync), alloc: Global) -> Result<RangeState, Fail>
     ensures { IfOk result (λ state. state.entries ≡ []) }
 {
@@ -18,7 +18,7 @@ fn clean_state(rt: &(impl Threads + Sync), alloc: Global) -> Result<RangeState, 
     Ok(state)
 }
 
-/// A range with that state, and the passes of the seats 1 and 0.
+/// Returns a range with that state, and the passes of the seats 1 and 0.
 pub(crate) fn range<L: Ledger>(
     rt: &(impl Threads + Sync),
     alloc: Global,

@@ -1,4 +1,4 @@
-//! Two nodes that write, rehash and sync in threads, and go over to format 2 half-way.
+//! Two nodes that write, rehash and sync in threads, and migrate to format 2 halfway.
 ghost use Rattle.std.specs.Prelude.{◌≡◌};
 
 use crate::fixtures::{open_range, open_slots};
@@ -15,13 +15,13 @@ use std::thread::Threads;
 use vclock::{Bytes, Clock, Format, Refusal};
 use version_set::Kind;
 
-/// How many puts each node does.
+/// The number of puts of each node.
 const PUTS: u64 = 100;
 
-/// How many rounds of rehash and sync each node does beside them.
+/// The number of rounds of rehash and sync that each node does while it writes.
 const ROUNDS: u64 = 10;
 
-/// Enough turns for all nodes of a tree of format 2.
+/// More turns than a tree of format 2 has nodes.
 const TURNS: u64 = 5_000;
 
 /// A node: its replica of the range, and its offers.
@@ -32,7 +32,7 @@ struct Node<L: Ledger> {
 }
 
 impl<L: Ledger> Node<L> {
-    /// A node whose range is empty, with the passes of its writer and of its sync worker.
+    /// Opens a node whose range is empty, with the passes of its writer and of its sync worker.
     fn open(alloc: Global, blank: Blank) -> Result<(Node<L>, Vec<Pass<L>>), Fail>
         requires { (blank.name ≡ L.name) × (blank.parts ≡ L.parts) × (blank.parts ≡ 2) }
     {
@@ -61,7 +61,7 @@ impl<L: Ledger> Node<L> {
         Ok(())
     }
 
-    /// Rehashes the tree, and publishes a snapshot of it. Refused as the calls.
+    /// Rehashes the tree, and publishes a snapshot of it. Refused as these calls are.
     fn publish<C: Ledger, R: Wait>(
         &self,
         rt: &R,
@@ -79,7 +79,7 @@ impl<L: Ledger> Node<L> {
         Ok(())
     }
 
-    /// Takes what is under the newest offer of a pool. Refused as the calls.
+    /// Takes the versions under the newest offer of a pool. Refused as these calls are.
     fn sync<C: Ledger, R: Wait>(
         &self,
         rt: &R,
@@ -98,7 +98,7 @@ impl<L: Ledger> Node<L> {
         Ok(())
     }
 
-    /// Rounds of both, while others write.
+    /// Runs rounds of both, while others write.
     fn tend<C: Ledger, R: Wait>(
         &self,
         rt: &R,
@@ -115,7 +115,7 @@ impl<L: Ledger> Node<L> {
     }
 }
 
-/// What may happen in a round beside writes, and while one of two ranges is of another format.
+/// Passes over a refusal that may happen in a round while others write, or while one of two ranges has another format.
 fn pass_over(round: Result<(), Refusal>) -> Result<(), Refusal> {
     match round {
         Err(Refusal::Dirty | Refusal::Gone | Refusal::OtherFormat | Refusal::NoSlot) => Ok(()),
@@ -123,7 +123,7 @@ fn pass_over(round: Result<(), Refusal>) -> Result<(), Refusal> {
     }
 }
 
-/// Writes at a node, and tends its tree beside that. The sync worker has the last of its two passes.
+/// Writes at a node, and tends its tree meanwhile. The sync worker has the last of its two passes.
 fn run_node<L: Ledger + Send + Sync, C: Ledger + Send + Sync, R: Threads + Wait + Sync>(
     rt: &R,
     alloc: Global,
@@ -144,7 +144,7 @@ fn run_node<L: Ledger + Send + Sync, C: Ledger + Send + Sync, R: Threads + Wait 
     tended
 }
 
-/// Writes at two nodes, and tends their trees beside that: each node has its passes.
+/// Writes at two nodes, and tends their trees meanwhile. Each node has its passes.
 fn run_both<L, M, C, R>(
     rt: &R,
     alloc: Global,
@@ -170,7 +170,7 @@ where
     other_ran
 }
 
-/// Rehashes the trees of two nodes that nobody writes to any more, and publishes a snapshot of each.
+/// Rehashes the trees of two nodes that are no longer written to, and publishes a snapshot of each.
 fn publish_both<L: Ledger, M: Ledger, C: Ledger, R: Wait>(
     rt: &R,
     alloc: Global,
@@ -182,7 +182,7 @@ fn publish_both<L: Ledger, M: Ledger, C: Ledger, R: Wait>(
     two.publish(rt, alloc, slots)
 }
 
-/// Brings two nodes together that nobody writes to any more: whether their roots are equal then.
+/// Syncs two nodes that are no longer written to. Returns true if their roots are equal then.
 fn bring_together<L: Ledger, M: Ledger, C: Ledger, R: Wait>(
     rt: &R,
     alloc: Global,
@@ -201,7 +201,7 @@ fn bring_together<L: Ledger, M: Ledger, C: Ledger, R: Wait>(
     Ok(root == other.range.snapshot(rt, alloc)?.root())
 }
 
-/// Closes a node's range, and returns its format and how many entries its journal has.
+/// Closes a node's range, and returns its format and the number of entries in its journal.
 fn close<L: Ledger>(
     alloc: Global,
     node: Node<L>,
@@ -211,7 +211,7 @@ fn close<L: Ledger>(
     Ok((state.config().format(), state.journal().len()))
 }
 
-/// How a storm ended: whether the roots are equal, and the format and the entries of each node.
+/// The end of a storm: true if the roots are equal, and the format and the number of entries of each node.
 #[derive(Drop)]
 struct Ended {
     equal: bool,

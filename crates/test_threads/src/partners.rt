@@ -1,4 +1,4 @@
-//! Partners, and syncs with what links give.
+//! Partners, and syncs over links.
 ghost use Rattle.std.specs.Prelude.{◌≡◌};
 
 use crate::fixtures::{open_range, open_slots};
@@ -19,7 +19,7 @@ use test_core::versions::{members, version};
 use vclock::Refusal;
 use version_set::Kind;
 
-/// Has a range take a version of that clock and value for each key, and makes all its nodes clean.
+/// Has a range accept a version with this clock and value for each key, and makes all its nodes clean.
 fn fill(
     rt: &(impl Threads + Sync),
     alloc: Global,
@@ -36,7 +36,7 @@ fn fill(
     Ok(())
 }
 
-/// The snapshot of a partner of format 1 that has these keys, each with a version of that clock and value.
+/// Returns the snapshot of a partner of format 1 that has these keys, each with a version of this clock and value.
 pub fn snapshot_of(
     rt: &(impl Threads + Sync),
     alloc: Global,
@@ -50,7 +50,7 @@ pub fn snapshot_of(
     Ok(state.snapshot(alloc)?)
 }
 
-/// The pool of a partner that has published such a snapshot.
+/// Returns the pool of a partner that has published such a snapshot.
 pub fn pool_of<R: Threads + Wait + Sync>(
     rt: &R,
     alloc: Global,
@@ -93,7 +93,7 @@ pub fn rehash<L: Ledger, C: Ledger, R: Wait>(
     Ok(())
 }
 
-/// Syncs a clean range with what a link gives, in so many turns.
+/// Syncs a clean range over a link, in at most this number of turns.
 pub fn sync<L: Ledger, C: Ledger, K: Link, R: Wait>(
     rt: &R,
     alloc: Global,
@@ -121,25 +121,25 @@ pub fn close<L: Ledger>(
     }
 }
 
-/// What came of a sync, and what the range had when it was closed.
+/// The outcome of a sync, and of its range when it was closed.
 #[derive(Drop)]
 pub struct Synced {
-    /// What the worker returned.
+    /// The worker's result.
     pub report: Result<SyncReport, Refusal>,
-    /// How often the link failed.
+    /// The number of failures of the link.
     pub failures: u64,
-    /// How many entries the journal had.
+    /// The number of entries in the journal.
     pub entries: u64,
-    /// How each session stood.
+    /// The state of each session.
     pub sessions: Vec<SessionState>,
-    /// Which nodes the last session asked for.
+    /// The nodes that the last session asked for.
     pub asked: Vec<NodeAt>,
     /// The versions of `a`.
     pub held: String,
 }
 
 impl Synced {
-    /// The depth and the index of each node that the last session asked for.
+    /// Returns the depth and the index of each node that the last session asked for.
     pub fn asked(&self, alloc: Global) -> Result<Vec<(u8, u16)>, Fail> {
         let mut nodes = Vec::new(alloc);
         for node in &self.asked {
@@ -149,7 +149,7 @@ impl Synced {
     }
 }
 
-/// Has a range take a version of `a` with that value, if there is one.
+/// Has a range accept a version of `a` with this value, if there is one.
 fn take_own<L: Ledger, R: Wait>(
     rt: &R,
     alloc: Global,
@@ -164,7 +164,7 @@ fn take_own<L: Ledger, R: Wait>(
     Ok(())
 }
 
-/// How each session of a range stands.
+/// Returns the state of each session of a range.
 fn sessions_of(alloc: Global, state: &RangeState) -> Result<Vec<SessionState>, Refusal> {
     let mut sessions = Vec::new(alloc);
     for record in state.records() {
@@ -173,7 +173,7 @@ fn sessions_of(alloc: Global, state: &RangeState) -> Result<Vec<SessionState>, R
     Ok(sessions)
 }
 
-/// Which nodes the last session of a range asked for.
+/// Returns the nodes that the last session of a range asked for.
 fn last_asked(alloc: Global, state: &RangeState) -> Result<Vec<NodeAt>, Refusal> {
     match state.records().last() {
         Some(record) => Ok(Vec::from_slice(alloc, record.session().asked())?),
@@ -181,7 +181,7 @@ fn last_asked(alloc: Global, state: &RangeState) -> Result<Vec<NodeAt>, Refusal>
     }
 }
 
-/// What came of a sync, by the state that the range has when it is closed.
+/// Returns the outcome of a sync, from the state of the range when it is closed.
 fn sum_up(
     alloc: Global,
     state: &RangeState,
@@ -198,7 +198,7 @@ fn sum_up(
     })
 }
 
-/// Asserts that the last session of a sync asked for these nodes, in order: of each its depth and its index.
+/// Asserts the nodes that the last session of a sync asked for, in order, by depth and index.
 pub fn expect_asked(
     rt: &impl Abort,
     alloc: Global,
@@ -209,24 +209,24 @@ pub fn expect_asked(
     Ok(())
 }
 
-/// Asserts that a sync had so many failures of its link, and that its range had so many entries then.
+/// Asserts the number of failures of a sync's link, and the number of entries of its range afterwards.
 pub fn expect_counts(rt: &impl Abort, synced: &Synced, failures: u64, entries: u64) {
     assert_eq!(rt; (synced.failures, synced.entries), (failures, entries));
 }
 
-/// Asserts which versions of `a` a range held after a sync.
+/// Asserts the versions of `a` that a range held after a sync.
 pub fn expect_held(rt: &impl Abort, synced: &Synced, held: &str) {
     assert_eq!(rt; synced.held.as_str(), held);
 }
 
-/// Asserts that a sync was not refused, and reported this.
+/// Asserts that a sync was not refused, and asserts its report.
 pub fn expect_report(rt: &impl Abort, synced: Synced, report: SyncReport) -> Result<(), Fail> {
     assert_eq!(rt; synced.report?, report);
     Ok(())
 }
 
-/// Syncs a clean range with what a link gives, in so many turns, and closes the range. It has a version of `a` with that
-/// value before, if there is one.
+/// Syncs a clean range over a link, in at most this number of turns, and closes the range. The range has a version of
+/// `a` with the value `own` before, if there is one.
 pub fn sync_over<L: Ledger, C: Ledger, K: Link, R: Threads + Wait + Sync>(
     rt: &R,
     alloc: Global,

@@ -16,7 +16,7 @@ use test_core::versions::version;
 use vclock::{Bytes, Clock, Refusal};
 use version_set::Kind;
 
-/// A book takes back its two passes, whose seats are 0 and 1.
+/// Asserts that a book absorbs its two passes, whose seats are 0 and 1.
 fn expect_absorbed<L: Ledger>(
     rt: &impl Abort,
     book: &mut Book<L>,
@@ -32,7 +32,7 @@ fn expect_absorbed<L: Ledger>(
     Ok(())
 }
 
-/// Opens two passes, and takes both back.
+/// Opens two passes, and absorbs both.
 fn absorb_two<L: Ledger>(rt: &impl Abort, alloc: Global, blank: Blank) -> Result<(), Fail>
     requires name { blank.name ≡ L.name }
     requires parts { (blank.parts ≡ L.parts) × (L.parts ≡ 2) }
@@ -98,7 +98,7 @@ fn write<L: Ledger>(
     Ok(())
 }
 
-/// A copy of what seat 1 put is known to seat 0, and another version is not.
+/// Accepts at seat 0 a copy of seat 1's version, which is known, and another version, which is new.
 fn copy<L: Ledger>(
     rt: &impl Abort,
     alloc: Global,
@@ -116,7 +116,7 @@ fn copy<L: Ledger>(
     Ok(())
 }
 
-/// Closes a range with its pass of seat 1 alone: that is refused, and hands both back.
+/// Closes a range with its pass of seat 1 alone. Asserts that this is refused, and hands both back.
 fn close_with_one<L: Ledger>(
     rt: &impl Abort,
     alloc: Global,
@@ -148,7 +148,7 @@ fn close_with_both<L: Ledger>(
     Ok(())
 }
 
-/// What both callers are told.
+/// Writes at seat 1, and accepts versions at seat 0.
 fn tell<L: Ledger>(
     rt: &impl Abort,
     alloc: Global,
@@ -160,7 +160,7 @@ fn tell<L: Ledger>(
     copy(rt, alloc, range, zero)
 }
 
-/// What two callers are told, up to the close.
+/// Opens a range with two passes, and calls it with both up to the close.
 fn tell_two<L: Ledger>(
     rt: &(impl Abort + Threads + Sync),
     alloc: Global,

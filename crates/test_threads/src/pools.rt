@@ -12,7 +12,7 @@ use test_core::refusals::is_refused;
 use vclock::Refusal;
 use walk_messages::Ask;
 
-/// The text that a pool answers for the first leaf of an offer.
+/// Returns the text that a pool serves for the first leaf of an offer.
 fn leaf_of<R: Wait>(
     rt: &R,
     alloc: Global,
@@ -24,7 +24,7 @@ fn leaf_of<R: Wait>(
     Ok(Vec::from_slice(alloc, answer.text.as_slice())?)
 }
 
-/// A pool answers for its first offer, and for no other one.
+/// Asserts that a pool serves its first offer, and no other one.
 fn expect_first<R: Abort + Wait>(
     rt: &R,
     alloc: Global,
@@ -38,7 +38,7 @@ fn expect_first<R: Abort + Wait>(
     Ok(())
 }
 
-/// A pool answers for no node that its first offer's tree has not.
+/// Asserts that a pool serves no node below the leaves of its first offer's tree.
 fn expect_no_deeper<R: Abort + Wait>(rt: &R, alloc: Global, pool: &OfferPool) -> Result<(), Fail> {
     let node = NodeAt::new(3, 0).ok_or("no such node")?;
     let refused = pool.serve(rt, alloc, Ask { offer: 1, node });
@@ -46,7 +46,7 @@ fn expect_no_deeper<R: Abort + Wait>(rt: &R, alloc: Global, pool: &OfferPool) ->
     Ok(())
 }
 
-/// Publishes a snapshot so often.
+/// Publishes a snapshot this number of times.
 fn publish<R: Wait>(
     rt: &R,
     pool: &OfferPool,
@@ -59,7 +59,7 @@ fn publish<R: Wait>(
     Ok(())
 }
 
-/// A pool of 16 offers drops the first by another one.
+/// Asserts that a pool of 16 offers drops the first when another one is published.
 fn expect_dropped<R: Abort + Wait>(
     rt: &R,
     alloc: Global,

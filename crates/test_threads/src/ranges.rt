@@ -16,7 +16,7 @@ use test_core::versions::{members, version};
 use vclock::Refusal;
 use version_set::Kind;
 
-/// Takes in a copy of `a`, and returns its number, or `None` if it is known.
+/// Accepts a copy of `a`, and returns its number, or `None` if it is known.
 fn copy_of_a<L: Ledger, R: Wait>(
     rt: &R,
     alloc: Global,
@@ -31,7 +31,7 @@ fn copy_of_a<L: Ledger, R: Wait>(
     }
 }
 
-/// The members of what is held for `a`, each on a line.
+/// Returns the held versions of `a`, each on a line.
 fn held_of_a<L: Ledger, R: Wait>(
     rt: &R,
     alloc: Global,

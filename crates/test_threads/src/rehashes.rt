@@ -16,7 +16,7 @@ use std::thread::Threads;
 use vclock::Refusal;
 use version_set::Kind;
 
-/// Puts `a` with a context in which node 1 has counted so often.
+/// Puts `a` with a context in which node 1 has counted this number of times.
 fn put_a<L: Ledger, R: Wait>(
     rt: &R,
     alloc: Global,
@@ -28,7 +28,7 @@ fn put_a<L: Ledger, R: Wait>(
     range.put(rt, alloc, pass, b"a", &context, Kind::Live, x)
 }
 
-/// A worker with a slot of its own.
+/// Runs a worker with a slot.
 fn rehash<L: Ledger, C: Ledger, G: Gate, R: Wait>(
     rt: &R,
     alloc: Global,
@@ -42,7 +42,7 @@ fn rehash<L: Ledger, C: Ledger, G: Gate, R: Wait>(
     report
 }
 
-/// Puts `a` in each range once the worker is held, and opens the gate: the numbers of the entries.
+/// Puts `a` in each range once the worker is held, and opens the gate. Returns the numbers of the entries.
 fn put_beside<L: Ledger, M: Ledger, R: Wait>(
     rt: &R,
     alloc: Global,
@@ -59,7 +59,7 @@ fn put_beside<L: Ledger, M: Ledger, R: Wait>(
     Ok((first?.number, second?.number))
 }
 
-/// What a worker reports that was held at a step while `a` was put, in its range and in another one.
+/// The outcome of a worker that was held at a step while `a` was put, in its range and in another one.
 #[derive(Drop)]
 struct Passed {
     first: RehashReport,
@@ -100,7 +100,7 @@ fn put_at_a_gate<
     })
 }
 
-/// The report of a worker that ended because no node was dirty.
+/// Returns the report of a worker that ended because no node was dirty.
 fn ended(installed: u64, stale: u64) -> RehashReport {
     RehashReport {
         installed,

@@ -1,4 +1,4 @@
-//! Storms, and gates that have their threads meet.
+//! Storms, and gates that make their threads meet.
 
 use ring_node::{Gate, OpenGate, Step};
 use std::sync::Wait;
@@ -7,13 +7,13 @@ use std::test::Fail;
 use std::thread;
 use storm::{Tallies, run_storm};
 
-/// How often a thread looks whether it may go on.
+/// The maximum number of times that a thread checks if it may go on.
 const MOST_LOOKS: u64 = 10_000_000;
 
-/// How many puts each writer does at the least before it is held.
+/// The minimum number of puts of each writer before it is held.
 const EARLY_PUTS: u64 = 1_000;
 
-/// How many rounds a rehash worker has.
+/// The number of rounds of a rehash worker.
 const ROUNDS: u64 = 100;
 
 #[test]
@@ -23,8 +23,8 @@ fn a_storm_of_two_puts_settles(rt: HostRuntime) -> Result<(), Fail> {
     Ok(())
 }
 
-/// A gate that holds each rehash worker with a job until some put has passed, and each writer after its first put until some
-/// rehash worker has a job.
+/// A gate that holds each rehash worker with a job until some put has passed, and each writer after its first put until
+/// some rehash worker has a job.
 #[derive(Drop)]
 struct Overlap {
     puts: AtomicU64,
@@ -74,12 +74,13 @@ fn a_storm_overlaps(rt: HostRuntime) -> Result<(), Fail> {
     Ok(())
 }
 
-/// A gate that has each rehash worker meet a late digest, and each sync worker finish a session, while both writers have
-/// more to write.
+/// A gate that makes each rehash worker meet a late digest, and each sync worker finish a session, while both writers
+/// have more to write.
 ///
-/// Each rehash worker is held with its first job, which is of the first leaf, until both writers have come to where they are
-/// held, after 1,000 puts each. Each writer is held there until both nodes have finished a session. Each sync worker is held
-/// before its first round until both rehash workers have done all of theirs, and so until both trees are clean.
+/// Each rehash worker is held with its first job, which is of the first leaf, until both writers have reached the point
+/// where they are held, after 1,000 puts each. Each writer is held there until both nodes have finished a session. Each
+/// sync worker is held before its first round until both rehash workers have done all of theirs, and so until both
+/// trees are clean.
 #[derive(Drop)]
 struct Meeting<'a> {
     tallies: &'a Tallies,
@@ -89,25 +90,25 @@ struct Meeting<'a> {
 }
 
 impl<'a> Meeting<'a> {
-    /// Whether both rehash workers have done all their rounds.
+    /// Returns true if both rehash workers have done all their rounds.
     fn is_rehashed<R: Wait>(&self, rt: &R) -> bool {
         let (one, two) = (self.tallies.one.look(rt), self.tallies.two.look(rt));
         one.published >= ROUNDS && two.published >= ROUNDS
     }
 
-    /// Whether both writers have done enough puts to be held.
+    /// Returns true if both writers have done enough puts to be held.
     fn is_time<R: Wait>(&self, rt: &R) -> bool {
         let (one, two) = (self.tallies.one.look(rt), self.tallies.two.look(rt));
         one.puts >= EARLY_PUTS && two.puts >= EARLY_PUTS
     }
 
-    /// Whether both nodes have finished a session.
+    /// Returns true if both nodes have finished a session.
     fn is_synced<R: Wait>(&self, rt: &R) -> bool {
         let (one, two) = (self.tallies.one.look(rt), self.tallies.two.look(rt));
         one.syncs >= 1 && two.syncs >= 1
     }
 
-    /// Waits until the word is that number at the least, or gives up.
+    /// Waits until the word is at least that number, or gives up.
     fn wait_for(&self, word: &AtomicU64, least: u64) {
         for _ in 0..MOST_LOOKS {
             if word.load(Ordering::SeqCst) >= least {

@@ -1,4 +1,4 @@
-//! Sync workers whose partners answer truly.
+//! Sync workers whose partners answer with true texts.
 ghost use Rattle.std.specs.Prelude.{◌≡◌};
 
 use crate::nodes::Node;
@@ -21,7 +21,7 @@ use test_core::versions::version;
 use vclock::Refusal;
 use version_set::Kind;
 
-/// The report of the first session of a range, if it knew no version and met no lie.
+/// Returns the report of the first session of a range, if it knew no version and met no lie.
 pub(crate) fn finished(asked: u64, accepted: u64) -> SyncReport {
     SyncReport {
         id: 0,

@@ -17,16 +17,16 @@ use test_core::versions::version;
 use vclock::Refusal;
 use version_set::Kind;
 
-/// How often each thread puts its key and sends a copy of the common one.
+/// The number of times that each thread puts its key and sends a copy of the common one.
 const ROUNDS: u32 = 100;
 
-/// How many entries the range accepts: two a round of each thread.
+/// The number of entries that the range accepts: two for each round of each thread.
 const ENTRIES: u64 = 1_600;
 
-/// How many receipts, and how many readings, each pass gets: two a round.
+/// The number of receipts, and of readings, that each pass gets: two for each round.
 const TOLD: usize = 200;
 
-/// Puts a key of the thread's own, takes in a copy of a key that all write, and reads both.
+/// Puts a key of this thread alone, accepts a copy of a key that all write, and reads both.
 fn round<L: Ledger, R: Wait>(
     rt: &R,
     alloc: Global,
@@ -53,7 +53,7 @@ fn round<L: Ledger, R: Wait>(
     Ok(())
 }
 
-/// All rounds of a thread, which hands its pass back.
+/// Runs all rounds of a thread, which hands its pass back.
 fn rounds<L: Ledger, R: Wait>(
     rt: &R,
     alloc: Global,

@@ -1,14 +1,14 @@
-//! How fast calls were.
+//! The pace of calls.
 use std::time::Duration;
 
-/// How many calls there were, and how many nanoseconds they took together.
+/// A number of calls, and the nanoseconds that they took together.
 #[derive(Clone, Copy, Debug, Default)]
 pub(crate) struct Pace {
     pub(crate) calls: u64,
     nanos: u128,
 }
 
-/// How fast each call was. One that was not made has a pace of no call.
+/// The pace of each call. A call that was not made has the pace of no call.
 #[derive(Clone, Copy, Debug, Default)]
 pub(crate) struct Paces {
     /// Puts of new keys.
@@ -19,18 +19,18 @@ pub(crate) struct Paces {
     pub(crate) rewrites: Pace,
     /// Versions that another replica took as copies.
     pub(crate) accepts: Pace,
-    /// Puts of a new key while a snapshot has its leaf.
+    /// Puts of a new key while a snapshot shares its leaf.
     pub(crate) puts_after_snapshot: Pace,
     /// Rehashes of the leaf of one key and of the nodes above it.
     pub(crate) rehashes: Pace,
     /// Snapshots.
     pub(crate) snapshots: Pace,
-    /// Syncs by which another replica took one key.
+    /// Syncs in which another replica took one key.
     pub(crate) syncs: Pace,
 }
 
 impl Pace {
-    /// The pace of so many calls that took so long together.
+    /// Returns the pace of a number of calls, and the time that they took together.
     pub(crate) fn new(calls: u64, took: Duration) -> Pace {
         Pace {
             calls,
@@ -38,13 +38,13 @@ impl Pace {
         }
     }
 
-    /// Adds a call that took so long.
+    /// Adds a call that took this time.
     pub(crate) fn add(&mut self, took: Duration) {
         self.calls = self.calls.saturating_add(1);
         self.nanos = self.nanos.wrapping_add(took.as_nanos());
     }
 
-    /// How many calls were done in a second. No time counts as a nanosecond.
+    /// Returns the number of calls done in a second. A time of zero counts as a nanosecond.
     pub(crate) fn a_second(&self) -> u128 {
         u128::from(self.calls) * 1_000_000_000 / self.nanos.max(1)
     }

@@ -10,22 +10,22 @@ use std::time::{Clock, Instant};
 use vclock::Refusal;
 use version_set::{Kind, Version};
 
-/// The node at which keys are put.
+/// The node where keys are put.
 const NODE: u16 = 1;
 
-/// What is done with all keys.
+/// A call that is made for all keys.
 #[derive(Clone, Copy, Debug)]
 pub(crate) enum Phase {
-    /// They are put.
+    /// The keys are put.
     Puts(Round),
-    /// They are got.
+    /// The keys are got.
     Gets,
-    /// They are accepted as copies.
+    /// The keys are accepted as copies.
     Accepts(Round),
 }
 
 impl Phase {
-    /// Does it on a range with so many keys, and says how fast that was.
+    /// Makes the calls on a range with this number of keys, and returns their pace.
     pub(crate) fn time(
         self,
         rt: &impl Clock,
@@ -38,7 +38,7 @@ impl Phase {
         Ok(Pace::new(keys, from.elapsed(rt)?))
     }
 
-    /// Does it on a range with so many keys.
+    /// Makes the calls on a range with this number of keys.
     fn run(self, alloc: Global, range: &mut RangeState, keys: u64) -> Result<(), Fault> {
         match self {
             Phase::Puts(round) => put_all(alloc, range, round, keys)?,
@@ -49,7 +49,7 @@ impl Phase {
     }
 }
 
-/// Puts all keys. Refused as [`RangeState::put`].
+/// Puts all keys. Refused as [`RangeState::put`] is.
 fn put_all(alloc: Global, range: &mut RangeState, round: Round, keys: u64) -> Result<(), Refusal> {
     for number in 0..keys {
         let value_number = round.value_number(number, keys);
@@ -58,7 +58,7 @@ fn put_all(alloc: Global, range: &mut RangeState, round: Round, keys: u64) -> Re
     Ok(())
 }
 
-/// Puts the key of a number, with the value of another number. Refused as [`RangeState::put`].
+/// Puts the key of a number, with the value of another number. Refused as [`RangeState::put`] is.
 pub(crate) fn put(
     alloc: Global,
     range: &mut RangeState,
@@ -83,7 +83,7 @@ fn get_all(alloc: Global, range: &RangeState, keys: u64) -> Result<(), Fault> {
     Ok(())
 }
 
-/// Accepts a copy of each key's version. Refused as [`RangeState::accept`].
+/// Accepts a copy of each key's version. Refused as [`RangeState::accept`] is.
 fn accept_all(
     alloc: Global,
     range: &mut RangeState,

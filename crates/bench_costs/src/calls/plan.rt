@@ -1,21 +1,21 @@
-//! What is to be done.
+//! The plan of the calls.
 use crate::calls::round::Round;
 use crate::ranges::MOST_ENTRIES;
 
-/// How many keys there are if no word says it.
+/// The default number of keys.
 const FEW_KEYS: u64 = 1_000;
 
-/// How many turns there are. Each puts one more key.
+/// The number of turns. Each puts one more key.
 pub(crate) const TURNS: u64 = 200;
 
-/// How many keys there are before the turns.
+/// The plan of the calls: the number of keys before the turns.
 #[derive(Clone, Copy, Debug)]
 pub(crate) struct CallPlan {
     pub(crate) keys: u64,
 }
 
 impl CallPlan {
-    /// The plan of these words, if they are one's: how many keys, 1,000 if there is no word.
+    /// Returns the plan of these words, or `None` if they are wrong. The word is the number of keys, 1,000 by default.
     pub(crate) fn of_words(words: &[String]) -> Option<CallPlan> {
         match words {
             [] => CallPlan::new(FEW_KEYS),
@@ -24,7 +24,7 @@ impl CallPlan {
         }
     }
 
-    /// A plan, if it has a key and a journal has room for all keys and for those of the turns.
+    /// Returns a plan if it has a key, and a journal has room for all keys and for those of the turns.
     fn new(keys: u64) -> Option<CallPlan> {
         if 1 <= keys && keys <= MOST_ENTRIES - TURNS {
             Some(CallPlan { keys })
@@ -33,7 +33,8 @@ impl CallPlan {
         }
     }
 
-    /// In which round the keys are written last: the second, if a journal has room for two versions of each.
+    /// Returns the round in which the keys are last written: the second, if a journal has room for two versions of
+    /// each.
     pub(crate) fn last_round(&self) -> Round {
         if self.keys <= (MOST_ENTRIES - TURNS) / 2 {
             Round::Second

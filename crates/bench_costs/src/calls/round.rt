@@ -1,8 +1,8 @@
-//! Which version of each key is written.
+//! The version of each key that is written.
 use std::alloc::Global;
 use vclock::{Clock, Refusal};
 
-/// Which version of each key is written, at node 1.
+/// The version of each key that is written, at node 1.
 #[derive(Clone, Copy, Debug, PartialEq, Eq)]
 pub(crate) enum Round {
     /// The first.
@@ -12,7 +12,7 @@ pub(crate) enum Round {
 }
 
 impl Round {
-    /// The context of its puts: the clock that was read. Refused: NoMemory.
+    /// Returns the context of its puts: the clock that was read. Refused: NoMemory.
     pub(crate) fn context(self, alloc: Global) -> Result<Clock, Refusal> {
         match self {
             Round::First => Clock::from_pairs(alloc, &[]),
@@ -20,7 +20,7 @@ impl Round {
         }
     }
 
-    /// The clock of its versions. Refused: NoMemory.
+    /// Returns the clock of its versions. Refused: NoMemory.
     pub(crate) fn clock(self, alloc: Global) -> Result<Clock, Refusal> {
         match self {
             Round::First => Clock::from_pairs(alloc, &[(1, 1)]),
@@ -28,7 +28,7 @@ impl Round {
         }
     }
 
-    /// The number of the value that the key of a number has, of so many keys.
+    /// Returns the number of a key's value, by the number of the key and the number of keys.
     pub(crate) fn value_number(self, number: u64, keys: u64) -> u64 {
         match self {
             Round::First => number,

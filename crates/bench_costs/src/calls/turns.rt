@@ -12,14 +12,14 @@ use std::sync::Arc;
 use std::thread::Threads;
 use std::time::{Clock, Instant};
 
-/// What a sync of one key comes to: the root, a node below it and a leaf are asked for.
+/// The result of a sync of one key: it asks for the root, a node below it and a leaf.
 const ONE_KEY: Walk = Walk {
     asked: 3,
     accepted: 1,
     finished: true,
 };
 
-/// Runs all turns on two replicas that hold the same, with clean trees.
+/// Runs all turns on two replicas that hold equal versions and have clean trees.
 pub(crate) fn run_turns(
     rt: &(impl Threads + Clock + Sync),
     alloc: Global,
@@ -38,8 +38,8 @@ pub(crate) fn run_turns(
     Ok(())
 }
 
-/// Puts one more key, rehashes, and makes a snapshot, which replaces the latest one. That one is held until then, so the
-/// put finds its leaf shared.
+/// Puts one more key, rehashes, and makes a snapshot that replaces the latest one. The latest snapshot is held until
+/// then, so the put finds its leaf shared.
 fn offer_key(
     rt: &(impl Threads + Clock + Sync),
     alloc: Global,
@@ -61,7 +61,7 @@ fn offer_key(
     Ok(())
 }
 
-/// Takes over the one key that a snapshot has more, and rehashes.
+/// Takes over the one key that the range lacks and a snapshot has, and rehashes.
 fn take_key(
     rt: &(impl Threads + Clock + Sync),
     alloc: Global,

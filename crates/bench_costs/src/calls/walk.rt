@@ -7,23 +7,23 @@ use sync_session::SessionState;
 use vclock::Refusal;
 use walk_messages::{Answer, Ask, Message, decode, encode};
 
-/// The number of the node that offers.
+/// The node that offers.
 const PARTNER: u16 = 1;
 
 /// The number of its offer.
 const OFFER: u32 = 1;
 
-/// How many nodes a tree of format 1 has: none is asked for twice.
+/// The number of nodes of a tree of format 1. No node is asked for twice.
 const NODES: u64 = 273;
 
-/// What a sync came to.
+/// The result of a sync.
 #[derive(Clone, Copy, Debug, Default, PartialEq, Eq)]
 pub(crate) struct Walk {
-    /// How many nodes were asked for.
+    /// The number of nodes that were asked for.
     pub(crate) asked: u64,
-    /// How many versions were new.
+    /// The number of new versions.
     pub(crate) accepted: u64,
-    /// Whether nothing was left to ask for.
+    /// True if nothing was left to ask for.
     pub(crate) finished: bool,
 }
 
@@ -36,7 +36,7 @@ impl Walk {
     }
 }
 
-/// Has a range take over what a snapshot has and it lacks. Refused as the calls of a session.
+/// Has a range take over the versions that a snapshot has and it lacks. Refused as the calls of a session are.
 pub(crate) fn sync(
     alloc: Global,
     range: &mut RangeState,
@@ -57,7 +57,7 @@ pub(crate) fn sync(
 }
 
 /// Opens a session with the bytes of an offer, and returns its number. Refused: BadMessage, or as
-/// [`RangeState::open_session`].
+/// [`RangeState::open_session`] is.
 fn start(alloc: Global, range: &mut RangeState, bytes: &[u8]) -> Result<u64, Refusal> {
     match decode(alloc, bytes)? {
         Message::Offer(offer) => range.open_session(alloc, PARTNER, offer),
@@ -65,7 +65,7 @@ fn start(alloc: Global, range: &mut RangeState, bytes: &[u8]) -> Result<u64, Ref
     }
 }
 
-/// The bytes of the answer to those of an ask. Refused: BadMessage, NoMemory.
+/// Returns the bytes of the answer to those of an ask. Refused: BadMessage, NoMemory.
 fn serve(alloc: Global, snapshot: &Snapshot, bytes: &[u8]) -> Result<Vec<u8>, Refusal> {
     match decode(alloc, bytes)? {
         Message::Ask(ask) => answer(alloc, snapshot, ask),
@@ -73,7 +73,7 @@ fn serve(alloc: Global, snapshot: &Snapshot, bytes: &[u8]) -> Result<Vec<u8>, Re
     }
 }
 
-/// The bytes of the answer to an ask. Refused: BadMessage, NoMemory.
+/// Returns the bytes of the answer to an ask. Refused: BadMessage, NoMemory.
 fn answer(alloc: Global, snapshot: &Snapshot, ask: Ask) -> Result<Vec<u8>, Refusal> {
     let text = snapshot.answer(alloc, ask)?;
     let answer = Answer {
@@ -84,7 +84,7 @@ fn answer(alloc: Global, snapshot: &Snapshot, ask: Ask) -> Result<Vec<u8>, Refus
     encode(alloc, &Message::Answer(answer))
 }
 
-/// Takes the bytes of an answer. Refused: BadMessage, or as [`RangeState::take_answer`].
+/// Takes the bytes of an answer. Refused: BadMessage, or as [`RangeState::take_answer`] is.
 fn take(
     alloc: Global,
     range: &mut RangeState,

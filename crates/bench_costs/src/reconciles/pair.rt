@@ -5,7 +5,7 @@ use std::alloc::Global;
 use std::thread::Threads;
 use vclock::Refusal;
 
-/// How deep the leaves lie in format 1.
+/// The depth of the leaves in format 1.
 const LEAF_DEPTH: u8 = 2;
 
 /// Two replicas of a range, at the nodes 1 and 2, and the number of the next key.
@@ -17,7 +17,7 @@ pub(crate) struct Pair {
 }
 
 impl Pair {
-    /// Two ranges with the same so many keys.
+    /// Returns two ranges with the same keys, of this number.
     pub(crate) fn new(alloc: Global, keys: u64) -> Result<Pair, Refusal> {
         let (mut a, mut b) = (new_range(alloc)?, new_range(alloc)?);
         for number in 0..keys {
@@ -27,7 +27,7 @@ impl Pair {
         Ok(Pair { a, b, next: keys })
     }
 
-    /// Gives each so many keys that the other lacks, and then each node its digest.
+    /// Gives each a number of keys that the other lacks, and then each node its digest.
     pub(crate) fn part(
         &mut self,
         rt: &(impl Threads + Sync),
@@ -44,12 +44,12 @@ impl Pair {
         Ok(())
     }
 
-    /// Makes both hold the same.
+    /// Reconciles the replicas, which then hold equal versions.
     pub(crate) fn reconcile(&mut self, alloc: Global) -> Result<Reconciled, Refusal> {
         reconcile_both(alloc, &mut self.a, &mut self.b)
     }
 
-    /// How many leaves differed when they were reconciled last: those that the first asked.
+    /// Returns the number of leaves that differed in the last call of `reconcile`: those that the first replica asked.
     pub(crate) fn leaves(&self) -> u64 {
         match self.a.records().last() {
             Some(record) => {

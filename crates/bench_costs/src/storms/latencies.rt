@@ -1,13 +1,13 @@
-//! How long the puts of two writers took.
+//! The times that the puts of two writers took.
 use std::alloc::{AllocError, Global};
 use std::time::Instant;
 
-/// What is known of a writer.
+/// A writer's noted puts.
 #[derive(Clone, Copy)]
 struct Writer {
-    /// How many of its puts were noted.
+    /// The number of its puts that were noted.
     puts: u64,
-    /// When it went on after the last of them.
+    /// The time when it went on after the last of them.
     since: Option<Instant>,
 }
 
@@ -20,7 +20,7 @@ pub(crate) struct Latencies {
 }
 
 impl Writer {
-    /// A writer that has done nothing.
+    /// Returns a writer that has done nothing.
     fn new() -> Writer {
         Writer {
             puts: 0,
@@ -28,7 +28,8 @@ impl Writer {
         }
     }
 
-    /// Notes a put that ended at a moment, the writer's last one so far: how long it took, unless it is the first.
+    /// Notes a put that ended at a moment, the writer's last one so far. Returns the time it took, unless it is the
+    /// first.
     fn note(&mut self, ended: Instant) -> Option<u64> {
         self.puts = self.puts.saturating_add(1);
         let took = ended.duration_since(self.since?).as_nanos();
@@ -37,7 +38,7 @@ impl Writer {
 }
 
 impl Latencies {
-    /// Latencies of no put, with memory for so many.
+    /// Returns latencies of no put, with memory for this number of puts.
     pub(crate) fn new(alloc: Global, puts: usize) -> Result<Latencies, AllocError> {
         Ok(Latencies {
             one: Writer::new(),
@@ -46,9 +47,9 @@ impl Latencies {
         })
     }
 
-    /// Notes that a writer ended a put at a moment, after which both have done so many puts, and returns whether it was
-    /// the first writer: one whose put was not noted yet. If both have such a put it may be either: then both ended
-    /// theirs about now.
+    /// Notes that a writer ended a put at a moment, after which both have done this number of puts. Returns true if it
+    /// was the first writer: one whose put was not noted yet. If both have such a put it may be either, because both
+    /// ended theirs at about this time.
     pub(crate) fn note(&mut self, ended: Instant, puts_of_one: u64) -> bool {
         let is_one = puts_of_one > self.one.puts;
         let writer = if is_one { &mut self.one } else { &mut self.two };
@@ -70,8 +71,8 @@ impl Latencies {
         self.took.sort_unstable();
     }
 
-    /// The least time within which so many of a hundred puts were done, in nanoseconds, once the times are sorted. 0 if
-    /// there is none.
+    /// Returns the shortest time within which this percentage of the puts were done, in nanoseconds, once the times are
+    /// sorted. Returns 0 if there is no put.
     pub(crate) fn percentile(&self, percent: usize) -> u64 {
         let rank = self.took.len().saturating_mul(percent).div_ceil(100);
         match self.took.get(rank.saturating_sub(1)) {

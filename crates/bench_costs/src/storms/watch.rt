@@ -8,12 +8,12 @@ use std::thread;
 use std::time::{Clock, Duration, Instant};
 use storm::Tallies;
 
-/// How often a worker looks whether both writers have ended, once a millisecond.
+/// The maximum number of times that a worker checks whether both writers have ended, once a millisecond.
 const MOST_LOOKS: u64 = 60_000;
 
-/// A gate that notes how long each put of a storm takes, with the making of its key and value: from when its writer has
-/// passed the gate to when it comes to it again. If the workers are to run when the writers have ended, it holds them
-/// until then, for a minute at the most.
+/// A gate that notes how long each put of a storm takes, with the making of its key and value: from the time when its
+/// writer has passed the gate to the time when it reaches the gate again. If the workers are to run after the writers
+/// have ended, the gate holds them until then, for at most a minute.
 #[derive(Drop)]
 pub(crate) struct Watch<'a, R: Clock> {
     clock: &'a R,
@@ -23,7 +23,7 @@ pub(crate) struct Watch<'a, R: Clock> {
 }
 
 impl<'a, R: Clock> Watch<'a, R> {
-    /// A gate for the storm of a plan, which has noted nothing.
+    /// Returns a gate for the storm of a plan, which has noted nothing.
     pub(crate) fn new(
         alloc: Global,
         clock: &'a R,
@@ -40,14 +40,14 @@ impl<'a, R: Clock> Watch<'a, R> {
         })
     }
 
-    /// How long the puts took, sorted.
+    /// Returns the times of the puts, sorted.
     pub(crate) fn into_latencies(self) -> Latencies {
         let mut latencies = self.latencies.into_inner();
         latencies.sort();
         latencies
     }
 
-    /// Notes a put. The time that this takes is no part of the next put's.
+    /// Notes a put. The time that this takes is not part of the next put's.
     fn note_put<W: Wait>(&self, rt: &W) {
         let Ok(ended) = Instant::now(self.clock) else {
             return;
@@ -67,7 +67,7 @@ impl<'a, R: Clock> Watch<'a, R> {
         }
     }
 
-    /// Whether both writers have done all their puts.
+    /// Returns true if both writers have done all their puts.
     fn have_written<W: Wait>(&self, rt: &W) -> bool {
         let puts = self.plan.puts;
         self.tallies.one.look(rt).puts >= puts && self.tallies.two.look(rt).puts >= puts

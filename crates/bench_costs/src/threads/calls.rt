@@ -1,4 +1,4 @@
-//! What a thread does.
+//! The calls of a thread.
 use crate::entries::{key, value};
 use crate::fault::Fault;
 use crate::threads::plan::Part;
@@ -13,7 +13,7 @@ use std::time::{Clock, Instant};
 use vclock::{Clock as VersionClock, Refusal};
 use version_set::Kind;
 
-/// Where the threads wait for one another: before the puts, and before the gets.
+/// The lines where the threads wait for one another: before the puts, and before the gets.
 #[derive(Drop)]
 pub(crate) struct Starts {
     puts: StartLine,
@@ -21,7 +21,7 @@ pub(crate) struct Starts {
 }
 
 impl Starts {
-    /// The lines of so many threads.
+    /// Returns the lines for this number of threads.
     pub(crate) fn new(threads: u16) -> Starts {
         Starts {
             puts: StartLine::new(threads),
@@ -30,7 +30,7 @@ impl Starts {
     }
 }
 
-/// Puts the keys of a part into a range, and gets them again, each when all threads have come to it.
+/// Puts the keys of a part into a range, and gets them again. Each phase begins when all threads have reached it.
 pub(crate) fn put_and_get<L: Ledger, R: Wait + Clock>(
     rt: &R,
     alloc: Global,
@@ -58,7 +58,7 @@ pub(crate) fn put_and_get<L: Ledger, R: Wait + Clock>(
     })
 }
 
-/// Puts the keys of a part. Refused as [`SharedRange::put`].
+/// Puts the keys of a part. Refused as [`SharedRange::put`] is.
 fn put_all<L: Ledger, R: Wait>(
     rt: &R,
     alloc: Global,
@@ -74,7 +74,7 @@ fn put_all<L: Ledger, R: Wait>(
     Ok(())
 }
 
-/// Gets the keys of a part. Refused as [`SharedRange::get`].
+/// Gets the keys of a part. Refused as [`SharedRange::get`] is.
 fn get_all<L: Ledger, R: Wait>(
     rt: &R,
     alloc: Global,

@@ -1,12 +1,12 @@
-//! What is to be done.
+//! The plan of the threads.
 ghost use Rattle.std.specs.Prelude.{◌≤◌};
 
 use crate::ranges::MOST_ENTRIES;
 
-/// How many threads there are at the most.
+/// The maximum number of threads.
 const MOST_THREADS: u16 = 8;
 
-/// Which ranges the threads write.
+/// The ranges that the threads write.
 #[derive(Clone, Copy, Debug, PartialEq, Eq)]
 pub(crate) enum Sharing {
     /// All write one range.
@@ -15,7 +15,7 @@ pub(crate) enum Sharing {
     Each,
 }
 
-/// How many keys are written, by how many threads, and into which ranges.
+/// The number of keys that are written, the number of threads, and the ranges.
 #[derive(Clone, Copy)]
 pub(crate) struct ThreadPlan {
     pub(crate) keys: u64,
@@ -33,7 +33,7 @@ pub(crate) struct Part {
 }
 
 impl Sharing {
-    /// Which ranges a word means.
+    /// Returns the sharing that a word names.
     fn of_word(word: &str) -> Option<Sharing> {
         match word {
             "one" => Some(Sharing::One),
@@ -44,7 +44,8 @@ impl Sharing {
 }
 
 impl ThreadPlan {
-    /// The plan of these words, if they are one's: how many keys, how many threads, and `one` or `each`.
+    /// Returns the plan of these words, or `None` if they are wrong: the number of keys, the number of threads, and
+    /// `one` or `each`.
     pub(crate) fn of_words(words: &[String]) -> Option<ThreadPlan> {
         let [keys, threads, sharing] = words else {
             return None;
@@ -56,7 +57,7 @@ impl ThreadPlan {
         )
     }
 
-    /// A plan, if it has 1 to 1,000,000 keys, as many as a journal has entries, and 1 to 8 threads.
+    /// Returns a plan if it has 1 to 1,000,000 keys, the maximum number of entries of a journal, and 1 to 8 threads.
     fn new(keys: u64, threads: u16, sharing: Sharing) -> Option<ThreadPlan> {
         if 1 <= keys && keys <= MOST_ENTRIES && 1 <= threads && threads <= MOST_THREADS {
             Some(ThreadPlan {
@@ -69,7 +70,7 @@ impl ThreadPlan {
         }
     }
 
-    /// How many ranges the threads write.
+    /// Returns the number of ranges that the threads write.
     pub(crate) fn ranges(&self) -> u16 {
         match self.sharing {
             Sharing::One => 1,
@@ -77,7 +78,7 @@ impl ThreadPlan {
         }
     }
 
-    /// The part of a thread, which is known by its number, from 0. Past the last thread it is of no key.
+    /// Returns the part of a thread, which is known by its number, from 0. A number past the last thread has no keys.
     pub(crate) fn part(&self, number: u16) -> Part {
         Part {
             from: self.of_first(number),
@@ -85,7 +86,7 @@ impl ThreadPlan {
         }
     }
 
-    /// How many keys the first threads have together, so many of them.
+    /// Returns the number of keys that the first threads have together.
     fn of_first(&self, threads: u16) -> u64 {
         let threads = u64::from(threads.min(self.threads));
         threads.saturating_mul(self.keys) / u64::from(self.threads)

@@ -18,8 +18,8 @@ use std::thread::Threads;
 use std::time::{Clock, Instant};
 use vclock::Refusal;
 
-/// When the calls were done, when the ranges were closed then, and whether they were: each pass was told what its journal
-/// has.
+/// The times of the calls, the time when the ranges were closed, and whether they were closed: the passes and the
+/// journals agreed.
 #[derive(Clone, Copy, Debug)]
 pub(crate) struct Done {
     pub(crate) spans: Spans,
@@ -27,7 +27,7 @@ pub(crate) struct Done {
     pub(crate) closed: bool,
 }
 
-/// What a thread on a range that all share hands back.
+/// The result of a thread on a range that all share.
 #[derive(Drop)]
 struct Returned<L: Ledger> {
     pass: Pass<L>,
@@ -35,7 +35,7 @@ struct Returned<L: Ledger> {
 }
 
 impl Done {
-    /// Both together.
+    /// Returns both together.
     fn and(self, other: Done) -> Done {
         Done {
             spans: self.spans.cover(other.spans),
@@ -89,7 +89,7 @@ fn run_on_one<L: Ledger + Send + Sync, R: Threads + Wait + Clock + Sync>(
     end(rt, alloc, range, passes, spans)
 }
 
-/// What is covered by spans, if there are any, and by others.
+/// Returns the spans that cover both, or the others if there are no spans yet.
 fn covered(spans: Option<Spans>, others: Spans) -> Spans {
     match spans {
         Some(spans) => spans.cover(others),
@@ -97,7 +97,7 @@ fn covered(spans: Option<Spans>, others: Spans) -> Spans {
     }
 }
 
-/// A thread on the range that all share. Its part is that of its seat.
+/// Runs a thread on the range that all share. Its part is that of its seat.
 fn run_with<L: Ledger, R: Wait + Clock>(
     rt: &R,
     alloc: Global,
@@ -139,7 +139,7 @@ fn run_on_each<R: Threads + Wait + Clock + Sync>(
     done.ok_or(Fault::NotTogether)
 }
 
-/// A thread on a range of its own.
+/// Runs a thread on a range of its own.
 fn run_alone<R: Wait + Clock>(
     rt: &R,
     alloc: Global,
@@ -150,7 +150,7 @@ fn run_alone<R: Wait + Clock>(
     run_on_own::<Brand, R>(rt, alloc, plan, starts, number, Blank::new(1))
 }
 
-/// A thread on a range of its own, with the range's ledger.
+/// Runs a thread on a range of its own, with the range's ledger.
 fn run_on_own<L: Ledger, R: Wait + Clock>(
     rt: &R,
     alloc: Global,
@@ -167,7 +167,7 @@ fn run_on_own<L: Ledger, R: Wait + Clock>(
     end(rt, alloc, range, passes, spans)
 }
 
-/// A range of format 1 with all keys at node 1, and the passes of its seats, 1 to 64. Refused: NoMemory.
+/// Opens a range of format 1 with all keys at node 1, and the passes of its seats, 1 to 64. Refused: NoMemory.
 fn open_range<L: Ledger>(
     alloc: Global,
     blank: Blank,
@@ -199,7 +199,7 @@ fn end<L: Ledger, R: Clock>(
     })
 }
 
-/// Closes a range: whether its passes were told what its journal has. Refused: Stranger, NoMemory.
+/// Closes a range, and returns true if its passes and its journal agreed. Refused: Stranger, NoMemory.
 fn close<L: Ledger>(
     alloc: Global,
     range: SharedRange<L>,

@@ -1,14 +1,14 @@
-//! From when to when something was done.
+//! The times between two moments.
 use std::time::{Duration, Instant};
 
-/// A time between two moments.
+/// The time between two moments.
 #[derive(Clone, Copy, Debug)]
 pub(crate) struct Span {
     pub(crate) from: Instant,
     pub(crate) to: Instant,
 }
 
-/// When a thread did its puts, and its gets.
+/// The times of a thread's puts and of its gets.
 #[derive(Clone, Copy, Debug)]
 pub(crate) struct Spans {
     pub(crate) puts: Span,
@@ -16,7 +16,7 @@ pub(crate) struct Spans {
 }
 
 impl Span {
-    /// From the earlier start to the later end.
+    /// Returns the span from the earlier start to the later end.
     pub(crate) fn cover(self, other: Span) -> Span {
         Span {
             from: self.from.min(other.from),
@@ -24,14 +24,14 @@ impl Span {
         }
     }
 
-    /// How long it is.
+    /// Returns its length.
     pub(crate) fn length(&self) -> Duration {
         self.to.duration_since(self.from)
     }
 }
 
 impl Spans {
-    /// From the first start to the last end of each.
+    /// Returns the spans from the first start to the last end, of the puts and of the gets.
     pub(crate) fn cover(self, other: Spans) -> Spans {
         Spans {
             puts: self.puts.cover(other.puts),

@@ -1,12 +1,12 @@
-//! Where threads wait for one another.
+//! A line where threads wait for one another.
 use crate::fault::Fault;
 use std::sync::{Condvar, Mutex, Wait};
 use std::time::{Clock, Duration};
 
-/// How many seconds a thread waits for the others: a thread that could not be made never comes.
+/// The time that a thread waits for the others, in seconds. A thread that could not be made never arrives.
 const PATIENCE: u64 = 30;
 
-/// A line at which so many threads wait until all have come.
+/// A line where threads wait until all have arrived.
 #[derive(Drop)]
 pub(crate) struct StartLine {
     threads: u16,
@@ -15,7 +15,7 @@ pub(crate) struct StartLine {
 }
 
 impl StartLine {
-    /// A line for so many threads, of which none has come.
+    /// Returns a line for this number of threads, none of which has arrived.
     pub(crate) fn new(threads: u16) -> StartLine {
         StartLine {
             threads,
@@ -24,7 +24,7 @@ impl StartLine {
         }
     }
 
-    /// Waits until all have come. Refused: NotTogether.
+    /// Waits until all have arrived. Refused: NotTogether.
     pub(crate) fn meet<R: Wait + Clock>(&self, rt: &R) -> Result<(), Fault> {
         let all = self.threads;
         let mut arrived = self.arrived.lock(rt);

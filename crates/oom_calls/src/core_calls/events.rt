@@ -10,7 +10,7 @@ use std::io;
 use vclock::{Bytes, Clock, Refusal};
 use version_set::Kind;
 
-/// How many events there are.
+/// The number of events.
 const COUNT: usize = 5;
 
 /// Shows the call on lists of events.
@@ -18,7 +18,7 @@ pub(crate) fn show_all<R: Print + AllocGlobal>(rt: &R) -> io::Result<()> {
     show(rt, "RangeState::run_events", run(rt.alloc()))
 }
 
-/// The event at a place.
+/// Returns the event at a place.
 fn event(alloc: Global, at: usize) -> Result<Event, Refusal> {
     match at {
         0 => Ok(Event::Put(PutEvent {
@@ -52,7 +52,8 @@ fn events_without(alloc: Global, left_out: usize) -> Result<Vec<Event>, Refusal>
     Ok(events)
 }
 
-/// How many events are done. If one of them wants memory, it changes nothing and the others are run.
+/// Runs the events, and returns the number that were done. An event that is refused for want of memory changes nothing,
+/// and the others are run.
 fn run(alloc: Global) -> Result<u64, Refusal> {
     let mut state = range(alloc)?;
     let events = events_without(alloc, COUNT)?;
@@ -65,7 +66,7 @@ fn run(alloc: Global) -> Result<u64, Refusal> {
     }
 }
 
-/// Whether an event was not refused.
+/// Returns true if an event was not refused.
 fn is_done(reply: &Reply) -> bool {
     matches!(
         reply,
@@ -77,7 +78,7 @@ fn is_done(reply: &Reply) -> bool {
     )
 }
 
-/// Whether an event was refused for want of memory.
+/// Returns true if an event was refused for want of memory.
 fn wanted_memory(reply: &Reply) -> bool {
     matches!(
         reply,
@@ -89,7 +90,8 @@ fn wanted_memory(reply: &Reply) -> bool {
     )
 }
 
-/// Whether a range is as it is after all events but the one at a place, which is the only one that wanted memory.
+/// Returns true if a range has run all events but the one at a place, and that one alone was refused for want of
+/// memory.
 fn is_without(
     alloc: Global,
     state: &RangeState,
@@ -104,7 +106,7 @@ fn is_without(
     Ok(is_alone && others.iter().all(|reply| is_done(reply)) && is_same(state, &other))
 }
 
-/// Whether a range has run no event.
+/// Returns true if a range has run no event.
 fn is_new(alloc: Global, state: &RangeState) -> Result<bool, Refusal> {
     Ok(is_same(state, &range(alloc)?))
 }

@@ -6,7 +6,7 @@ use std::alloc::Global;
 use std::io;
 use vclock::{Bytes, Refusal};
 
-/// How many hints are kept.
+/// The number of hints that are kept.
 const HINTS: u16 = 8;
 
 /// Shows the calls on hints.
@@ -24,7 +24,7 @@ fn keep_for(alloc: Global, store: &mut HintStore, owner: u16) -> Result<u32, Ref
     store.keep(owner, Bytes::copy_of(alloc, b"a")?, version)
 }
 
-/// The store of the hints for the owners before this one.
+/// Returns a store with the hints for the owners before this one.
 fn store_before(alloc: Global, owner: u16) -> Result<HintStore, Refusal> {
     let mut store = HintStore::new(alloc);
     for earlier in 1..owner {
@@ -33,7 +33,7 @@ fn store_before(alloc: Global, owner: u16) -> Result<HintStore, Refusal> {
     Ok(store)
 }
 
-/// Whether a store has the hints for the owners before this one.
+/// Returns true if a store has the hints for the owners before this one.
 fn is_before(alloc: Global, store: &HintStore, owner: u16) -> Result<bool, Refusal> {
     let other = store_before(alloc, owner)?;
     let is_same = store.pending() == other.pending() && store.delivered() == other.delivered();

@@ -15,13 +15,13 @@ pub(crate) fn show_all<R: Print + AllocGlobal>(rt: &R) -> io::Result<()> {
     show(rt, "held_in", held(alloc))
 }
 
-/// Appends a version that a node alone has counted.
+/// Appends a version that one node alone has counted.
 fn append_of(alloc: Global, journal: &mut Journal, node: u64) -> Result<u64, Refusal> {
     let key = Bytes::copy_of(alloc, b"a")?;
     journal.append(0, Source::Client, key, version(alloc, node)?)
 }
 
-/// The journal with the versions of the nodes before this one.
+/// Returns a journal with the versions of the nodes before this one.
 fn journal_before(alloc: Global, node: u64) -> Result<Journal, Refusal> {
     let mut journal = Journal::new(alloc, 1_000);
     for earlier in 1..node {
@@ -30,7 +30,7 @@ fn journal_before(alloc: Global, node: u64) -> Result<Journal, Refusal> {
     Ok(journal)
 }
 
-/// Whether a journal has the versions of the nodes before this one, and as much room.
+/// Returns true if a journal has the versions of the nodes before this one, and the room left by them.
 fn is_before(alloc: Global, journal: &Journal, node: u64) -> Result<bool, Refusal> {
     let other = journal_before(alloc, node)?;
     let (entries, others) = (journal.entries(), other.entries());

@@ -6,7 +6,7 @@ use std::alloc::Global;
 use std::io;
 use vclock::{Format, Refusal, check_key};
 
-/// The keys of one byte that are offered a version, one after the other.
+/// The keys, of one byte each, that are offered a version one after the other.
 const KEYS: &[u8] = b"acabeda";
 
 /// Shows the calls on shared leaves.
@@ -27,7 +27,7 @@ pub(crate) fn show_all<R: Print + AllocGlobal>(rt: &R) -> io::Result<()> {
     show(rt, "SharedLeaf::put_text", put_text(alloc))
 }
 
-/// How many keys of one byte have a row.
+/// Returns the number of keys of one byte that have a row.
 fn count(leaf: &SharedLeaf) -> u64 {
     (0..=255u8)
         .filter(|key| leaf.find(&[*key]).is_some())
@@ -45,7 +45,7 @@ fn offer_to(alloc: Global, leaf: &mut SharedLeaf, key: u8) -> Result<(), Refusal
     leaf.offer(alloc, &key, version)
 }
 
-/// The leaf whose keys were offered a version.
+/// Returns a leaf in which a version was offered to each of these keys.
 pub(crate) fn leaf_of(alloc: Global, keys: &[u8]) -> Result<SharedLeaf, Refusal> {
     let mut leaf = SharedLeaf::empty(Format::One);
     for key in keys {
@@ -54,14 +54,15 @@ pub(crate) fn leaf_of(alloc: Global, keys: &[u8]) -> Result<SharedLeaf, Refusal>
     Ok(leaf)
 }
 
-/// The text of a leaf.
+/// Returns the text of a leaf.
 fn text_of(alloc: Global, leaf: &SharedLeaf) -> Result<Vec<u8>, Refusal> {
     let mut text = Vec::new(alloc);
     leaf.put_text(&mut text)?;
     Ok(text)
 }
 
-/// Whether a leaf is as it is after these keys were offered a version: leaves with equal texts have equal rows.
+/// Returns true if a leaf has the rows of one in which a version was offered to each of these keys: leaves with equal
+/// texts have equal rows.
 fn is_leaf_of(alloc: Global, leaf: &SharedLeaf, keys: &[u8]) -> Result<bool, Refusal> {
     let other = leaf_of(alloc, keys)?;
     let text = text_of(alloc, &other)?;
@@ -69,7 +70,7 @@ fn is_leaf_of(alloc: Global, leaf: &SharedLeaf, keys: &[u8]) -> Result<bool, Ref
     Ok(is_same && leaf.is_text(&text))
 }
 
-/// Offers versions to the keys from a place on, if those before it were offered theirs.
+/// Offers a version to each key from a place on, if it was offered to those before it.
 fn grow(alloc: Global, leaf: &mut SharedLeaf, keys: &[u8], from: usize) -> Result<u64, Refusal> {
     for (at, key) in keys.iter().enumerate().skip(from) {
         if let Err(refusal) = offer_to(alloc, leaf, *key) {
@@ -84,7 +85,7 @@ fn offer(alloc: Global) -> Result<u64, Refusal> {
     grow(alloc, &mut SharedLeaf::empty(Format::One), KEYS, 0)
 }
 
-/// The other owner's leaf stays as it was.
+/// Offers to a leaf that shares its rows. The other owner's leaf is unchanged.
 fn offer_to_a_copy(alloc: Global) -> Result<u64, Refusal> {
     let mut leaf = leaf_of(alloc, b"a")?;
     let other = leaf.share()?;
@@ -96,7 +97,7 @@ fn offer_to_a_copy(alloc: Global) -> Result<u64, Refusal> {
     }
 }
 
-/// Each chunk of 15 rows is split for one more.
+/// Offers more rows than a chunk holds: a chunk of 15 rows is split before one more.
 fn offer_to_a_full_chunk(alloc: Global) -> Result<u64, Refusal> {
     let mut keys = Vec::with_capacity(alloc, 129)?;
     for key in 0..129u8 {
@@ -105,13 +106,13 @@ fn offer_to_a_full_chunk(alloc: Global) -> Result<u64, Refusal> {
     grow(alloc, &mut SharedLeaf::empty(Format::One), &keys, 0)
 }
 
-/// How many rows another owner's leaf has.
+/// Returns the number of rows in another owner's leaf.
 fn share(alloc: Global) -> Result<u64, Refusal> {
     let leaf = leaf_of(alloc, KEYS)?;
     Ok(count(&leaf.share()?))
 }
 
-/// How many bytes the text has after another byte.
+/// Returns the length of a text that is put after another byte, in bytes.
 fn put_text(alloc: Global) -> Result<u64, Refusal> {
     let leaf = leaf_of(alloc, KEYS)?;
     let mut text = Vec::from_slice(alloc, b"z")?;

@@ -6,7 +6,7 @@ use std::io;
 use vclock::Refusal;
 use walk_messages::{Answer, Message, decode, encode};
 
-/// An answer for the root of offer 1, whose text is too long to stand in a `Bytes` itself.
+/// An answer for the root of offer 1. Its text is too long for a `Bytes` to hold without memory of its own.
 const ROOT_ANSWER: &[u8] =
     b"\x03\x00\x00\x00\x01\x00\x00\x00\x00\x00\x00\x00\x00\x00\x00\x17more than sixteen bytes";
 
@@ -17,7 +17,7 @@ pub(crate) fn show_all<R: Print + AllocGlobal>(rt: &R) -> io::Result<()> {
     show(rt, "decode", decoded(alloc))
 }
 
-/// How many bytes an answer has.
+/// Returns the length of an answer's message, in bytes.
 fn encoded(alloc: Global) -> Result<u64, Refusal> {
     let message = Message::Answer(Answer {
         offer: 1,
@@ -27,7 +27,7 @@ fn encoded(alloc: Global) -> Result<u64, Refusal> {
     Ok(encode(alloc, &message)?.len() as u64)
 }
 
-/// How many bytes the text of an answer has.
+/// Returns the length of an answer's text, in bytes.
 fn decoded(alloc: Global) -> Result<u64, Refusal> {
     match decode(alloc, ROOT_ANSWER)? {
         Message::Answer(answer) => Ok(answer.text.as_slice().len() as u64),

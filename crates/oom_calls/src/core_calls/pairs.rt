@@ -14,7 +14,7 @@ pub(crate) fn show_all<R: Print + AllocGlobal + Threads + Sync>(rt: &R) -> io::R
     show(rt, "reconcile", reconcile_pair(rt, rt.alloc()))
 }
 
-/// A range with a version of a key, which one node alone has counted, whose nodes are all clean.
+/// Returns a range with a version of a key, which one node alone has counted, whose nodes are all clean.
 fn range(
     rt: &(impl Threads + Sync),
     alloc: Global,
@@ -54,8 +54,8 @@ impl Pair {
         reconcile_both(alloc, &mut self.a, &mut self.b)
     }
 
-    /// Whether the first stopped on its way and the second has not begun, or the first is at its end and the second
-    /// stopped on its way. A session that stopped is cancelled.
+    /// Returns true if the first stopped halfway and the second has not begun, or the first is done and the second
+    /// stopped halfway. A session that stopped is cancelled.
     fn has_stopped(&self, before: &Pair, after: &Pair) -> bool {
         if is_same(&self.b, &before.b) {
             is_between(&self.a, &before.a, &after.a) || is_same(&self.a, &after.a)
@@ -65,7 +65,8 @@ impl Pair {
     }
 }
 
-/// Reconciles a pair. The digits tell how many nodes each asked, and how many versions came to each.
+/// Reconciles a pair. The digits of the result are the numbers of nodes that each asked, and of versions that each
+/// accepted.
 fn reconcile_pair(rt: &(impl Threads + Sync), alloc: Global) -> Result<u64, Refusal> {
     let mut pair = Pair::new(rt, alloc)?;
     match pair.reconcile(alloc) {
@@ -74,7 +75,7 @@ fn reconcile_pair(rt: &(impl Threads + Sync), alloc: Global) -> Result<u64, Refu
     }
 }
 
-/// Whether a pair stopped on its way.
+/// Returns true if a pair stopped halfway.
 fn has_stopped(rt: &(impl Threads + Sync), alloc: Global, pair: &Pair) -> Result<bool, Refusal> {
     let before = Pair::new(rt, alloc)?;
     let mut after = Pair::new(rt, alloc)?;
@@ -98,7 +99,7 @@ fn reconcile_both(
     reconcile(alloc, a, 1, b, 2, 0)
 }
 
-/// What is told of a pair, as the digits of a number.
+/// Returns a report's four counts as the digits of a number.
 fn digits(told: &Reconciled) -> u64 {
     let mut number = 0u64;
     for count in [told.asked_a, told.asked_b, told.accepted_a, told.accepted_b] {

@@ -31,7 +31,7 @@ pub(crate) fn show_all<R: Print + AllocGlobal + Threads + Sync>(
     show(rt, "RangeState::sync_with", sync_with(rt, alloc, partner))
 }
 
-/// The clean range with that many sessions.
+/// Returns the clean range with this number of sessions.
 fn range_with(
     rt: &(impl Threads + Sync),
     alloc: Global,
@@ -45,7 +45,7 @@ fn range_with(
     Ok(state)
 }
 
-/// Whether a range is as it is with that many sessions.
+/// Returns true if a range equals the clean one with this number of sessions.
 fn is_range_with(
     rt: &(impl Threads + Sync),
     alloc: Global,
@@ -72,7 +72,7 @@ fn open_session(
     Ok(state.records().len() as u64)
 }
 
-/// The first node that a range's first session awaits, with the partner's text.
+/// Returns the first node that a range's first session awaits, with the partner's text.
 pub(crate) fn first_text_of(
     alloc: Global,
     state: &RangeState,
@@ -89,7 +89,7 @@ fn take_first_of(alloc: Global, state: &mut RangeState, partner: &Snapshot) -> R
     Ok(())
 }
 
-/// Whether a range is as it is with one session, which had that many answers.
+/// Returns true if a range equals one with one session that took this number of answers.
 pub(crate) fn is_after(
     rt: &(impl Threads + Sync),
     alloc: Global,
@@ -104,7 +104,7 @@ pub(crate) fn is_after(
     Ok(is_same(state, &other))
 }
 
-/// How many versions came in a session of a range when it is finished.
+/// Answers a session of a range until it is finished, and returns the number of versions that the range accepted.
 fn take_answer(
     rt: &(impl Threads + Sync),
     alloc: Global,
@@ -120,7 +120,7 @@ fn take_answer(
     Ok(state.journal().len())
 }
 
-/// Syncs a range with the partner. The digits tell how many nodes it asked, and how many versions came.
+/// Syncs a range with the partner. The digits of the result are the numbers of nodes asked and of versions accepted.
 fn sync_with(
     rt: &(impl Threads + Sync),
     alloc: Global,
@@ -153,7 +153,8 @@ fn sync(alloc: Global, state: &mut RangeState, partner: &Snapshot) -> Result<Syn
     state.sync_with(alloc, 1, 2, partner)
 }
 
-/// Whether a range is as it was before a sync, or has a session that is open on its way, and the leaves that it took.
+/// Returns true if a range is unchanged, or has a session that is still open, and some of the leaves that a whole sync
+/// takes.
 fn is_on_the_way(
     rt: &(impl Threads + Sync),
     alloc: Global,

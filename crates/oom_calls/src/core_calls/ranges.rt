@@ -9,7 +9,7 @@ use std::io;
 use vclock::{Bytes, Clock, Refusal};
 use version_set::Kind;
 
-/// The keys of one byte of which a copy is taken in, one after the other.
+/// The keys, of one byte each, whose copies are accepted one after the other.
 pub(crate) const KEYS: &[u8] = b"abcdee";
 
 /// Shows the calls on range states.
@@ -24,18 +24,18 @@ pub(crate) fn show_all<R: Print + AllocGlobal>(rt: &R) -> io::Result<()> {
     show(rt, "Replay::new and Replay::advance", replay(alloc))
 }
 
-/// A range of a ring with one range.
+/// Returns a range of a ring with one range.
 pub(crate) fn range(alloc: Global) -> Result<RangeState, Refusal> {
     let config = RangeConfig::new(1, 0, 0, 100).ok_or(Refusal::BadRing)?;
     RangeState::new(alloc, config)
 }
 
-/// How many entries a new range has.
+/// Returns the number of entries of a new range.
 fn new(alloc: Global) -> Result<u64, Refusal> {
     Ok(range(alloc)?.journal().len())
 }
 
-/// The context and the value of a put after a node has counted one.
+/// Returns the context and the value of a put that follows one count of a node.
 pub(crate) fn put_parts(alloc: Global, node: u64) -> Result<(Clock, Bytes), Refusal> {
     let context = Clock::from_pairs(alloc, &[(node, 1)])?;
     Ok((context, Bytes::copy_of(alloc, b"x")?))
@@ -47,7 +47,7 @@ pub(crate) fn put_at(alloc: Global, state: &mut RangeState, node: u64) -> Result
     state.put(alloc, 0, 1, b"a", &context, Kind::Live, value)
 }
 
-/// The range after the puts with the contexts of the nodes from 2 on, before this one.
+/// Returns the range after the puts with the contexts of the nodes from 2 up to the one before this.
 pub(crate) fn range_before(alloc: Global, node: u64) -> Result<RangeState, Refusal> {
     let mut state = range(alloc)?;
     for earlier in 2..node {
@@ -56,12 +56,12 @@ pub(crate) fn range_before(alloc: Global, node: u64) -> Result<RangeState, Refus
     Ok(state)
 }
 
-/// Whether a range is as it is before the put with the context of this node.
+/// Returns true if a range is unchanged since before the put with this node's context.
 pub(crate) fn is_before(alloc: Global, state: &RangeState, node: u64) -> Result<bool, Refusal> {
     Ok(is_same(state, &range_before(alloc, node)?))
 }
 
-/// Puts until journal and set have had to grow.
+/// Puts until the journal and the set have had to grow.
 fn put(alloc: Global) -> Result<u64, Refusal> {
     let mut state = range(alloc)?;
     for node in 2..8u64 {
@@ -72,7 +72,7 @@ fn put(alloc: Global) -> Result<u64, Refusal> {
     Ok(state.journal().len())
 }
 
-/// A put that some held version has seen: its refusal tells how many clocks it has.
+/// Makes a put whose context is stale, and returns the number of clocks in its refusal.
 fn stale_put(alloc: Global) -> Result<u64, Refusal> {
     let mut state = range_before(alloc, 3)?;
     match put_at(alloc, &mut state, 2) {
@@ -82,7 +82,7 @@ fn stale_put(alloc: Global) -> Result<u64, Refusal> {
     }
 }
 
-/// Takes in a copy.
+/// Accepts a copy of a key.
 pub(crate) fn accept_of(
     alloc: Global,
     state: &mut RangeState,
@@ -92,7 +92,7 @@ pub(crate) fn accept_of(
     state.accept(alloc, 0, Source::Copy, &[key], copy)
 }
 
-/// The range that took in copies of these keys.
+/// Returns a range that accepted copies of these keys.
 pub(crate) fn range_of(alloc: Global, keys: &[u8]) -> Result<RangeState, Refusal> {
     let mut state = range(alloc)?;
     for key in keys {
@@ -101,7 +101,7 @@ pub(crate) fn range_of(alloc: Global, keys: &[u8]) -> Result<RangeState, Refusal
     Ok(state)
 }
 
-/// Whether a range is as it is before it takes in the copy of the key at a place.
+/// Returns true if a range is unchanged since before it accepted the copy of the key at a place.
 pub(crate) fn is_before_key(alloc: Global, state: &RangeState, at: usize) -> Result<bool, Refusal> {
     Ok(is_same(state, &range_of(alloc, KEYS.get(..at).unwrap_or(KEYS))?))
 }
@@ -124,7 +124,7 @@ fn get(alloc: Global) -> Result<u64, Refusal> {
     Ok(range_before(alloc, 4)?.get(alloc, b"a")?.len() as u64)
 }
 
-/// Takes a range that has rows over to format 2, which is the number.
+/// Migrates a range with rows to format 2, and returns the format's number.
 fn migrate(alloc: Global) -> Result<u64, Refusal> {
     let mut state = range_before(alloc, 4)?;
     match state.migrate(alloc) {
@@ -133,7 +133,7 @@ fn migrate(alloc: Global) -> Result<u64, Refusal> {
     }
 }
 
-/// Replays the journal of a range, which is 1 if it then has what the range holds.
+/// Replays the journal of a range, and returns 1 if the replay then has the versions that the range holds.
 fn replay(alloc: Global) -> Result<u64, Refusal> {
     let state = range_before(alloc, 6)?;
     let mut replay = Replay::new(alloc, &state)?;

@@ -1,4 +1,4 @@
-//! Calls of a range whose receipts go to a list.
+//! Calls of a range that append their receipts to a list.
 use crate::core_calls::range_sessions::{first_text_of, is_after};
 use crate::core_calls::ranges::{KEYS, is_before, is_before_key, put_parts, range};
 use crate::core_calls::sessions::ASKED;
@@ -15,7 +15,7 @@ use std::thread::Threads;
 use vclock::Refusal;
 use version_set::Kind;
 
-/// Shows the calls whose receipts go to a list.
+/// Shows the calls that append their receipts to a list.
 pub(crate) fn show_all<R: Print + AllocGlobal + Threads + Sync>(
     rt: &R,
     both: &Snapshots,
@@ -30,7 +30,7 @@ pub(crate) fn show_all<R: Print + AllocGlobal + Threads + Sync>(
     )
 }
 
-/// Whether a list has the receipts of all entries of a range, and no other.
+/// Returns true if a list has the receipts of all entries of a range, and no other.
 fn has_told(told: &[Receipt], state: &RangeState) -> bool {
     let entries = state.journal().entries();
     begins(told, entries) && begins(entries, told)
@@ -47,7 +47,7 @@ fn put_at(
     state.put_into(alloc, told, 0, 1, b"a", &context, Kind::Live, value)
 }
 
-/// Puts until journal, set and list have had to grow.
+/// Puts until the journal, the set and the list have had to grow.
 fn put(alloc: Global) -> Result<u64, Refusal> {
     let mut state = range(alloc)?;
     let mut told = Vec::new(alloc);
@@ -60,7 +60,7 @@ fn put(alloc: Global) -> Result<u64, Refusal> {
     Ok(told.len() as u64)
 }
 
-/// Whether both hold.
+/// Returns true if both hold.
 fn all(first: bool, second: Result<bool, Refusal>) -> Result<bool, Refusal> {
     Ok(second? && first)
 }
@@ -78,7 +78,7 @@ fn accept(alloc: Global) -> Result<u64, Refusal> {
     Ok(told.len() as u64)
 }
 
-/// Takes in a copy.
+/// Accepts a copy of a key.
 fn accept_of(
     alloc: Global,
     state: &mut RangeState,
@@ -89,7 +89,7 @@ fn accept_of(
     state.accept_into(alloc, told, 0, Source::Copy, &[key], copy)
 }
 
-/// How many receipts came in a session of a range when it is finished.
+/// Answers a session of a range until it is finished, and returns the number of its receipts.
 fn take_answer(
     rt: &(impl Threads + Sync),
     alloc: Global,

@@ -34,7 +34,7 @@ fn write(alloc: Global) -> Result<u64, Refusal> {
     Ok(write_row(alloc, Format::One, &row)?.len() as u64)
 }
 
-/// Writes it after another byte.
+/// Writes the row after another byte.
 fn put(alloc: Global) -> Result<u64, Refusal> {
     let (row, _) = read_row(alloc, Format::One, TEXT)?;
     let mut text = Vec::from_slice(alloc, b"z")?;

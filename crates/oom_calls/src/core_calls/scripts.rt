@@ -10,10 +10,10 @@ use vclock::Refusal;
 const SCRIPT: &[u8] = b"{\"put\":{\"node\":1,\"key\":\"61\",\"context\":[],\"value\":\"78\"}}\n\
     {\"get\":{\"node\":1,\"key\":\"61\"}}\n";
 
-/// What is written for its first line.
+/// The output for its first line.
 const FIRST: &[u8] = b"{\"clock\":[[1,1]],\"copied\":0,\"hinted\":0,\"number\":0}\n";
 
-/// What is written for its second line.
+/// The output for its second line.
 const SECOND: &[u8] = b"{\"versions\":[{\"clock\":[[1,1]],\"value\":\"78\"}]}\n";
 
 /// More bytes than a script writes here.
@@ -26,7 +26,7 @@ pub(crate) fn show_all<R: Print + AllocGlobal + Threads + Sync>(rt: &R) -> io::R
     show(rt, "run_bytes", run_in_memory(rt, alloc))
 }
 
-/// How many lines were answered, if what was written is that of the first few lines.
+/// Returns the number of lines that were answered, or `None` if the output is not that of the first few lines.
 fn answered(written: &[u8]) -> Option<u64> {
     match written.strip_prefix(FIRST) {
         Some(rest) if rest == SECOND => Some(2),
@@ -36,7 +36,8 @@ fn answered(written: &[u8]) -> Option<u64> {
     }
 }
 
-/// Runs the script with a writer that has room, and returns how many lines it answered. No line has a part of an answer.
+/// Runs the script with a writer that has room, and returns the number of lines it answered. Each of them has its whole
+/// answer.
 fn run(rt: &(impl Threads + Sync), alloc: Global) -> Result<u64, Refusal> {
     let mut reader = SCRIPT;
     let mut writer = Vec::with_capacity(alloc, ROOM)?;
@@ -48,7 +49,8 @@ fn run(rt: &(impl Threads + Sync), alloc: Global) -> Result<u64, Refusal> {
     }
 }
 
-/// The same, with a writer that grows. If it can't, that is a device's fault.
+/// Runs the script with a writer that grows, and returns the number of lines it answered. A refused growth of the
+/// writer may end the script as a fault of its device does.
 fn run_in_memory(rt: &(impl Threads + Sync), alloc: Global) -> Result<u64, Refusal> {
     let (end, written) = run_bytes(rt, alloc, SCRIPT);
     match (end, answered(&written)) {

@@ -11,7 +11,7 @@ use sync_session::Session;
 use vclock::Refusal;
 use walk_messages::Ask;
 
-/// How many nodes are asked if a range without rows compares itself with its partner.
+/// The number of nodes that a range without rows asks to compare itself with the partner.
 pub(crate) const ASKED: u64 = 7;
 
 /// Shows the calls on sessions.
@@ -24,17 +24,17 @@ pub(crate) fn show_all<R: Print + AllocGlobal>(rt: &R, both: &Snapshots) -> io::
     show(rt, "Session::take_leaf", take_leaf(alloc, both))
 }
 
-/// A session that has taken nothing.
+/// Returns a session that has taken nothing.
 fn new_session(alloc: Global, both: &Snapshots) -> Result<Session, Refusal> {
     Session::start(alloc, Arc::try_clone(&both.own)?, both.partner.root())
 }
 
-/// How many nodes a new session has asked.
+/// Returns the number of nodes that a new session has asked.
 fn start(alloc: Global, both: &Snapshots) -> Result<u64, Refusal> {
     Ok(new_session(alloc, both)?.asked().len() as u64)
 }
 
-/// The first node that is outstanding, with the partner's text.
+/// Returns the first node that is outstanding, with the partner's text.
 pub(crate) fn first_text(
     alloc: Global,
     session: &Session,
@@ -52,7 +52,7 @@ fn take_first(alloc: Global, session: &mut Session, partner: &Snapshot) -> Resul
     Ok(())
 }
 
-/// The session after that many answers.
+/// Returns the session after this number of answers.
 fn session_after(alloc: Global, both: &Snapshots, answers: u64) -> Result<Session, Refusal> {
     let mut session = new_session(alloc, both)?;
     for _ in 0..answers {
@@ -61,7 +61,7 @@ fn session_after(alloc: Global, both: &Snapshots, answers: u64) -> Result<Sessio
     Ok(session)
 }
 
-/// Whether a session is as it is after that many answers.
+/// Returns true if a session equals the one after this number of answers.
 fn is_after(
     alloc: Global,
     session: &Session,
@@ -72,21 +72,21 @@ fn is_after(
     Ok(is_same_session(session, &other))
 }
 
-/// Returns the number of rows of the leaf that is asked first.
+/// Returns the number of rows in the leaf that is asked last.
 fn rows_of(alloc: Global, both: &Snapshots) -> Result<u64, Refusal> {
     let session = session_after(alloc, both, ASKED.saturating_sub(1))?;
     let (node, text) = first_text(alloc, &session, &both.partner)?;
     Ok(session.rows_of(alloc, node, &text)?.len() as u64)
 }
 
-/// Returns the number of rows of the leaf that is asked first and that the local snapshot lacks.
+/// Returns the number of rows in the leaf that is asked last and that the local snapshot lacks.
 fn news_of(alloc: Global, both: &Snapshots) -> Result<u64, Refusal> {
     let session = session_after(alloc, both, ASKED.saturating_sub(1))?;
     let (node, text) = first_text(alloc, &session, &both.partner)?;
     Ok(session.news_of(alloc, node, &text)?.rows.len() as u64)
 }
 
-/// How many nodes a session has asked when it is finished.
+/// Returns the number of nodes that a finished session has asked.
 fn take(alloc: Global, both: &Snapshots) -> Result<u64, Refusal> {
     let mut session = new_session(alloc, both)?;
     for answers in 0..ASKED {
@@ -97,7 +97,7 @@ fn take(alloc: Global, both: &Snapshots) -> Result<u64, Refusal> {
     Ok(session.asked().len() as u64)
 }
 
-/// How many texts a session took whose last one is taken without reading it again.
+/// Returns the number of texts that a finished session took, with the last one taken by `take_leaf`.
 fn take_leaf(alloc: Global, both: &Snapshots) -> Result<u64, Refusal> {
     let before = ASKED.saturating_sub(1);
     let mut session = session_after(alloc, both, before)?;
@@ -107,7 +107,7 @@ fn take_leaf(alloc: Global, both: &Snapshots) -> Result<u64, Refusal> {
     }
 }
 
-/// Answers the first node that is outstanding, a leaf.
+/// Answers the first node that is outstanding, a leaf, by `take_leaf`.
 fn take_leaf_first(
     alloc: Global,
     session: &mut Session,

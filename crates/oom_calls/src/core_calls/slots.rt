@@ -18,7 +18,7 @@ fn controller(alloc: Global) -> Result<u64, Refusal> {
     free_slots::<Brand>(Blank::new(1024), alloc)
 }
 
-/// How many slots a new controller could lend.
+/// Returns the number of slots that a new controller can lend.
 fn free_slots<L: Ledger>(blank: Blank, alloc: Global) -> Result<u64, Refusal>
     requires ledger { (blank.name ≡ L.name) × (blank.parts ≡ L.parts) × (blank.parts ≡ 1024) }
 {

@@ -15,13 +15,13 @@ use walk_messages::Ask;
 /// The snapshots that sessions compare.
 #[derive(Drop)]
 pub(crate) struct Snapshots {
-    /// That of a range without rows.
+    /// The snapshot of a range without rows.
     pub(crate) own: Arc<Snapshot, Global>,
-    /// That of a partner with three rows.
+    /// The snapshot of a partner with three rows.
     pub(crate) partner: Arc<Snapshot, Global>,
 }
 
-/// Makes both snapshots, and shows that. After a refusal they are made again.
+/// Makes both snapshots, and shows the result. After a refusal they are made again.
 pub(crate) fn show_both<R: Print + AllocGlobal + Threads + Sync>(
     rt: &R,
 ) -> io::Result<Option<Snapshots>> {
@@ -61,7 +61,7 @@ impl Snapshots {
     }
 }
 
-/// A range without rows, whose nodes are all clean.
+/// Returns a range without rows, whose nodes are all clean.
 pub(crate) fn clean_range(
     rt: &(impl Threads + Sync),
     alloc: Global,
@@ -71,19 +71,19 @@ pub(crate) fn clean_range(
     Ok(state)
 }
 
-/// The ask for the root.
+/// Returns the ask for the root.
 fn root_ask() -> Result<Ask, Refusal> {
     let node = NodeAt::new(0, 0).ok_or(Refusal::Stale)?;
     Ok(Ask { offer: 1, node })
 }
 
-/// How many bytes the root's text has.
+/// Returns the length of the root's text, in bytes.
 fn answer(alloc: Global, partner: &Snapshot) -> Result<u64, Refusal> {
     let text = partner.answer(alloc, root_ask()?)?;
     Ok(text.len() as u64)
 }
 
-/// The same, by the other call.
+/// Returns the length of the root's text, in bytes, by `hashed_answer`.
 fn hashed_answer(alloc: Global, partner: &Snapshot) -> Result<u64, Refusal> {
     let hashed = partner.hashed_answer(alloc, root_ask()?)?;
     Ok(hashed.text().len() as u64)

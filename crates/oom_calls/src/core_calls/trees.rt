@@ -38,7 +38,7 @@ fn texts(alloc: Global) -> Result<u64, Refusal> {
     Ok(inner_text(alloc, Format::One, &[digest; 16])?.len() as u64)
 }
 
-/// How many bytes a text has after another byte.
+/// Returns the length of a text that is put after another byte, in bytes.
 fn put_text(alloc: Global) -> Result<u64, Refusal> {
     let mut text = Vec::from_slice(alloc, b"z")?;
     match put_inner_text(&mut text, Format::One, &[DIGEST; 16]) {
@@ -47,21 +47,21 @@ fn put_text(alloc: Global) -> Result<u64, Refusal> {
     }
 }
 
-/// How many bytes the text of a leaf has.
+/// Returns the length of a leaf's text, in bytes.
 fn leaf_job(alloc: Global) -> Result<u64, Refusal> {
     let node = NodeAt::new(2, 0).ok_or(Refusal::Stale)?;
     let job = Job::of_leaf(alloc, node, leaf_of(alloc, b"ab")?)?;
     Ok(run_job(job).text().len() as u64)
 }
 
-/// How many bytes the text of another node has.
+/// Returns the length of an inner node's text, in bytes.
 fn inner_job(alloc: Global) -> Result<u64, Refusal> {
     let node = NodeAt::new(1, 0).ok_or(Refusal::Stale)?;
     let job = Job::of_children(alloc, Format::One, node, [DIGEST; 16])?;
     Ok(run_job(job).text().len() as u64)
 }
 
-/// A range that holds a version of each of three keys.
+/// Returns a range that holds a version of each of three keys.
 pub(crate) fn range(alloc: Global) -> Result<RangeState, Refusal> {
     range_of(alloc, b"abc")
 }
@@ -78,14 +78,14 @@ fn take_jobs(alloc: Global) -> Result<u64, Refusal> {
     Ok(range(alloc)?.take_jobs(alloc, 20)?.len() as u64)
 }
 
-/// The jobs are lost if a growth is refused, and can be taken again.
+/// Hashes some jobs, and returns their number. After a refusal the jobs are lost, and can be taken again.
 fn hash_some(rt: &(impl Threads + Sync), alloc: Global) -> Result<u64, Refusal> {
     let state = range(alloc)?;
     let jobs = state.take_jobs(alloc, 20)?;
     Ok(hash_all(rt, alloc, jobs)?.len() as u64)
 }
 
-/// A rehash that is refused leaves some of the nodes clean, and all else as it was.
+/// Rehashes a range. A refused rehash leaves some of the nodes clean, and all else unchanged.
 fn rehash(rt: &(impl Threads + Sync), alloc: Global) -> Result<u64, Refusal> {
     let mut state = range(alloc)?;
     match state.rehash(rt, alloc) {
@@ -98,7 +98,7 @@ fn rehash(rt: &(impl Threads + Sync), alloc: Global) -> Result<u64, Refusal> {
     }
 }
 
-/// Whether a range lies between what it is before a rehash and what it is after.
+/// Returns true if a range is between its states before and after a rehash.
 fn is_on_the_way(
     rt: &(impl Threads + Sync),
     alloc: Global,

@@ -14,7 +14,7 @@ pub(crate) fn show_all<R: Print + AllocGlobal>(rt: &R) -> io::Result<()> {
     show(rt, "VersionSet::try_clone", clone_of_set(alloc))
 }
 
-/// A version that one node alone has counted.
+/// Returns a version that one node alone has counted.
 pub(crate) fn version(alloc: Global, node: u64) -> Result<Version, Refusal> {
     Ok(Version {
         clock: Clock::from_pairs(alloc, &[(node, 1)])?,
@@ -23,7 +23,7 @@ pub(crate) fn version(alloc: Global, node: u64) -> Result<Version, Refusal> {
     })
 }
 
-/// A version that two nodes have counted, so that a clone of it takes memory.
+/// Returns a version that two nodes have counted, so that a clone of it takes memory.
 pub(crate) fn wide_version(alloc: Global, node: u64) -> Result<Version, Refusal> {
     Ok(Version {
         clock: Clock::from_pairs(alloc, &[(node, 1), (9, 1)])?,
@@ -32,7 +32,7 @@ pub(crate) fn wide_version(alloc: Global, node: u64) -> Result<Version, Refusal>
     })
 }
 
-/// The set of the versions of the nodes before this one.
+/// Returns the set of the versions of the nodes before this one.
 fn set_before(alloc: Global, node: u64) -> Result<VersionSet, Refusal> {
     let mut set = VersionSet::empty(alloc);
     for earlier in 1..node {
@@ -56,7 +56,7 @@ fn offer(alloc: Global) -> Result<u64, Refusal> {
     Ok(set.len() as u64)
 }
 
-/// Whether a set has the versions of the nodes before this one.
+/// Returns true if a set has the versions of the nodes before this one.
 fn is_before(alloc: Global, set: &VersionSet, node: u64) -> Result<bool, Refusal> {
     Ok(set.same(&set_before(alloc, node)?))
 }

@@ -5,7 +5,7 @@ use std::alloc::Global;
 use std::io;
 use vclock::{Bytes, Clock, Clocks, Refusal};
 
-/// Too many bytes to stand in a `Bytes` itself, so that to copy them takes memory.
+/// Too many bytes for a `Bytes` to hold without memory of its own: a copy takes memory.
 const LONG: &[u8] = b"more than sixteen bytes";
 
 /// Shows the calls on clocks, bytes and texts.
@@ -33,7 +33,7 @@ fn raise(alloc: Global) -> Result<u64, Refusal> {
     Ok(clock(alloc)?.raise(alloc, 3)?.pairs().len() as u64)
 }
 
-/// How many pairs a clock has that is merged with one that shares a node with it.
+/// Returns the number of pairs of two clocks merged that share a node.
 fn merge(alloc: Global) -> Result<u64, Refusal> {
     let other = Clock::from_pairs(alloc, &[(2, 5), (4, 1)])?;
     Ok(clock(alloc)?.merge(alloc, &other)?.pairs().len() as u64)
@@ -56,7 +56,7 @@ fn push(alloc: Global) -> Result<u64, Refusal> {
     Ok(clocks.as_slice().len() as u64)
 }
 
-/// Whether the clocks of a list have counted to 1, 2 and so on, up to a counter that the next one would have.
+/// Returns true if the clocks of a list have counted to 1, 2 and so on, up to the number before `next`.
 fn count_to(clocks: &Clocks, next: u64) -> bool {
     let mut counters = clocks.as_slice().iter().zip(1..next);
     clocks.as_slice().len() as u64 == next.saturating_sub(1)

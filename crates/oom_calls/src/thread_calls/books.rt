@@ -16,7 +16,7 @@ pub(crate) fn show_all<R: Print + AllocGlobal>(rt: &R) -> io::Result<()> {
     show(rt, "Book::absorb", absorbed::<Brand>(alloc, Blank::new(2)))
 }
 
-/// How many passes a book of two seats has.
+/// Returns the number of passes of a book with two seats.
 fn opened<L: Ledger>(alloc: Global, blank: Blank) -> Result<u64, Refusal>
     requires { (blank.name ≡ L.name) × (blank.parts ≡ L.parts) × (blank.parts ≡ 2) }
 {
@@ -24,7 +24,7 @@ fn opened<L: Ledger>(alloc: Global, blank: Blank) -> Result<u64, Refusal>
     Ok(passes.len() as u64)
 }
 
-/// How many passes came back.
+/// Returns the number of passes that the book absorbed.
 fn absorbed<L: Ledger>(alloc: Global, blank: Blank) -> Result<u64, Refusal>
     requires { (blank.name ≡ L.name) × (blank.parts ≡ L.parts) × (blank.parts ≡ 2) }
 {
@@ -42,7 +42,7 @@ fn absorbed<L: Ledger>(alloc: Global, blank: Blank) -> Result<u64, Refusal>
     }
 }
 
-/// Takes a pass back, and returns whether that was refused once: it then handed back the pass of that seat.
+/// Absorbs a pass, and returns true if that was refused once: the refusal then handed back the pass of that seat.
 fn absorb<L: Ledger>(book: &mut Book<L>, pass: Pass<L>) -> Result<bool, Refusal> {
     let (seat, seats) = (pass.seat(), book.seats());
     let Err(refused) = book.absorb(pass) else {

@@ -44,7 +44,7 @@ pub(crate) enum Call {
     Shared(SharedCall),
 }
 
-/// The calls in order. Each list that grows by its calls grows twice at least.
+/// The calls in order. Each list that grows by its calls grows at least twice.
 pub(crate) const CALLS: [Call; 42] = [
     Call::Locked(LockedCall::Hash),
     Call::Locked(LockedCall::Snapshot),
@@ -91,7 +91,7 @@ pub(crate) const CALLS: [Call; 42] = [
 ];
 
 impl Call {
-    /// The name that is printed.
+    /// Returns the name that is printed.
     pub(crate) fn name(self) -> &'static str {
         match self {
             Call::Locked(call) => call.name(),
@@ -99,7 +99,7 @@ impl Call {
         }
     }
 
-    /// Whether a refusal leaves what was done so far.
+    /// Returns true if a refused call keeps the steps that are done.
     pub(crate) fn is_in_steps(self) -> bool {
         matches!(
             self,

@@ -19,13 +19,13 @@ where
     show(rt, "ChannelLink::offer and ask", serve(rt, alloc, partner))
 }
 
-/// How often a new link failed.
+/// Returns the number of failures of a new link.
 fn open(alloc: Global) -> Result<u64, Refusal> {
     let (link, _server) = channel_link(alloc)?;
     Ok(link.failures())
 }
 
-/// Asks a server in a thread of its own, and stops it. If no thread can be made, nothing is asked.
+/// Asks a server in another thread, and stops it. Asks nothing if the thread can't be made.
 fn serve<R: Threads + Wait + Sync>(
     rt: &R,
     alloc: Global,
@@ -41,7 +41,7 @@ fn serve<R: Threads + Wait + Sync>(
     })
 }
 
-/// How many bytes an offer and an answer have.
+/// Returns the total length of an offer and an answer, in bytes.
 fn ask_and_stop<R: Wait>(rt: &R, alloc: Global, link: ChannelLink) -> Result<u64, Refusal> {
     let mut link = link;
     let offered = offer(rt, &mut link);

@@ -9,7 +9,7 @@ use vclock::Refusal;
 #[derive(Drop)]
 pub(crate) struct Closing<L: Ledger> {
     pub(crate) closed: Closed<L>,
-    /// Why the first try was refused, if it was.
+    /// The refusal of the first try, if there was one.
     pub(crate) refusal: Option<Refusal>,
 }
 

@@ -1,4 +1,4 @@
-//! What is left when the ranges are closed.
+//! The states and passes after the ranges are closed.
 use crate::states::{clean_nodes, is_between};
 use crate::thread_calls::told::Told;
 use caller_pass::Closed;
@@ -9,14 +9,14 @@ use std::alloc::Global;
 use std::sync::ledger::Ledger;
 use vclock::Refusal;
 
-/// What is left of a range that was closed.
+/// The state of a range that was closed, and its passes.
 pub(crate) struct Left {
     state: RangeState,
     passes: Vec<Told>,
 }
 
 impl Left {
-    /// What is left of a range. Refused: NoMemory.
+    /// Returns the state of a closed range and its passes. Refused: NoMemory.
     pub(crate) fn of<L: Ledger>(alloc: Global, closed: Closed<L>) -> Result<Left, Refusal> {
         let Closed { state, passes } = closed;
         let mut told = Vec::new(alloc);
@@ -29,12 +29,12 @@ impl Left {
         })
     }
 
-    /// How many entries the journal has.
+    /// Returns the number of entries in the journal.
     pub(crate) fn entries(&self) -> u64 {
         self.state.journal().len()
     }
 
-    /// Whether state and passes are those before, but for a part of what is new after.
+    /// Returns true if the state and the passes are between those before and those after.
     pub(crate) fn is_between(&self, before: &Left, after: &Left) -> bool {
         let places = before.passes.iter().zip(&after.passes);
         let mut passes = self.passes.iter().zip(places);
@@ -43,27 +43,27 @@ impl Left {
             && is_between(&self.state, &before.state, &after.state)
     }
 
-    /// How many entries came as hints.
+    /// Returns the number of entries that were delivered as hints.
     fn delivered(&self) -> usize {
         let entries = self.state.journal().entries().iter();
         entries.filter(|entry| entry.source == Source::Hint).count()
     }
 }
 
-/// What is left of a locked range and a shared one, and of the hints for the shared one.
+/// A locked range and a shared one after their close, with the hints for the shared one.
 #[derive(Drop)]
 pub(crate) struct Ended {
     pub(crate) locked: Left,
     pub(crate) shared: Left,
     /// The hints that are pending, by rising id.
     pub(crate) pending: Vec<Hint>,
-    /// How many digests rehash workers installed in the shared range.
+    /// The number of digests that rehash workers installed in the shared range.
     pub(crate) installed: u64,
 }
 
 impl Ended {
-    /// Whether both ranges are as before, but for a part of what is new after. Each hint that was pending before is, or was
-    /// delivered; and each digest that a worker installed is there.
+    /// Returns true if both ranges are between before and after. Each hint that was pending before is pending or was
+    /// delivered, and each digest that a worker installed is there.
     pub(crate) fn is_between(&self, before: &Ended, after: &Ended) -> bool {
         let clean = clean_nodes(&self.shared.state).saturating_sub(clean_nodes(
             &before.shared.state,
@@ -74,7 +74,7 @@ impl Ended {
             && clean == self.installed.saturating_sub(before.installed)
     }
 
-    /// Whether the hints that are pending are the last ones of those before, and the first ones were delivered.
+    /// Returns true if the pending hints are the last ones of those before, and the first ones were delivered.
     fn has_hints_of(&self, before: &Ended) -> bool {
         let delivered = self
             .shared
@@ -98,7 +98,7 @@ fn is_same_hint(hint: &Hint, other: &Hint) -> bool {
 }
 
 impl Drop for Left {
-    /// Keeps the fields out of the proofs of callers that drop what was left.
+    /// Keeps the fields out of the proofs of callers that drop the value.
     fn drop(self) {
         let Left {
             state: _state,

@@ -23,13 +23,13 @@ pub(crate) fn show_all<R: Print + AllocGlobal + Wait>(rt: &R, partner: &Partner)
     show(rt, "ScriptedLink::ask", scripted_ask(rt, alloc, partner))
 }
 
-/// The message of an ask for the root.
+/// Returns the message of an ask for the root.
 pub(crate) fn root_ask(alloc: Global) -> Result<Vec<u8>, Refusal> {
     let node = NodeAt::new(0, 0).ok_or(Refusal::BadMessage)?;
     encode(alloc, &Message::Ask(Ask { offer: 1, node }))
 }
 
-/// How many bytes the message of the newest offer has.
+/// Returns the length of the newest offer's message, in bytes.
 pub(crate) fn offer<K: Link, R: Wait>(rt: &R, link: &mut K) -> Result<u64, Refusal> {
     let failures = link.failures();
     match link.offer(rt) {
@@ -42,7 +42,7 @@ pub(crate) fn offer<K: Link, R: Wait>(rt: &R, link: &mut K) -> Result<u64, Refus
     }
 }
 
-/// How many bytes the message has that answers an ask for the root.
+/// Returns the length of the message that answers an ask for the root, in bytes.
 pub(crate) fn ask<K: Link, R: Wait>(rt: &R, alloc: Global, link: &mut K) -> Result<u64, Refusal> {
     let message = root_ask(alloc)?;
     let failures = link.failures();
@@ -56,7 +56,7 @@ pub(crate) fn ask<K: Link, R: Wait>(rt: &R, alloc: Global, link: &mut K) -> Resu
     }
 }
 
-/// How many bytes came, if the link hasn't failed.
+/// Returns the number of bytes received, if the link hasn't failed.
 fn length<K: Link>(bytes: &[u8], failures: u64, link: &K) -> Result<u64, Refusal> {
     if link.failures() == failures {
         Ok(bytes.len() as u64)
@@ -65,7 +65,8 @@ fn length<K: Link>(bytes: &[u8], failures: u64, link: &K) -> Result<u64, Refusal
     }
 }
 
-/// NoMemory for a call that was lost, if the link has failed once more for it, and the same call after it reached bytes.
+/// Returns NoMemory for a call that was lost, if the link has failed once more for it and the repeated call received
+/// bytes.
 fn lost<K: Link>(again: Reached, failures: u64, link: &K) -> Refusal {
     let has_come = matches!(again, Reached::Bytes(_));
     if has_come && link.failures() == failures.saturating_add(1) {
@@ -75,7 +76,7 @@ fn lost<K: Link>(again: Reached, failures: u64, link: &K) -> Refusal {
     }
 }
 
-/// A link that does these deeds.
+/// Returns a link that does these deeds.
 fn scripted<'a>(
     alloc: Global,
     partner: &'a Partner,
@@ -86,7 +87,7 @@ fn scripted<'a>(
     Ok(ScriptedLink::new(alloc, link, deeds))
 }
 
-/// Three offers, of which the last is the second again. A call that is lost has used its deed.
+/// Asks for three offers; the last repeats the second. A call that is lost has used its deed.
 fn scripted_offer<R: Wait>(rt: &R, alloc: Global, partner: &Partner) -> Result<u64, Refusal> {
     let deeds = [Deed::Change(1), Deed::Pass, Deed::Repeat];
     let mut link = scripted(alloc, partner, &deeds)?;
@@ -97,7 +98,7 @@ fn scripted_offer<R: Wait>(rt: &R, alloc: Global, partner: &Partner) -> Result<u
     Ok(sum)
 }
 
-/// An ask for another node, and one whose answer is cut.
+/// Sends two asks: the link asks for another node in the first, and cuts the answer of the second.
 fn scripted_ask<R: Wait>(rt: &R, alloc: Global, partner: &Partner) -> Result<u64, Refusal> {
     let leaf = NodeAt::new(2, 0).ok_or(Refusal::BadMessage)?;
     let mut link = scripted(alloc, partner, &[Deed::Node(leaf), Deed::Cut(100)])?;

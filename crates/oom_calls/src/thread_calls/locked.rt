@@ -16,17 +16,17 @@ use vclock::Refusal;
 use version_set::Kind;
 use walk_messages::Ask;
 
-/// Enough turns for all nodes of a tree of format 1.
+/// More turns than a tree of format 1 has nodes.
 const TURNS: u64 = 300;
 
-/// A locked range with the passes of its two seats. The first one writes and reads, and the second one syncs.
+/// A locked range with the passes of its two seats. The first pass writes and reads, and the second one syncs.
 pub(crate) struct Locked<L: Ledger> {
     range: LockedRange<L>,
     passes: Vec<Pass<L>>,
 }
 
 impl<L: Ledger> Locked<L> {
-    /// A range of format 1 with all keys that has accepted nothing.
+    /// Opens a range of format 1 with all keys that has accepted nothing.
     pub(crate) fn open(alloc: Global, blank: Blank) -> Result<Locked<L>, Refusal>
         requires { (blank.name ≡ L.name) × (blank.parts ≡ L.parts) × (blank.parts ≡ 2) }
     {
@@ -37,13 +37,13 @@ impl<L: Ledger> Locked<L> {
         Ok(Locked { range, passes })
     }
 
-    /// Closes it.
+    /// Closes the range.
     pub(crate) fn close(self, alloc: Global) -> Result<Closing<L>, Refusal> {
         let Locked { range, passes } = self;
         close_locked(alloc, range, passes)
     }
 
-    /// Makes a call, and returns a number that tells its result.
+    /// Makes a call, and returns a number that stands for its result.
     pub(crate) fn make(
         &mut self,
         alloc: Global,
@@ -68,7 +68,7 @@ impl<L: Ledger> Locked<L> {
         }
     }
 
-    /// Hashes the dirty nodes, and returns how many there were.
+    /// Hashes the dirty nodes, and returns their number.
     fn hash(&mut self, alloc: Global) -> Result<u64, Refusal> {
         let mut count = 0u64;
         for _ in 0..TURNS {
@@ -82,7 +82,7 @@ impl<L: Ledger> Locked<L> {
         Ok(count)
     }
 
-    /// Takes the partner's text of the first node that is outstanding, and returns how many versions came.
+    /// Takes the partner's text of the first node that is outstanding, and returns the number of versions accepted.
     fn take_answer(&mut self, alloc: Global, partner: &Partner) -> Result<u64, Refusal> {
         let node = self.range.outstanding(0)?.ok_or(Refusal::NotAsked)?;
         let text = partner.snapshot.answer(alloc, Ask { offer: 1, node })?;
@@ -92,7 +92,7 @@ impl<L: Ledger> Locked<L> {
         Ok(taken.receipts)
     }
 
-    /// Puts a value, and returns the number of its entry.
+    /// Puts a value, and returns its entry's number.
     fn put(&mut self, alloc: Global, key: u8) -> Result<u64, Refusal> {
         let (context, value) = put_parts(alloc)?;
         let pass = self.passes.get_mut(0).ok_or(Refusal::Stranger)?;
@@ -102,7 +102,7 @@ impl<L: Ledger> Locked<L> {
         Ok(receipt.number)
     }
 
-    /// Puts a value whose clock is held already, and returns how many clocks the refusal has.
+    /// Makes a put whose context is stale, and returns the number of clocks in its refusal.
     fn put_stale(&mut self, alloc: Global, key: u8) -> Result<u64, Refusal> {
         match self.put(alloc, key) {
             Err(Refusal::StaleContext(held)) => Ok(held.as_slice().len() as u64),
@@ -111,7 +111,7 @@ impl<L: Ledger> Locked<L> {
         }
     }
 
-    /// Takes in a copy, and returns the number of its entry, or 100 if it is known.
+    /// Accepts a copy, and returns its entry's number, or 100 if it is known.
     fn accept(&mut self, alloc: Global, key: u8) -> Result<u64, Refusal> {
         let copy = version(alloc, 3)?;
         let pass = self.passes.get_mut(0).ok_or(Refusal::Stranger)?;
@@ -121,20 +121,20 @@ impl<L: Ledger> Locked<L> {
         }
     }
 
-    /// Indexes a pass, which is never refused, and returns how many receipts it has.
+    /// Indexes a pass, which is never refused, and returns the number of its receipts.
     fn index(&mut self, alloc: Global) -> Result<u64, Refusal> {
         let pass = self.passes.get_mut(0).ok_or(Refusal::Stranger)?;
         pass.index(alloc);
         Ok(pass.receipts().len() as u64)
     }
 
-    /// How many versions a key has.
+    /// Returns the number of versions of a key, by `get`.
     fn get(&mut self, alloc: Global, key: u8) -> Result<u64, Refusal> {
         let pass = self.passes.get_mut(0).ok_or(Refusal::Stranger)?;
         Ok(self.range.get(alloc, pass, &[key])?.len() as u64)
     }
 
-    /// The same, by the other call.
+    /// Returns the number of versions of a key, by `read`.
     fn read(&mut self, alloc: Global, key: u8) -> Result<u64, Refusal> {
         let pass = self.passes.get_mut(0).ok_or(Refusal::Stranger)?;
         match self.range.read(alloc, pass, &[key]) {
@@ -143,7 +143,7 @@ impl<L: Ledger> Locked<L> {
         }
     }
 
-    /// Goes over to format 2, which is the number.
+    /// Migrates the range to format 2, and returns the format's number.
     fn migrate(&mut self, alloc: Global) -> Result<u64, Refusal> {
         self.range.migrate(alloc)?;
         Ok(u64::from(self.range.config().format().number()))
@@ -151,7 +151,7 @@ impl<L: Ledger> Locked<L> {
 }
 
 impl<L: Ledger> Drop for Locked<L> {
-    /// Keeps the fields out of the proofs of callers that drop what is locked.
+    /// Keeps the fields out of the proofs of callers that drop the value.
     fn drop(self) {
         let Locked {
             range: _range,

@@ -1,4 +1,4 @@
-//! A partner that has rows which the ranges lack.
+//! A partner with rows that the ranges lack.
 use crate::lines::show;
 use crate::thread_calls::versions::version;
 use range_journal::Source;
@@ -11,21 +11,21 @@ use std::io;
 use std::sync::{Arc, Wait};
 use vclock::Refusal;
 
-/// Enough turns for all nodes of a tree of format 1.
+/// More turns than a tree of format 1 has nodes.
 const TURNS: u64 = 300;
 
-/// What a partner offers.
+/// A partner's snapshot and its offers.
 #[derive(Drop)]
 pub(crate) struct Partner {
-    /// Its rows of `a` and `abc`.
+    /// The snapshot of its rows of `a` and `abc`.
     pub(crate) snapshot: Arc<Snapshot, Global>,
-    /// The pool in which it offered them.
+    /// The pool that offers this snapshot.
     pub(crate) first: OfferPool,
-    /// The pool in which it offered them with a row of `z`.
+    /// The pool that offers these rows and a row of `z`.
     pub(crate) second: OfferPool,
 }
 
-/// Makes a partner, and shows it. After a refusal it is made again.
+/// Makes a partner, and shows the result. After a refusal it is made again.
 pub(crate) fn show_partner<R: Print + AllocGlobal + Wait>(rt: &R) -> io::Result<Option<Partner>> {
     let alloc = rt.alloc();
     match make_partner(rt, alloc) {
@@ -58,13 +58,13 @@ fn make_partner<R: Wait>(rt: &R, alloc: Global) -> Result<Partner, Refusal> {
     })
 }
 
-/// Takes in a version of a key.
+/// Accepts a version of a key.
 fn take_in(alloc: Global, state: &mut RangeState, key: &[u8]) -> Result<(), Refusal> {
     state.accept(alloc, 0, Source::Copy, key, version(alloc, 5)?)?;
     Ok(())
 }
 
-/// Hashes the dirty nodes one by one, so that the growths come in one order, and returns a snapshot.
+/// Hashes the dirty nodes one by one, so that the growths have one order, and returns a snapshot.
 fn hashed(alloc: Global, state: &mut RangeState) -> Result<Arc<Snapshot, Global>, Refusal> {
     for _ in 0..TURNS {
         let Some(job) = state.take_job(alloc, 0)? else {

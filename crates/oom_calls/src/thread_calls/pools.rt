@@ -16,7 +16,7 @@ pub(crate) fn show_all<R: Print + AllocGlobal + Wait>(rt: &R, partner: &Partner)
     show(rt, "OfferPool::serve", serve(rt, alloc, partner))
 }
 
-/// The ask for the root of an offer.
+/// Returns the ask for the root of an offer.
 fn ask(offer: u32) -> Result<Ask, Refusal> {
     let node = NodeAt::new(0, 0).ok_or(Refusal::BadMessage)?;
     Ok(Ask { offer, node })
@@ -34,7 +34,7 @@ fn publish<R: Wait>(rt: &R, alloc: Global, partner: &Partner) -> Result<u64, Ref
     Ok(u64::from(newest(rt, &pool)))
 }
 
-/// The number of the newest offer, or 0.
+/// Returns the number of the newest offer, or 0.
 fn newest<R: Wait>(rt: &R, pool: &OfferPool) -> u32 {
     match pool.latest(rt) {
         Some(offer) => offer.offer,
@@ -42,7 +42,7 @@ fn newest<R: Wait>(rt: &R, pool: &OfferPool) -> u32 {
     }
 }
 
-/// Whether a pool has that many offers, each of the partner's snapshot, and no other.
+/// Returns true if a pool has exactly this number of offers, each of the partner's snapshot.
 fn has<R: Wait>(
     rt: &R,
     alloc: Global,

@@ -1,4 +1,4 @@
-//! A locked range and a shared one, on which calls are made.
+//! A locked range and a shared one that the calls are made on.
 ghost use Rattle.std.specs.Prelude.{◌≡◌};
 
 use crate::thread_calls::calls::{CALLS, Call};
@@ -20,7 +20,7 @@ pub(crate) struct Scene<L: Ledger, M: Ledger, C: Ledger> {
 }
 
 impl<L: Ledger, M: Ledger, C: Ledger> Scene<L, M, C> {
-    /// Two ranges that have accepted nothing.
+    /// Opens two ranges that have accepted nothing.
     pub(crate) fn open(
         alloc: Global,
         locked: Blank,
@@ -37,7 +37,7 @@ impl<L: Ledger, M: Ledger, C: Ledger> Scene<L, M, C> {
         })
     }
 
-    /// Makes a call, and returns a number that tells its result.
+    /// Makes a call, and returns a number that stands for its result.
     pub(crate) fn make<R: Wait>(
         &mut self,
         rt: &R,
@@ -66,7 +66,7 @@ impl<L: Ledger, M: Ledger, C: Ledger> Scene<L, M, C> {
     }
 }
 
-/// What is left if no more than the first few calls are made.
+/// Returns the closed ranges after the first few calls alone.
 pub(crate) fn ended_after<R: Wait>(
     rt: &R,
     alloc: Global,

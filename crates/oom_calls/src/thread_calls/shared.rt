@@ -21,13 +21,13 @@ use std::sync::ledger::{Blank, Ledger};
 use vclock::{Bytes, Clock, Refusal};
 use version_set::Kind;
 
-/// Enough turns for all nodes of a tree of format 1.
+/// More turns than a tree of format 1 has nodes.
 const TURNS: u64 = 300;
 
-/// The node of the range.
+/// The node that keeps the range.
 const OWNER: u16 = 1;
 
-/// A true offer, then three answers that are bad, and true ones.
+/// A true offer, then three bad answers among true ones.
 const DEEDS: [Deed; 7] = [
     Deed::Pass,
     Deed::Change(528),
@@ -52,8 +52,8 @@ impl Gate for Counter {
     }
 }
 
-/// A shared range with the passes of its two seats, and what its workers need. The first pass writes and reads, and the
-/// second one is the workers'.
+/// A shared range with the passes of its two seats, and the values its workers need. The first pass writes and reads,
+/// and the workers have the second one.
 pub(crate) struct Shared<L: Ledger, C: Ledger> {
     range: SharedRange<L>,
     passes: Vec<Pass<L>>,
@@ -63,7 +63,7 @@ pub(crate) struct Shared<L: Ledger, C: Ledger> {
 }
 
 impl<L: Ledger, C: Ledger> Shared<L, C> {
-    /// A range of format 1 with all keys that has accepted nothing.
+    /// Opens a range of format 1 with all keys that has accepted nothing.
     pub(crate) fn open(alloc: Global, blank: Blank, slots: Blank) -> Result<Shared<L, C>, Refusal>
         requires range { (blank.name ≡ L.name) × (blank.parts ≡ L.parts) × (blank.parts ≡ 2) }
         requires slots { (slots.name ≡ C.name) × (slots.parts ≡ C.parts) × (slots.parts ≡ 1024) }
@@ -83,7 +83,7 @@ impl<L: Ledger, C: Ledger> Shared<L, C> {
         })
     }
 
-    /// Closes it.
+    /// Closes the range.
     pub(crate) fn close(self, alloc: Global) -> Result<Closing<L>, Refusal> {
         let Shared {
             range,
@@ -95,12 +95,12 @@ impl<L: Ledger, C: Ledger> Shared<L, C> {
         close_shared(alloc, range, passes)
     }
 
-    /// How many nodes its workers hashed.
+    /// Returns the number of nodes that its workers hashed.
     pub(crate) fn hashed(&self) -> u64 {
         self.counter.hashed.load(Ordering::SeqCst)
     }
 
-    /// The hints that are pending, by rising id.
+    /// Returns the hints that are pending, by rising id.
     pub(crate) fn pending<R: Wait>(&self, rt: &R, alloc: Global) -> Result<Vec<Hint>, Refusal> {
         let mut pending = Vec::new(alloc);
         let mut after = 0;
@@ -114,7 +114,7 @@ impl<L: Ledger, C: Ledger> Shared<L, C> {
         Ok(pending)
     }
 
-    /// Makes a call, and returns a number that tells its result.
+    /// Makes a call, and returns a number that stands for its result.
     pub(crate) fn make<R: Wait>(
         &mut self,
         rt: &R,
@@ -151,7 +151,7 @@ impl<L: Ledger, C: Ledger> Shared<L, C> {
         }
     }
 
-    /// Puts a value, and returns the number of its entry.
+    /// Puts a value, and returns its entry's number.
     fn put<R: Wait>(&mut self, rt: &R, alloc: Global, key: u8) -> Result<u64, Refusal> {
         let (context, value) = put_parts(alloc)?;
         let pass = self.passes.get_mut(0).ok_or(Refusal::Stranger)?;
@@ -161,7 +161,7 @@ impl<L: Ledger, C: Ledger> Shared<L, C> {
         Ok(receipt.number)
     }
 
-    /// Puts a value whose clock is held already, and returns how many clocks the refusal has.
+    /// Makes a put whose context is stale, and returns the number of clocks in its refusal.
     fn put_stale<R: Wait>(&mut self, rt: &R, alloc: Global, key: u8) -> Result<u64, Refusal> {
         match self.put(rt, alloc, key) {
             Err(Refusal::StaleContext(held)) => Ok(held.as_slice().len() as u64),
@@ -170,7 +170,7 @@ impl<L: Ledger, C: Ledger> Shared<L, C> {
         }
     }
 
-    /// Takes in a copy, and returns the number of its entry, or 100 if it is known.
+    /// Accepts a copy, and returns its entry's number, or 100 if it is known.
     fn copy<R: Wait>(&mut self, rt: &R, alloc: Global, key: u8) -> Result<u64, Refusal> {
         let copy = version(alloc, 3)?;
         let pass = self.passes.get_mut(0).ok_or(Refusal::Stranger)?;
@@ -183,7 +183,7 @@ impl<L: Ledger, C: Ledger> Shared<L, C> {
         }
     }
 
-    /// How many versions a key has.
+    /// Returns the number of versions of a key.
     fn get<R: Wait>(&mut self, rt: &R, alloc: Global, key: u8) -> Result<u64, Refusal> {
         let pass = self.passes.get_mut(0).ok_or(Refusal::Stranger)?;
         match self.range.get(rt, alloc, pass, &[key]) {
@@ -192,7 +192,7 @@ impl<L: Ledger, C: Ledger> Shared<L, C> {
         }
     }
 
-    /// Hashes the dirty nodes, and returns how many there were.
+    /// Hashes the dirty nodes, and returns their number.
     fn rehash<R: Wait>(&mut self, rt: &R, alloc: Global) -> Result<u64, Refusal> {
         let slot = self.slots.lend(rt)?;
         let report = self
@@ -207,7 +207,7 @@ impl<L: Ledger, C: Ledger> Shared<L, C> {
         }
     }
 
-    /// Syncs with what a link gives. A growth that is refused in the link makes it fail once: that is NoMemory too.
+    /// Syncs over a link. A refused growth in the link makes it fail once; this returns NoMemory then too.
     fn sync<K: Link, R: Wait>(
         &mut self,
         rt: &R,
@@ -240,13 +240,13 @@ impl<L: Ledger, C: Ledger> Shared<L, C> {
         Ok(u64::from(id))
     }
 
-    /// The id of the first pending hint.
+    /// Returns the id of the first pending hint.
     fn next<R: Wait>(&mut self, rt: &R, alloc: Global) -> Result<u64, Refusal> {
         let hint = self.hints.next(rt, alloc, OWNER, 0)?;
         Ok(u64::from(hint.ok_or(Refusal::UnknownHint)?.id))
     }
 
-    /// Delivers the pending hints, and returns how many versions the range journaled.
+    /// Delivers the pending hints, and returns the number of versions that the range journaled.
     fn deliver<R: Wait>(&mut self, rt: &R, alloc: Global) -> Result<u64, Refusal> {
         let Shared {
             range,
@@ -263,8 +263,7 @@ impl<L: Ledger, C: Ledger> Shared<L, C> {
     }
 }
 
-/// What a sync did, as the digits of a number: how many nodes it asked, how many versions came, and how many answers were
-/// bad.
+/// Returns a sync's numbers of asked nodes, accepted versions and bad answers as the digits of a number.
 fn digits(report: &SyncReport) -> u64 {
     let mut number = 0u64;
     for count in [report.asked, report.accepted, report.bad] {
@@ -274,7 +273,7 @@ fn digits(report: &SyncReport) -> u64 {
 }
 
 impl<L: Ledger, C: Ledger> Drop for Shared<L, C> {
-    /// Keeps the fields out of the proofs of callers that drop what is shared.
+    /// Keeps the fields out of the proofs of callers that drop the value.
     fn drop(self) {
         let Shared {
             range: _range,

@@ -1,4 +1,4 @@
-//! The calls on ranges, each on what the ones before it left.
+//! The calls on ranges, one after the other.
 ghost use Rattle.std.specs.Prelude.{◌≡◌};
 
 use crate::lines::{show, unchanged};
@@ -14,10 +14,10 @@ use std::sync::Wait;
 use std::sync::ledger::{Blank, Ledger};
 use vclock::Refusal;
 
-/// The name of what comes before the calls.
+/// The line that is shown for the opening of the ranges.
 const OPENING: &str = "a locked range and a shared one";
 
-/// Shows the calls on ranges. If one is refused, both ranges are closed, and new ones go on after that call.
+/// Shows the calls on ranges. If one is refused, both ranges are closed, and new ones continue after that call.
 pub(crate) fn show_all<R: Print + AllocGlobal + Wait>(rt: &R, partner: &Partner) -> io::Result<()> {
     let mut from = 0;
     for _ in 0..2 {
@@ -30,7 +30,7 @@ pub(crate) fn show_all<R: Print + AllocGlobal + Wait>(rt: &R, partner: &Partner)
     Ok(())
 }
 
-/// Makes all calls, and shows those from a line on. Returns the line after a call that was refused, if one was.
+/// Makes all calls, and shows those from a line on. Returns the line after a refused call, if one was refused.
 fn play<L: Ledger, M: Ledger, C: Ledger, R: Print + AllocGlobal + Wait>(
     rt: &R,
     partner: &Partner,
@@ -96,7 +96,7 @@ fn make_all<L: Ledger, M: Ledger, C: Ledger, R: Print + AllocGlobal + Wait>(
     Ok(None)
 }
 
-/// The refusal of a call, if it left what it was to leave: else another one.
+/// Returns the refusal of a call, if the ranges are right after it, and otherwise Dirty.
 fn judged<L: Ledger, M: Ledger, C: Ledger, R: AllocGlobal + Wait>(
     rt: &R,
     partner: &Partner,
@@ -112,7 +112,7 @@ fn judged<L: Ledger, M: Ledger, C: Ledger, R: AllocGlobal + Wait>(
     unchanged(refusal, is_right)
 }
 
-/// Whether a refused call left what was there before it. One that is done in steps may leave some of them done.
+/// Returns true if a refused call left everything unchanged. A call of many steps may have done some of them.
 fn is_right<R: AllocGlobal + Wait>(
     rt: &R,
     partner: &Partner,
@@ -128,7 +128,7 @@ fn is_right<R: AllocGlobal + Wait>(
     Ok(left.is_between(&before, &after))
 }
 
-/// Closes both ranges, and shows how.
+/// Closes both ranges, and shows the results.
 fn show_closing<L: Ledger, M: Ledger, C: Ledger, R: Print + AllocGlobal + Wait>(
     rt: &R,
     partner: &Partner,
@@ -145,7 +145,8 @@ fn show_closing<L: Ledger, M: Ledger, C: Ledger, R: Print + AllocGlobal + Wait>(
     )
 }
 
-/// How many entries a range had that was closed. If the first try was refused, all that was handed back must be as before.
+/// Returns the number of entries of a closed range. If the first try was refused, it must have handed back everything
+/// unchanged.
 fn closed<L: Ledger, R: AllocGlobal + Wait>(
     rt: &R,
     partner: &Partner,

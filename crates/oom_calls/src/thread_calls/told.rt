@@ -1,4 +1,4 @@
-//! What passes were told.
+//! Copies of passes' receipts and readings.
 use crate::states::begins;
 use caller_pass::{Pass, Reading};
 use range_state::Receipt;
@@ -6,7 +6,7 @@ use std::alloc::Global;
 use std::sync::ledger::Ledger;
 use vclock::Refusal;
 
-/// What a pass was told.
+/// The receipts and the readings of a pass.
 pub(crate) struct Told {
     seat: u16,
     seen: u64,
@@ -15,7 +15,7 @@ pub(crate) struct Told {
 }
 
 impl Told {
-    /// A copy of what a pass was told. Refused: NoMemory.
+    /// Copies the receipts and the readings of a pass. Refused: NoMemory.
     pub(crate) fn of<L: Ledger>(alloc: Global, pass: &Pass<L>) -> Result<Told, Refusal> {
         let mut receipts = Vec::new(alloc);
         for receipt in pass.receipts() {
@@ -37,8 +37,8 @@ impl Told {
         })
     }
 
-    /// Whether a pass was told what it was told before, and as well the first few of the receipts after. With `before`
-    /// as `after` it was told exactly that.
+    /// Returns true if a pass recorded everything before and the first few receipts of after. If `before` and `after`
+    /// are equal, its records equal theirs.
     pub(crate) fn is_between(&self, before: &Told, after: &Told) -> bool {
         self.seat == before.seat
             && before.seen <= self.seen
@@ -49,7 +49,7 @@ impl Told {
     }
 }
 
-/// An equal receipt. Refused: NoMemory.
+/// Returns an equal receipt. Refused: NoMemory.
 fn copy_of_receipt(receipt: &Receipt) -> Result<Receipt, Refusal> {
     Ok(Receipt {
         number: receipt.number,
@@ -75,7 +75,7 @@ fn is_same_reading(reading: &Reading, other: &Reading) -> bool {
 }
 
 impl Drop for Told {
-    /// Keeps the fields out of the proofs of callers that drop what was told.
+    /// Keeps the fields out of the proofs of callers that drop the value.
     fn drop(self) {
         let Told {
             seat: _seat,

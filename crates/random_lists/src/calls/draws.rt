@@ -6,7 +6,8 @@ use crate::random::Random;
 use version_set::Kind;
 
 impl Random {
-    /// How many entries a journal may have: once in so many times few, else more than come.
+    /// Returns the limit of a journal: a small one with probability 1 in `times`, and otherwise more entries than a
+    /// list makes.
     pub(crate) fn limit(&mut self, times: u64) -> u64
         requires { 0 < times }
     {
@@ -17,7 +18,7 @@ impl Random {
         }
     }
 
-    /// A clock of small counters, rarely with the greatest one.
+    /// Returns a clock of small counters, rarely with the greatest counter.
     fn counters(&mut self) -> [u64; NODES] {
         let mut counters = [0; NODES];
         for i in 0..NODES {
@@ -29,7 +30,7 @@ impl Random {
         counters
     }
 
-    /// A version with such a clock; one in eight is a tombstone, which rarely has a value.
+    /// Returns a version with such a clock. One in eight is a tombstone, which rarely has a value.
     pub(crate) fn version(&mut self) -> PlainVersion {
         let counters = self.counters();
         let (kind, has_value) = if self.once_in(8) {

@@ -1,4 +1,4 @@
-//! What comes of a partner's leaf, by the definitions.
+//! The outcome of a partner's leaf, by the definitions.
 
 use crate::calls::plain::{Fault, PlainEntry, PlainRange};
 use crate::calls::trees::Tree;
@@ -6,7 +6,7 @@ use crate::trouble::Trouble;
 use range_journal::Source;
 use std::alloc::Global;
 
-/// What comes of a leaf that is taken: the versions that are news, in order, and how many were known.
+/// The outcome of a leaf that is taken: the new versions, in order, and the number of known ones.
 #[derive(Drop)]
 pub(crate) struct Taken {
     pub(crate) news: Vec<PlainEntry>,
@@ -14,7 +14,7 @@ pub(crate) struct Taken {
 }
 
 impl Taken {
-    /// What comes of a text that is not a leaf's.
+    /// Returns the outcome of a text that is not a leaf's.
     pub(crate) fn none(alloc: Global) -> Taken {
         Taken {
             news: Vec::new(alloc),
@@ -24,8 +24,8 @@ impl Taken {
 }
 
 impl PlainRange {
-    /// What comes of a leaf of a partner's tree, whose versions are accepted each in its turn, or why they are not all
-    /// accepted: one would be too many for its key, or else the journal has no room for them.
+    /// Returns the outcome of a leaf of a partner's tree, whose versions are accepted one after the other; or the
+    /// reason why they are not all accepted: a version is one too many for its key, or the journal has no room for it.
     pub(crate) fn take_leaf(
         &self,
         alloc: Global,

@@ -1,4 +1,4 @@
-//! A list of random calls on a range and a partner, with the sessions in which the range compares itself with the partner.
+//! A list of random calls on a range and a partner, with the sessions between them.
 ghost use Rattle.std.specs.Prelude.{◌<◌, ◌≤◌};
 ghost use Rattle.random_lists.specs.declared.calls.lists.TheConstants.{LAST};
 
@@ -19,13 +19,13 @@ use vclock::{Format, Refusal};
 use version_set::Kind;
 use walk_messages::Offer;
 
-/// The node that the range is at.
+/// The range's node.
 const OWN: u16 = 1;
 
-/// The node that the partner is at.
+/// The partner's node.
 const PARTNER: u16 = 7;
 
-/// The greatest number of a version of a crowd.
+/// The greatest number of a crowd's version.
 const LAST: u64 = 79;
 
 /// A range and its partner.
@@ -37,7 +37,7 @@ pub(crate) struct Trial {
 }
 
 impl Trial {
-    /// The list of a number: the number is the seed.
+    /// Makes the list of a number, which is the seed.
     pub(crate) fn new(alloc: Global, number: u64) -> Result<Trial, Trouble> {
         let mut random = Random::new(number);
         let format = if random.once_in(8) {
@@ -56,12 +56,12 @@ impl Trial {
         })
     }
 
-    /// How many calls were made on the range.
+    /// Returns the number of calls made on the range.
     pub(crate) fn events(&self) -> u64 {
         self.events
     }
 
-    /// Makes the calls of the list, and compares everything at its end.
+    /// Makes the calls of the list, and compares everything at the end.
     pub(crate) fn run(&mut self, rt: &(impl Threads + Sync), alloc: Global) -> Result<(), Trouble> {
         self.prepare_partner(rt, alloc)?;
         if self.random.once_in(32) {
@@ -83,7 +83,7 @@ impl Trial {
         self.partner.compare_finished(alloc)
     }
 
-    /// Gives the partner some versions, some of which the range has too, and keeps what it offers then.
+    /// Gives the partner some versions, some of which the range has too, and keeps its offer.
     fn prepare_partner(
         &mut self,
         rt: &(impl Threads + Sync),
@@ -109,7 +109,7 @@ impl Trial {
         Ok(())
     }
 
-    /// Gives both many versions of a key, none of which is below another: together mostly too many.
+    /// Gives both many concurrent versions of a key, which are mostly too many together.
     fn crowd_key(&mut self, alloc: Global) -> Result<(), Trouble> {
         let key = 1 + self.random.below(KEYS - 1);
         for number in 0..25 + self.random.below(20) {
@@ -122,7 +122,7 @@ impl Trial {
         Ok(())
     }
 
-    /// Opens about as many sessions of the range or of the partner as can be open, or as there can be records.
+    /// Opens about the maximum number of open sessions, or of records, at the range or at the partner.
     fn crowd_records(&mut self, rt: &(impl Threads + Sync), alloc: Global) -> Result<(), Trouble> {
         let is_finished = self.own.plain.format == Format::One && self.random.once_in(8);
         let count = if is_finished { 1_022 } else { 62 } + self.random.below(3);
@@ -149,7 +149,7 @@ impl Trial {
         }
     }
 
-    /// A put, a version or a get of some key.
+    /// Makes a put, accepts a version or gets a key.
     fn call_versions(&mut self, alloc: Global) -> Result<(), Trouble> {
         let (key, version) = (self.random.below(KEYS), self.random.version());
         match self.random.below(6) {
@@ -165,7 +165,7 @@ impl Trial {
         }
     }
 
-    /// A call on the tree.
+    /// Makes a call on the tree.
     fn call_tree(&mut self, rt: &(impl Threads + Sync), alloc: Global) -> Result<(), Trouble> {
         match self.random.below(8) {
             0..=2 => self.own.rehash(rt, alloc),
@@ -181,7 +181,7 @@ impl Trial {
         }
     }
 
-    /// Reconciles the range and its partner, if both are of one format, mostly after a rehash of both.
+    /// Reconciles the range and its partner if both have one format, mostly after a rehash of both.
     fn reconcile(&mut self, rt: &(impl Threads + Sync), alloc: Global) -> Result<(), Trouble> {
         if self.own.plain.format != self.partner.plain.format {
             return Ok(());
@@ -201,7 +201,7 @@ impl Trial {
         }
     }
 
-    /// Takes the range over to format 2, and mostly its partner too.
+    /// Migrates the range to format 2, and mostly its partner too.
     fn migrate(&mut self, alloc: Global) -> Result<(), Trouble> {
         self.own.migrate(alloc)?;
         if self.random.once_in(4) {
@@ -220,7 +220,7 @@ impl Trial {
         self.open(alloc)
     }
 
-    /// Rehashes the range, but for once in so many times.
+    /// Rehashes the range, except with probability 1 in `times`.
     fn rehash_mostly(
         &mut self,
         rt: &(impl Threads + Sync),
@@ -236,7 +236,7 @@ impl Trial {
         self.own.rehash(rt, alloc)
     }
 
-    /// Opens a session with a root of the partner's or a forged one, or by an offer of another format or range.
+    /// Opens a session with a root of the partner, with a forged one, or with an offer of another format or range.
     fn open(&mut self, alloc: Global) -> Result<(), Trouble> {
         let tree = if self.random.once_in(4) {
             0
@@ -263,7 +263,7 @@ impl Trial {
         self.own.open(alloc, offer, partner)
     }
 
-    /// The text of a partner's root with one byte changed.
+    /// Returns the text of a partner's root with one byte changed.
     fn forge_root(&mut self, alloc: Global, tree: usize) -> Result<Option<Vec<u8>>, Trouble> {
         let (Some(offered), Some(top)) = (self.own.offered.get(tree), NodeAt::new(0, 0)) else {
             return Ok(None);
@@ -275,7 +275,7 @@ impl Trial {
         Ok(Some(text))
     }
 
-    /// An offer of a root; one in eight is of another format or range.
+    /// Returns an offer of a root. One in eight is of another format or range.
     fn offer(&mut self, root: Digest) -> Offer {
         let mut offer = self.own.offer_of(root);
         if self.random.once_in(16) {
@@ -287,13 +287,13 @@ impl Trial {
         offer
     }
 
-    /// Cancels a session, or one that there is not.
+    /// Cancels a session, which may not exist.
     fn cancel(&mut self) -> Result<(), Trouble> {
         let id = self.random.below(4);
         self.own.cancel(id)
     }
 
-    /// Sends some texts for a session; one in 16 times for one that there is not.
+    /// Sends some texts for a session; one time in 16 for one that doesn't exist.
     fn answer_some(&mut self, alloc: Global) -> Result<(), Trouble> {
         let sessions = self.own.walks.len();
         if sessions == 0 || self.random.once_in(16) {
@@ -327,7 +327,7 @@ impl Trial {
         Ok(())
     }
 
-    /// How many texts a session has taken.
+    /// Returns the number of texts that a session has taken.
     fn taken_count(&self, id: usize) -> usize {
         match self.own.walks.get(id) {
             Some(walk) => walk.taken.len(),
@@ -335,8 +335,8 @@ impl Trial {
         }
     }
 
-    /// Sends a text: the first outstanding node's with a byte changed, the last one once more, that of the node that is
-    /// outstanding last, or else the first one's.
+    /// Sends a text: that of the first outstanding node with a byte changed, the last one sent, that of the last
+    /// outstanding node, or that of the first one.
     fn answer(&mut self, alloc: Global, id: usize, choice: u64) -> Result<(), Trouble> {
         self.events = self.events.wrapping_add(1);
         let sent = self.draw(alloc, id, choice)?;
@@ -351,7 +351,7 @@ impl Trial {
         self.own.compare_walks()
     }
 
-    /// The text that is sent.
+    /// Returns the text that is sent.
     fn draw(&mut self, alloc: Global, id: usize, choice: u64) -> Result<Sent, Trouble> {
         let top = NodeAt::new(0, 0).ok_or(Trouble::Differs("the root"))?;
         let mut node = top;
@@ -378,7 +378,7 @@ impl Trial {
         Ok(Sent { node, text })
     }
 
-    /// Has a session take a text, and compares what it answers and leaves.
+    /// Has a session take a text, and compares its result and the state.
     fn send(&mut self, alloc: Global, id: usize, sent: Sent) -> Result<(), Trouble> {
         let wanted = self.wanted(alloc, id, &sent)?;
         let text = hash(Text::copy_of(alloc, &sent.text)?);
@@ -393,7 +393,7 @@ impl Trial {
         }
     }
 
-    /// What comes of a text, or why it is refused.
+    /// Returns the outcome of a text, or the reason of its refusal.
     fn wanted(
         &self,
         alloc: Global,
@@ -416,7 +416,7 @@ impl Trial {
         }
     }
 
-    /// Compares what a text that was taken is answered, and takes it in the plain program.
+    /// Compares the result of a text that was taken, and takes it in the plain program.
     fn check_taken(
         &mut self,
         alloc: Global,
@@ -437,7 +437,7 @@ impl Trial {
         Ok(())
     }
 
-    /// Compares the entries of the versions that came, and how many were known.
+    /// Compares the entries of the accepted versions, and the number of known ones.
     fn check_receipts(&self, answer: &AnswerTaken, taken: &Taken) -> Result<(), Trouble> {
         let first = self.own.plain.entries.len();
         let same = answer.known == taken.known && answer.receipts.len() == taken.news.len();
@@ -448,7 +448,7 @@ impl Trial {
         Ok(())
     }
 
-    /// Compares why a text is refused. One that no node can have fails its session.
+    /// Compares the refusal of a text. A text that no node can have fails its session.
     fn check_refused(
         &mut self,
         alloc: Global,
@@ -471,7 +471,7 @@ fn change(text: &mut Vec<u8>, place: usize) {
     }
 }
 
-/// The version of a number, up to the last one, which is below none of another number.
+/// Returns the crowd's version of a number, up to the last one. None is below another.
 fn crowd_version(number: u64) -> PlainVersion
     requires { number ≤ LAST }
 {

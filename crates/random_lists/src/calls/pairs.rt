@@ -1,4 +1,4 @@
-//! Two ranges that are reconciled, beside what the definitions say of them.
+//! Two ranges that are reconciled, compared with the definitions.
 
 use crate::calls::plain::{Fault, KEYS};
 use crate::calls::replicas::{Offered, Replica, SEAT};
@@ -11,14 +11,14 @@ use std::alloc::Global;
 use sync_session::SessionState;
 use vclock::Refusal;
 
-/// What a whole session came to: how many nodes it asked, and how many versions came.
+/// The outcome of a whole session: the numbers of nodes asked and of versions accepted.
 #[derive(Clone, Copy)]
 struct CaughtUp {
     asked: u64,
     accepted: u64,
 }
 
-/// Reconciles two replicas, which are at these nodes, and compares what is answered and all that both have then.
+/// Reconciles two replicas at these nodes, and compares the result and both states.
 pub(crate) fn reconcile_both(
     alloc: Global,
     a: &mut Replica,
@@ -42,7 +42,7 @@ pub(crate) fn reconcile_both(
     b.compare_all(alloc)
 }
 
-/// Why two replicas cannot begin: one is dirty, or one has no place for a session.
+/// Returns the reason why two replicas can't begin, if there is one: one is dirty, or one has no place for a session.
 fn pair_fault(a: &Replica, b: &Replica) -> Option<Fault> {
     if !a.is_all_clean() || !b.is_all_clean() {
         Some(Fault::Dirty)
@@ -69,8 +69,8 @@ fn reconcile_states(
     reconcile(alloc, a, at_a, b, at_b, SEAT)
 }
 
-/// The plain program's two sessions, each on the rows that the other had at the beginning. Where the first is refused, the
-/// second does not begin.
+/// Runs the plain program's two sessions, each on the rows that the other replica had at the beginning. If the first is
+/// refused, the second doesn't begin.
 fn catch_up_both(
     alloc: Global,
     a: &mut Replica,
@@ -88,7 +88,7 @@ fn catch_up_both(
     }
 }
 
-/// Compares what is answered.
+/// Compares the result.
 fn check_reply(
     reply: &Result<Reconciled, Refusal>,
     wanted: Result<(CaughtUp, CaughtUp), Fault>,
@@ -105,7 +105,7 @@ fn check_reply(
     }
 }
 
-/// Ends the list where two replicas do not hold the same.
+/// Ends the list if two replicas don't hold equal versions.
 fn expect_same(alloc: Global, a: &Replica, b: &Replica) -> Result<(), Trouble> {
     for key in 0..KEYS {
         let same = a.plain.held(alloc, key)? == b.plain.held(alloc, key)?;
@@ -115,8 +115,8 @@ fn expect_same(alloc: Global, a: &Replica, b: &Replica) -> Result<(), Trouble> {
 }
 
 impl Replica {
-    /// Runs a whole session of the plain program on a partner's rows. One that is refused a leaf is cancelled, and what was
-    /// accepted stays.
+    /// Runs a whole session of the plain program on a partner's rows. A refused leaf cancels the session, and the
+    /// accepted versions stay.
     fn catch_up(
         &mut self,
         alloc: Global,
@@ -147,8 +147,8 @@ impl Replica {
         }
     }
 
-    /// Takes a partner's texts of some nodes, with the versions of the leaves, up to the first leaf that is refused. Returns
-    /// why it is, if one is.
+    /// Takes a partner's texts of some nodes, with the versions of the leaves, up to the first leaf that is refused.
+    /// Returns the reason of that refusal, if there is one.
     fn take_all(
         &mut self,
         alloc: Global,

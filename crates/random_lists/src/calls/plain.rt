@@ -1,4 +1,4 @@
-//! What a range answers and holds, by the definitions: all accepted versions in a list.
+//! The results and the contents of a range, by the definitions: all accepted versions in a list.
 
 use crate::trouble::Trouble;
 use md5::{Digest, Md5};
@@ -7,16 +7,16 @@ use std::alloc::Global;
 use vclock::{Bytes, Clock, Format, Refusal};
 use version_set::{Kind, Version};
 
-/// How many nodes count in clocks: the nodes 1 to 4.
+/// The number of nodes that count in clocks: the nodes 1 to 4.
 pub(crate) const NODES: usize = 4;
 
-/// How many keys there are: they have the numbers from 0.
+/// The number of keys, which are numbered from 0.
 pub(crate) const KEYS: u64 = 8;
 
-/// How many versions are held for a key at the most.
+/// The maximum number of versions that are held for a key.
 const MOST_VERSIONS: usize = 64;
 
-/// Why a call is to be refused.
+/// The reason of a refusal.
 #[derive(Clone, Copy, PartialEq, Eq)]
 pub(crate) enum Fault {
     BadKey,
@@ -37,7 +37,7 @@ pub(crate) enum Fault {
 }
 
 impl Fault {
-    /// Whether a refusal says so.
+    /// Returns true if a refusal has this reason.
     pub(crate) fn is(self, refusal: &Refusal) -> bool {
         match refusal {
             Refusal::BadKey => self == Fault::BadKey,
@@ -60,7 +60,7 @@ impl Fault {
     }
 }
 
-/// The bytes of a key: the keys ascend by number. The first is none, and several lie in one leaf.
+/// Returns the bytes of a key: the keys ascend by number. The key 0 is empty, and several keys are in one leaf.
 pub(crate) fn key_bytes(key: u64) -> &'static [u8] {
     match key {
         0 => b"",
@@ -74,13 +74,13 @@ pub(crate) fn key_bytes(key: u64) -> &'static [u8] {
     }
 }
 
-/// The first bits of a key's number, which a range and a leaf are taken from.
+/// Returns the first bits of a key's number, from which a range and a leaf are taken.
 fn front(key: u64) -> u32 {
     let digest = Md5::digest(key_bytes(key));
     u32::from_be_bytes([digest[0], digest[1], digest[2], digest[3]])
 }
 
-/// A version: the counter of each node, 0 where it has not counted, and a value of one byte or none.
+/// A version: the counter of each node, 0 if it has not counted, and a value of one byte or no value.
 #[derive(Clone, Copy, PartialEq, Eq)]
 pub(crate) struct PlainVersion {
     pub(crate) counters: [u64; NODES],
@@ -89,7 +89,7 @@ pub(crate) struct PlainVersion {
 }
 
 impl PlainVersion {
-    /// Whether each counter is at most the other's.
+    /// Returns true if each counter is at most the other's.
     pub(crate) fn is_at_most(&self, other: &PlainVersion) -> bool {
         for i in 0..NODES {
             if self.counters[i] > other.counters[i] {
@@ -99,17 +99,17 @@ impl PlainVersion {
         true
     }
 
-    /// Whether the other's clock is later.
+    /// Returns true if the other's clock is later.
     fn is_below(&self, other: &PlainVersion) -> bool {
         self.is_at_most(other) && self.counters != other.counters
     }
 
-    /// Whether it is the other or below it.
+    /// Returns true if it equals the other or is below it.
     pub(crate) fn is_covered_by(&self, other: &PlainVersion) -> bool {
         self == other || self.is_below(other)
     }
 
-    /// How many nodes have counted.
+    /// Returns the number of nodes that have counted.
     fn pair_count(&self) -> u8 {
         let mut count = 0u8;
         for i in 0..NODES {
@@ -145,7 +145,7 @@ impl PlainVersion {
         Ok(())
     }
 
-    /// Whether its text stands before the other's.
+    /// Returns true if its text is before the other's.
     fn is_before(
         &self,
         alloc: Global,
@@ -159,7 +159,7 @@ impl PlainVersion {
         Ok(text.as_slice() < other_text.as_slice())
     }
 
-    /// The clock.
+    /// Returns the clock.
     pub(crate) fn clock(&self, alloc: Global) -> Result<Clock, Trouble> {
         let mut pairs = Vec::new(alloc);
         for i in 0..NODES {
@@ -170,7 +170,7 @@ impl PlainVersion {
         Ok(Clock::from_pairs(alloc, &pairs)?)
     }
 
-    /// The value.
+    /// Returns the value.
     pub(crate) fn value(&self, alloc: Global) -> Result<Bytes, Trouble> {
         match self.value {
             None => Ok(Bytes::copy_of(alloc, b"")?),
@@ -178,7 +178,7 @@ impl PlainVersion {
         }
     }
 
-    /// The version for a range.
+    /// Returns the version in the range's type.
     pub(crate) fn version(&self, alloc: Global) -> Result<Version, Trouble> {
         Ok(Version {
             clock: self.clock(alloc)?,
@@ -187,7 +187,7 @@ impl PlainVersion {
         })
     }
 
-    /// Whether a clock has these counters.
+    /// Returns true if a clock has these counters.
     pub(crate) fn has_clock(&self, clock: &Clock) -> bool {
         for i in 0..NODES {
             if clock.get(i as u16 + 1) != self.counters[i] {
@@ -197,7 +197,7 @@ impl PlainVersion {
         clock.pairs().len() == usize::from(self.pair_count())
     }
 
-    /// Whether a version of a range is this one.
+    /// Returns true if a range's version equals this one.
     pub(crate) fn is(&self, version: &Version) -> bool {
         let value = version.value.as_slice();
         let same_value = match self.value {
@@ -226,7 +226,7 @@ pub(crate) struct PlainRange {
 }
 
 impl PlainRange {
-    /// The leaf of a key: the bits after those of the range, 8 or 12.
+    /// Returns the leaf of a key: the 8 or 12 bits after those of the range.
     pub(crate) fn leaf_of(&self, key: u64) -> u16 {
         let front = if self.is_half {
             front(key) << 1
@@ -240,7 +240,7 @@ impl PlainRange {
         }
     }
 
-    /// Why a version has no place in the range.
+    /// Returns the reason why the range can't take a version, if there is one.
     fn place_fault(&self, key: u64, version: &PlainVersion) -> Option<Fault> {
         let is_tombstone = version.kind == Kind::Tombstone;
         if key_bytes(key).is_empty() {
@@ -254,17 +254,17 @@ impl PlainRange {
         }
     }
 
-    /// Whether some accepted version is the same or above.
+    /// Returns true if some accepted version equals this one or is above it.
     pub(crate) fn knows(&self, key: u64, version: &PlainVersion) -> bool {
         self.entries.iter().any(|entry| entry.key == key && version.is_covered_by(&entry.version))
     }
 
-    /// Whether some accepted version is above.
+    /// Returns true if some accepted version is above this one.
     fn has_above(&self, key: u64, version: &PlainVersion) -> bool {
         self.entries.iter().any(|entry| entry.key == key && version.is_below(&entry.version))
     }
 
-    /// Whether a version that is news would be one too many for its key, beside those that would still be held.
+    /// Returns true if a new version is one too many for its key, with the versions that would still be held.
     pub(crate) fn is_crowded_by(&self, key: u64, version: &PlainVersion) -> bool {
         let stays = |entry: &PlainEntry| entry.key == key
             && !self.has_above(key, &entry.version)
@@ -272,7 +272,8 @@ impl PlainRange {
         self.entries.iter().filter(|entry| stays(*entry)).count() >= MOST_VERSIONS
     }
 
-    /// The versions that are held for a key: the accepted ones that are below no other, once, in the order of their texts.
+    /// Returns the versions that are held for a key: the accepted ones that are below no other, each once, in the order
+    /// of their texts.
     pub(crate) fn held(&self, alloc: Global, key: u64) -> Result<Vec<PlainVersion>, Trouble> {
         let mut held = Vec::new(alloc);
         for entry in &self.entries {
@@ -283,12 +284,12 @@ impl PlainRange {
         Ok(held)
     }
 
-    /// Whether so many more entries can come.
+    /// Returns true if there is room for this number of entries more.
     pub(crate) fn has_room(&self, more: usize) -> bool {
         (self.entries.len() as u64).wrapping_add(more as u64) <= self.limit
     }
 
-    /// Why a version that is news has no place among those of its key, or in the journal.
+    /// Returns the reason why a new version has no room among those of its key, or in the journal, if there is one.
     fn room_fault(&self, key: u64, version: &PlainVersion) -> Option<Fault> {
         if self.is_crowded_by(key, version) {
             Some(Fault::Crowded)
@@ -299,7 +300,7 @@ impl PlainRange {
         }
     }
 
-    /// The same range with entries of its own.
+    /// Returns an equal range with a copy of the entries.
     pub(crate) fn try_clone(&self) -> Result<PlainRange, Trouble> {
         Ok(PlainRange {
             format: self.format,
@@ -309,7 +310,7 @@ impl PlainRange {
         })
     }
 
-    /// Why a version that another node sent is refused, or whether it is news.
+    /// Returns true if a version that another node sent is new, or the reason of its refusal.
     pub(crate) fn accept(&self, key: u64, version: &PlainVersion) -> Result<bool, Fault> {
         if let Some(fault) = self.place_fault(key, version) {
             return Err(fault);
@@ -323,7 +324,8 @@ impl PlainRange {
         }
     }
 
-    /// The version that a put with this context makes at a node, counted from 0, or why it is refused.
+    /// Returns the version that a put with this context makes at a node, which is counted from 0, or the reason of its
+    /// refusal.
     pub(crate) fn put(
         &self,
         key: u64,
@@ -345,7 +347,7 @@ impl PlainRange {
     }
 }
 
-/// The version with the counter of a node raised by one: none where that is the greatest.
+/// Returns the version with a node's counter raised by one, or `None` if that is the greatest.
 fn raised(mut version: PlainVersion, node: u8) -> Option<PlainVersion> {
     for i in 0..NODES {
         if i == usize::from(node) {
@@ -355,7 +357,7 @@ fn raised(mut version: PlainVersion, node: u8) -> Option<PlainVersion> {
     Some(version)
 }
 
-/// Puts a version into its place, unless it is there.
+/// Inserts a version at its place, unless it is there.
 fn insert(
     alloc: Global,
     format: Format,

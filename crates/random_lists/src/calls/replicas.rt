@@ -1,4 +1,4 @@
-//! A range beside its plain program: each call is made at both, and what they answer and leave is compared.
+//! A range and its plain program: each call is made on both, and their results and states are compared.
 ghost use Rattle.std.specs.Prelude.{◌≤◌};
 
 use crate::calls::plain::{Fault, KEYS, PlainEntry, PlainRange, PlainVersion, key_bytes};
@@ -19,7 +19,7 @@ use vclock::{Format, Refusal};
 /// The seat of all callers.
 pub(crate) const SEAT: u16 = 3;
 
-/// The text of a node that was hashed, of which format it is, and how many entries there were.
+/// The text of a node that was hashed, its format, and the number of entries at that time.
 #[derive(Drop)]
 pub(crate) struct Work {
     node: NodeAt,
@@ -28,11 +28,11 @@ pub(crate) struct Work {
     entries: usize,
 }
 
-/// A range and its plain program, with the nodes that are clean, by depth and then by index.
+/// A range and its plain program, with the clean nodes by depth and then by index.
 pub(crate) struct Replica {
     pub(crate) state: RangeState,
     pub(crate) plain: PlainRange,
-    /// What its partner offered: an old tree, then later ones.
+    /// The partner's offers: an old tree, then later ones.
     pub(crate) offered: Vec<Offered>,
     /// The walks of its sessions.
     pub(crate) walks: Vec<Walk>,
@@ -40,14 +40,14 @@ pub(crate) struct Replica {
     work: Option<Work>,
 }
 
-/// A partner's rows at one moment, and the tree over them.
+/// A partner's rows at one time, and the tree over them.
 pub(crate) struct Offered {
     pub(crate) snapshot: Arc<Snapshot, Global>,
     pub(crate) tree: Tree,
 }
 
 impl Replica {
-    /// A range without entries.
+    /// Returns a range without entries.
     pub(crate) fn new(
         alloc: Global,
         format: Format,
@@ -93,7 +93,7 @@ impl Replica {
         self.compare_held(alloc, key)
     }
 
-    /// Compares what a put answered, and journals its version in the plain program.
+    /// Compares the result of a put, and journals its version in the plain program.
     fn check_put(
         &mut self,
         key: u64,
@@ -137,7 +137,7 @@ impl Replica {
         self.compare_held(alloc, key)
     }
 
-    /// Compares a receipt with the next entry, and adds that.
+    /// Compares a receipt with the next entry, and adds that entry.
     fn journal(
         &mut self,
         receipt: &Receipt,
@@ -155,7 +155,7 @@ impl Replica {
         self.add(entry)
     }
 
-    /// Adds an entry: its leaf is dirty from now on, and so is each node above.
+    /// Adds an entry. Its leaf is dirty from then on, and so is each node above.
     pub(crate) fn add(&mut self, entry: PlainEntry) -> Result<(), Trouble> {
         let mut index = self.plain.leaf_of(entry.key);
         for depth in (0..leaf_depth(self.plain.format) + 1).rev() {
@@ -215,7 +215,7 @@ impl Replica {
         Ok(())
     }
 
-    /// How many nodes of the tree are dirty.
+    /// Returns the number of dirty nodes of the tree.
     fn dirty_count(&self) -> u64 {
         let nodes = if self.plain.format == Format::One {
             273
@@ -226,7 +226,7 @@ impl Replica {
         clean.filter(|clean| !**clean).count() as u64
     }
 
-    /// Whether a node is clean.
+    /// Returns true if a node is clean.
     fn is_clean(&self, node: NodeAt) -> bool {
         let place = place(node.depth, node.index);
         self.clean.get(place).copied().unwrap_or(false)
@@ -249,7 +249,7 @@ impl Replica {
         Ok(())
     }
 
-    /// Whether the children of a node are clean.
+    /// Returns true if the children of a node are clean.
     fn has_clean_children(&self, node: NodeAt) -> bool {
         if node.depth >= leaf_depth(self.plain.format) {
             return true;
@@ -259,8 +259,8 @@ impl Replica {
         children.filter(|clean| **clean).count() == 16
     }
 
-    /// Whether the text of a job is its node's now: the format is the same, each child is clean, and no entry came since
-    /// then to a leaf at the node or below.
+    /// Returns true if the text of a job is still its node's: the format is unchanged, each child is clean, and no
+    /// entry was added since then to a leaf at the node or below.
     fn is_current(&self, work: &Work) -> bool {
         if work.format != self.plain.format {
             return false;
@@ -297,7 +297,7 @@ impl Replica {
         }
     }
 
-    /// Takes the range over to format 2, if it isn't of that: no node is clean then, and no session is open.
+    /// Migrates the range to format 2, unless it has that format. No node is clean then, and no session is open.
     pub(crate) fn migrate(&mut self, alloc: Global) -> Result<(), Trouble> {
         self.state.migrate(alloc)?;
         if self.plain.format == Format::One {
@@ -310,12 +310,12 @@ impl Replica {
         self.compare_all(alloc)
     }
 
-    /// Whether every node is clean.
+    /// Returns true if every node is clean.
     pub(crate) fn is_all_clean(&self) -> bool {
         self.dirty_count() == 0
     }
 
-    /// Makes a snapshot: the rows with their tree, or none where some node is dirty.
+    /// Makes a snapshot: the rows with their tree, or `None` if some node is dirty.
     pub(crate) fn offer(&self, alloc: Global) -> Result<Option<Offered>, Trouble> {
         match self.state.snapshot(alloc) {
             Ok(snapshot) => {
@@ -332,7 +332,7 @@ impl Replica {
         }
     }
 
-    /// Compares all that is held, the journal, the sessions and the tree.
+    /// Compares all held versions, the journal, the sessions and the tree.
     pub(crate) fn compare_all(&self, alloc: Global) -> Result<(), Trouble> {
         for key in 0..KEYS {
             self.compare_held(alloc, key)?;
@@ -359,7 +359,7 @@ impl Replica {
         Ok(())
     }
 
-    /// Compares the digest of each node of a depth: that of its text if it is clean, else none.
+    /// Compares the digest of each node of a depth: a clean node has that of its text, and a dirty one has none.
     fn compare_depth(&self, tree: &Tree, depth: u8) -> Result<(), Trouble> {
         for index in 0..width(depth) {
             if let Some(node) = NodeAt::new(depth, index) {
@@ -375,7 +375,7 @@ impl Replica {
     }
 }
 
-/// The place of a node: how many nodes lie before it, depth by depth.
+/// Returns the place of a node: the number of nodes before it, depth by depth.
 fn place(depth: u8, index: u16) -> usize
     ensures { result ≤ 65808 }
 {
@@ -388,7 +388,7 @@ fn place(depth: u8, index: u16) -> usize
     before + usize::from(index)
 }
 
-/// The index of the node that lies so many nodes above a leaf.
+/// Returns the index of the node at this height above a leaf.
 fn above(leaf: u16, height: u8) -> u16 {
     let mut index = leaf;
     for _ in 0..height {
@@ -397,7 +397,7 @@ fn above(leaf: u16, height: u8) -> u16 {
     index
 }
 
-/// Whether an entry of a journal is this one, with this number.
+/// Returns true if an entry of a journal is this one, with this number.
 pub(crate) fn is_entry(entry: &Entry, number: usize, plain: &PlainEntry) -> bool {
     entry.number == number as u64
         && entry.seat == SEAT

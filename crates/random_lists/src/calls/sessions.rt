@@ -1,4 +1,4 @@
-//! The sessions of a range, beside their walks.
+//! The sessions of a range, and their walks.
 
 use crate::calls::plain::{Fault, PlainEntry};
 use crate::calls::replicas::Replica;
@@ -12,14 +12,14 @@ use sync_session::SessionState;
 use vclock::Format;
 use walk_messages::{Ask, Offer};
 
-/// How many sessions are open at the most.
+/// The maximum number of open sessions.
 const MOST_OPEN: usize = 64;
 
-/// How many records there are at the most.
+/// The maximum number of records.
 const MOST_RECORDS: usize = 1_024;
 
 impl Replica {
-    /// The number of the format.
+    /// Returns the number of the format.
     fn format_number(&self) -> u8 {
         match self.plain.format {
             Format::One => 1,
@@ -27,7 +27,7 @@ impl Replica {
         }
     }
 
-    /// A partner's offer of a root.
+    /// Returns a partner's offer of a root.
     pub(crate) fn offer_of(&self, root: Digest) -> Offer {
         Offer {
             offer: 1,
@@ -37,7 +37,7 @@ impl Replica {
         }
     }
 
-    /// Why no session can be opened beside those that there are.
+    /// Returns the reason why no more session can be opened, if there is one.
     pub(crate) fn crowd_fault(&self) -> Option<Fault> {
         let open = self
             .walks
@@ -50,7 +50,7 @@ impl Replica {
         }
     }
 
-    /// Why an offer is refused.
+    /// Returns the reason why an offer is refused, if there is one.
     fn offer_fault(&self, offer: &Offer) -> Option<Fault> {
         if offer.format != self.format_number() {
             Some(Fault::OtherFormat)
@@ -86,8 +86,8 @@ impl Replica {
         }
     }
 
-    /// Opens so many sessions of a clean range: with its own root, so that they are finished at once, or with one that no
-    /// text has.
+    /// Opens a number of sessions of a clean range: with its local root, so that they are finished at once, or with a
+    /// root that no text has.
     pub(crate) fn open_many(
         &mut self,
         alloc: Global,
@@ -111,7 +111,7 @@ impl Replica {
         Ok(())
     }
 
-    /// The walk of a session that is opened now.
+    /// Returns the walk of a session that is opened now.
     pub(crate) fn new_walk(&self, alloc: Global, partner: Offering) -> Result<Walk, Trouble> {
         let tree = Tree::new(alloc, &self.plain)?;
         Walk::new(alloc, self.plain.format, tree, partner)
@@ -140,7 +140,7 @@ impl Replica {
         expect(same, "the texts of a session")
     }
 
-    /// Cancels a session, or one that there is not.
+    /// Cancels a session, which may not exist.
     pub(crate) fn cancel(&mut self, id: u64) -> Result<(), Trouble> {
         let reply = self.state.cancel_session(id);
         match (reply, self.walks.get_mut(id as usize)) {
@@ -153,7 +153,7 @@ impl Replica {
         self.compare_walks()
     }
 
-    /// The text of a node that the partner of a session has, which may be forged at the root.
+    /// Returns the text of a node of a session's partner. The root's may be forged.
     pub(crate) fn true_text(
         &self,
         alloc: Global,
@@ -175,8 +175,8 @@ impl Replica {
         Ok(text)
     }
 
-    /// Compares what was taken from the partner: after a finished session its versions are held or below one that is, and
-    /// each entry that is said to come from it is in its rows.
+    /// Compares the contents with the partner's: after a finished session each of its versions is held or below a held
+    /// one, and each entry whose source is the partner is in its rows.
     pub(crate) fn compare_finished(&self, alloc: Global) -> Result<(), Trouble> {
         for walk in &self.walks {
             if let Some(offered) = self.offered.get(walk.partner.tree)
@@ -196,7 +196,7 @@ impl Replica {
         Ok(())
     }
 
-    /// Compares a partner's rows with what is held.
+    /// Compares a partner's rows with the held versions.
     fn compare_covered(&self, alloc: Global, tree: &Tree) -> Result<(), Trouble> {
         for row in &tree.rows {
             let held = self.plain.held(alloc, row.key)?;
@@ -209,7 +209,7 @@ impl Replica {
     }
 }
 
-/// Whether a tree has an entry's version in the row of its key.
+/// Returns true if a tree has an entry's version in the row of its key.
 fn has(tree: &Tree, entry: &PlainEntry) -> bool {
     tree.rows.iter().any(|row| row.key == entry.key
         && row.versions.iter().any(|v| *v == entry.version))

@@ -24,7 +24,7 @@ pub(crate) struct Tree {
     levels: Vec<Vec<Digest>>,
 }
 
-/// How deep the leaves lie.
+/// Returns the depth of the leaves.
 pub(crate) fn leaf_depth(format: Format) -> u8
     ensures { result ≤ 3 }
 {
@@ -34,7 +34,7 @@ pub(crate) fn leaf_depth(format: Format) -> u8
     }
 }
 
-/// How many nodes a depth has.
+/// Returns the number of nodes at a depth.
 pub(crate) fn width(depth: u8) -> u16 {
     match depth {
         0 => 1,
@@ -44,7 +44,7 @@ pub(crate) fn width(depth: u8) -> u16 {
     }
 }
 
-/// The nodes where two trees of one format differ, depth by depth and by rising index.
+/// Returns the nodes where two trees of one format differ, depth by depth and by rising index.
 pub(crate) fn differing(alloc: Global, own: &Tree, other: &Tree) -> Result<Vec<NodeAt>, Trouble> {
     let mut nodes = Vec::new(alloc);
     for depth in 0..leaf_depth(own.format) + 1 {
@@ -59,14 +59,14 @@ pub(crate) fn differing(alloc: Global, own: &Tree, other: &Tree) -> Result<Vec<N
     Ok(nodes)
 }
 
-/// A child of a node, if any tree has it.
+/// Returns a child of a node, or `None` if no tree has it.
 pub(crate) fn child(node: NodeAt, j: u16) -> Option<NodeAt> {
     let index = node.index.wrapping_mul(16).wrapping_add(j);
     NodeAt::new(node.depth.wrapping_add(1), index)
 }
 
 impl Tree {
-    /// The tree over the rows of a range.
+    /// Returns the tree over the rows of a range.
     pub(crate) fn new(alloc: Global, range: &PlainRange) -> Result<Tree, Trouble> {
         let rows = rows_of(alloc, range)?;
         let mut levels = Vec::new(alloc);
@@ -84,14 +84,14 @@ impl Tree {
         })
     }
 
-    /// The digest of a node, if the tree has it.
+    /// Returns the digest of a node, or `None` if the tree doesn't have it.
     pub(crate) fn digest_at(&self, node: NodeAt) -> Option<Digest> {
         let height = leaf_depth(self.format).checked_sub(node.depth)?;
         let level = self.levels.get(usize::from(height))?;
         level.get(usize::from(node.index)).copied()
     }
 
-    /// The digest of the root.
+    /// Returns the digest of the root.
     pub(crate) fn root(&self) -> Digest {
         match NodeAt::new(0, 0) {
             Some(root) => self.digest_at(root).unwrap_or([0; 32]),
@@ -99,7 +99,7 @@ impl Tree {
         }
     }
 
-    /// The text of a node.
+    /// Returns the text of a node.
     pub(crate) fn text(&self, alloc: Global, node: NodeAt) -> Result<Vec<u8>, Trouble> {
         if node.depth == leaf_depth(self.format) {
             return leaf_text(alloc, self.format, &self.rows, node.index);
@@ -115,7 +115,7 @@ impl Tree {
     }
 }
 
-/// The rows of a range.
+/// Returns the rows of a range.
 fn rows_of(alloc: Global, range: &PlainRange) -> Result<Vec<PlainRow>, Trouble> {
     let mut rows = Vec::new(alloc);
     for key in 0..KEYS {
@@ -132,7 +132,7 @@ fn rows_of(alloc: Global, range: &PlainRange) -> Result<Vec<PlainRow>, Trouble> 
     Ok(rows)
 }
 
-/// The first byte of the text of a node with children.
+/// Returns the first byte of the text of a node with children.
 pub(crate) fn inner_byte(format: Format) -> u8 {
     match format {
         Format::One => 1,
@@ -140,7 +140,7 @@ pub(crate) fn inner_byte(format: Format) -> u8 {
     }
 }
 
-/// The text of a leaf: of the rows that lie in it.
+/// Returns the text of a leaf, from its rows.
 fn leaf_text(
     alloc: Global,
     format: Format,
@@ -176,7 +176,7 @@ fn put_count(count: usize, text: &mut Vec<u8>) -> Result<(), Trouble> {
     Ok(())
 }
 
-/// The digests of the leaves.
+/// Returns the digests of the leaves.
 fn leaf_level(alloc: Global, format: Format, rows: &[PlainRow]) -> Result<Vec<Digest>, Trouble> {
     let empty = Sha256::digest(&leaf_text(alloc, format, &[], 0)?);
     let mut level = Vec::new(alloc);
@@ -190,7 +190,7 @@ fn leaf_level(alloc: Global, format: Format, rows: &[PlainRow]) -> Result<Vec<Di
     Ok(level)
 }
 
-/// The digests of the nodes above a level. A text that is the one before is not hashed again.
+/// Returns the digests of the nodes above a level. A text that equals the one before isn't hashed again.
 fn level_above(alloc: Global, format: Format, below: &[Digest]) -> Result<Vec<Digest>, Trouble> {
     let mut level = Vec::new(alloc);
     let mut last: Option<Vec<u8>> = None;
@@ -206,7 +206,7 @@ fn level_above(alloc: Global, format: Format, below: &[Digest]) -> Result<Vec<Di
     Ok(level)
 }
 
-/// The text of a node whose children have these digests.
+/// Returns the text of a node whose children have these digests.
 fn joined(alloc: Global, format: Format, children: &[Digest]) -> Result<Vec<u8>, Trouble> {
     let mut text = Vec::with_capacity(alloc, 513)?;
     text.push(inner_byte(format))?;

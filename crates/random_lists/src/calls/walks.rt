@@ -1,4 +1,4 @@
-//! What a session asks and takes, by the definitions.
+//! The nodes that a session asks and the texts that it takes, by the definitions.
 
 use crate::calls::plain::Fault;
 use crate::calls::trees::{Tree, child, inner_byte, leaf_depth};
@@ -17,20 +17,20 @@ pub(crate) struct Sent {
     pub(crate) text: Vec<u8>,
 }
 
-/// What a session compares itself with.
+/// The partner's tree that a session compares.
 #[derive(Drop)]
 pub(crate) struct Offering {
-    /// The node that the partner is at.
+    /// The partner's node.
     pub(crate) at: u16,
     /// The root that the partner offered.
     pub(crate) root: Digest,
     /// The number of the partner's tree.
     pub(crate) tree: usize,
-    /// The text of the root, where it is not the partner's.
+    /// The text of the root, if it is not the partner's.
     pub(crate) forged: Option<Vec<u8>>,
 }
 
-/// What a session compares: the own tree when it was opened, and what a partner offered.
+/// A session's comparison: the local tree when it was opened, and the partner's offer.
 pub(crate) struct Walk {
     format: Format,
     pub(crate) own: Tree,
@@ -40,12 +40,12 @@ pub(crate) struct Walk {
     pub(crate) outstanding: Vec<NodeAt>,
     pub(crate) taken: Vec<Sent>,
     pub(crate) state: SessionState,
-    /// What was sent last.
+    /// The last text that was sent.
     pub(crate) last: Option<Sent>,
 }
 
 impl Walk {
-    /// A new session's walk.
+    /// Returns a new session's walk.
     pub(crate) fn new(
         alloc: Global,
         format: Format,
@@ -72,7 +72,8 @@ impl Walk {
         })
     }
 
-    /// The digest that is expected at a node: at the root the offered one, else that in the text of the node above.
+    /// Returns the digest that is expected at a node: the offered one at the root, and otherwise the one in the text of
+    /// the node above.
     fn expected(&self, node: NodeAt) -> Option<&[u8]> {
         if node.depth == 0 {
             return Some(&self.partner.root);
@@ -82,12 +83,12 @@ impl Walk {
         digest_in(&sent.text, node.index % 16)
     }
 
-    /// Whether the node is a leaf.
+    /// Returns true if the node is a leaf.
     pub(crate) fn is_leaf(&self, node: NodeAt) -> bool {
         node.depth == leaf_depth(self.format)
     }
 
-    /// Why a text is not taken, where the partner's own text of the node is this.
+    /// Returns the reason why a text isn't taken, if there is one. `partners` is the partner's text of the node.
     pub(crate) fn fault_of(&self, node: NodeAt, text: &[u8], partners: &[u8]) -> Option<Fault> {
         if !self.outstanding.iter().any(|other| *other == node) {
             return Some(Fault::NotAsked);
@@ -108,7 +109,8 @@ impl Walk {
         }
     }
 
-    /// The walk after a text was taken: the node is not outstanding, and the children that differ are asked.
+    /// Changes the walk as a taken text does: the node is no longer outstanding, and the children that differ are
+    /// asked.
     pub(crate) fn take(&mut self, sent: Sent) -> Result<(), Trouble> {
         self.outstanding.retain(|other| *other != sent.node);
         if !self.is_leaf(sent.node) {
@@ -119,7 +121,7 @@ impl Walk {
         Ok(())
     }
 
-    /// Asks the children whose digests in the text are not the own ones, by rising index.
+    /// Asks the children whose digests in the text differ from the local ones, by rising index.
     fn ask(&mut self, sent: &Sent) -> Result<(), Trouble> {
         for j in 0..16u16 {
             if let Some(node) = child(sent.node, j) {
@@ -133,7 +135,7 @@ impl Walk {
         Ok(())
     }
 
-    /// The walk after it ended before it was finished.
+    /// Changes the walk as an end before it is finished does.
     pub(crate) fn end(&mut self, state: SessionState) {
         if self.state == SessionState::Open {
             self.outstanding.clear();
@@ -141,7 +143,7 @@ impl Walk {
         }
     }
 
-    /// Whether the session of a record is as the walk says.
+    /// Returns true if the session of a record equals the walk.
     pub(crate) fn is(&self, record: &Record) -> bool {
         let session = record.session();
         record.partner() == self.partner.at
@@ -153,7 +155,7 @@ impl Walk {
             && session.taken().len() == self.taken.len()
     }
 
-    /// Whether a session took the texts that the walk says.
+    /// Returns true if a session took the walk's texts.
     pub(crate) fn has_taken(&self, taken: &[Taken]) -> bool {
         let is_same = |sent: &Sent, taken: &Taken| sent.node == taken.node()
             && sent.text.as_slice() == taken.text().text();
@@ -166,13 +168,13 @@ impl Walk {
     }
 }
 
-/// The digest of a child in the text of a node.
+/// Returns the digest of a child in the text of a node.
 fn digest_in(text: &[u8], j: u16) -> Option<&[u8]> {
     let start = usize::from(j) * 32 + 1;
     text.get(start..start + 32)
 }
 
-/// Open, or finished where nothing is outstanding.
+/// Returns open, or finished if nothing is outstanding.
 fn state_by(outstanding: &[NodeAt]) -> SessionState {
     if outstanding.is_empty() {
         SessionState::Finished

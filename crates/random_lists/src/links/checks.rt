@@ -1,4 +1,4 @@
-//! What must hold whatever a link did.
+//! The checks that must hold whatever a link did.
 
 use crate::links::own::{Ended, Worked};
 use crate::links::partner::Partner;
@@ -13,7 +13,7 @@ use ring_node::SyncReport;
 use std::sync::ledger::Ledger;
 use sync_session::{Session, SessionState};
 
-/// The seat of the pass that syncs have.
+/// The seat of the pass that the syncs use.
 const SEAT: u16 = 1;
 
 /// Checks a range that was closed, and counts its syncs.
@@ -57,7 +57,7 @@ pub(crate) fn check_all<L: Ledger>(
     expect(taken == told, "the number of entries of the partner")
 }
 
-/// Each of the versions is covered by what the range holds.
+/// Checks that each of the versions is covered by a held one.
 fn check_held(state: &RangeState, rows: &[Given]) -> Result<(), Trouble> {
     for row in rows {
         let held = state.versions(row.key);
@@ -66,7 +66,7 @@ fn check_held(state: &RangeState, rows: &[Given]) -> Result<(), Trouble> {
     Ok(())
 }
 
-/// Compares a session with what its sync returned.
+/// Compares a session with its sync's result.
 fn check_session(sync: &Worked, id: u64, session: &Session) -> Result<(), Trouble> {
     let state = session.state();
     expect(state != SessionState::Open, "whether a session has ended")?;
@@ -81,7 +81,7 @@ fn check_session(sync: &Worked, id: u64, session: &Session) -> Result<(), Troubl
     }
 }
 
-/// Each text that a session took came as an answer of its offer.
+/// Checks that each text that a session took was an answer of its offer.
 fn check_texts(sync: &Worked, session: &Session) -> Result<(), Trouble> {
     for taken in session.taken() {
         let has_come = sync.has_answer(taken.node(), taken.text().text());
@@ -113,12 +113,12 @@ fn check_report(
     )
 }
 
-/// Whether each node stands there once.
+/// Returns true if no node is in the list twice.
 fn is_each_once(nodes: &[NodeAt]) -> bool {
     nodes.iter().all(|node| nodes.iter().filter(|other| *other == node).count() == 1)
 }
 
-/// What a range took in a sync: among the receipts of all its syncs.
+/// The gains of a range in a sync, among the receipts of all its syncs.
 #[derive(Clone, Copy)]
 struct Gains<'a> {
     state: &'a RangeState,
@@ -127,7 +127,7 @@ struct Gains<'a> {
 }
 
 impl<'a> Gains<'a> {
-    /// Compares it with what the partner had when it made the offer of the session.
+    /// Compares them with the partner's rows when it made the session's offer.
     fn check(&self, session: &Session, partner: &Partner) -> Result<(), Trouble> {
         let is_finished = session.state() == SessionState::Finished;
         let Some(offered) = partner.with_root(&session.root()) else {
@@ -146,7 +146,7 @@ impl<'a> Gains<'a> {
         Ok(())
     }
 
-    /// Each entry has a version that the partner had.
+    /// Checks that each entry has a version of the partner.
     fn check_receipts(&self, rows: &[Given]) -> Result<(), Trouble> {
         let receipts = self.receipts.iter().skip(self.sync.before);
         for receipt in receipts.take(self.sync.receipts) {
@@ -159,12 +159,12 @@ impl<'a> Gains<'a> {
     }
 }
 
-/// Whether an entry has the key and the version of a row.
+/// Returns true if an entry has the key and the version of a row.
 fn is_of(entry: &Receipt, row: &Given) -> bool {
     entry.key.as_slice() == row.key && entry.version.same(&row.version)
 }
 
-/// How many of the versions lie in the leaves whose texts a session took.
+/// Returns the number of versions that are in the leaves whose texts a session took.
 fn count_taken(session: &Session, rows: &[Given]) -> u64 {
     let mut count = 0u64;
     for row in rows {
@@ -175,7 +175,7 @@ fn count_taken(session: &Session, rows: &[Given]) -> u64 {
     count
 }
 
-/// Whether a session took the text of the leaf of a key.
+/// Returns true if a session took the text of the leaf of a key.
 fn has_leaf_of(session: &Session, key: &[u8]) -> bool {
     let format = session.own().format();
     let (depth, leaf) = (tree_depth(format), place(format, 0, key).leaf);

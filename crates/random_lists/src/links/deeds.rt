@@ -7,7 +7,7 @@ use ring_node::Deed;
 use std::alloc::Global;
 use vclock::Refusal;
 
-/// A list of at most 200 deeds. Most of them hand on what comes, in some lists almost all.
+/// Returns a list of at most 200 deeds. Most of them pass the message on, in some lists almost all.
 pub(crate) fn random_deeds(alloc: Global, random: &mut Random) -> Result<Vec<Deed>, Refusal> {
     let one_in = match random.below(4) {
         0 => 2,
@@ -27,7 +27,7 @@ pub(crate) fn random_deeds(alloc: Global, random: &mut Random) -> Result<Vec<Dee
     Ok(deeds)
 }
 
-/// A deed of a link that fails or lies.
+/// Returns a deed of a link that fails or lies.
 fn random_lie(random: &mut Random) -> Deed {
     match random.below(24) {
         0 => Deed::Lost,
@@ -40,7 +40,7 @@ fn random_lie(random: &mut Random) -> Deed {
     }
 }
 
-/// The ask for some node of some tree.
+/// Returns a deed that asks for a random node of a random tree.
 fn random_node(random: &mut Random) -> Deed {
     let depth = random.below(4) as u8;
     let index = random.below(4_096) as u16;
@@ -56,7 +56,7 @@ fn random_node(random: &mut Random) -> Deed {
     }
 }
 
-/// A place in a message: mostly in its head.
+/// Returns a place in a message, which is mostly in its head.
 fn random_place(random: &mut Random) -> usize {
     let bound = if random.once_in(3) { 600 } else { 40 };
     random.below(bound) as usize

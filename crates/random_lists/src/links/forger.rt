@@ -1,4 +1,4 @@
-//! Partners whose digests are right and whose texts are no node's.
+//! Partners whose digests are right and whose texts are not a node's.
 ghost use Rattle.ring_node.specs.Links.{IsCounted};
 
 use crate::random::Random;
@@ -9,10 +9,11 @@ use std::sync::Wait;
 use vclock::{Format, Refusal};
 use walk_messages::{Answer, Ask, Message, Offer, decode, encode};
 
-/// What a forger says that the text of each node below the root is.
+/// A forger's text of each node below the root.
 const JUNK: &[u8] = b"abc";
 
-/// A link to a partner whose texts have the digests that it offers, and are no node's: that of the root, or those below.
+/// A link to a partner whose texts have the offered digests and are not a node's: either the root's text, or those
+/// below it.
 #[derive(Drop)]
 pub(crate) struct Forger {
     alloc: Global,
@@ -21,7 +22,7 @@ pub(crate) struct Forger {
 }
 
 impl Forger {
-    /// A forger of the root or of the nodes below.
+    /// Returns a forger of the root, or of the nodes below.
     pub(crate) fn new(
         alloc: Global,
         random: &mut Random,
@@ -39,7 +40,7 @@ impl Forger {
         })
     }
 
-    /// The message of the offer.
+    /// Returns the offer's message.
     fn offered(&self) -> Result<Vec<u8>, Refusal> {
         let offer = Offer {
             offer: 1,
@@ -50,7 +51,7 @@ impl Forger {
         encode(self.alloc, &Message::Offer(offer))
     }
 
-    /// The message that answers an ask.
+    /// Returns the message that answers an ask.
     fn answered(&self, ask: Ask) -> Result<Vec<u8>, Refusal> {
         let text = if ask.node.depth == 0 {
             self.root.as_slice()
@@ -85,12 +86,12 @@ impl Link for Forger {
     }
 }
 
-/// The digest of a text.
+/// Returns the digest of a text.
 fn digest_of(alloc: Global, text: &[u8]) -> Result<Digest, Refusal> {
     Ok(hash(Text::copy_of(alloc, text)?).digest())
 }
 
-/// What comes over a forger's link.
+/// Returns the outcome of a call over a forger's link.
 fn reached(bytes: Result<Vec<u8>, Refusal>) -> Reached
     ensures { IsCounted 0 0 result }
 {

@@ -1,4 +1,4 @@
-//! The range that takes what a partner has.
+//! The range that syncs with the partner.
 ghost use Rattle.std.specs.Prelude.{◌≡◌};
 
 use crate::links::rows::Given;
@@ -18,45 +18,45 @@ use std::thread::Threads;
 use vclock::{Format, Refusal};
 use walk_messages::Answer;
 
-/// How many turns suffice to hash what was dirtied since a tree was clean.
+/// More turns than it takes to hash the nodes that became dirty since a tree was clean.
 const TURNS: u64 = 200;
 
 /// A sync that was done.
 #[derive(Drop)]
 pub(crate) struct Worked {
     pub(crate) report: Result<SyncReport, Refusal>,
-    /// How many turns it had.
+    /// The number of its turns.
     pub(crate) turns: u64,
-    /// How many asks the link got.
+    /// The number of asks that the link got.
     pub(crate) asks: u64,
-    /// How often the link failed.
+    /// The number of failures of the link.
     pub(crate) failures: u64,
-    /// How many receipts the pass had before.
+    /// The number of receipts that the pass had before.
     pub(crate) before: usize,
-    /// How many receipts the pass got.
+    /// The number of receipts that the pass got.
     pub(crate) receipts: usize,
-    /// The answers that came of the offer that was asked of.
+    /// The received answers of the offer that was asked.
     pub(crate) answers: Vec<Answer>,
 }
 
 impl Worked {
-    /// Whether it opened a session. A sync that is refused before that asks nothing.
+    /// Returns true if it opened a session. A sync that is refused earlier asks nothing.
     pub(crate) fn has_opened(&self) -> bool {
         self.report.is_ok() || self.asks > 0
     }
 
-    /// How often the link must have failed.
+    /// Returns the number of failures that the link must have.
     pub(crate) fn losses(&self) -> u64 {
         u64::from(matches!(&self.report, Err(Refusal::LinkLost)))
     }
 
-    /// Whether the text came as an answer of the offer that was asked of.
+    /// Returns true if the text was received as an answer of the offer that was asked.
     pub(crate) fn has_answer(&self, node: NodeAt, text: &[u8]) -> bool {
         let mut answers = self.answers.iter();
         answers.any(|answer| answer.node == node && answer.text.as_slice() == text)
     }
 
-    /// Counts it.
+    /// Counts the sync.
     pub(crate) fn count(&self, tally: &mut Tally) {
         tally.count_sync(self.receipts);
         match &self.report {
@@ -66,7 +66,7 @@ impl Worked {
     }
 }
 
-/// A range with its passes, what it was given, and the syncs that were done.
+/// A range with its passes, the rows it was given, and the syncs that were done.
 #[derive(Drop)]
 pub(crate) struct Own<L: Ledger> {
     range: SharedRange<L>,
@@ -85,7 +85,7 @@ pub(crate) struct Ended<L: Ledger> {
 }
 
 impl<L: Ledger> Own<L> {
-    /// A range that has nothing, whose tree is clean.
+    /// Opens a range that has accepted nothing, and whose tree is clean.
     pub(crate) fn open<R: Threads + Sync>(
         rt: &R,
         alloc: Global,
@@ -145,7 +145,7 @@ impl<L: Ledger> Own<L> {
         Ok(())
     }
 
-    /// Syncs it with what a link gives.
+    /// Syncs the range over a link.
     pub(crate) fn sync<R: Wait, C: Ledger, K: Link>(
         &mut self,
         rt: &R,
@@ -172,7 +172,7 @@ impl<L: Ledger> Own<L> {
         Ok(())
     }
 
-    /// Closes it with both passes.
+    /// Closes the range with both passes.
     pub(crate) fn end(self, alloc: Global) -> Result<Ended<L>, Trouble> {
         let Own {
             range,

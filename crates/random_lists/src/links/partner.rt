@@ -12,7 +12,7 @@ use std::sync::{Arc, Wait};
 use std::thread::Threads;
 use vclock::{Format, Refusal};
 
-/// What a partner had when it made an offer.
+/// A partner's offer, with its rows at that time.
 #[derive(Drop)]
 pub(crate) struct Offered {
     root: Digest,
@@ -28,7 +28,7 @@ pub(crate) struct Partner {
 }
 
 impl Partner {
-    /// A partner that has nothing and offers nothing.
+    /// Returns a partner that holds nothing and offers nothing.
     pub(crate) fn new(alloc: Global, format: Format) -> Result<Partner, Refusal> {
         let number = u64::from(format.number());
         let config = RangeConfig::new(number, 0, 0, 1_000).ok_or(Refusal::BadRing)?;
@@ -46,7 +46,7 @@ impl Partner {
         Ok(())
     }
 
-    /// Offers what it has now, so many times.
+    /// Publishes its rows a number of times.
     pub(crate) fn publish<R: Threads + Wait + Sync>(
         &mut self,
         rt: &R,
@@ -63,7 +63,7 @@ impl Partner {
         Ok(())
     }
 
-    /// The versions that it holds, each with its key.
+    /// Returns the versions that it holds, each with its key.
     fn held(&self, alloc: Global) -> Result<Vec<Given>, Trouble> {
         let mut rows = Vec::new(alloc);
         for number in 0..KEYS {
@@ -76,7 +76,7 @@ impl Partner {
         Ok(rows)
     }
 
-    /// What it offered last.
+    /// Returns the rows of its last offer.
     pub(crate) fn rows(&self) -> &[Given] {
         match self.offered.last() {
             Some(offered) => &offered.rows,
@@ -84,12 +84,12 @@ impl Partner {
         }
     }
 
-    /// Its offers.
+    /// Returns its offers.
     pub(crate) fn pool(&self) -> &OfferPool {
         &self.pool
     }
 
-    /// What it had when it offered that root, if it did.
+    /// Returns its offer of that root, if it made one.
     pub(crate) fn with_root(&self, root: &Digest) -> Option<&Offered> {
         self.offered.iter().find(|offered| offered.root == *root)
     }

@@ -5,7 +5,7 @@ use std::alloc::Global;
 use vclock::{Bytes, Clock, Format, Refusal};
 use version_set::{Kind, Version};
 
-/// How many keys there are: they have the numbers from 0.
+/// The number of keys, which are numbered from 0.
 pub(crate) const KEYS: u64 = 8;
 
 /// A version that a range was given for a key.
@@ -16,7 +16,7 @@ pub(crate) struct Given {
 }
 
 impl Given {
-    /// An equal row. Refused: NoMemory.
+    /// Returns an equal row. Refused: NoMemory.
     pub(crate) fn try_clone(&self) -> Result<Given, Refusal> {
         Ok(Given {
             key: self.key,
@@ -25,7 +25,7 @@ impl Given {
     }
 }
 
-/// The bytes of a key. Several lie in one leaf of format 1.
+/// Returns the bytes of a key. Several keys are in one leaf of format 1.
 pub(crate) fn key_bytes(key: u64) -> &'static [u8] {
     match key {
         0 => b"abc",
@@ -39,13 +39,13 @@ pub(crate) fn key_bytes(key: u64) -> &'static [u8] {
     }
 }
 
-/// Whether a version is held, or one whose clock is later.
+/// Returns true if a version is held, or one whose clock is later.
 pub(crate) fn is_covered(held: &[Version], version: &Version) -> bool {
     held.iter()
         .any(|other| other.same(version) || version.is_below(other))
 }
 
-/// A key with a version of it. In format 2 one in four is a tombstone.
+/// Returns a key with a version of it. In format 2 one in four is a tombstone.
 pub(crate) fn random_row(
     alloc: Global,
     random: &mut Random,
@@ -65,7 +65,7 @@ pub(crate) fn random_row(
     Ok(Given { key, version })
 }
 
-/// A clock of one or two of three nodes, with small counters.
+/// Returns a clock of one or two of three nodes, with small counters.
 fn random_clock(alloc: Global, random: &mut Random) -> Result<Clock, Refusal> {
     let (first, second) = (1 + random.below(3), 1 + random.below(3));
     match random.below(5) {
@@ -76,7 +76,8 @@ fn random_clock(alloc: Global, random: &mut Random) -> Result<Clock, Refusal> {
     }
 }
 
-/// One of many versions of a key whose clocks are equal, so that all are held. Those of the two sides differ.
+/// Returns one of many versions of a key whose clocks are equal, so that all are held. The versions of the two sides
+/// differ.
 pub(crate) fn crowd_row(alloc: Global, side: u8, number: u8) -> Result<Given, Refusal> {
     let version = Version {
         clock: Clock::from_pairs(alloc, &[(9, 1)])?,

@@ -1,10 +1,10 @@
-//! What came of all syncs.
+//! The outcomes of all syncs.
 
 use std::fmt;
 use sync_session::SessionState;
 use vclock::Refusal;
 
-/// What came of all syncs.
+/// The counts of the outcomes of all syncs.
 #[derive(Clone, Copy)]
 pub(crate) struct Tally {
     syncs: u64,
@@ -22,7 +22,7 @@ pub(crate) struct Tally {
 }
 
 impl Tally {
-    /// No sync was done.
+    /// Returns a tally of no sync.
     pub(crate) fn new() -> Tally {
         Tally {
             syncs: 0,
@@ -46,7 +46,7 @@ impl Tally {
         self.versions = self.versions.wrapping_add(versions as u64);
     }
 
-    /// Counts how a sync ended that was not refused, and the bad answers that it met.
+    /// Counts the end of a sync that wasn't refused, and its bad answers.
     pub(crate) fn count_end(&mut self, state: SessionState, bad: u64) {
         let count = match state {
             SessionState::Finished => &mut self.finished,

@@ -1,4 +1,4 @@
-//! A list of deeds, done to the syncs of a range.
+//! A list of deeds, done in the syncs of a range.
 ghost use Rattle.std.specs.Prelude.{◌≡◌};
 
 use crate::links::checks::check_all;
@@ -20,10 +20,10 @@ use std::sync::ledger::{Blank, Ledger};
 use std::thread::Threads;
 use vclock::Format;
 
-/// How many versions either side has of a key that is crowded: together too many.
+/// The number of versions that each side has of a crowded key. Both sides together have too many.
 const CROWD: u8 = 40;
 
-/// What a list of deeds is done to: the number is the seed of the generator.
+/// A trial of a list of deeds. The list's number is the seed of the generator.
 #[derive(Drop)]
 struct Trial {
     random: Random,
@@ -31,7 +31,7 @@ struct Trial {
     is_crowded: bool,
 }
 
-/// Runs the list of a number, and counts what came of it.
+/// Runs the list of a number, and counts its outcomes.
 pub(crate) fn run_list<R: Threads + Wait + Sync>(
     rt: &R,
     alloc: Global,
@@ -45,7 +45,7 @@ pub(crate) fn run_list<R: Threads + Wait + Sync>(
 }
 
 impl Trial {
-    /// The list of a number. Each eighth is of format 2, whose trees take sixteen times as long to rehash.
+    /// Returns the trial of a number. One in eight is of format 2, whose trees take sixteen times as long to rehash.
     fn new(number: u64) -> Trial {
         let mut random = Random::new(number);
         let format = if number % 8 == 7 {
@@ -89,7 +89,7 @@ impl Trial {
         check_all(&ended, partner, tally)
     }
 
-    /// A partner with an offer or two. If it offers 17 times, the offers before are dropped.
+    /// Makes a partner with an offer or two. If it offers 17 times, the offers before are dropped.
     fn partner<R: Threads + Wait + Sync>(
         &mut self,
         rt: &R,
@@ -111,7 +111,7 @@ impl Trial {
         Ok(partner)
     }
 
-    /// Has the range accept some of what the partner has, and some versions more.
+    /// Has the range accept some of the partner's versions, and some others.
     fn fill<L: Ledger, R: Wait>(
         &mut self,
         rt: &R,
@@ -182,7 +182,7 @@ impl Trial {
         Ok(())
     }
 
-    /// How many turns a sync has: mostly more than it needs.
+    /// Returns the number of turns of a sync, which is mostly more than it needs.
     fn turns(&mut self) -> u64 {
         match self.random.below(6) {
             0 => self.random.below(6),

@@ -1,4 +1,4 @@
-//! Links that are watched.
+//! Links that record their answers.
 
 use ring_node::{Link, Reached};
 use std::alloc::Global;
@@ -6,8 +6,8 @@ use std::mem::replace;
 use std::sync::Wait;
 use walk_messages::{Answer, Message, decode};
 
-/// A link round another one that counts the asks, and keeps the answers that are of the offer asked of. What comes over the
-/// other one is handed on.
+/// A link around another one that counts the asks, and keeps the answers of the offer that was asked. It hands on
+/// everything that the other link returns.
 #[derive(Drop)]
 pub(crate) struct Watched<K: Link> {
     alloc: Global,
@@ -17,7 +17,7 @@ pub(crate) struct Watched<K: Link> {
 }
 
 impl<K: Link> Watched<K> {
-    /// A link that was asked nothing.
+    /// Returns a link that has been asked nothing.
     pub(crate) fn new(alloc: Global, link: K) -> Watched<K> {
         Watched {
             alloc,
@@ -27,7 +27,7 @@ impl<K: Link> Watched<K> {
         }
     }
 
-    /// How many asks there were.
+    /// Returns the number of asks.
     pub(crate) fn asks(&self) -> u64 {
         self.asks
     }
@@ -59,8 +59,8 @@ impl<K: Link> Link for Watched<K> {
     }
 }
 
-/// Keeps what came if it is an answer of the offer that the message asks of. One that finds no memory is missed by the
-/// checks.
+/// Keeps the received bytes if they are an answer of the offer in the message. The checks miss an answer that finds no
+/// memory.
 fn keep(alloc: Global, answers: &mut Vec<Answer>, message: &[u8], came: &[u8]) {
     let Ok(Message::Ask(ask)) = decode(alloc, message) else {
         return;

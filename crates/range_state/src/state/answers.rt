@@ -18,15 +18,15 @@ use sync_session::News;
 use vclock::Refusal;
 
 impl RangeState {
-    /// Takes a partner's text for a node of a session: the children that differ are asked; the versions of a leaf are
-    /// accepted, all or none.
+    /// Takes a partner's text for a node of a session. For an inner node it asks the children that differ; for a leaf
+    /// it accepts all of its versions or none.
     ///
     /// Refused, in order: UnknownSession (there is no record of that number), NotAsked, WrongDigest, NotCanonical (the
-    /// session has failed then), Crowded (in its turn one would be a version too many for its key), JournalFull, NoMemory.
-    /// Reading a leaf takes memory, so at a leaf NoMemory may stand in place of NotCanonical, Crowded and JournalFull. After
-    /// any but NotCanonical the state is as it was.
+    /// session has failed then), Crowded (one version, in its turn, would be too many for its key), JournalFull,
+    /// NoMemory. Reading a leaf allocates, so at a leaf NoMemory may replace NotCanonical, Crowded and JournalFull. The
+    /// state is unchanged after any refusal but NotCanonical.
     ///
-    /// A row of a leaf that the session's own snapshot has is not read: its bytes are compared, and its versions are known.
+    /// A row that is in the session's snapshot, too, isn't read: its bytes are compared, and its versions are known.
     pub fn take_answer(
         &mut self,
         alloc: Global,
@@ -42,7 +42,7 @@ impl RangeState {
         self.take_answer_beside(alloc, &mut told, seat, id, node, text)
     }
 
-    /// Does the same, and makes room for the receipts in a list that has some.
+    /// Takes a text as `take_answer` does, and makes room for the receipts in a list that isn't empty.
     pub(super) fn take_answer_beside(
         &mut self,
         alloc: Global,
@@ -77,7 +77,7 @@ impl RangeState {
         }
     }
 
-    /// Takes a text of a node with children.
+    /// Takes a text of an inner node.
     fn take_inner(
         &mut self,
         alloc: Global,
@@ -100,8 +100,8 @@ impl RangeState {
         })
     }
 
-    /// Takes a text of a leaf that has these news, with room for the receipts in a list that has some. Every growth is made
-    /// before anything changes.
+    /// Takes a text of a leaf with this news, and makes room for the receipts in a list that isn't empty. Allocates
+    /// before it changes anything.
     fn take_leaf(
         &mut self,
         alloc: Global,
@@ -120,7 +120,7 @@ impl RangeState {
         ensures room { IfOk result (λ taken. (told.new.items ≡ [])
             ⊎ (vec_len told.new + vec_len taken.receipts ≤ vec_capacity told.new)) }
     {
-        // Called for its clause alone: the digest is the text's.
+        // Called for its clause alone: the digest is that of the text.
         let _bytes = text.text();
         let batch = self.prepare_beside(alloc, told, seat, node.index, news)?;
         self.journal.reserve(batch.entries.len() as u64)?;
@@ -143,7 +143,7 @@ impl RangeState {
         })
     }
 
-    /// Has a session fail by a text that it awaits and that the node cannot have.
+    /// Makes a session fail by a text that it awaits and that the node can't have.
     fn fail_session(&mut self, id: u64)
         requires { MatchOption (slice_get self.old.records id) ⊥
             (λ r. (t : TakenText) × IsDue r.session t × (IsCanonical r.session.own t.node t.text → ⊥)) }
@@ -154,7 +154,7 @@ impl RangeState {
     }
 }
 
-/// Makes a leaf dirty, and every node above it, if any entry came to it.
+/// Makes a leaf and every node above it dirty, if there are new entries for it.
 fn mark_news(marks: &mut Marks, leaf: u16, entries: &[Entry])
     requires { leaf < 16 ^ tree_depth marks.old.format }
     ensures { marks.new ≡ record marks.old { digests = (if nat_eq (length entries.now) 0 then marks.old.digests else dirtied marks.old.format leaf marks.old.digests) } }
@@ -164,7 +164,7 @@ fn mark_news(marks: &mut Marks, leaf: u16, entries: &[Entry])
     }
 }
 
-/// Adds entries at the end, which have the next numbers, and for which room was made.
+/// Appends entries, which have the next numbers, and for which room was made.
 fn append_all(journal: &mut Journal, entries: Vec<Entry>)
     requires numbered { AreNumberedFrom (length journal.old.entries) entries.items }
     requires room { length entries.items ≤ journal.old.room }

@@ -14,10 +14,10 @@ use std::thread::Threads;
 use vclock::Refusal;
 
 impl RangeState {
-    /// Hashes every dirty node and installs the digests, and returns how many nodes were dirty. Each round hashes the nodes
-    /// whose children are clean, in several threads if there is enough to hash.
+    /// Hashes every dirty node, installs the digests, and returns the number of nodes that were dirty. Each round
+    /// hashes the nodes whose children are clean, in several threads if there is enough to hash.
     ///
-    /// Refused: NoMemory. Then some of the dirty nodes may be clean, and all else is as it was.
+    /// Refused: NoMemory. Then some of the dirty nodes may be clean, and everything else is unchanged.
     pub fn rehash(&mut self, rt: &(impl Threads + Sync), alloc: Global) -> Result<u64, Refusal>
         ensures count { Answers result None (λ hashed. hashed ≡ dirty_count self.old.marks) }
         ensures ok { OnOk result (self.new ≡ rehashed self.old) }
@@ -30,7 +30,7 @@ impl RangeState {
         Ok(dirty)
     }
 
-    /// Hashes each dirty node whose children are clean, and makes it clean. Returns whether there was any.
+    /// Hashes each dirty node whose children are clean, and makes it clean. Returns true if there was any.
     fn rehash_ready(&mut self, rt: &(impl Threads + Sync), alloc: Global) -> Result<bool, Refusal>
         ensures memory { Answers result None (λ _. ⊤) }
         ensures more { IfOk result (λ any. IsTrue any → dirty_count self.new.marks < dirty_count self.old.marks) }
@@ -44,7 +44,7 @@ impl RangeState {
         Ok(!nodes.is_empty())
     }
 
-    /// Makes nodes clean whose texts are the ones that were hashed.
+    /// Makes nodes clean whose texts are the hashed ones.
     fn make_all_clean(&mut self, nodes: &[NodeAt], hashed: &[Hashed])
         requires all { length hashed.now ≡ length nodes.now }
         requires current { (i : ℕ) (node : NodeAt) (text : List ℕ) → i < length nodes.now
@@ -63,7 +63,7 @@ impl RangeState {
     }
 }
 
-/// The node of each job.
+/// Lists the node of each job.
 fn nodes_of(alloc: Global, jobs: &[Job]) -> Result<Vec<NodeAt>, AllocError>
     ensures { IfOk result (λ nodes. nodes.items ≡ map (λ j. j.node) jobs.now) }
 {

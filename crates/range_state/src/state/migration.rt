@@ -1,4 +1,4 @@
-//! Going over to format 2.
+//! Migration to format 2.
 ghost use Rattle.std.specs.Prelude.{◌≡◌, map};
 ghost use Rattle.vclock.specs.Outcome.{Does, gives};
 ghost use Rattle.vclock.specs.declared.format.Format.TheVariants as formats;
@@ -12,11 +12,12 @@ use std::alloc::Global;
 use vclock::{Format, Refusal};
 
 impl RangeState {
-    /// Takes a range of format 1 over to format 2. The journal stays word for word, and its versions are live; the rows
-    /// lie in 4,096 leaves, and all 4,369 nodes are dirty. Sessions that are open are cancelled; each record keeps the
-    /// format of its own rows. A range of format 2 stays as it is.
+    /// Migrates a range of format 1 to format 2. The journal is unchanged, word for word, and its versions are live;
+    /// the rows are in 4,096 leaves, and all 4,369 nodes are dirty. Open sessions are cancelled; each record keeps the
+    /// format of its snapshot. A range of format 2 is unchanged.
     ///
-    /// The journal is replayed once, beside the leaves that there are. Refused: NoMemory. The state is then as it was.
+    /// The journal is replayed once, with the present leaves still in memory. Refused: NoMemory. On error the state is
+    /// unchanged.
     pub fn migrate(&mut self, alloc: Global) -> Result<(), Refusal>
         ensures { Does result self.old self.new (migrate self.old) }
     {
@@ -26,7 +27,7 @@ impl RangeState {
         }
     }
 
-    /// The same of a range of format 1. All memory is taken before anything changes.
+    /// Migrates a range of format 1. Allocates before it changes anything.
     fn go_over(&mut self, alloc: Global) -> Result<(), Refusal>
         requires { self.old.config.format ≡ formats.One }
         ensures { Does result self.old self.new (gives tt (in_two self.old)) }
@@ -42,7 +43,7 @@ impl RangeState {
     }
 }
 
-/// Ends all sessions that are open.
+/// Cancels all open sessions.
 fn cancel_all(records: &mut Vec<Record>)
     ensures { records.new.items ≡ map cancelled records.old.items }
 {

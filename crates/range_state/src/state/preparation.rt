@@ -1,4 +1,4 @@
-//! Preparing the versions of a leaf, so that they are accepted all or none.
+//! Preparation of the versions of a leaf, so that all of them are accepted or none.
 ghost use Rattle.std.specs.Prelude.{◌≡◌, ◌+◌, ◌<◌, ◌≤◌, ◌^◌, ◌∷◌, ◌++◌, ◌⊎◌, ⊤, List, [], length, None, OnOk, IfOk};
 ghost use Rattle.std.specs.List.{AllByRecursion};
 ghost use Rattle.std.specs.Vec.{vec_len, vec_capacity};
@@ -27,17 +27,17 @@ use version_set::Version;
 pub(super) struct Batch {
     /// The leaf with them.
     pub(super) leaf: SharedLeaf,
-    /// Their entries, which come next.
+    /// Their entries, which have the next numbers.
     pub(super) entries: Vec<Entry>,
-    /// The same entries, for the caller.
+    /// Copies of the entries, for the caller.
     pub(super) receipts: Vec<Receipt>,
-    /// How many versions that were looked at are known already.
+    /// The number of versions that were looked at and are known already.
     pub(super) known: u64,
 }
 
 impl RangeState {
-    /// Prepares the versions of rows that lie in a leaf. Refused: Crowded (in its turn one would be a version too many for
-    /// its key), NoMemory, which may stand in place of Crowded.
+    /// Prepares the versions of rows of a leaf. Refused: Crowded (one version, in its turn, would be too many for its
+    /// key), NoMemory, which may replace Crowded.
     pub(super) fn prepare_rows(
         &self,
         alloc: Global,
@@ -65,8 +65,8 @@ impl RangeState {
         Ok(batch)
     }
 
-    /// Prepares the versions of a leaf's text, of which own rows that are held have some, and makes room for their receipts
-    /// in a list that has some. What is held is counted as known.
+    /// Prepares the versions of the news in a leaf's text, and makes room for their receipts in a list that isn't
+    /// empty. The versions of local rows in the text are held, and count as known.
     pub(super) fn prepare_beside(
         &self,
         alloc: Global,
@@ -118,7 +118,7 @@ impl RangeState {
         Ok(())
     }
 
-    /// Adds a version to the batch. It allocates first, so a refused version does not count.
+    /// Adds a version to the batch. Allocates first, so a refused version doesn't count.
     fn prepare_version(
         &self,
         alloc: Global,
@@ -156,7 +156,7 @@ impl RangeState {
     }
 }
 
-/// The entry of a version that a partner had.
+/// Makes the entry of a version that a partner had.
 fn partners_entry(
     alloc: Global,
     number: u64,

@@ -1,4 +1,4 @@
-//! Calls whose receipts go to a list too, as that of a caller who keeps what was told.
+//! Calls that add their receipts to a list of the caller, too.
 ghost use Rattle.std.specs.Prelude.{◌≡◌, ◌+◌, ◌≤◌, ◌++◌, ◌⊎◌, [], None, IfErr, IsTrue};
 ghost use Rattle.std.specs.Vec.{vec_len, vec_capacity};
 ghost use Rattle.vclock.specs.Outcome.{Does, DoesOrNoMemory};
@@ -18,14 +18,16 @@ use vclock::{Bytes, Clock, Refusal};
 use version_set::{Kind, Version};
 
 impl RangeState {
-    /// Whether the versions that are held for a key cover a version: it is one of them or below one. It takes no memory.
+    /// Returns true if the versions that are held for a key cover a version: it is one of them or below one. Doesn't
+    /// allocate.
     pub fn covers(&self, key: &[u8], version: &Version) -> bool
         ensures { result ≡ covered version.now (held self.now.entries key.now) }
     {
         covers(self.find(self.leaf_of(key), key), version)
     }
 
-    /// Does as `put`, and puts a copy of the receipt at the end of a list. Refused as `put`: the list is then as it was.
+    /// Puts a value as `put` does, and appends a copy of the receipt to a list. Refused as `put` is. On error the list
+    /// is unchanged.
     pub fn put_into(
         &mut self,
         alloc: Global,
@@ -48,8 +50,8 @@ impl RangeState {
         self.admit_into(alloc, receipts, leaf, seat, Source::Client, key, version)
     }
 
-    /// Does as `accept`, and puts a copy of the receipt, if there is one, at the end of a list. Refused as `accept`:
-    /// the list is then as it was.
+    /// Accepts a version as `accept` does, and appends a copy of the receipt, if any, to a list. Refused as `accept`
+    /// is. On error the list is unchanged.
     pub fn accept_into(
         &mut self,
         alloc: Global,
@@ -70,8 +72,8 @@ impl RangeState {
         Ok(Accepted::Taken(receipt))
     }
 
-    /// Does as `take_answer`, and moves the receipts to the end of a list. Refused as `take_answer`: the list is then as it
-    /// was.
+    /// Takes a text as `take_answer` does, and moves the receipts to the end of a list. Refused as `take_answer` is. On
+    /// error the list is unchanged.
     pub fn take_answer_into(
         &mut self,
         alloc: Global,
@@ -97,7 +99,7 @@ impl RangeState {
         })
     }
 
-    /// Does as `admit`, and puts a copy of the receipt at the end of a list.
+    /// Journals a version as `admit` does, and appends a copy of the receipt to a list.
     fn admit_into(
         &mut self,
         alloc: Global,
@@ -129,7 +131,7 @@ impl RangeState {
     }
 }
 
-/// Moves receipts to the end of a list that has none or has room for them.
+/// Moves receipts to the end of a list that is empty or has room for them.
 fn move_to(list: &mut Vec<Receipt>, mut receipts: Vec<Receipt>)
     requires { (list.old.items ≡ []) ⊎ (vec_len list.old + vec_len receipts ≤ vec_capacity list.old) }
     ensures { list.new.items ≡ list.old.items ++ receipts.items }

@@ -1,4 +1,4 @@
-//! Two replicas of a range that catch up with each other.
+//! Reconciliation of two replicas of a range.
 ghost use Rattle.std.specs.Prelude.{◌≡◌, ⊤, [], None, MatchResult, IfOk, OnOk};
 ghost use Rattle.vclock.specs.Answer.{AnswersAtOnce};
 ghost use Rattle.range_state.specs.State.{rows_now, dirty_fault};
@@ -15,34 +15,35 @@ use snapshot::Snapshot;
 use std::alloc::Global;
 use vclock::Refusal;
 
-/// What it took to make two replicas hold the same: how many nodes each asked, and how many versions each journaled.
+/// The report of a reconciliation: for each replica, the number of nodes that it asked and of versions that it
+/// journaled.
 ///
 /// ```
 /// reconcile(alloc, a, 1, b, 2, 5)
 /// ```
 #[derive(Debug, Drop)]
 pub struct Reconciled {
-    /// How many nodes the first asked: those where the two trees differed.
+    /// The number of nodes that the first asked: those at which the two trees differed.
     pub asked_a: u64,
-    /// How many versions came to the first: each has an entry at the end of its journal.
+    /// The number of versions that the first received: each has an entry at the end of its journal.
     pub accepted_a: u64,
-    /// How many nodes the second asked.
+    /// The number of nodes that the second asked.
     pub asked_b: u64,
-    /// How many versions came to the second.
+    /// The number of versions that the second received.
     pub accepted_b: u64,
 }
 
-/// Makes two replicas of a range hold the same: each runs a whole session on the rows that the other had before the call,
-/// first `a`, then `b`. `at_a` and `at_b` are the nodes that they are at.
+/// Makes two replicas of a range hold equal versions: each runs a whole session on the rows that the other had before
+/// the call, first `a`, then `b`. `at_a` and `at_b` are the nodes that the replicas are at.
 ///
 /// Refused, in order, before anything changes: Dirty (some node of the tree of `a`, then of `b`, has no digest),
-/// SessionsFull (of `a`, then of `b`, 64 sessions are open, or there are 1,024 records). Then, as the sessions go:
-/// Crowded, JournalFull, NoMemory. A session that is refused so is cancelled, what was accepted stays, and if it is
-/// that of `a`, then `b` is as it was.
+/// SessionsFull (of `a`, then of `b`, 64 sessions are open, or there are 1,024 records). Refused during the sessions:
+/// Crowded, JournalFull, NoMemory. A session that is refused then is cancelled, and the versions that it accepted stay.
+/// If it is that of `a`, then `b` is unchanged.
 ///
-/// Otherwise each asked the nodes where their trees differed, and no others. If no two different texts of the nodes of the two
-/// trees share a digest, both hold, for each key, the maximal versions of what they held before; and once both are clean, the
-/// digests of their roots are equal.
+/// Otherwise each asked the nodes at which their trees differed, and no others. If no two different texts of the nodes
+/// of the two trees share a digest, both hold, for each key, the maximal versions of those that they held before; and
+/// once both are clean, the digests of their roots are equal.
 pub fn reconcile(
     alloc: Global,
     a: &mut RangeState,
@@ -65,7 +66,7 @@ pub fn reconcile(
     run_both(alloc, a, at_a, b, at_b, seat)
 }
 
-/// The same, of which only the sessions are told.
+/// Reconciles two replicas. Its contract covers the two sessions alone.
 fn run_both(
     alloc: Global,
     a: &mut RangeState,
@@ -90,14 +91,14 @@ fn run_both(
     })
 }
 
-/// How many nodes a session asked, and how many versions came.
+/// The number of nodes that a session asked, and of versions that it journaled.
 #[derive(Clone, Copy)]
 struct CaughtUp {
     asked: u64,
     accepted: u64,
 }
 
-/// Whether two replicas can begin.
+/// Tests that both replicas can begin.
 fn check_pair(a: &RangeState, b: &RangeState) -> Result<(), Refusal>
     ensures { AnswersAtOnce result (pair_fault a.now b.now) (λ _. ⊤) }
 {
@@ -108,7 +109,7 @@ fn check_pair(a: &RangeState, b: &RangeState) -> Result<(), Refusal>
 }
 
 impl RangeState {
-    /// Runs a whole session on a partner's snapshot. One that is refused on its way is cancelled.
+    /// Runs a whole session on a partner's snapshot. A session that is refused midway is cancelled.
     fn catch_up(
         &mut self,
         alloc: Global,
@@ -139,14 +140,14 @@ impl RangeState {
                 }
             },
             Err(refusal) => {
-                // If the session was not opened, there is none to cancel.
+                // If the session was not opened, there is nothing to cancel.
                 let _cancelled = self.cancel_session(id);
                 Err(refusal)
             }
         }
     }
 
-    /// Whether each node of the tree has a digest.
+    /// Tests that each node of the tree has a digest.
     fn check_clean(&self) -> Result<(), Refusal>
         ensures { AnswersAtOnce result (dirty_fault self.now) (λ _. ⊤) }
     {
@@ -156,7 +157,7 @@ impl RangeState {
         Ok(())
     }
 
-    /// Whether a session can be opened.
+    /// Tests that a session can be opened.
     fn check_room(&self) -> Result<(), Refusal>
         ensures { AnswersAtOnce result (crowd_fault (standings self.now.records)) (λ _. ⊤) }
     {

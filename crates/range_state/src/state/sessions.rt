@@ -17,7 +17,7 @@ use vclock::limits::{OPEN_SESSIONS_MAX, SESSIONS_MAX};
 use walk_messages::Offer;
 
 impl RangeState {
-    /// The records of all sessions, in the order of their numbers. It takes no memory.
+    /// The records of all sessions, in the order of their numbers. Doesn't allocate.
     pub fn records(&self) -> &[Record]
         ensures all { result.now ≡ self.now.records }
         ensures valid { IsRight self.now }
@@ -28,8 +28,8 @@ impl RangeState {
     /// Opens a session with a partner's offer: the rows now are compared with those under the offered root. Returns the
     /// number of the session, from 0.
     ///
-    /// Refused, in order: OtherFormat, OtherRange, SessionsFull (64 sessions are open, or there are 1,024 records), Dirty
-    /// (some node of the own tree has no digest), NoMemory. The state is then as it was.
+    /// Refused, in order: OtherFormat, OtherRange, SessionsFull (64 sessions are open, or there are 1,024 records),
+    /// Dirty (some node of the local tree has no digest), NoMemory. On error the state is unchanged.
     pub fn open_session(
         &mut self,
         alloc: Global,
@@ -47,8 +47,8 @@ impl RangeState {
         Ok(id)
     }
 
-    /// Ends a session that is open; another stays as it is. It takes no memory. Refused: UnknownSession (there is no
-    /// record of that number).
+    /// Cancels a session that is open; a session that has ended is unchanged. Doesn't allocate. Refused: UnknownSession
+    /// (there is no record of that number).
     pub fn cancel_session(&mut self, id: u64) -> Result<(), Refusal>
         ensures { DoesAtOnce result self.old self.new (cancel_session self.old id) }
     {
@@ -59,8 +59,8 @@ impl RangeState {
         Ok(())
     }
 
-    /// The first node that a session has outstanding, if any is. It takes no memory. Refused: UnknownSession (there is no
-    /// record of that number).
+    /// The first outstanding node of a session, if any. Doesn't allocate. Refused: UnknownSession (there is no record
+    /// of that number).
     pub fn outstanding(&self, id: u64) -> Result<Option<NodeAt>, Refusal>
         ensures { AnswersAtOnce result (unknown_fault self.now id)
             (λ first. MatchOption (slice_get self.now.records id) ⊥
@@ -72,7 +72,7 @@ impl RangeState {
         Ok(self.first_outstanding(id))
     }
 
-    /// The same of a session that has a record.
+    /// The first outstanding node of a session that has a record.
     pub(super) fn first_outstanding(&self, id: u64) -> Option<NodeAt>
         requires { id < length self.now.records }
         ensures first { MatchOption (slice_get self.now.records id) ⊥ (λ r. IsFirstOf r.session.outstanding result) }
@@ -86,7 +86,7 @@ impl RangeState {
         }
     }
 
-    /// Whether an offer is of this range, in its format.
+    /// Tests that an offer is of this range, in its format.
     fn check_offer(&self, offer: &Offer) -> Result<(), Refusal>
         ensures { AnswersAtOnce result (foreign_fault self.now.config offer.now) (λ _. ⊤) }
     {
@@ -100,7 +100,7 @@ impl RangeState {
     }
 }
 
-/// Whether a session can be opened beside those that there are.
+/// Tests that a session can be opened in addition to these.
 pub(super) fn check_crowd(records: &[Record]) -> Result<(), Refusal>
     ensures { AnswersAtOnce result (crowd_fault (standings records.now)) (λ _. ⊤) }
 {
@@ -110,7 +110,7 @@ pub(super) fn check_crowd(records: &[Record]) -> Result<(), Refusal>
     Ok(())
 }
 
-/// How many sessions are open.
+/// Counts the open sessions.
 fn open_count(records: &[Record]) -> usize
     ensures { result ≡ open_count records.now }
 {
@@ -123,7 +123,7 @@ fn open_count(records: &[Record]) -> usize
     count
 }
 
-/// Whether a session can still take texts.
+/// Returns true if a session can still take texts.
 #[tactic(auto, unfolding(crate::specs::Records::is_open))]
 fn is_open(kept: &Record) -> bool
     ensures { result ≡ is_open kept.now }

@@ -1,4 +1,4 @@
-//! What a range offers to another replica.
+//! The snapshot that a range offers to another replica.
 ghost use Rattle.std.specs.Prelude.{◌≡◌, None};
 ghost use Rattle.std.specs.Arc.{arc_value};
 ghost use Rattle.vclock.specs.Answer.{Answers};
@@ -12,8 +12,9 @@ use std::sync::Arc;
 use vclock::Refusal;
 
 impl RangeState {
-    /// The rows now with the digests of the whole tree, as another replica may be offered them. It copies no row: a
-    /// pointer for each leaf, and a digest for each node. Refused, in order: Dirty (some node has no digest), NoMemory.
+    /// Makes a snapshot of the rows now with the digests of the whole tree, to offer to another replica. Copies no row:
+    /// it has a pointer for each leaf, and a digest for each node. Refused, in order: Dirty (some node has no digest),
+    /// NoMemory.
     pub fn snapshot(&self, alloc: Global) -> Result<Arc<Snapshot, Global>, Refusal>
         ensures { Answers result (dirty_fault self.now) (λ snapshot. arc_value snapshot ≡ rows_now self.now) }
     {
@@ -30,7 +31,7 @@ impl RangeState {
     }
 }
 
-/// One more owner of each leaf.
+/// Makes one more owner of each leaf.
 fn share_all(alloc: Global, leaves: &[SharedLeaf]) -> Result<Vec<SharedLeaf>, Refusal>
     ensures { Answers result None (λ shared. shared.items ≡ leaves.now) }
 {

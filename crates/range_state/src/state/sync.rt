@@ -15,26 +15,27 @@ use std::alloc::Global;
 use vclock::Refusal;
 use walk_messages::Ask;
 
-/// What a session with a partner that answers truly came to.
+/// The report of a session with a partner that answers truly.
 #[derive(Debug, Drop)]
 pub struct Synced {
-    /// How many versions came: each has an entry at the end of the journal.
+    /// The number of new versions: each has an entry at the end of the journal.
     pub accepted: u64,
-    /// How many versions of the leaves that were taken were covered by those accepted before.
+    /// The number of versions, in the leaves that were taken, that were covered by those accepted before.
     pub known: u64,
-    /// How many nodes were asked: those where the two trees differ.
+    /// The number of nodes that were asked: those at which the two trees differ.
     pub asked: u64,
-    /// Why a leaf was refused, if one was: Crowded or JournalFull.
+    /// The refusal of a leaf, if any: Crowded or JournalFull.
     pub fault: Option<Refusal>,
 }
 
 impl RangeState {
-    /// Opens a session with a partner's snapshot and answers each outstanding node from it, in order, until nothing is
-    /// outstanding or a leaf is refused; then the session stays open.
+    /// Opens a session with a partner's snapshot and answers each outstanding node from it, in order, until no node is
+    /// outstanding or a leaf is refused; in the second case the session stays open.
     ///
-    /// Refused, in order, before anything changes: SessionsFull (64 sessions are open, or there are 1,024 records), Dirty
-    /// (some node of the own tree has no digest), NoMemory. NoMemory may come later too: then the session stays, and so do
-    /// the versions of the leaves that were taken, which are the first of those where the two trees differ.
+    /// Refused, in order, before anything changes: SessionsFull (64 sessions are open, or there are 1,024 records),
+    /// Dirty (some node of the local tree has no digest), NoMemory. NoMemory is possible later, too: then the session
+    /// stays, and so do the versions of the leaves that were taken, which are the first of those at which the two trees
+    /// differ.
     pub fn sync_with(
         &mut self,
         alloc: Global,
@@ -81,7 +82,7 @@ impl RangeState {
         self.take_answer(alloc, seat, id, node, text)
     }
 
-    /// What a session came to.
+    /// Makes the report of a session.
     fn synced(&self, before: u64, id: u64, known: u64, fault: Option<Refusal>) -> Synced
         requires before { before ≤ length self.now.entries }
         requires id { id < length self.now.records }
@@ -99,7 +100,7 @@ impl RangeState {
     }
 }
 
-/// The sum of two counts. Refused: NoMemory (it is over 2^64 - 1: no memory holds as many versions).
+/// Adds two counts. Refused: NoMemory (the sum is over 2^64 - 1: no memory holds that number of versions).
 fn sum(count: u64, more: u64) -> Result<u64, Refusal>
     ensures { AnswersOrNoMemory result None (λ sum. sum ≡ count + more) }
 {

@@ -14,7 +14,7 @@ use vclock::Refusal;
 
 impl RangeState {
     /// The digest of a node, if it is clean: that of its text for the rows now. `None` if the node is dirty or the
-    /// range's tree has no such node. It takes no memory.
+    /// range's tree has no such node. Doesn't allocate.
     pub fn digest_at(&self, node: NodeAt) -> Option<Digest>
         ensures digest { result ≡ digest_at self.now.marks (place_of node) }
         ensures right { IfSome result (λ digest. digest ≡ sha256 (text_in self.now node)) }
@@ -22,9 +22,9 @@ impl RangeState {
         self.marks.get(node)
     }
 
-    /// A job: a dirty node whose children are clean, and its text now. `None` if no node is dirty. Of several nodes it
-    /// is the one that `skip` counts to, round and round, so workers that are numbered from 0 get different jobs as
-    /// long as there are enough. Refused: NoMemory.
+    /// Returns a job: a dirty node whose children are clean, and its text now. Returns `None` if no node is dirty. If
+    /// there are several, it takes the one at `skip`, counted round and round, so workers that are numbered from 0 get
+    /// different jobs as long as there are enough. Refused: NoMemory.
     pub fn take_job(&self, alloc: Global, skip: u64) -> Result<Option<Job>, Refusal>
         ensures { Answers result None (GivesJob self.now) }
     {
@@ -34,8 +34,8 @@ impl RangeState {
         }
     }
 
-    /// Jobs of different nodes: of all dirty nodes whose children are clean, or of `most` of them if there are more.
-    /// Refused: NoMemory.
+    /// Returns jobs of different nodes: of all dirty nodes whose children are clean, or of the first `most` of them if
+    /// there are more. Refused: NoMemory.
     pub fn take_jobs(&self, alloc: Global, most: usize) -> Result<Vec<Job>, Refusal>
         ensures { Answers result None (λ jobs. AreJobs self.now most jobs.items) }
     {
@@ -51,10 +51,10 @@ impl RangeState {
         Ok(jobs)
     }
 
-    /// Gives a node the digest of a text.
+    /// Installs the digest of a text at a node.
     ///
-    /// Refused: Stale (the range's tree has no such node, one of its children is dirty, or its text is another one now). The
-    /// state is then as it was. It takes no memory: the text is compared with the rows in place.
+    /// Refused: Stale (the range's tree has no such node, one of its children is dirty, or the text is no longer that
+    /// of the node). On error the state is unchanged. Doesn't allocate: the text is compared with the rows in place.
     pub fn install(&mut self, node: NodeAt, hashed: &Hashed) -> Result<(), Refusal>
         ensures { DoesAtOnce result self.old self.new (install self.old node hashed.now) }
     {
@@ -65,7 +65,7 @@ impl RangeState {
         Ok(())
     }
 
-    /// Gives a node the digest of its text.
+    /// Installs the digest of a node's text.
     pub(super) fn make_clean(&mut self, node: NodeAt, hashed: &Hashed)
         requires { IsTrue (is_current self.old node hashed.now) }
         ensures { self.new ≡ installed self.old node hashed.now }
@@ -73,7 +73,7 @@ impl RangeState {
         self.marks.set(node, hashed.digest());
     }
 
-    /// Whether the range's tree has the node, its children are clean, and that is its text now.
+    /// Returns true if the range's tree has the node, its children are clean, and this is its text now.
     fn is_current(&self, node: NodeAt, text: &[u8]) -> bool
         ensures { result ≡ is_current self.now node text.now }
     {
@@ -88,7 +88,7 @@ impl RangeState {
             }
     }
 
-    /// A node for a job, if there is one: of several, the one that `skip` counts to, round and round.
+    /// Chooses a node for a job, if any: of several, the one at `skip`, counted round and round.
     fn choose(&self, skip: u64) -> Option<NodeAt>
         ensures { MatchOption result (ready_from self.now.marks 0 ≡ [])
             (λ node. IsTrue (has_node self.now.config node) × IsTrue (is_ready self.now.marks (place_of node))) }
@@ -104,7 +104,7 @@ impl RangeState {
         Some(chosen)
     }
 
-    /// The first node from a place on that is for a job.
+    /// Finds the first node from a place on that is ready for a job.
     fn next_ready(&self, from: usize) -> Option<NodeAt>
         ensures order { MatchOption result (ready_from self.now.marks from ≡ [])
             (λ node. ready_from self.now.marks from
@@ -115,7 +115,7 @@ impl RangeState {
         self.marks.next_ready(from)
     }
 
-    /// The job of a node whose children are clean.
+    /// Makes the job of a node whose children are clean.
     fn job_of(&self, alloc: Global, node: NodeAt) -> Result<Job, Refusal>
         requires has { IsTrue (has_node self.now.config node) }
         requires ready { IsTrue (is_ready self.now.marks (place_of node)) }
