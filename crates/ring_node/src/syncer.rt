@@ -101,7 +101,7 @@ impl<L: Ledger> SharedRange<L> {
     /// message isn't an offer), OtherFormat, OtherRange, SessionsFull, Dirty (some node of the local tree has no
     /// digest), UnknownSession (no run meets it), Crowded, JournalFull, NoMemory. On error the versions accepted before
     /// stay, and the session is cancelled.
-    #[tactic(auto, using(crate::proofs::GainLaws::some_none, crate::proofs::GainLaws::some_same, crate::proofs::WalkLaws::gains_grow, crate::proofs::WalkLaws::gains_counted, crate::proofs::WalkLaws::open_keeps, crate::proofs::WalkLaws::session_opened))]
+    #[tactic(auto, using(crate::proofs::GainLaws::some_none, crate::proofs::GainLaws::some_same, crate::proofs::WalkLaws::gains_grow, crate::proofs::WalkLaws::gains_counted, crate::proofs::WalkLaws::open_keeps))]
     pub fn sync_worker<R: Wait, C: Ledger, K: Link>(
         &self,
         rt: &R,
