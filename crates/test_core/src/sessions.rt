@@ -73,7 +73,7 @@ fn answer_first(
     }
 }
 
-/// The partner's text of the first outstanding node gives so many rows, each of them new.
+/// Asserts that the partner's text of the first outstanding node gives that number of rows, each of them new.
 fn expect_news(
     alloc: Global,
     session: &Session,
