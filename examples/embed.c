@@ -7,16 +7,33 @@
 #include <stdlib.h>
 #include <string.h>
 
-/* A tree of format 2 has 4,369 nodes: more asks mean that the link or the partner is at fault. */
-enum { ROOM = 1 << 20, OFFER = 7, MOST_ASKS = 10000 };
+/* A session takes each of the 4,369 nodes of a tree of format 2 at most once. Bad answers are counted apart: more than a few
+ * mean that the link or the partner is at fault. A value has at most 65,536 bytes. */
+enum { ROOM = 1 << 16, OFFER = 7, MOST_ASKS = 10000, MOST_BAD = 8 };
 
-static uint8_t offer[64], ask[64], answer[ROOM];
+static uint8_t offer[64], ask[64], text[ROOM];
+
+/* The room of an answer, which grows: the answer of a leaf has no fixed limit. */
+static uint8_t *answer;
+static size_t room;
 
 /* Ends the program unless a call returned the number that is wanted. */
 static void want(const char *call, uint32_t got, uint32_t wanted)
 {
     if (got != wanted) {
         printf("%s returned %u, not %u\n", call, got, wanted);
+        exit(1);
+    }
+}
+
+/* Makes room for an answer of this length. */
+static void make_room(uint64_t len)
+{
+    free(answer);
+    answer = malloc(len);
+    room = len;
+    if (answer == NULL) {
+        printf("no room for an answer\n");
         exit(1);
     }
 }
@@ -67,6 +84,19 @@ static bool is_bad_answer(uint32_t got)
     return got == ANTIENTROPY_BAD_MESSAGE || got == ANTIENTROPY_NOT_ASKED || got == ANTIENTROPY_WRONG_DIGEST;
 }
 
+/* Answers the ask from a snapshot, and returns the number of bytes. If they don't fit, it makes room and serves again. */
+static uint64_t serve(struct antientropy_snapshot *offered, uint64_t ask_len)
+{
+    uint64_t len;
+    uint32_t got = antientropy_serve(offered, OFFER, ask, ask_len, answer, room, &len);
+    if (got == ANTIENTROPY_SMALL) {
+        make_room(len);
+        got = antientropy_serve(offered, OFFER, ask, ask_len, answer, room, &len);
+    }
+    want("serve", got, ANTIENTROPY_OK);
+    return len;
+}
+
 /* Syncs a replica from a partner, and prints the numbers of asks and of new versions. The second answer is forged, and is
  * refused. */
 static void sync(struct antientropy *replica, struct antientropy *partner)
@@ -75,23 +105,25 @@ static void sync(struct antientropy *replica, struct antientropy *partner)
     struct antientropy_taken taken;
     uint64_t len = offer_now(partner, &offered, OFFER), session, state, accepted = 0;
     uint32_t got;
-    unsigned asks;
+    unsigned asks, bad = 0;
     want("rehash", antientropy_rehash(replica), ANTIENTROPY_OK);
     want("open", antientropy_open(replica, 2, offer, len, &session), ANTIENTROPY_OK);
-    for (asks = 0; asks < MOST_ASKS; asks++) {
+    for (asks = 0; asks < MOST_ASKS && bad < MOST_BAD; asks++) {
         want("ask", antientropy_ask(replica, session, OFFER, ask, sizeof ask, &len), ANTIENTROPY_OK);
         if (len == 0)
             break;
-        want("serve", antientropy_serve(&offered, OFFER, ask, len, answer, sizeof answer, &len), ANTIENTROPY_OK);
+        len = serve(&offered, len);
         if (asks == 1)
             answer[len - 1] ^= 1;
         got = antientropy_take(replica, session, OFFER, answer, len, &taken);
-        if (got == ANTIENTROPY_OK)
+        if (got == ANTIENTROPY_OK) {
             accepted += taken.accepted;
-        else if (is_bad_answer(got))
+        } else if (is_bad_answer(got)) {
             printf("a forged answer is refused\n");
-        else
+            bad++;
+        } else {
             break; /* CROWDED or JOURNAL_FULL, say: the next ask would be for this node again */
+        }
     }
     /* A session that has ended is unchanged. */
     want("cancel", antientropy_cancel(replica, session), ANTIENTROPY_OK);
@@ -108,16 +140,16 @@ static void merge(struct antientropy *replica, uint16_t node, const char *key, c
     uint64_t len, seen = 0;
     uint8_t kind;
     for (uint64_t n = 0; n < versions(replica, key); n++) {
-        want("value", antientropy_value(replica, (const uint8_t *)key, strlen(key), n, &kind, answer, sizeof answer, &len),
+        want("value", antientropy_value(replica, (const uint8_t *)key, strlen(key), n, &kind, text, sizeof text, &len),
              ANTIENTROPY_OK);
-        printf("%s: %.*s\n", key, (int)len, (const char *)answer);
+        printf("%s: %.*s\n", key, (int)len, (const char *)text);
         want("clock", antientropy_clock(replica, (const uint8_t *)key, strlen(key), n, clock, 32, &len), ANTIENTROPY_OK);
         want("merge", antientropy_merge(context, seen, clock, len, merged, 32, &len), ANTIENTROPY_OK);
         memcpy(context, merged, sizeof context);
         seen = len;
     }
     put(replica, node, key, value, context, seen);
-    want("value", antientropy_value(replica, (const uint8_t *)key, strlen(key), 1, &kind, answer, sizeof answer, &len),
+    want("value", antientropy_value(replica, (const uint8_t *)key, strlen(key), 1, &kind, text, sizeof text, &len),
          ANTIENTROPY_NO_VERSION);
 }
 
@@ -140,6 +172,7 @@ int main(void)
     struct antientropy a = {0}, b = {0};
     struct antientropy_pair seen[] = {{1, 1}};
     uint64_t need;
+    make_room(64);
     want("versions", antientropy_versions(&a, (const uint8_t *)"k", 1, &need), ANTIENTROPY_EMPTY);
     want("new", antientropy_new(&a, 3, 0, 0, 1000), ANTIENTROPY_BAD_RING);
     want("new", antientropy_new(&a, 2, 0, 0, 1000), ANTIENTROPY_OK);
@@ -168,11 +201,12 @@ int main(void)
     deliver(&b);
     want("cancel", antientropy_cancel(&b, 0), ANTIENTROPY_OK);
     want("cancel", antientropy_cancel(&b, 99), ANTIENTROPY_UNKNOWN_SESSION);
-    want("get", antientropy_get(&a, (const uint8_t *)"order", 5, answer, 3, &need), ANTIENTROPY_SMALL);
-    want("get", antientropy_get(&a, (const uint8_t *)"order", 5, answer, need, &need), ANTIENTROPY_OK);
+    want("get", antientropy_get(&a, (const uint8_t *)"order", 5, text, 3, &need), ANTIENTROPY_SMALL);
+    want("get", antientropy_get(&a, (const uint8_t *)"order", 5, text, need, &need), ANTIENTROPY_OK);
     printf("the row of order has %llu bytes\n", (unsigned long long)need);
     antientropy_free(&a);
     antientropy_free(&b);
     want("migrate", antientropy_migrate(&a), ANTIENTROPY_EMPTY);
+    free(answer);
     return 0;
 }

@@ -7,9 +7,9 @@
  * RETURN VALUES
  *
  * Each call but the two that free returns 0, or the number of the first cause in its list for which it was refused. A
- * refused call changes nothing, with two exceptions: antientropy_rehash that runs out of memory may have made some
- * nodes clean, and antientropy_take that returns ANTIENTROPY_NOT_CANONICAL has failed its session. Unless a call says
- * otherwise, it writes through its result pointers only if it returns 0.
+ * refused call changes nothing, with two exceptions: an antientropy_rehash that runs out of memory may have made some
+ * nodes clean, and an antientropy_take that returns ANTIENTROPY_NOT_CANONICAL has failed its session. Unless a call
+ * says otherwise, it writes through its result pointers only if it returns 0.
  *
  * RESULTS OF VARIABLE LENGTH
  *
@@ -27,11 +27,12 @@
  *   at once, except that a snapshot shares memory with its replica: both stay on one thread.
  * - No call from a signal handler, or from the forked child of a process with threads.
  * - malloc, realloc and free are of one allocator, which aligns blocks to 16 bytes.
- * - Counters don't go back: a replica that lost entries returns under a node number that was never used, or with every
- *   version that it ever acknowledged, showed to a reader or handed to a partner (antientropy_accept takes them in).
- *   Otherwise a put can reuse a clock that another replica holds, and is then lost silently. So responses, copies,
- *   hints and offers go out only after the versions in them are on disk. A clock has at most 32 pairs, and a number
- *   that was used stays in it. See docs/EMBEDDING_C.md, "Restarts", and examples/restart.c.
+ * - Counters don't go back: a replica that lost entries returns under a node number that was never used (versions that
+ *   no partner holds are lost then), or with every version that it ever acknowledged, showed to a reader or handed to a
+ *   partner (antientropy_accept takes them in). Otherwise a put can reuse a clock that another replica holds, and is
+ *   then lost silently. So responses, copies, hints and offers go out only after the versions in them are on disk. A
+ *   clock has at most 32 pairs, and a number that was used stays in it. See docs/EMBEDDING_C.md, "Restarts", and
+ *   examples/restart.c.
  * - A replica or snapshot that was made is freed: antientropy_free, antientropy_snapshot_free. A snapshot may outlive
  *   its replica.
  */
@@ -55,10 +56,10 @@ enum {
     ANTIENTROPY_COUNTER_FULL = 3,     /* the counter to raise is 2^64 - 1 */
     ANTIENTROPY_BAD_KEY = 4,          /* the key has no byte, or over 255 */
     ANTIENTROPY_BAD_VALUE = 5,        /* too long; a tombstone with a value, or in format 1; or an unknown kind */
-    ANTIENTROPY_STALE_CONTEXT = 6,    /* a held version has seen the clock of the put */
+    ANTIENTROPY_STALE_CONTEXT = 6,    /* a held version has seen all of the new version's clock */
     ANTIENTROPY_CROWDED = 7,          /* the key would have over 64 versions */
     ANTIENTROPY_JOURNAL_FULL = 8,     /* the journal has no room for the entries */
-    ANTIENTROPY_OTHER_RANGE = 9,      /* the key or the offer is of another range */
+    ANTIENTROPY_OTHER_RANGE = 9,      /* the key of a put or an accept, or the offer, is of another range */
     ANTIENTROPY_DIRTY = 10,           /* some node of the tree has no digest: rehash */
     ANTIENTROPY_UNKNOWN_SESSION = 12, /* no session has this number */
     ANTIENTROPY_NOT_ASKED = 13,       /* the node isn't outstanding */
@@ -146,9 +147,13 @@ uint32_t antientropy_count(struct antientropy *replica, struct antientropy_count
 
 /* ---- versions */
 
+/* Only put and accept check the range of a key. The reads find no version of a key of another range. Of the reads only
+ * antientropy_get checks the length of a key. */
+
 /* Puts a value (LIVE) or a tombstone (TOMBSTONE, with no value) for a key at a node, 1 to 65,535. The context is the
  * clock of all that the client has read, its pairs in any order; the new version's clock is the context with the node's
- * counter raised by one.
+ * counter raised by one. The new version replaces every held version whose clock is at most its clock, even one that
+ * the client hasn't read.
  * Refused, in order: EMPTY; BAD_CLOCK (the node is 0, or the context isn't a clock), CLOCK_FULL (the context has over
  * 32 pairs), BAD_VALUE (unknown kind); BAD_KEY, BAD_VALUE (too long for the format, or a tombstone that has a value or
  * is in format 1), OTHER_RANGE, CLOCK_FULL and COUNTER_FULL (the context can't be raised), STALE_CONTEXT, CROWDED,
@@ -159,8 +164,8 @@ uint32_t antientropy_put(struct antientropy *replica, uint16_t node, const uint8
 
 /* Accepts a version of another replica, as a copy. `taken` is 1 if it is new and now an entry of the journal, 0 if it
  * was known. Refused, in order: EMPTY; BAD_CLOCK (the pairs aren't a clock), CLOCK_FULL, BAD_VALUE (unknown kind);
- * BAD_KEY, BAD_VALUE, OTHER_RANGE, CROWDED, JOURNAL_FULL, NO_MEMORY. NO_MEMORY may be returned instead of any but
- * EMPTY. */
+ * BAD_KEY, BAD_VALUE, OTHER_RANGE; then, if it is new, CROWDED, JOURNAL_FULL; NO_MEMORY, which may be returned instead
+ * of any but EMPTY. */
 uint32_t antientropy_accept(struct antientropy *replica, const uint8_t *key, size_t key_len,
                             const struct antientropy_pair *clock, size_t clock_len, uint8_t kind, const uint8_t *value,
                             size_t value_len, uint64_t *taken);
@@ -222,31 +227,34 @@ void antientropy_snapshot_free(struct antientropy_snapshot *snapshot);
 uint32_t antientropy_offer(struct antientropy_snapshot *snapshot, uint32_t number, uint8_t *out, size_t out_len,
                            uint64_t *need);
 
-/* Returns the answer to an ask for the offer of that number. Refused, in order: EMPTY, BAD_MESSAGE (the bytes aren't an
- * ask), GONE (it is for another offer), BAD_MESSAGE (the node isn't in the tree), NO_MEMORY, SMALL. */
+/* Returns the answer to an ask for the offer of that number. The answer of a leaf has no fixed limit: one row alone can
+ * have 4,215,427 bytes. Refused, in order: EMPTY, BAD_MESSAGE (the bytes aren't an ask), GONE (it is for another
+ * offer), BAD_MESSAGE (the node isn't in the tree), NO_MEMORY, SMALL. NO_MEMORY may be returned instead of the first
+ * BAD_MESSAGE. */
 uint32_t antientropy_serve(struct antientropy_snapshot *snapshot, uint32_t number, const uint8_t *ask, size_t ask_len,
                            uint8_t *out, size_t out_len, uint64_t *need);
 
 /* ---- sessions */
 
-/* Opens a session with a partner's offer, and returns its number, from 0. A session is never freed before its replica,
- * so compare roots first: bytes 7 to 38 of an offer. Refused, in order: EMPTY, BAD_MESSAGE, OTHER_FORMAT, OTHER_RANGE,
+/* Opens a session with a partner's offer, and returns its number, from 0. The partner's number is kept in the session's
+ * record; it isn't checked, and no call returns it. A session is never freed before its replica, so compare roots
+ * first: bytes 7 to 38 of an offer, counted from 0. Refused, in order: EMPTY, BAD_MESSAGE, OTHER_FORMAT, OTHER_RANGE,
  * SESSIONS_FULL, DIRTY, NO_MEMORY. NO_MEMORY may be returned instead of BAD_MESSAGE. */
 uint32_t antientropy_open(struct antientropy *replica, uint16_t partner, const uint8_t *offer, size_t offer_len,
                           uint64_t *session);
 
-/* Returns the ask for the first outstanding node of a session. `number` is that of the partner's offer (bytes 1 to 4 of
- * the offer's message, the highest first). If no node is outstanding, the session has ended, and `need`
- * is 0. Refused, in order: EMPTY, UNKNOWN_SESSION, NO_MEMORY, SMALL. */
+/* Returns the ask for the first outstanding node of a session. `number` is the number in the partner's offer: bytes 1
+ * to 4, big-endian. If no node is outstanding, the session has ended, and `need` is 0.
+ * Refused, in order: EMPTY, UNKNOWN_SESSION, NO_MEMORY, SMALL. */
 uint32_t antientropy_ask(struct antientropy *replica, uint64_t session, uint32_t number, uint8_t *out, size_t out_len,
                          uint64_t *need);
 
 /* Takes a partner's answer to an ask for the offer of that number. The partner isn't trusted.
  * Refused, in order: EMPTY, BAD_MESSAGE (not an answer, or of another offer), UNKNOWN_SESSION, NOT_ASKED, WRONG_DIGEST,
  * NOT_CANONICAL (the session has failed), CROWDED, JOURNAL_FULL, NO_MEMORY. NO_MEMORY may be returned instead of any
- * but EMPTY. After BAD_MESSAGE, NOT_ASKED and WRONG_DIGEST ask again, with a bound on the number of tries. After
- * CROWDED, JOURNAL_FULL and NO_MEMORY the session stays open, and the next ask is for the same node: cancel the
- * session. No call asks for another node. */
+ * but EMPTY. After BAD_MESSAGE, NOT_ASKED and WRONG_DIGEST ask again, with a bound on the number of bad answers. After
+ * CROWDED, JOURNAL_FULL and NO_MEMORY the session stays open, and antientropy_ask names the same node: cancel the
+ * session, or make the ask for another node yourself. NOT_ASKED means that the node isn't outstanding. */
 uint32_t antientropy_take(struct antientropy *replica, uint64_t session, uint32_t number, const uint8_t *answer,
                           size_t answer_len, struct antientropy_taken *taken);
 
