@@ -18,6 +18,8 @@ ROOM, ROOT = 1 << 20, 7
 BAD_ANSWER = (13, 14, 31)
 # A tree of format 2 has 4,369 nodes: more asks mean that the link or the partner is at fault.
 MOST_ASKS = 10000
+# Bad answers in a sync: more mean that the link or the partner lies.
+MOST_BAD = 8
 
 
 class Handle(ctypes.Structure):
@@ -97,22 +99,24 @@ class Replica:
         return given(offer, self.offered, number)
 
     def sync(self, partner, message, reach):
-        """Takes over what a partner offers, and returns how many versions were new. `reach` brings it an ask, and gives its
-        answer."""
+        """Takes the rows that a partner offers, and returns the number of new versions. `reach` brings the partner an ask,
+        and returns its answer."""
         rehash(self.handle)
         session, number = c_uint64(), struct.unpack(">I", message[1:5])[0]
         open_session(self.handle, partner, message, len(message), byref(session))
-        accepted = 0
+        accepted = bad = 0
         try:
             for _ in range(MOST_ASKS):
-                if not (question := given(ask, self.handle, session, number)):
+                if bad == MOST_BAD or not (question := given(ask, self.handle, session, number)):
                     break
                 answer = reach(question)
                 taken = Taken()
                 if take(self.handle, session, number, answer, len(answer), byref(taken)) == 0:
                     accepted += taken.accepted
+                else:
+                    bad += 1
         finally:
-            cancel(self.handle, session)  # a session that has ended stays as it is
+            cancel(self.handle, session)  # a session that has ended is unchanged
         return accepted
 
     def close(self):
