@@ -1,5 +1,5 @@
-/* The number of calls of the C library that one thread does in a second, for bench/c. The word is the number of keys.
- * Prints a line of JSON, whose members are those of the yardstick's `calls` with one thread. */
+/* Measures how many calls of the C library one thread makes in a second, for bench/c. The word is the number of
+ * keys, 20000 by default. Prints a line of JSON, with members named as in the yardstick's `calls`. */
 #include "antientropy.h"
 
 #include <stdio.h>
@@ -32,7 +32,7 @@ static size_t key_of(unsigned long i, uint8_t *key)
     return (size_t)sprintf((char *)key, "key-%lu", i);
 }
 
-/* 32 bytes that differ for each number. */
+/* Writes 32 bytes, which differ for each number. */
 static void value_of(unsigned long i, uint8_t *value)
 {
     uint64_t x = i;

@@ -1,6 +1,6 @@
 //! Reconciles two ranges of the yardstick, turn by turn: a sync each way over memory, on snapshots that were taken
-//! before both. `bench/reconcile` builds this into a copy of the yardstick. The words, the keys, and what is written are
-//! those of the crate `bench_costs`.
+//! before both. `bench/reconcile` builds this file into a copy of the yardstick. The words, the keys and the standard
+//! output are those of the program of the crate `bench_costs`.
 use crate::shared::*;
 use crate::*;
 use std::sync::Mutex;
@@ -19,7 +19,7 @@ fn accept(range: &SharedRange, number: u64) -> Result<(), No> {
     range.copy(0, format!("key-{number}").as_bytes(), &version).map(drop)
 }
 
-/// An offer of a range's contents.
+/// Returns a pool that offers a snapshot of a range.
 fn offer(range: &SharedRange) -> Result<OfferPool, No> {
     let pool = OfferPool::default();
     pool.publish(range.snapshot()?);

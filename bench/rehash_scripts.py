@@ -1,14 +1,20 @@
 #!/usr/bin/env python3
 """Writes two scripts that differ in their rehash lines, or in their syncs. usage: rehash_scripts.py KIND N WITHOUT WITH
 
-Both put N new keys at node 1. `full`: then ten rounds, each a put of a further key for each of the 256 leaves; WITH
-has a rehash before the first round and after each. `one`: then a rehash, and 2000 puts of further keys; WITH has a
-rehash after each of these. `sync`: the puts are copied to node 2, then both are rehashed, and 500 puts of further keys
-follow, after each of which both are rehashed; in WITH node 2 gets no copies of these, and takes each in a sync before
-its rehash. N is made smaller if a journal, of 1000000 entries, would not take all that.
+Both put N new keys at node 1. The rest depends on KIND:
 
-Prints N, how many rehashes or syncs WITHOUT lacks, of how many nodes each is, the bytes of their texts in all, and with
-how many lines both begin before the first of these, or before the further puts.
+- `full`: ten rounds follow, each a put of one more key for each of the 256 leaves. WITH has a rehash before the first
+  round and after each round.
+- `one`: a rehash follows, and then 2000 puts of further keys. WITH has a rehash after each of these.
+- `sync1`, `sync10`, `sync1000`: the puts are copied to node 2, and both nodes are rehashed. Rounds follow, 500 of one
+  put, 200 of 10 or 20 of 1000, of further keys. After each round both nodes are rehashed. In WITH node 2 gets no copies
+  of these puts, and takes those of each round in a sync before its rehash.
+
+N is made smaller if a journal, of 1000000 entries, has no room for all of this.
+
+Prints N, the number of rehashes or syncs that WITHOUT lacks, the number of nodes of the last one, the sum of the bytes
+of all their texts, and the number of lines that both scripts begin with, before the first of these or before the
+further puts.
 """
 import hashlib, itertools, random, sys
 

@@ -1,12 +1,12 @@
 #!/usr/bin/env python3
 """Runs a program on a script, and times the end of it. usage: timed_tail.py SCRIPT HEAD PROGRAM [WORD..]
 
-The program gets the first HEAD lines of the script's file through a pipe. Once it has done them, which shows in that the
-pipe is empty and the program waits and takes no processor time, it gets the rest, and its time counts from then until
-it has ended. Its output is thrown away.
+The program gets the first HEAD lines of the script's file through a pipe. It has done them once the pipe is empty and
+the program waits and takes no processor time. Then it gets the rest, and its time is measured from there until it has
+ended. Its output is discarded.
 
-Prints the microseconds of wall time and those of processor time, the latter in steps of 10000. The status is that of
-the program, 1 if a signal ended it.
+Prints the wall time and the processor time in microseconds, the latter in steps of 10000. The status is the program's,
+or 1 if a signal ended it.
 """
 import array, fcntl, itertools, os, subprocess, sys, termios, time
 
@@ -29,7 +29,7 @@ def state_and_ticks(pid):
 
 
 def wait_until_calm(child):
-    """Waits until a program has read all that it got, and has done what it read. Returns the ticks it took for that."""
+    """Waits until a program has read and done all its input. Returns the ticks of processor time it has taken."""
     calm, last = 0, -1
     while calm < CALM_STEPS:
         time.sleep(STEP)
@@ -42,7 +42,7 @@ def wait_until_calm(child):
 
 
 def feed(child, part):
-    """Gives a program bytes through its pipe, as many as it reads before it ends."""
+    """Writes bytes to a program's pipe, until all are written or the program has ended."""
     rest = memoryview(part)
     try:
         while rest:
