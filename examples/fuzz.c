@@ -1,9 +1,10 @@
-/* Hostile bytes for each call of the C library that reads a message: 16 MiB of them, and mutated messages.
+/* Passes hostile bytes to each call of the C library that reads a message: 16 MiB of them, and mutated messages.
  *
  *     fuzz [MUTATIONS]     (100,000 for each call, if no number is given)
  *
- * Each is refused, and the replica is unchanged: the same counts, the same rows. It prints how many were tried,
- * and ends with status 1 at the first call that did otherwise. */
+ * Each call must refuse them, except that an ask may be a good one, and leave the replica unchanged, with equal counts
+ * and equal rows. Prints the number of bytes and mutations, and ends with status 1 at the first call that does
+ * otherwise. */
 #include "antientropy.h"
 
 #include <stdio.h>
@@ -16,7 +17,7 @@ static uint8_t out[ROOM], before[KEYS][256], after[ROOM];
 static uint64_t before_len[KEYS];
 static uint32_t state = SEED;
 
-/* The next of a fixed list of numbers (xorshift32). */
+/* Returns the next of a fixed list of numbers (xorshift32). */
 static uint32_t next(void)
 {
     state ^= state << 13;
@@ -97,7 +98,7 @@ static void prepare(void)
     must("serve", antientropy_serve(&offered, NUMBER, ask, ask_len, answer, sizeof answer, &answer_len));
 }
 
-/* An offer opens no session: it is refused, at the latest since there are 64. */
+/* Passes an offer, which must open no session: it is refused, if only because there are 64. */
 static void bring_offer(const uint8_t *bytes, size_t len)
 {
     uint64_t number;
@@ -107,7 +108,7 @@ static void bring_offer(const uint8_t *bytes, size_t len)
         fail("open", got);
 }
 
-/* An ask may be a good one, of another node. */
+/* Passes an ask, which may be a good one, of another node. */
 static void bring_ask(const uint8_t *bytes, size_t len)
 {
     uint64_t need;
@@ -116,7 +117,7 @@ static void bring_ask(const uint8_t *bytes, size_t len)
         fail("serve", got);
 }
 
-/* An answer is refused. */
+/* Passes an answer, which must be refused. */
 static void bring_answer(const uint8_t *bytes, size_t len)
 {
     struct antientropy_taken taken;
@@ -125,7 +126,7 @@ static void bring_answer(const uint8_t *bytes, size_t len)
         fail("take", got);
 }
 
-/* Brings bytes to each call that reads a message. */
+/* Passes bytes to each call that reads a message. */
 static void bring(const uint8_t *bytes, size_t len)
 {
     bring_offer(bytes, len);
@@ -133,7 +134,7 @@ static void bring(const uint8_t *bytes, size_t len)
     bring_answer(bytes, len);
 }
 
-/* Changes some bytes of a message, or cuts it, or makes it longer. */
+/* Changes some bytes of a message, and may cut it or add a byte. Returns its new length. */
 static size_t mutate(const uint8_t *message, size_t len, uint8_t *to)
 {
     memcpy(to, message, len);
@@ -150,7 +151,7 @@ static size_t mutate(const uint8_t *message, size_t len, uint8_t *to)
     }
 }
 
-/* Brings mutations of a message to one call, each in memory of its own length, where a read past the end is seen. */
+/* Passes mutations of a message to one call, each in a block of its own, so that reads past the block are seen. */
 static void mutations(unsigned count, const uint8_t *message, size_t len, void (*to)(const uint8_t *, size_t))
 {
     static uint8_t mutant[ROOM + 1];

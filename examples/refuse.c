@@ -1,13 +1,14 @@
-// For `examples/check` alone, which loads it into the program by LD_PRELOAD, before the C library. It refuses one growth of
-// memory, or fails one read or write. No part of the program is written in C.
+// Refuses growths of memory, or fails one read or write. Only `examples/check` uses this file: it loads it into the
+// program by LD_PRELOAD, before the C library. No part of the program is written in C.
 //
 //   REFUSE_ALLOC=N    the Nth growth is refused
-//   REFUSE_ALLOCS=N   the Nth growth and each one after it
+//   REFUSE_ALLOCS=N   the Nth growth and each one after it are refused
 //   REFUSE_READ=N     the Nth read of standard input fails
 //   REFUSE_WRITE=N    the Nth write to standard output fails
 //   REFUSE_SHORT=1    each of these reads and writes moves one byte
 //
-// For each refusal it writes a line to descriptor 9: the number of line feeds written to standard output before.
+// Writes a line to descriptor 9 for each refusal: the number of line feeds that were written to standard output before
+// it.
 
 typedef unsigned long size;
 
@@ -56,7 +57,7 @@ static void count_lines(const char *text, long count) {
         lines += text[at] == '\n';
 }
 
-// (threads grow memory side by side, and each growth has a number of its own)
+// (threads grow memory at the same time, and each growth has its number)
 static int is_refused(void) {
     size number = __atomic_add_fetch(&allocs, 1, __ATOMIC_RELAXED);
     if (number != alloc_at && (!allocs_from || number < allocs_from))
