@@ -159,7 +159,7 @@ static void mutations(unsigned count, const uint8_t *message, size_t len, void (
         size_t length = mutate(message, len, mutant);
         if (length == len && memcmp(mutant, message, len) == 0)
             continue;
-        uint8_t *own = malloc(length + 1);
+        uint8_t *own = malloc(length > 0 ? length : 1);
         if (own == NULL)
             fail("malloc", n);
         memcpy(own, mutant, length);
@@ -181,7 +181,7 @@ int main(int argc, char **argv)
             out[n] = (uint8_t)next();
         if (len > 0 && next() % 2 == 0)
             out[0] = (uint8_t)(next() % 3 + 1);
-        uint8_t *own = malloc(len + 1);
+        uint8_t *own = malloc(len > 0 ? len : 1);
         if (own == NULL)
             fail("malloc", 0);
         memcpy(own, out, len);
