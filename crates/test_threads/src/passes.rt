@@ -11,7 +11,6 @@ use std::process::Abort;
 use std::sync::ledger::{Blank, Ledger};
 use std::test::Fail;
 use std::thread::Threads;
-use test_core::checks::expect;
 use test_core::versions::version;
 use vclock::{Bytes, Clock, Refusal};
 use version_set::Kind;
@@ -47,7 +46,7 @@ fn a_book_absorbs_its_passes(rt: HostRuntime) -> Result<(), Fail> {
 }
 
 /// Opens two passes, takes both back, and settles.
-fn settle_two<L: Ledger>(alloc: Global, blank: Blank) -> Result<(), Fail>
+fn settle_two<L: Ledger>(rt: &impl Abort, alloc: Global, blank: Blank) -> Result<(), Fail>
     requires name { blank.name ≡ L.name }
     requires parts { (blank.parts ≡ L.parts) × (L.parts ≡ 2) }
 {
@@ -61,12 +60,13 @@ fn settle_two<L: Ledger>(alloc: Global, blank: Blank) -> Result<(), Fail>
         return Err(Fail::from("no room"));
     };
     book.settle();
-    expect(book.seats() == 2, "two seats")
+    assert_eq!(rt; book.seats(), 2);
+    Ok(())
 }
 
 #[test]
 fn a_book_settles(rt: HostRuntime) -> Result<(), Fail> {
-    settle_two::<Brand>(rt.alloc(), Blank::new(2))
+    settle_two::<Brand>(&rt, rt.alloc(), Blank::new(2))
 }
 
 /// Puts `x` under `a` at node 1, with an empty context.
