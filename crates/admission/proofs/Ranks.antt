@@ -12,12 +12,12 @@ use Rattle.circular_buffer.specs.Buffer.{keep_last}
 use Rattle.std.specs.Ordering.{nat_cmp}
 use Rattle.admission.specs.declared.latency.Sample.{Sample}
 use Rattle.std.proofs.lemmas.List.Sorted.{IsNonDecreasingBy-from_sort, sum_by-IsPermutation, Contains-permutation, IsPermutation-sym}
-use Rattle.admission.specs.Admission.{at_most, IsPercentile, window_of, least, lesser, percentile, pairs}
+use Rattle.admission.specs.Admission.{count_up_to, IsPercentile, window_of, least, lesser, percentile, pairs}
 
 abbrev one_if : Bool → ℕ
 one_if b = cond b 1 0
 
-at_most-cons : (v y : ℕ) (ys : List ℕ) → at_most v (y ∷ ys) ≡ one_if (nat_le y v) + at_most v ys
+at_most-cons : (v y : ℕ) (ys : List ℕ) → count_up_to v (y ∷ ys) ≡ one_if (nat_le y v) + count_up_to v ys
 at_most-cons v y ys = sum_by-cons (λ x. cond (nat_le x v) 1 0) y ys
 
 one_of : (b : Bool) → one_if b ≤ 1
@@ -31,7 +31,7 @@ counts_not : (y v : ℕ) → v < y → one_if (nat_le y v) ≡ 0
 counts_not y v lt = grind (arith, nat_tests)
 
 -- all up to place k are at most v
-pub ranked : (ys : List ℕ) (k v : ℕ) → ((j : ℕ) → j ≤ k → j < length ys → get_or ys j 0 ≤ v) → k < length ys → k + 1 ≤ at_most v ys
+pub ranked : (ys : List ℕ) (k v : ℕ) → ((j : ℕ) → j ≤ k → j < length ys → get_or ys j 0 ≤ v) → k < length ys → k + 1 ≤ count_up_to v ys
 ranked [] k v below lt = absurd (omega arith)
 ranked (y ∷ ys) zero v below lt =
     let h : y ≤ v = below 0 (omega arith) (omega arith) in
@@ -42,7 +42,7 @@ ranked (y ∷ ys) (suc k) v below lt =
     omega (arith, at_most-cons v y ys, counts y v h, r)
 
 -- all from place k on are greater than w
-pub few : (ys : List ℕ) (k w : ℕ) → ((j : ℕ) → k ≤ j → j < length ys → w < get_or ys j 0) → at_most w ys ≤ k
+pub few : (ys : List ℕ) (k w : ℕ) → ((j : ℕ) → k ≤ j → j < length ys → w < get_or ys j 0) → count_up_to w ys ≤ k
 few [] k w above = omega arith
 few (y ∷ ys) zero w above =
     let h : w < y = above 0 (omega arith) (omega arith) in
@@ -53,7 +53,7 @@ few (y ∷ ys) (suc k) w above =
     omega (arith, at_most-cons w y ys, one_of (nat_le y w), r)
 
 -- a number with enough at most it isn't below the element of the rank
-least_of : (ys : List ℕ) (k w n : ℕ) → IsNonDecreasing ys → k < length ys → 99 * n ≤ 100 * at_most w ys → 100 * k < 99 * n → get_or ys k 0 ≤ w
+least_of : (ys : List ℕ) (k w n : ℕ) → IsNonDecreasing ys → k < length ys → 99 * n ≤ 100 * count_up_to w ys → 100 * k < 99 * n → get_or ys k 0 ≤ w
 least_of ys k w n sorted lt some least =
     ⊎_elim
     (λ (below : w < get_or ys k 0).
@@ -67,7 +67,7 @@ pub p99_at : (xs ys : List ℕ) (k : ℕ) → IsPermutation xs ys → length ys 
     → k < length ys → 99 * length ys ≤ 100 * (k + 1) → 100 * k < 99 * length ys → IsPercentile xs (get_or ys k 0)
 p99_at xs ys k moved len sorted lt enough least =
     let v = get_or ys k 0 in
-    let count : (w : ℕ) → at_most w ys ≡ at_most w xs = λ w. sum_by-IsPermutation (λ (x : ℕ). cond (nat_le x w) 1 0) xs ys moved in
+    let count : (w : ℕ) → count_up_to w ys ≡ count_up_to w xs = λ w. sum_by-IsPermutation (λ (x : ℕ). cond (nat_le x w) 1 0) xs ys moved in
     let here : Contains ys v = (k, lt, get_or_default ys k v 0 lt) in
     let r = ranked ys k v (λ j le lj. sorted j k 0 le lt) lt in
     record {
@@ -157,7 +157,7 @@ percentile_none (x ∷ xs) e = absurd (omega (arith, e))
 pub percentile_is : (xs : List ℕ) (v : ℕ) → IsPercentile xs v → percentile xs ≡ Some v
 unfolding percentile
 percentile_is xs v is =
-    least_kept (λ v. nat_le (99 * length xs) (100 * at_most v xs)) xs v is.there.0 is.there.1 is.there.2 (grind (arith, nat_tests, is.enough))
+    least_kept (λ v. nat_le (99 * length xs) (100 * count_up_to v xs)) xs v is.there.0 is.there.1 is.there.2 (grind (arith, nat_tests, is.enough))
     (λ w there pass. is.least w there (grind (arith, nat_tests, pass)))
 
 pub length_pairs : (xs : List Sample) → length (pairs xs) ≡ length xs

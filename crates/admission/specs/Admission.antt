@@ -29,8 +29,8 @@ pub record IsAdmission (a : Admission) : Type 0 where
   pub slots : a.slots ≤ a.ceiling
   pub samples : length a.samples ≤ 1024
 
-abbrev pub fresh : ℕ → ℕ → ℕ → Admission
-fresh floor ceiling threshold =
+abbrev pub fresh_admission : ℕ → ℕ → ℕ → Admission
+fresh_admission floor ceiling threshold =
     record { floor = floor; ceiling = ceiling; threshold = threshold; target = ceiling; slots = 0; samples = []; latest = 0 }
 
 -- the number of slots that could be lent
@@ -56,8 +56,8 @@ abbrev pub window_of : ℕ → List (ℕ × ℕ) → List ℕ
 window_of now samples = map (λ s. s.1) (filter (λ s. nat_lt now (s.0 + 60000)) samples)
 
 -- the number of items that are at most v
-abbrev pub at_most : ℕ → List ℕ → ℕ
-at_most v xs = count_by (λ x. nat_le x v) xs
+abbrev pub count_up_to : ℕ → List ℕ → ℕ
+count_up_to v xs = count_by (λ x. nat_le x v) xs
 
 -- the lesser of a number and another, if there is another
 abbrev pub lesser : ℕ → Option ℕ → ℕ
@@ -71,13 +71,13 @@ least (x ∷ xs) = Some (lesser x (least xs))
 
 -- the 99th percentile: the smallest sample with at least 99 of 100 at most it
 unfoldable pub percentile : List ℕ → Option ℕ
-percentile xs = least (filter (λ v. nat_le (99 * length xs) (100 * at_most v xs)) xs)
+percentile xs = least (filter (λ v. nat_le (99 * length xs) (100 * count_up_to v xs)) xs)
 
 -- the percentile as a fact: it is a sample, at least 99 of 100 are at most it, and it is the smallest such sample
 pub record IsPercentile (xs : List ℕ) (v : ℕ) : Type 0 where
   pub there : Contains xs v
-  pub enough : 99 * length xs ≤ 100 * at_most v xs
-  pub least : (w : ℕ) → Contains xs w → 99 * length xs ≤ 100 * at_most w xs → v ≤ w
+  pub enough : 99 * length xs ≤ 100 * count_up_to v xs
+  pub least : (w : ℕ) → Contains xs w → 99 * length xs ≤ 100 * count_up_to w xs → v ≤ w
 
 -- the target after an adjustment
 abbrev pub target_after : Admission → Option ℕ → ℕ

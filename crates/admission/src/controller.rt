@@ -2,7 +2,7 @@
 ghost use Rattle.std.specs.Prelude.{◌≡◌, ◌+◌, ◌-◌, ◌≤◌, length, IfOk, [], None, Some, MatchOption};
 ghost use Rattle.vclock.specs.Answer.{Answers};
 ghost use Rattle.vclock.specs.Outcome.{DoesAtOnce, ChangesAtOnce};
-ghost use Rattle.admission.specs.Admission.{IsAdmission, fresh, free_of, allowance_of, lend, sample, adjust, window_of, percentile, IsPercentile, target_after};
+ghost use Rattle.admission.specs.Admission.{IsAdmission, fresh_admission, free_of, allowance_of, lend, sample, adjust, window_of, percentile, IsPercentile, target_after};
 
 use crate::latency::{MOST, Sample, percentile, window};
 use crate::slot::Slot;
@@ -78,7 +78,7 @@ impl<L: Ledger> Controller<L> {
     ) -> Result<Controller<L>, Refusal>
         requires ledger { (blank.name ≡ L.name) × (blank.parts ≡ L.parts) × (blank.parts ≡ 1024) }
         requires bounds { (1 ≤ floor) × (floor ≤ ceiling) × (ceiling ≤ 1024) }
-        ensures { Answers result None (λ c. c ≡ fresh floor ceiling threshold) }
+        ensures { Answers result None (λ c. c ≡ fresh_admission floor ceiling threshold) }
     {
         let samples = HeapCircularBuffer::with_capacity(alloc, MOST)?;
         let mut room = Vec::new(alloc);
@@ -167,7 +167,7 @@ impl<L: Ledger> Controller<L> {
     /// Resets a controller with no slot lent to its state after `new`.
     pub fn reset(&mut self)
         requires { self.old.slots ≡ 0 }
-        ensures { self.new ≡ fresh self.old.floor self.old.ceiling self.old.threshold }
+        ensures { self.new ≡ fresh_admission self.old.floor self.old.ceiling self.old.threshold }
     {
         self.target = self.ceiling;
         self.latest = 0;

@@ -5,7 +5,7 @@ use Rattle.vclock.specs.declared.refusal.Refusal.{Refusal}
 use Rattle.range_state.specs.State.{State}
 use Rattle.antientropy_c.specs.Numbers.{code_of, Returns}
 use Rattle.antientropy_c.specs.Calls.{Calls, OnHeld, Reads}
-use Rattle.antientropy_c.specs.Hands.{HandsOut, Gives}
+use Rattle.antientropy_c.specs.Hands.{HandsOut, HandsOutRight}
 use Rattle.antientropy_c.specs.Merges.{HandsClock, GivesClock}
 use Rattle.antientropy_c.specs.declared.pair.Pair.{Pair}
 use Rattle.vclock.specs.Clock.{Pairs}
@@ -42,7 +42,7 @@ returns code Right r number right = record { told = r; number = number; right = 
 
 -- the bytes of a result are handed out
 pub gives : (code : ℕ) (before after : ℕ × List ℕ) (Right : Result (List ℕ) Refusal → Type 0) (r : Result (List ℕ) Refusal)
-    → HandsOut r code before after → Right r → Gives code before after Right
+    → HandsOut r code before after → Right r → HandsOutRight code before after Right
 gives code before after Right r handed right = record { told = r; handed = handed; right = right }
 
 -- what the bytes decode to

@@ -4,20 +4,20 @@ use Rattle.std.specs.Prelude.{Bool, true, false, Result, Option}
 use Rattle.vclock.specs.declared.refusal.Refusal.{Refusal}
 use Rattle.snapshot.specs.RowMaps.{RowMap}
 use Rattle.antientropy_c.specs.Numbers.{code_of}
-use Rattle.antientropy_c.specs.Offers.{Shows, Publishes, PublishedWhere, TakesRows}
+use Rattle.antientropy_c.specs.Offers.{ShowsRows, Publishes, PublishedWhere, TakesRows}
 use Rattle.antientropy_c.specs.declared.publication.Publication.{Publication}
 use Rattle.antientropy_c.specs.declared.numbers.TheConstants.{EMPTY, HELD}
 use Rattle.antientropy_c.proofs.CallLaws.{on_held, on_empty, returns}
 
 -- nothing was held
-pub empty : (code : ℕ) (old new : Publication) (Right : RowMap → Type 0) → old.held ≡ false → new.held ≡ false → code ≡ EMPTY → Shows code old new Right
-unfolding Shows
+pub empty : (code : ℕ) (old new : Publication) (Right : RowMap → Type 0) → old.held ≡ false → new.held ≡ false → code ≡ EMPTY → ShowsRows code old new Right
+unfolding ShowsRows
 empty code old new Right was now is_code = on_empty old.held new.held code ((new.rows ≡ old.rows) × Right old.rows) was now is_code
 
 -- rows were held, and still are
 pub held : (code : ℕ) (old new : Publication) (Right : RowMap → Type 0) (m : RowMap)
-    → old.held ≡ true → new.held ≡ true → m ≡ old.rows → new.rows ≡ m → Right m → Shows code old new Right
-unfolding Shows
+    → old.held ≡ true → new.held ≡ true → m ≡ old.rows → new.rows ≡ m → Right m → ShowsRows code old new Right
+unfolding ShowsRows
 held code old new Right m was now is_old is_new right =
     on_held old.held new.held code ((new.rows ≡ old.rows) × Right old.rows) was now (subst (λ (x : RowMap). new.rows ≡ x) is_old is_new, subst (λ (x : RowMap). Right x) is_old right)
 

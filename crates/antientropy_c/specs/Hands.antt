@@ -1,6 +1,6 @@
 -- The copies of bytes that C gets.
 use Rattle.std.specs.Prelude.{◌≡◌, ℕ, nat_le, List, ◌++◌, length, drop, Result, Ok, Err, if◌then◌else◌}
-use Rattle.vclock.specs.Refusal.{number_of}
+use Rattle.vclock.specs.Refusal.{cause_number}
 use Rattle.vclock.specs.declared.refusal.Refusal.{Refusal}
 use Rattle.antientropy_c.specs.declared.numbers.TheConstants.{SMALL}
 
@@ -16,10 +16,10 @@ copy_code bytes room = if nat_le (length bytes) (length room) then 0 else SMALL
 -- after are the stored number and the buffer.
 abbrev pub HandsOut : Result (List ℕ) Refusal → ℕ → ℕ × List ℕ → ℕ × List ℕ → Type 0
 HandsOut (Ok bytes) code before after = (code ≡ copy_code bytes before.1) × (after.0 ≡ length bytes) × (after.1 ≡ copied bytes before.1)
-HandsOut (Err e) code before after = (code ≡ number_of e) × (after.0 ≡ before.0) × (after.1 ≡ before.1)
+HandsOut (Err e) code before after = (code ≡ cause_number e) × (after.0 ≡ before.0) × (after.1 ≡ before.1)
 
 -- A result that is right is copied out.
-pub record Gives (code : ℕ) (before after : ℕ × List ℕ) (Right : Result (List ℕ) Refusal → Type 0) : Type 0 where
+pub record HandsOutRight (code : ℕ) (before after : ℕ × List ℕ) (Right : Result (List ℕ) Refusal → Type 0) : Type 0 where
   pub told : Result (List ℕ) Refusal
   pub handed : HandsOut told code before after
   pub right : Right told

@@ -2,7 +2,7 @@
 use Rattle.std.specs.Prelude.{◌≡◌, ℕ, List, Option, Result, Ok, Err}
 use Rattle.vclock.specs.Answer.{first_fault}
 use Rattle.vclock.specs.Clock.{Pairs, clock_of, pairs_fault, merge_fault}
-use Rattle.vclock.specs.Refusal.{number_of}
+use Rattle.vclock.specs.Refusal.{cause_number}
 use Rattle.vclock.specs.declared.refusal.Refusal.{Refusal}
 use Rattle.antientropy_c.specs.Versions.{HandsPairs}
 use Rattle.antientropy_c.specs.declared.pair.Pair.{Pair}
@@ -14,7 +14,7 @@ merges_fault a b = first_fault (pairs_fault a) (first_fault (pairs_fault b) (mer
 -- Of a clock the caller gets its pairs; of a refusal only its number.
 abbrev pub HandsClock : Result Pairs Refusal → ℕ → ℕ × List Pair → ℕ × List Pair → Type 0
 HandsClock (Ok c) code before after = HandsPairs c code before after
-HandsClock (Err e) code before after = (code ≡ number_of e) × (after.0 ≡ before.0) × (after.1 ≡ before.1)
+HandsClock (Err e) code before after = (code ≡ cause_number e) × (after.0 ≡ before.0) × (after.1 ≡ before.1)
 
 -- A result that is right is copied out.
 pub record GivesClock (code : ℕ) (before after : ℕ × List Pair) (Right : Result Pairs Refusal → Type 0) : Type 0 where

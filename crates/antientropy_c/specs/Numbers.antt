@@ -1,12 +1,12 @@
 -- The numbers that calls return.
 use Rattle.std.specs.Prelude.{◌≡◌, ℕ, Result, Ok, Err}
-use Rattle.vclock.specs.Refusal.{number_of}
+use Rattle.vclock.specs.Refusal.{cause_number}
 use Rattle.vclock.specs.declared.refusal.Refusal.{Refusal}
 
 -- 0, or the number of a refusal
 abbrev pub code_of : {T : Type 0} → Result T Refusal → ℕ
 code_of (Ok x) = 0
-code_of (Err e) = number_of e
+code_of (Err e) = cause_number e
 
 -- A result that is right has this number.
 pub record Returns {T : Type 0} (code : ℕ) (Right : Result T Refusal → Type 0) : Type 0 where

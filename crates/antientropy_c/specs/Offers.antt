@@ -1,7 +1,7 @@
 -- Offers of a replica to another one.
 use Rattle.std.specs.Prelude.{◌≡◌, ℕ, ◌==◌, Bool, true, false, List, Result, Ok, Err, Option, OnErr, MatchBool}
 use Rattle.vclock.specs.Answer.{Answers}
-use Rattle.vclock.specs.Format.{number_of}
+use Rattle.vclock.specs.Format.{format_number}
 use Rattle.vclock.specs.declared.refusal.Refusal.{Refusal}
 use Rattle.vclock.specs.declared.refusal.Refusal.TheVariants.{BadMessage, Gone}
 use Rattle.walk_messages.specs.Messages.{message_text}
@@ -18,8 +18,8 @@ use Rattle.antientropy_c.specs.declared.numbers.TheConstants.{HELD}
 use Rattle.antientropy_c.specs.declared.publication.Publication.{Publication}
 
 -- a call on a publication that does not change it
-unfoldable pub Shows : ℕ → Publication → Publication → (RowMap → Type 0) → Type 0
-Shows code old new Right = OnHeld old.held new.held code ((new.rows ≡ old.rows) × Right old.rows)
+unfoldable pub ShowsRows : ℕ → Publication → Publication → (RowMap → Type 0) → Type 0
+ShowsRows code old new Right = OnHeld old.held new.held code ((new.rows ≡ old.rows) × Right old.rows)
 
 -- the publication holds the rows, or is empty on error
 abbrev pub TakesRows : Publication → Option Refusal → RowMap → Result (Unit {0}) Refusal → Type 0
@@ -34,8 +34,8 @@ unfoldable pub Publishes : ℕ → Publication → Publication → Option Refusa
 Publishes code old new cause m = PublishedWhere old.held code old new cause m
 
 -- the offer of some rows
-abbrev pub offer_of : ℕ → RowMap → Offer
-offer_of number m = record { offer = number; format = number_of m.format; range = m.range; root = root_of m }
+abbrev pub offer_numbered : ℕ → RowMap → Offer
+offer_numbered number m = record { offer = number; format = format_number m.format; range = m.range; root = root_of m }
 
 -- the answer to an ask
 abbrev pub answer_of : RowMap → Ask → Answer

@@ -5,12 +5,12 @@ use Rattle.vclock.specs.declared.clock.ClockOrder.{ClockOrder}
 use Rattle.vclock.specs.declared.clock.ClockOrder.TheVariants.{Before, After, Equal, Apart}
 use Rattle.antientropy_c.specs.declared.pair.Pair.{Pair}
 
-abbrev pub pair_of : Pair → ℕ × ℕ
-pair_of p = (p.node, p.counter)
+abbrev pub clock_pair : Pair → ℕ × ℕ
+clock_pair p = (p.node, p.counter)
 
 -- the pairs of C as pairs of a clock
-abbrev pub pairs_of : List Pair → Pairs
-pairs_of ps = map pair_of ps
+abbrev pub clock_pairs : List Pair → Pairs
+clock_pairs ps = map clock_pair ps
 
 -- the number of an order
 abbrev pub number_of_order : ClockOrder → ℕ

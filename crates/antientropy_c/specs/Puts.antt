@@ -22,8 +22,8 @@ abbrev pub kind_fault : ℕ → Option Refusal
 kind_fault kind = if nat_le kind 1 then None else Some BadValue
 
 -- the kind of a number: 0 for a live version, 1 for a tombstone
-abbrev pub kind_of : ℕ → Kind
-kind_of kind = if kind == 0 then Live else Tombstone
+abbrev pub kind_numbered : ℕ → Kind
+kind_numbered kind = if kind == 0 then Live else Tombstone
 
 -- a put by seat 0
 abbrev pub put_at : State → ℕ → List ℕ → Pairs → ℕ → List ℕ → Outcome Entry State
@@ -31,7 +31,7 @@ put_at s node key context kind value = do
   node_fault node
   pairs_fault context
   kind_fault kind
-  put s 0 node key (clock_of context) (kind_of kind) value
+  put s 0 node key (clock_of context) (kind_numbered kind) value
 
 -- the caller gets the receipt of its entry, unless the put was refused
 abbrev pub TellsPut : ℕ → Result Entry Refusal → PutReceipt → PutReceipt → Type 0
@@ -43,7 +43,7 @@ abbrev pub accept_at : State → List ℕ → Pairs → ℕ → List ℕ → Out
 accept_at s key clock kind value = do
   pairs_fault clock
   kind_fault kind
-  accept s 0 Copy key (record { clock = clock_of clock; kind = kind_of kind; value = value })
+  accept s 0 Copy key (record { clock = clock_of clock; kind = kind_numbered kind; value = value })
 
 -- the caller gets 1 if the version was new and 0 if it was known, unless it was refused
 abbrev pub TellsAccepted : Result Accepted Refusal → ℕ → ℕ → Type 0

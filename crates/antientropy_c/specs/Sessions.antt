@@ -9,7 +9,7 @@ use Rattle.walk_messages.specs.declared.message.Answer.{Answer}
 use Rattle.walk_messages.specs.declared.message.Message.{Message}
 use Rattle.walk_messages.specs.declared.message.Message.TheVariants as messages
 use Rattle.hash_tree.specs.declared.node.NodeAt.{NodeAt}
-use Rattle.sync_session.specs.TreeNodes.{node_of}
+use Rattle.sync_session.specs.TreeNodes.{as_node}
 use Rattle.sync_session.specs.declared.state.SessionState.{SessionState}
 use Rattle.sync_session.specs.declared.state.SessionState.TheVariants.{Open, Finished, Failed, Cancelled}
 use Rattle.range_state.specs.State.{State}
@@ -49,15 +49,15 @@ Asks s id number r = Answers r (unknown_fault s id) (λ bytes. MatchOption (slic
 -- an answer of the offer with that number is taken, as by seat 0, and one of another offer is refused
 abbrev pub TakesWith : State → ℕ → ℕ → Answer → Result AnswerTaken Refusal → State → Type 0
 TakesWith s id number a r t = MatchBool (a.offer == number)
-    (TakesAnswer s 0 id (record { node = node_of a.node; text = a.text }) r t)
+    (TakesAnswer s 0 id (record { node = as_node a.node; text = a.text }) r t)
     ((r ≡ Err BadMessage) × (t ≡ s))
 
 -- a decoded message is taken, if it is an answer
-abbrev pub Takes : State → ℕ → ℕ → Result AnswerTaken Refusal → State → Result Message Refusal → Type 0
-Takes s id number r t (Ok (messages.Answer answer)) = TakesWith s id number answer r t
-Takes s id number r t (Ok (messages.Offer offer)) = (r ≡ Err BadMessage) × (t ≡ s)
-Takes s id number r t (Ok (messages.Ask ask)) = (r ≡ Err BadMessage) × (t ≡ s)
-Takes s id number r t (Err e) = (r ≡ Err e) × (t ≡ s)
+abbrev pub TakesMessage : State → ℕ → ℕ → Result AnswerTaken Refusal → State → Result Message Refusal → Type 0
+TakesMessage s id number r t (Ok (messages.Answer answer)) = TakesWith s id number answer r t
+TakesMessage s id number r t (Ok (messages.Offer offer)) = (r ≡ Err BadMessage) × (t ≡ s)
+TakesMessage s id number r t (Ok (messages.Ask ask)) = (r ≡ Err BadMessage) × (t ≡ s)
+TakesMessage s id number r t (Err e) = (r ≡ Err e) × (t ≡ s)
 
 -- the number of a session's state
 abbrev pub number_of_state : SessionState → ℕ

@@ -4,7 +4,7 @@ ghost use Rattle.vclock.specs.Answer.{AnswersOrNoMemory, first_fault};
 ghost use Rattle.vclock.specs.Clock.{Pairs, pairs_fault, clock_of, merged};
 ghost use Rattle.vclock.specs.declared.refusal.Refusal.{Refusal};
 ghost use Rattle.antientropy_c.specs.Numbers.{Returns};
-ghost use Rattle.antientropy_c.specs.Pairs.{pairs_of, number_of_order, order_between};
+ghost use Rattle.antientropy_c.specs.Pairs.{clock_pairs, number_of_order, order_between};
 ghost use Rattle.antientropy_c.specs.Merges.{merges_fault, HandsClock, GivesClock};
 ghost use Rattle.antientropy_c.specs.Sessions.{TellsNumber};
 
@@ -29,8 +29,8 @@ pub extern "C" fn antientropy_compare(
     order: &mut u64,
 ) -> u32
     ensures { Returns result (λ (r : Result ℕ Refusal). AnswersOrNoMemory r
-        (first_fault (pairs_fault (pairs_of first.now)) (pairs_fault (pairs_of second.now)))
-        (λ n. n ≡ order_between (clock_of (pairs_of first.now)) (clock_of (pairs_of second.now)))
+        (first_fault (pairs_fault (clock_pairs first.now)) (pairs_fault (clock_pairs second.now)))
+        (λ n. n ≡ order_between (clock_of (clock_pairs first.now)) (clock_of (clock_pairs second.now)))
         × TellsNumber r order.old order.new) }
 {
     let told = compare(alloc, first, second);
@@ -41,8 +41,8 @@ pub extern "C" fn antientropy_compare(
 /// Compares two clocks.
 fn compare(alloc: Global, first: &[Pair], second: &[Pair]) -> Result<u64, Refusal>
     ensures { AnswersOrNoMemory result
-        (first_fault (pairs_fault (pairs_of first.now)) (pairs_fault (pairs_of second.now)))
-        (λ n. n ≡ order_between (clock_of (pairs_of first.now)) (clock_of (pairs_of second.now))) }
+        (first_fault (pairs_fault (clock_pairs first.now)) (pairs_fault (clock_pairs second.now)))
+        (λ n. n ≡ order_between (clock_of (clock_pairs first.now)) (clock_of (clock_pairs second.now))) }
 {
     let first = clock_of(alloc, first)?;
     let second = clock_of(alloc, second)?;
@@ -75,8 +75,8 @@ pub extern "C" fn antientropy_merge(
     need: &mut u64,
 ) -> u32
     ensures { GivesClock result (need.old, out.old) (need.new, out.new) (λ (r : Result Pairs Refusal).
-        AnswersOrNoMemory r (merges_fault (pairs_of first.now) (pairs_of second.now))
-        (λ c. c ≡ merged (clock_of (pairs_of first.now)) (clock_of (pairs_of second.now)))) }
+        AnswersOrNoMemory r (merges_fault (clock_pairs first.now) (clock_pairs second.now))
+        (λ c. c ≡ merged (clock_of (clock_pairs first.now)) (clock_of (clock_pairs second.now)))) }
 {
     let told = merge(alloc, first, second);
     hand_clock(&told, out, need)
@@ -84,8 +84,8 @@ pub extern "C" fn antientropy_merge(
 
 /// Merges two clocks.
 fn merge(alloc: Global, first: &[Pair], second: &[Pair]) -> Result<Clock, Refusal>
-    ensures { AnswersOrNoMemory result (merges_fault (pairs_of first.now) (pairs_of second.now))
-        (λ c. c ≡ merged (clock_of (pairs_of first.now)) (clock_of (pairs_of second.now))) }
+    ensures { AnswersOrNoMemory result (merges_fault (clock_pairs first.now) (clock_pairs second.now))
+        (λ c. c ≡ merged (clock_of (clock_pairs first.now)) (clock_of (clock_pairs second.now))) }
 {
     let first = clock_of(alloc, first)?;
     let second = clock_of(alloc, second)?;

@@ -5,8 +5,8 @@ ghost use Rattle.walk_messages.specs.Messages.{message_text};
 ghost use Rattle.walk_messages.specs.declared.message.Message.TheVariants as messages;
 ghost use Rattle.range_state.specs.State.{rows_now, dirty_fault};
 ghost use Rattle.antientropy_c.specs.Calls.{Calls, Reads};
-ghost use Rattle.antientropy_c.specs.Hands.{Gives};
-ghost use Rattle.antientropy_c.specs.Offers.{Shows, Publishes, TakesRows, offer_of, ServesAsk, Serves};
+ghost use Rattle.antientropy_c.specs.Hands.{HandsOutRight};
+ghost use Rattle.antientropy_c.specs.Offers.{ShowsRows, Publishes, TakesRows, offer_numbered, ServesAsk, Serves};
 
 use crate::numbers::{EMPTY, HELD, code};
 use crate::output::hand_out;
@@ -88,8 +88,8 @@ pub extern "C" fn antientropy_offer(
     out: &mut [u8],
     need: &mut u64,
 ) -> u32
-    ensures { Shows result publication.old publication.new (λ m. Gives result (need.old, out.old) (need.new, out.new)
-        (λ r. Answers r None (λ bytes. bytes ≡ message_text (messages.Offer (offer_of number m))))) }
+    ensures { ShowsRows result publication.old publication.new (λ m. HandsOutRight result (need.old, out.old) (need.new, out.new)
+        (λ r. Answers r None (λ bytes. bytes ≡ message_text (messages.Offer (offer_numbered number m))))) }
 {
     let Some(rows) = publication.take(alloc) else {
         return EMPTY;
@@ -101,7 +101,7 @@ pub extern "C" fn antientropy_offer(
 
 /// Writes the message of the offer of a snapshot.
 fn offer(alloc: Global, snapshot: &Snapshot, number: u32) -> Result<Text, Refusal>
-    ensures { Answers result None (λ bytes. bytes ≡ message_text (messages.Offer (offer_of number snapshot.now))) }
+    ensures { Answers result None (λ bytes. bytes ≡ message_text (messages.Offer (offer_numbered number snapshot.now))) }
 {
     let bytes = encode(alloc, &Message::Offer(snapshot.offer(number)))?;
     Ok(Text::from(bytes))
@@ -121,7 +121,7 @@ pub extern "C" fn antientropy_serve(
     out: &mut [u8],
     need: &mut u64,
 ) -> u32
-    ensures { Shows result publication.old publication.new (λ m. Gives result (need.old, out.old) (need.new, out.new)
+    ensures { ShowsRows result publication.old publication.new (λ m. HandsOutRight result (need.old, out.old) (need.new, out.new)
         (λ r. Reads ask.now (Serves m number r))) }
 {
     let Some(rows) = publication.take(alloc) else {

@@ -2,7 +2,7 @@
 ghost use Rattle.std.specs.Prelude.{◌≡◌, IfOk};
 ghost use Rattle.vclock.specs.Answer.{AnswersOrNoMemory};
 ghost use Rattle.vclock.specs.Clock.{pairs_fault, clock_of};
-ghost use Rattle.antientropy_c.specs.Pairs.{pairs_of};
+ghost use Rattle.antientropy_c.specs.Pairs.{clock_pairs};
 
 use std::alloc::{AllocError, Global};
 use vclock::{Clock, Refusal};
@@ -20,7 +20,7 @@ pub struct Pair {
 /// Makes the clock of pairs in any order. Refused, in order: BadClock, ClockFull, NoMemory. The pairs are copied first,
 /// so NoMemory may replace the others.
 pub(crate) fn clock_of(alloc: Global, pairs: &[Pair]) -> Result<Clock, Refusal>
-    ensures { AnswersOrNoMemory result (pairs_fault (pairs_of pairs.now)) (λ clock. clock ≡ clock_of (pairs_of pairs.now)) }
+    ensures { AnswersOrNoMemory result (pairs_fault (clock_pairs pairs.now)) (λ clock. clock ≡ clock_of (clock_pairs pairs.now)) }
 {
     let pairs = numbers_of(alloc, pairs)?;
     Clock::from_pairs(alloc, &pairs)
@@ -28,7 +28,7 @@ pub(crate) fn clock_of(alloc: Global, pairs: &[Pair]) -> Result<Clock, Refusal>
 
 /// Copies the pairs. It fails if memory runs out.
 fn numbers_of(alloc: Global, pairs: &[Pair]) -> Result<Vec<(u64, u64)>, AllocError>
-    ensures { IfOk result (λ numbers. numbers.items ≡ pairs_of pairs.now) }
+    ensures { IfOk result (λ numbers. numbers.items ≡ clock_pairs pairs.now) }
 {
     let mut numbers = Vec::with_capacity(alloc, pairs.len())?;
     for pair in pairs {

@@ -6,9 +6,9 @@ ghost use Rattle.vclock.specs.declared.refusal.Refusal.{Refusal};
 ghost use Rattle.range_journal.specs.declared.journal.Entry.{Entry};
 ghost use Rattle.antientropy_c.specs.Numbers.{Returns};
 ghost use Rattle.antientropy_c.specs.Calls.{Calls};
-ghost use Rattle.antientropy_c.specs.Pairs.{pairs_of};
+ghost use Rattle.antientropy_c.specs.Pairs.{clock_pairs};
 ghost use Rattle.range_state.specs.declared.event.Accepted.{Accepted};
-ghost use Rattle.antientropy_c.specs.Puts.{kind_fault, kind_of, put_at, accept_at, TellsPut, TellsAccepted};
+ghost use Rattle.antientropy_c.specs.Puts.{kind_fault, kind_numbered, put_at, accept_at, TellsPut, TellsAccepted};
 
 use crate::numbers::{EMPTY, code};
 use crate::pair::{Pair, clock_of};
@@ -47,7 +47,7 @@ pub extern "C" fn antientropy_put(
     receipt: &mut PutReceipt,
 ) -> u32
     ensures { Calls result replica.old replica.new (λ s t. Returns result (λ (r : Result Entry Refusal).
-        DoesOrNoMemory r s t (put_at s node key.now (pairs_of context.now) kind value.now)
+        DoesOrNoMemory r s t (put_at s node key.now (clock_pairs context.now) kind value.now)
         × TellsPut node r receipt.old receipt.new)) }
 {
     let Some(mut state) = replica.take(alloc) else {
@@ -69,7 +69,7 @@ fn put(
     kind: u8,
     value: &[u8],
 ) -> Result<Receipt, Refusal>
-    ensures { DoesOrNoMemory result state.old state.new (put_at state.old node key.now (pairs_of context.now) kind value.now) }
+    ensures { DoesOrNoMemory result state.old state.new (put_at state.old node key.now (clock_pairs context.now) kind value.now) }
 {
     if node == 0 {
         return Err(Refusal::BadClock);
@@ -97,7 +97,7 @@ pub extern "C" fn antientropy_accept(
     taken: &mut u64,
 ) -> u32
     ensures { Calls result replica.old replica.new (λ s t. Returns result (λ (r : Result Accepted Refusal).
-        DoesOrNoMemory r s t (accept_at s key.now (pairs_of clock.now) kind value.now)
+        DoesOrNoMemory r s t (accept_at s key.now (clock_pairs clock.now) kind value.now)
         × TellsAccepted r taken.old taken.new)) }
 {
     let Some(mut state) = replica.take(alloc) else {
@@ -118,7 +118,7 @@ fn accept(
     kind: u8,
     value: &[u8],
 ) -> Result<Accepted, Refusal>
-    ensures { DoesOrNoMemory result state.old state.new (accept_at state.old key.now (pairs_of clock.now) kind value.now) }
+    ensures { DoesOrNoMemory result state.old state.new (accept_at state.old key.now (clock_pairs clock.now) kind value.now) }
 {
     let clock = clock_of(alloc, clock)?;
     let kind = kind_of(kind)?;
@@ -152,7 +152,7 @@ fn tell_accepted(told: &Result<Accepted, Refusal>, taken: &mut u64)
 
 /// Returns the kind of a number. Refused: BadValue (it is neither 0 nor 1).
 fn kind_of(kind: u8) -> Result<Kind, Refusal>
-    ensures { AnswersAtOnce result (kind_fault kind) (λ k. k ≡ kind_of kind) }
+    ensures { AnswersAtOnce result (kind_fault kind) (λ k. k ≡ kind_numbered kind) }
 {
     match kind {
         0 => Ok(Kind::Live),

@@ -4,7 +4,7 @@ ghost use Rattle.vclock.specs.Answer.{Answers};
 ghost use Rattle.vclock.specs.Bytes.{key_fault};
 ghost use Rattle.range_journal.specs.Journal.{held};
 ghost use Rattle.antientropy_c.specs.Calls.{Calls};
-ghost use Rattle.antientropy_c.specs.Hands.{Gives};
+ghost use Rattle.antientropy_c.specs.Hands.{HandsOutRight};
 ghost use Rattle.antientropy_c.specs.Shows.{row_shown};
 
 use crate::numbers::EMPTY;
@@ -27,7 +27,7 @@ pub extern "C" fn antientropy_get(
     out: &mut [u8],
     need: &mut u64,
 ) -> u32
-    ensures { Calls result replica.old replica.new (λ s t. (t ≡ s) × Gives result (need.old, out.old) (need.new, out.new)
+    ensures { Calls result replica.old replica.new (λ s t. (t ≡ s) × HandsOutRight result (need.old, out.old) (need.new, out.new)
         (λ r. Answers r (key_fault key.now) (λ bytes. bytes ≡ row_shown s key.now))) }
 {
     let Some(state) = replica.take(alloc) else {

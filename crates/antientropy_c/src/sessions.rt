@@ -6,8 +6,8 @@ ghost use Rattle.range_state.specs.Sessions.{cancel_session};
 ghost use Rattle.range_state.specs.declared.event.AnswerTaken.{AnswerTaken};
 ghost use Rattle.antientropy_c.specs.Numbers.{Returns};
 ghost use Rattle.antientropy_c.specs.Calls.{Calls, Reads};
-ghost use Rattle.antientropy_c.specs.Hands.{Gives};
-ghost use Rattle.antientropy_c.specs.Sessions.{Opens, TellsNumber, Asks, TakesWith, Takes, TellsTaken, number_of_state, session_seen};
+ghost use Rattle.antientropy_c.specs.Hands.{HandsOutRight};
+ghost use Rattle.antientropy_c.specs.Sessions.{Opens, TellsNumber, Asks, TakesWith, TakesMessage, TellsTaken, number_of_state, session_seen};
 
 use crate::numbers::{EMPTY, code};
 use crate::output::hand_out;
@@ -91,7 +91,7 @@ pub extern "C" fn antientropy_ask(
     out: &mut [u8],
     need: &mut u64,
 ) -> u32
-    ensures { Calls result replica.old replica.new (λ s t. (t ≡ s) × Gives result (need.old, out.old) (need.new, out.new)
+    ensures { Calls result replica.old replica.new (λ s t. (t ≡ s) × HandsOutRight result (need.old, out.old) (need.new, out.new)
         (Asks s session number)) }
 {
     let Some(state) = replica.take(alloc) else {
@@ -146,7 +146,7 @@ pub extern "C" fn antientropy_take(
     receipt: &mut TakenReceipt,
 ) -> u32
     ensures { Calls result replica.old replica.new (λ s t. Returns result (λ (r : Result AnswerTaken Refusal).
-        Reads answer.now (Takes s session number r t) × TellsTaken r receipt.old receipt.new)) }
+        Reads answer.now (TakesMessage s session number r t) × TellsTaken r receipt.old receipt.new)) }
 {
     let Some(mut state) = replica.take(alloc) else {
         return EMPTY;
@@ -166,7 +166,7 @@ fn take(
     number: u32,
     bytes: &[u8],
 ) -> Result<AnswerTaken, Refusal>
-    ensures { Reads bytes.now (Takes state.old session number result state.new) }
+    ensures { Reads bytes.now (TakesMessage state.old session number result state.new) }
 {
     let decoded = decode(alloc, bytes);
     take_decoded(alloc, state, session, number, decoded)
@@ -180,7 +180,7 @@ fn take_decoded(
     number: u32,
     decoded: Result<Message, Refusal>,
 ) -> Result<AnswerTaken, Refusal>
-    ensures { Takes state.old session number result state.new decoded }
+    ensures { TakesMessage state.old session number result state.new decoded }
 {
     match decoded {
         Ok(Message::Answer(answer)) => take_answer(alloc, state, session, number, answer),

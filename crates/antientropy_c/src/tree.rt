@@ -2,7 +2,7 @@
 ghost use Rattle.std.specs.Prelude.{◌≡◌, ◌<◌, ⊤, ℕ, List, Result, length, map, slice_index_or, false, IsTrue, IfOk, None};
 ghost use Rattle.vclock.specs.Answer.{Answers};
 ghost use Rattle.vclock.specs.declared.refusal.Refusal.{Refusal};
-ghost use Rattle.hash_tree.specs.Nodes.{are_clean, dirty_count, digest_at};
+ghost use Rattle.hash_tree.specs.Nodes.{are_clean, dirty_count, kept_digest};
 ghost use Rattle.hash_tree.specs.declared.node.NodeAt.{NodeAt};
 ghost use Rattle.range_state.specs.State.{is_current, place_of, installed};
 ghost use Rattle.range_state.specs.Trees.{rehashed, IsSameRange};
@@ -88,7 +88,7 @@ fn install_all(state: &mut RangeState, nodes: &[NodeAt], hashed: &[Hashed])
     requires has { (i : ℕ) (node : NodeAt) → i < length nodes.now
         → place_of (slice_index_or nodes.now i node) < length state.old.marks }
     requires dirty { (i : ℕ) (node : NodeAt) → i < length nodes.now
-        → digest_at state.old.marks (place_of (slice_index_or nodes.now i node)) ≡ None }
+        → kept_digest state.old.marks (place_of (slice_index_or nodes.now i node)) ≡ None }
     ensures same { IsSameRange state.old state.new }
     ensures none { length nodes.now ≡ 0 → state.new ≡ state.old }
     ensures fewer { 0 < length nodes.now → dirty_count state.new.marks < dirty_count state.old.marks }

@@ -11,7 +11,7 @@ use Rattle.version_set.specs.declared.version.Version.{Version}
 use Rattle.range_journal.specs.declared.journal.Entry.{Entry}
 use Rattle.caller_pass.specs.declared.receipt_index.ByKey.{ByKey}
 use Rattle.caller_pass.specs.Locks.{is_missing, first_missing}
-use Rattle.caller_pass.specs.Indexes.{is_of, last_of, found_in, IsIndex}
+use Rattle.caller_pass.specs.Indexes.{is_entry_of, last_of, found_in, IsIndex}
 
 -- ---- places of a list
 
@@ -41,23 +41,23 @@ last_of_more es fs key zero within = refl
 last_of_more es fs key (suc n) within =
     let same = got_left es fs n (omega arith) in
     let before = last_of_more es fs key n (omega arith) in
-    λ i. cond (is_of (same i) key) (suc n) (before i)
+    λ i. cond (is_entry_of (same i) key) (suc n) (before i)
 
 -- where there is a last entry of a key, it is of the key
-last_is_of : (es : List Entry) (key : List ℕ) (n i : ℕ) → last_of es key n ≡ suc i → (i < n) × (is_of (slice_get es i) key ≡ true)
+last_is_of : (es : List Entry) (key : List ℕ) (n i : ℕ) → last_of es key n ≡ suc i → (i < n) × (is_entry_of (slice_get es i) key ≡ true)
 last_is_of es key zero i h = absurd (let no : 0 ≡ suc i = h in omega arith)
-last_is_of es key (suc n) i h = by_test (last_is_of es key n i) (is_of (slice_get es n) key) refl h
+last_is_of es key (suc n) i h = by_test (last_is_of es key n i) (is_entry_of (slice_get es n) key) refl h
   where
-    by_test : (last_of es key n ≡ suc i → (i < n) × (is_of (slice_get es i) key ≡ true)) → (b : Bool) → is_of (slice_get es n) key ≡ b → cond b (suc n) (last_of es key n) ≡ suc i
-        → (i < suc n) × (is_of (slice_get es i) key ≡ true)
-    by_test before true is e = let same : n ≡ i = omega arith in (omega arith, subst (λ j. is_of (slice_get es j) key ≡ true) same is)
+    by_test : (last_of es key n ≡ suc i → (i < n) × (is_entry_of (slice_get es i) key ≡ true)) → (b : Bool) → is_entry_of (slice_get es n) key ≡ b → cond b (suc n) (last_of es key n) ≡ suc i
+        → (i < suc n) × (is_entry_of (slice_get es i) key ≡ true)
+    by_test before true is e = let same : n ≡ i = omega arith in (omega arith, subst (λ j. is_entry_of (slice_get es j) key ≡ true) same is)
     by_test before false is e = let known = before e in (omega (arith, known.0), known.1)
 
 last_of_within : (es : List Entry) (key : List ℕ) (n : ℕ) → last_of es key n ≤ n
 last_of_within es key zero = omega arith
 last_of_within es key (suc n) =
     let before = last_of_within es key n in
-    elim (is_of (slice_get es n) key) as (λ b. cond b (suc n) (last_of es key n) ≤ suc n) [ true ↦ omega arith | false ↦ omega arith ]
+    elim (is_entry_of (slice_get es n) key) as (λ b. cond b (suc n) (last_of es key n) ≤ suc n) [ true ↦ omega arith | false ↦ omega arith ]
 
 of_other_key : (e : Entry) (es : List Entry) (key : List ℕ) (vs : List Version) → bytes_eq e.key key ≡ false → first_missing (e ∷ es) key vs ≡ first_missing es key vs
 unfolding is_missing
@@ -68,16 +68,16 @@ first_from_last : (es : List Entry) (key : List ℕ) (vs : List Version) (n : �
 first_from_last es key vs zero within = refl
 first_from_last es key vs (suc n) within =
     let entry = got es n (omega arith) in
-    by_test entry.0 entry.1 (first_from_last es key vs n (omega arith)) (bytes_eq entry.0.key key) (ap (λ o. is_of o key) entry.1)
+    by_test entry.0 entry.1 (first_from_last es key vs n (omega arith)) (bytes_eq entry.0.key key) (ap (λ o. is_entry_of o key) entry.1)
   where
-    by_test : (e : Entry) → slice_get es n ≡ Some e → first_missing (drop (last_of es key n) es) key vs ≡ first_missing (drop n es) key vs → (b : Bool) → is_of (slice_get es n) key ≡ b
+    by_test : (e : Entry) → slice_get es n ≡ Some e → first_missing (drop (last_of es key n) es) key vs ≡ first_missing (drop n es) key vs → (b : Bool) → is_entry_of (slice_get es n) key ≡ b
         → first_missing (drop (last_of es key (suc n)) es) key vs ≡ first_missing (drop (suc n) es) key vs
     by_test e at before true is = ap (λ b. first_missing (drop (cond b (suc n) (last_of es key n)) es) key vs) is
     by_test e at before false is =
         ap (λ b. first_missing (drop (cond b (suc n) (last_of es key n)) es) key vs) is
         ∙ before
         ∙ ap (λ xs. first_missing xs key vs) (drop_at es n e at)
-        ∙ of_other_key e (drop (suc n) es) key vs (sym (ap (λ o. is_of o key) at) ∙ is)
+        ∙ of_other_key e (drop (suc n) es) key vs (sym (ap (λ o. is_entry_of o key) at) ∙ is)
 
 -- ---- a map whose keys are bytes
 
@@ -124,7 +124,7 @@ pushed es index new e is at items found =
       within = omega arith;
       last = λ key.
           found key
-          ∙ (λ i. cond (is_of (sym at i) key) (add-one n i) (is.last key i))
+          ∙ (λ i. cond (is_entry_of (sym at i) key) (add-one n i) (is.last key i))
           ∙ ap (last_of es key) (sym longer);
       earlier = λ i x below there. ap (λ xs. slice_get xs i) items ∙ elim (cases_lt i n) [
         | inl lt ↦ got_left index.earlier.items (found_in index e.key ∷ []) i lt ∙ is.earlier i x lt there
@@ -183,7 +183,7 @@ walk_goes_on es index key vs next found e missing earlier now is w more at befor
     let one : next ≡ suc place = omega arith in
     let here = last_is_of es key w.from place (sym w.next_is ∙ one) in
     let below : place < length index.earlier.items = omega (arith, here.0, w.within) in
-    let of_key : e.key ≡ key = (bytes_eq-Decides e.key key).0 (ap (λ o. is_of o key) (sym at) ∙ here.1) in
+    let of_key : e.key ≡ key = (bytes_eq-Decides e.key key).0 (ap (λ o. is_entry_of o key) (sym at) ∙ here.1) in
     let known : Some earlier ≡ Some (last_of es e.key place) = sym before ∙ is.earlier place e below at in
     let same : earlier ≡ last_of es e.key place = cc in
     let was : found ≡ first_missing (drop (suc place) es) key vs =

@@ -5,14 +5,14 @@ use Rattle.range_journal.specs.declared.journal.Entry.{Entry}
 use Rattle.caller_pass.specs.declared.receipt_index.ByKey.{ByKey}
 
 -- an entry, if any, is of a key
-abbrev pub is_of : Option Entry → List ℕ → Bool
-is_of None key = false
-is_of (Some e) key = bytes_eq e.key key
+abbrev pub is_entry_of : Option Entry → List ℕ → Bool
+is_entry_of None key = false
+is_entry_of (Some e) key = bytes_eq e.key key
 
 -- the last of the first n entries that is of a key: one more than its place, or 0 if there is no such entry
 abbrev pub last_of : List Entry → List ℕ → ℕ → ℕ
 last_of es key zero = 0
-last_of es key (suc n) = if is_of (slice_get es n) key then suc n else last_of es key n
+last_of es key (suc n) = if is_entry_of (slice_get es n) key then suc n else last_of es key n
 
 -- the last entry of a key that an index has, or 0
 abbrev pub found_in : ByKey → List ℕ → ℕ

@@ -24,13 +24,13 @@ use vclock::Refusal;
 pub struct Book<L: Ledger> {
     count: ledger::Book<L>,
     seats: u16,
-    kept: Vec<Kept>,
+    kept: Vec<ReturnedPass>,
     share: Share<L>,
 }
 
 /// A pass that was handed back, without its share.
 #[derive(Drop)]
-struct Kept {
+struct ReturnedPass {
     seat: u16,
     seen: u64,
     receipts: Vec<Receipt>,
@@ -141,7 +141,7 @@ impl<L: Ledger> Book<L> {
             share,
         } = pass;
         self.share.merge(share);
-        self.kept.push_reserved(Kept {
+        self.kept.push_reserved(ReturnedPass {
             seat,
             seen,
             receipts,

@@ -4,7 +4,7 @@ ghost use Rattle.std.specs.Arc.{arc_value};
 ghost use Rattle.vclock.specs.Answer.{Answers, AnswersAtOnce};
 ghost use Rattle.vclock.specs.Outcome.{Does, DoesAtOnce, DoesOrNoMemory, through};
 ghost use Rattle.range_journal.specs.Journal.{held};
-ghost use Rattle.sync_session.specs.TreeNodes.{node_of};
+ghost use Rattle.sync_session.specs.TreeNodes.{as_node};
 ghost use Rattle.range_state.specs.State.{is_sent, GivesJob, ask_fault, install, dirty_fault, rows_now};
 ghost use Rattle.range_state.specs.Sessions.{open_session, cancel_session, unknown_fault};
 ghost use Rattle.range_state.specs.Migrates.{migrate};
@@ -300,7 +300,7 @@ impl<L: Ledger> LockedRange<L> {
         text: Hashed,
     ) -> Result<AnswerCounted, Refusal>
         ensures { TellsAnswer self.old pass.old id
-            (record { node = node_of node; text = text }) result self.new pass.new }
+            (record { node = as_node node; text = text }) result self.new pass.new }
     {
         let LockedRange { state, book } = self;
         let Pass {

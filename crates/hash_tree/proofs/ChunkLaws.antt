@@ -11,7 +11,7 @@ use Rattle.version_set.specs.Version.{offered, version_text}
 use Rattle.row_bytes.specs.declared.row.Row.{Row}
 use Rattle.row_bytes.specs.Rows.{row_text, FitsText}
 use Rattle.hash_tree.specs.Leaves.{Bucket}
-use Rattle.hash_tree.specs.Chunks.{first_key, versions_at, offered_at}
+use Rattle.hash_tree.specs.Chunks.{first_key, row_versions, offered_at}
 use Rattle.hash_tree.proofs.KeyLaws.{all_get}
 use Rattle.hash_tree.proofs.RowLengthLaws.{fits-offered, row-grows}
 
@@ -44,7 +44,7 @@ map-insert f (x ∷ xs) (suc i) y = ap (λ rest. f x ∷ rest) (map-insert f xs 
 
 -- ---- an offer to the row at a place
 
-pub versions_at-get : (rows : List Row) (i : ℕ) (d : Row) → i < length rows → versions_at rows i ≡ (get_or rows i d).versions
+pub versions_at-get : (rows : List Row) (i : ℕ) (d : Row) → i < length rows → row_versions rows i ≡ (get_or rows i d).versions
 versions_at-get [] i d h = absurd (omega arith)
 versions_at-get (r ∷ rows) zero d h = refl
 versions_at-get (r ∷ rows) (suc i) d h = versions_at-get rows i d (omega arith)
@@ -200,9 +200,9 @@ pub value-inside : (b : Bucket) (format : Format) (rows : List Row) (v : Version
 value-inside b format rows v same h = subst (λ (x : Bucket). value_fault x.format v.kind v.value ≡ None) (sym same) h
 
 -- the versions of the row at a place
-pub versions-inside : (b : Bucket) (format : Format) (rows : List Row) (i : ℕ) (r : Row) → record { format = format; rows = rows } ≡ b → i < length b.rows → r ≡ get_or rows i r → r.versions ≡ versions_at b.rows i
+pub versions-inside : (b : Bucket) (format : Format) (rows : List Row) (i : ℕ) (r : Row) → record { format = format; rows = rows } ≡ b → i < length b.rows → r ≡ get_or rows i r → r.versions ≡ row_versions b.rows i
 versions-inside b format rows i r same h is =
-    ap (λ (x : Row). x.versions) is ∙ sym (versions_at-get rows i r (within-inside b format rows i same h)) ∙ ap (λ (x : Bucket). versions_at x.rows i) same
+    ap (λ (x : Row). x.versions) is ∙ sym (versions_at-get rows i r (within-inside b format rows i same h)) ∙ ap (λ (x : Bucket). row_versions x.rows i) same
 
 -- ---- the row at a place after an offer to it
 

@@ -10,7 +10,7 @@ use Rattle.version_set.specs.declared.version.Version.{Version}
 use Rattle.row_bytes.specs.declared.row.Row.{Row}
 use Rattle.row_bytes.specs.Rows.{row_text}
 use Rattle.hash_tree.specs.Leaves.{Bucket, IsBucket}
-use Rattle.hash_tree.specs.Chunks.{all_rows, rows_of, chunk_text, IsChunk, AreChunks, IsGapSpot, IsSplit, versions_at, offered_at}
+use Rattle.hash_tree.specs.Chunks.{all_rows, chunk_rows, chunk_text, IsChunk, AreChunks, IsGapSpot, IsSplit, row_versions, offered_at}
 use Rattle.hash_tree.specs.Texts.{leaf_byte, leaf_text}
 use Rattle.hash_tree.proofs.KeyLaws.{all_get}
 use Rattle.hash_tree.proofs.ChunkLaws.{all-set, all-insert}
@@ -33,35 +33,35 @@ text_of_chunks b format chunks same are =
     ∙ ap (λ (x : Bucket). leaf_byte x.format ∷ flat_map (row_text x.format) x.rows) same
 
 -- the rows before a chunk, its own, and those after it
-pub three_parts : (chunks : List Bucket) (i : ℕ) → i < length chunks → all_rows chunks ≡ all_rows (take i chunks) ++ rows_of chunks i ++ all_rows (drop (i + 1) chunks)
+pub three_parts : (chunks : List Bucket) (i : ℕ) → i < length chunks → all_rows chunks ≡ all_rows (take i chunks) ++ chunk_rows chunks i ++ all_rows (drop (i + 1) chunks)
 three_parts [] i h = absurd (omega arith)
 three_parts (c ∷ chunks) zero h = refl
 three_parts (c ∷ chunks) (suc i) h =
     let next : suc i + 1 ≡ suc (i + 1) = omega arith in
     rw next (
     ap (λ (rest : List Row). c.rows ++ rest) (three_parts chunks i (omega arith))
-    ∙ sym (append_assoc c.rows (all_rows (take i chunks) ++ rows_of chunks i) (all_rows (drop (i + 1) chunks)))
-    ∙ ap (λ (front : List Row). front ++ all_rows (drop (i + 1) chunks)) (sym (append_assoc c.rows (all_rows (take i chunks)) (rows_of chunks i)))
+    ∙ sym (append_assoc c.rows (all_rows (take i chunks) ++ chunk_rows chunks i) (all_rows (drop (i + 1) chunks)))
+    ∙ ap (λ (front : List Row). front ++ all_rows (drop (i + 1) chunks)) (sym (append_assoc c.rows (all_rows (take i chunks)) (chunk_rows chunks i)))
     )
 
 -- what a read of a chunk gives
-pub rows_read : (chunks : List Bucket) (i : ℕ) (c : Bucket) → i < length chunks → c ≡ get_or chunks i c → c.rows ≡ rows_of chunks i
+pub rows_read : (chunks : List Bucket) (i : ℕ) (c : Bucket) → i < length chunks → c ≡ get_or chunks i c → c.rows ≡ chunk_rows chunks i
 rows_read chunks i c h is = ap (λ (x : Bucket). x.rows) is ∙ rows_at chunks i c h
   where
-    rows_at : (cs : List Bucket) (n : ℕ) (d : Bucket) → n < length cs → (get_or cs n d).rows ≡ rows_of cs n
+    rows_at : (cs : List Bucket) (n : ℕ) (d : Bucket) → n < length cs → (get_or cs n d).rows ≡ chunk_rows cs n
     rows_at [] n d l = absurd (omega arith)
     rows_at (x ∷ cs) zero d l = refl
     rows_at (x ∷ cs) (suc n) d l = rows_at cs n d (omega arith)
 
 -- the rows before the next chunk
-pub rows_more : (chunks : List Bucket) (i : ℕ) → i < length chunks → all_rows (take (i + 1) chunks) ≡ all_rows (take i chunks) ++ rows_of chunks i
+pub rows_more : (chunks : List Bucket) (i : ℕ) → i < length chunks → all_rows (take (i + 1) chunks) ≡ all_rows (take i chunks) ++ chunk_rows chunks i
 rows_more [] i h = absurd (omega arith)
 rows_more (c ∷ chunks) zero h = append-nil c.rows
 rows_more (c ∷ chunks) (suc i) h =
     let next : suc i + 1 ≡ suc (i + 1) = omega arith in
     rw next (
     ap (λ (rest : List Row). c.rows ++ rest) (rows_more chunks i (omega arith))
-    ∙ sym (append_assoc c.rows (all_rows (take i chunks)) (rows_of chunks i))
+    ∙ sym (append_assoc c.rows (all_rows (take i chunks)) (chunk_rows chunks i))
     )
 
 -- ---- an offer to a row, and a row that is put among others, where rows stand before and behind
@@ -81,13 +81,13 @@ offered_at-behind [] rows i n v e = ap (λ (m : ℕ). offered_at rows m v) (let 
 offered_at-behind (r ∷ front) rows i zero v e = absurd (omega (arith, e))
 offered_at-behind (r ∷ front) rows i (suc n) v e = ap (λ rest. r ∷ rest) (offered_at-behind front rows i n v (omega (arith, e)))
 
-versions_at-before : (rows back : List Row) (i : ℕ) → i < length rows → versions_at (rows ++ back) i ≡ versions_at rows i
+versions_at-before : (rows back : List Row) (i : ℕ) → i < length rows → row_versions (rows ++ back) i ≡ row_versions rows i
 versions_at-before [] back i h = absurd (omega arith)
 versions_at-before (r ∷ rows) back zero h = refl
 versions_at-before (r ∷ rows) back (suc i) h = versions_at-before rows back i (omega arith)
 
-versions_at-behind : (front rows : List Row) (i n : ℕ) → length front + i ≡ n → versions_at (front ++ rows) n ≡ versions_at rows i
-versions_at-behind [] rows i n e = ap (versions_at rows) (let same : n ≡ i = omega (arith, e) in same)
+versions_at-behind : (front rows : List Row) (i n : ℕ) → length front + i ≡ n → row_versions (front ++ rows) n ≡ row_versions rows i
+versions_at-behind [] rows i n e = ap (row_versions rows) (let same : n ≡ i = omega (arith, e) in same)
 versions_at-behind (r ∷ front) rows i zero e = absurd (omega (arith, e))
 versions_at-behind (r ∷ front) rows i (suc n) e = versions_at-behind front rows i n (omega (arith, e))
 
@@ -107,10 +107,10 @@ values_fit format [] v all h = tt
 values_fit format (c ∷ chunks) v all h = (subst (λ (f : Format). value_fault f v.kind v.value ≡ None) (sym all.0.same) h, values_fit format chunks v all.1 h)
 
 -- where a chunk is parted before a gap, the gap is in the second part
-pub gap-behind : (chunks parts : List Bucket) (place i at cut : ℕ) → IsGapSpot chunks place i at → IsSplit chunks i cut parts → length (rows_of chunks i) ≡ 15 → cut < at → IsGapSpot parts place (i + 1) (at - cut)
+pub gap-behind : (chunks parts : List Bucket) (place i at cut : ℕ) → IsGapSpot chunks place i at → IsSplit chunks i cut parts → length (chunk_rows chunks i) ≡ 15 → cut < at → IsGapSpot parts place (i + 1) (at - cut)
 gap-behind chunks parts place i at cut gap split full behind = record {
   chunk = omega (arith, split.more, gap.chunk);
-  before = omega (arith, ap (λ (rows : List Row). length rows) split.first, length-append (all_rows (take i chunks)) (rows_of parts i), split.front, gap.before, behind);
+  before = omega (arith, ap (λ (rows : List Row). length rows) split.first, length-append (all_rows (take i chunks)) (chunk_rows parts i), split.front, gap.before, behind);
   within = omega (arith, split.back, gap.within, full, behind);
 }
 
@@ -131,7 +131,7 @@ either_way (Err e) p q f g = g q
 -- ---- one chunk changes
 
 -- a version is offered to a row of a chunk
-pub offered-in_chunk : (chunks : List Bucket) (i at place : ℕ) (v : Version) (c : Bucket) → i < length chunks → at < length (rows_of chunks i) → length (all_rows (take i chunks)) + at ≡ place → c.rows ≡ offered_at (rows_of chunks i) at v
+pub offered-in_chunk : (chunks : List Bucket) (i at place : ℕ) (v : Version) (c : Bucket) → i < length chunks → at < length (chunk_rows chunks i) → length (all_rows (take i chunks)) + at ≡ place → c.rows ≡ offered_at (chunk_rows chunks i) at v
     → all_rows (set chunks i c) ≡ offered_at (all_rows chunks) place v
 offered-in_chunk [] i at place v c h within before now = absurd (omega arith)
 offered-in_chunk (x ∷ chunks) zero at place v c h within before now =
@@ -144,11 +144,11 @@ offered-in_chunk (x ∷ chunks) (suc i) at place v c h within before now =
     ap (λ (rows : List Row). x.rows ++ rows) (offered-in_chunk chunks i at (place - length x.rows) v c (omega arith) within rest now)
     ∙ sym (offered_at-behind x.rows (all_rows chunks) (place - length x.rows) place v whole)
 
-pub versions-in_chunk : (chunks : List Bucket) (i at place : ℕ) → i < length chunks → at < length (rows_of chunks i) → length (all_rows (take i chunks)) + at ≡ place → versions_at (rows_of chunks i) at ≡ versions_at (all_rows chunks) place
+pub versions-in_chunk : (chunks : List Bucket) (i at place : ℕ) → i < length chunks → at < length (chunk_rows chunks i) → length (all_rows (take i chunks)) + at ≡ place → row_versions (chunk_rows chunks i) at ≡ row_versions (all_rows chunks) place
 versions-in_chunk [] i at place h within before = absurd (omega arith)
 versions-in_chunk (x ∷ chunks) zero at place h within before =
     let same : at ≡ place = omega (arith, before) in
-    sym (versions_at-before x.rows (all_rows chunks) at within) ∙ ap (versions_at (x.rows ++ all_rows chunks)) same
+    sym (versions_at-before x.rows (all_rows chunks) at within) ∙ ap (row_versions (x.rows ++ all_rows chunks)) same
 versions-in_chunk (x ∷ chunks) (suc i) at place h within before =
     let first = all_rows (take i chunks) in
     let rest : length first + at ≡ place - length x.rows = omega (arith, before, length-append x.rows first) in
@@ -156,7 +156,7 @@ versions-in_chunk (x ∷ chunks) (suc i) at place h within before =
     versions-in_chunk chunks i at (place - length x.rows) (omega arith) within rest ∙ sym (versions_at-behind x.rows (all_rows chunks) (place - length x.rows) place whole)
 
 -- a row is put into a chunk
-pub inserted-in_chunk : (chunks : List Bucket) (i at place : ℕ) (r : Row) (c : Bucket) → i < length chunks → at ≤ length (rows_of chunks i) → length (all_rows (take i chunks)) + at ≡ place → c.rows ≡ insert (rows_of chunks i) at r
+pub inserted-in_chunk : (chunks : List Bucket) (i at place : ℕ) (r : Row) (c : Bucket) → i < length chunks → at ≤ length (chunk_rows chunks i) → length (all_rows (take i chunks)) + at ≡ place → c.rows ≡ insert (chunk_rows chunks i) at r
     → all_rows (set chunks i c) ≡ insert (all_rows chunks) place r
 inserted-in_chunk [] i at place r c h within before now = absurd (omega arith)
 inserted-in_chunk (x ∷ chunks) zero at place r c h within before now =
@@ -191,7 +191,7 @@ chunks-inserted format chunks i at r c old h is now within room are =
 
 -- ---- a chunk is split
 
-split_rows : (chunks : List Bucket) (i : ℕ) (a b : Bucket) → i < length chunks → a.rows ++ b.rows ≡ rows_of chunks i → all_rows (insert (set chunks i a) (i + 1) b) ≡ all_rows chunks
+split_rows : (chunks : List Bucket) (i : ℕ) (a b : Bucket) → i < length chunks → a.rows ++ b.rows ≡ chunk_rows chunks i → all_rows (insert (set chunks i a) (i + 1) b) ≡ all_rows chunks
 split_rows [] i a b h same = absurd (omega arith)
 split_rows (c ∷ chunks) zero a b h same = sym (append_assoc a.rows b.rows (all_rows chunks)) ∙ ap (λ (rows : List Row). rows ++ all_rows chunks) same
 split_rows (c ∷ chunks) (suc i) a b h same =
@@ -205,14 +205,14 @@ split_before (c ∷ chunks) (suc i) a b h =
     let next : suc i + 1 ≡ suc (i + 1) = omega arith in
     rw next (ap (λ rest. c ∷ rest) (split_before chunks i a b (omega arith)))
 
-split_front : (chunks : List Bucket) (i : ℕ) (a b : Bucket) → i < length chunks → rows_of (insert (set chunks i a) (i + 1) b) i ≡ a.rows
+split_front : (chunks : List Bucket) (i : ℕ) (a b : Bucket) → i < length chunks → chunk_rows (insert (set chunks i a) (i + 1) b) i ≡ a.rows
 split_front [] i a b h = absurd (omega arith)
 split_front (c ∷ chunks) zero a b h = refl
 split_front (c ∷ chunks) (suc i) a b h =
     let next : suc i + 1 ≡ suc (i + 1) = omega arith in
     rw next (split_front chunks i a b (omega arith))
 
-split_back : (chunks : List Bucket) (i : ℕ) (a b : Bucket) → i < length chunks → rows_of (insert (set chunks i a) (i + 1) b) (i + 1) ≡ b.rows
+split_back : (chunks : List Bucket) (i : ℕ) (a b : Bucket) → i < length chunks → chunk_rows (insert (set chunks i a) (i + 1) b) (i + 1) ≡ b.rows
 split_back [] i a b h = absurd (omega arith)
 split_back (c ∷ chunks) zero a b h = refl
 split_back (c ∷ chunks) (suc i) a b h =
@@ -235,7 +235,7 @@ is_split chunks i cut old a b h few some less is full front back =
       more = many;
       before = split_before chunks i a b h;
       front = ap (λ (rows : List Row). length rows) at ∙ long_a;
-      first = rows_more parts i (omega (arith, many, h)) ∙ ap (λ (cs : List Bucket). all_rows cs ++ rows_of parts i) (split_before chunks i a b h);
+      first = rows_more parts i (omega (arith, many, h)) ∙ ap (λ (cs : List Bucket). all_rows cs ++ chunk_rows parts i) (split_before chunks i a b h);
       back = omega (arith, ap (λ (rows : List Row). length rows) (split_back chunks i a b h), long_b);
       each = λ format are.
           let was : IsChunk format old = subst (IsChunk format) (sym is) (all_get (IsChunk format) chunks i old are.each h) in

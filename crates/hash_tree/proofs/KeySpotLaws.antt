@@ -14,7 +14,7 @@ use Rattle.version_set.specs.Version.{offered, offer_fault, is_below}
 use Rattle.version_set.proofs.ListLaws.{all-append}
 use Rattle.row_bytes.specs.declared.row.Row.{Row}
 use Rattle.hash_tree.specs.Leaves.{key_cmp, Bucket, AscendByKey, IsAt, IsBetween, with_offer, versions_in}
-use Rattle.hash_tree.specs.Chunks.{all_rows, rows_of, begin_by, place_in, IsRowSpot, IsGapSpot, versions_at, offered_at}
+use Rattle.hash_tree.specs.Chunks.{all_rows, chunk_rows, begin_by, place_in, IsRowSpot, IsGapSpot, row_versions, offered_at}
 use Rattle.hash_tree.proofs.KeyLaws.{key_exact, turned, less_trans}
 use Rattle.hash_tree.proofs.LeafLaws.{offer_first, in_first}
 use Rattle.hash_tree.proofs.ChunkLaws.{versions_at-get, offered_at-set}
@@ -199,32 +199,32 @@ between_among k front rows back i n less greater is between = record {
 
 -- ---- what the chunk of a key has for it is what all rows have
 
-pub chunk_ascends : (chunks : List Bucket) (i : ℕ) → i < length chunks → AscendByKey (all_rows chunks) → AscendByKey (rows_of chunks i)
-chunk_ascends chunks i h a = ascend_middle (all_rows (take i chunks)) (rows_of chunks i) (all_rows (drop (i + 1) chunks)) (subst AscendByKey (three_parts chunks i h) a)
+pub chunk_ascends : (chunks : List Bucket) (i : ℕ) → i < length chunks → AscendByKey (all_rows chunks) → AscendByKey (chunk_rows chunks i)
+chunk_ascends chunks i h a = ascend_middle (all_rows (take i chunks)) (chunk_rows chunks i) (all_rows (drop (i + 1) chunks)) (subst AscendByKey (three_parts chunks i h) a)
 
 pub record IsChunkOf (k : List ℕ) (chunks : List Bucket) (i : ℕ) : Type 0 where
   pub within : i < length chunks
   pub before : AllByRecursion (λ (y : Row). key_cmp k y.key ≡ Greater) (all_rows (take i chunks))
   pub after : AllByRecursion (λ (y : Row). key_cmp k y.key ≡ Less) (all_rows (drop (i + 1) chunks))
 
-pub versions_there : (k : List ℕ) (chunks : List Bucket) (i : ℕ) → IsChunkOf k chunks i → versions_in k (rows_of chunks i) ≡ versions_in k (all_rows chunks)
+pub versions_there : (k : List ℕ) (chunks : List Bucket) (i : ℕ) → IsChunkOf k chunks i → versions_in k (chunk_rows chunks i) ≡ versions_in k (all_rows chunks)
 versions_there k chunks i h =
-    sym (ap (versions_in k) (three_parts chunks i h.within) ∙ versions_among k (all_rows (take i chunks)) (rows_of chunks i) (all_rows (drop (i + 1) chunks)) h.before h.after)
+    sym (ap (versions_in k) (three_parts chunks i h.within) ∙ versions_among k (all_rows (take i chunks)) (chunk_rows chunks i) (all_rows (drop (i + 1) chunks)) h.before h.after)
 
-pub at_there : (k : List ℕ) (chunks : List Bucket) (i at : ℕ) → IsChunkOf k chunks i → IsAt k (rows_of chunks i) at → IsAt k (all_rows chunks) (place_in chunks i at)
+pub at_there : (k : List ℕ) (chunks : List Bucket) (i at : ℕ) → IsChunkOf k chunks i → IsAt k (chunk_rows chunks i) at → IsAt k (all_rows chunks) (place_in chunks i at)
 at_there k chunks i at h place =
     let front = all_rows (take i chunks) in
-    subst (λ (rows : List Row). IsAt k rows (length front + at)) (sym (three_parts chunks i h.within)) (at_among k front (rows_of chunks i) (all_rows (drop (i + 1) chunks)) at (length front) h.before h.after refl place)
+    subst (λ (rows : List Row). IsAt k rows (length front + at)) (sym (three_parts chunks i h.within)) (at_among k front (chunk_rows chunks i) (all_rows (drop (i + 1) chunks)) at (length front) h.before h.after refl place)
 
-pub between_there : (k : List ℕ) (chunks : List Bucket) (i at : ℕ) → IsChunkOf k chunks i → IsBetween k (rows_of chunks i) at → IsBetween k (all_rows chunks) (place_in chunks i at)
+pub between_there : (k : List ℕ) (chunks : List Bucket) (i at : ℕ) → IsChunkOf k chunks i → IsBetween k (chunk_rows chunks i) at → IsBetween k (all_rows chunks) (place_in chunks i at)
 between_there k chunks i at h place =
     let front = all_rows (take i chunks) in
-    subst (λ (rows : List Row). IsBetween k rows (length front + at)) (sym (three_parts chunks i h.within)) (between_among k front (rows_of chunks i) (all_rows (drop (i + 1) chunks)) at (length front) h.before h.after refl place)
+    subst (λ (rows : List Row). IsBetween k rows (length front + at)) (sym (three_parts chunks i h.within)) (between_among k front (chunk_rows chunks i) (all_rows (drop (i + 1) chunks)) at (length front) h.before h.after refl place)
 
-pub row_spot : (k : List ℕ) (chunks : List Bucket) (i at : ℕ) → IsChunkOf k chunks i → IsAt k (rows_of chunks i) at → IsRowSpot chunks (place_in chunks i at) i at
+pub row_spot : (k : List ℕ) (chunks : List Bucket) (i at : ℕ) → IsChunkOf k chunks i → IsAt k (chunk_rows chunks i) at → IsRowSpot chunks (place_in chunks i at) i at
 row_spot k chunks i at h place = record { chunk = h.within; before = refl; within = place.within }
 
-pub gap_spot : (k : List ℕ) (chunks : List Bucket) (i at : ℕ) → IsChunkOf k chunks i → IsBetween k (rows_of chunks i) at → IsGapSpot chunks (place_in chunks i at) i at
+pub gap_spot : (k : List ℕ) (chunks : List Bucket) (i at : ℕ) → IsChunkOf k chunks i → IsBetween k (chunk_rows chunks i) at → IsGapSpot chunks (place_in chunks i at) i at
 gap_spot k chunks i at h place = record { chunk = h.within; before = refl; within = place.within }
 
 -- ---- an offer to the row of a key is one to its place
@@ -234,7 +234,7 @@ at_offers k v rows i at =
     let d : Row = record { key = []; versions = [] } in
     offered_at-set rows i v d at.within ∙ sym (at.offers v d)
 
-pub at_holds : (k : List ℕ) (rows : List Row) (i : ℕ) → IsAt k rows i → versions_at rows i ≡ versions_in k rows
+pub at_holds : (k : List ℕ) (rows : List Row) (i : ℕ) → IsAt k rows i → row_versions rows i ≡ versions_in k rows
 at_holds k rows i at =
     let d : Row = record { key = []; versions = [] } in
     versions_at-get rows i d at.within ∙ sym (at.holds d)

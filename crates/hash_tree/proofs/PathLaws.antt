@@ -9,11 +9,11 @@ use Rattle.std.proofs.lemmas.List.FromFn.{get_or-map-range_with_len, length-map-
 use Rattle.vclock.specs.declared.format.Format.{Format}
 use Rattle.hash_tree.proofs.PlaceLaws.{Digests}
 use Rattle.hash_tree.specs.declared.node.NodeAt.{NodeAt}
-use Rattle.hash_tree.specs.Nodes.{tree_depth, node_count, place_at, path_of, digest_at, dirtied}
+use Rattle.hash_tree.specs.Nodes.{tree_depth, node_count, place_at, path_of, kept_digest, dirtied}
 
 -- the digests with some places dirty
 unfoldable pub cleared : List ℕ → Digests → Digests
-cleared places digests = map (λ (place : ℕ). cond (list_any (eqb place) places) None (digest_at digests place)) (range_with_len 0 (length digests))
+cleared places digests = map (λ (place : ℕ). cond (list_any (eqb place) places) None (kept_digest digests place)) (range_with_len 0 (length digests))
 
 -- A leaf's path is made dirty by making each of its places dirty.
 pub dirtied_is : (format : Format) (leaf : ℕ) (digests : Digests) → dirtied format leaf digests ≡ cleared (path_of (tree_depth format) leaf) digests
@@ -23,27 +23,27 @@ dirtied_is format leaf digests = refl
 -- Nothing is left to do.
 pub cleared_none : (digests : Digests) → cleared [] digests ≡ digests
 unfolding cleared
-cleared_none digests = sym (fill_by_all (digest_at digests) digests (length digests) None refl (λ k less. refl))
+cleared_none digests = sym (fill_by_all (kept_digest digests) digests (length digests) None refl (λ k less. refl))
 
 -- One place after another.
 pub cleared_first : (place : ℕ) (places : List ℕ) (digests : Digests) → cleared places (set digests place None) ≡ cleared (place ∷ places) digests
 unfolding cleared
 cleared_first place places digests =
     let new = set digests place None in
-    let f = λ (k : ℕ). cond (list_any (eqb k) places) None (digest_at new k) in
-    let g = λ (k : ℕ). cond (list_any (eqb k) (place ∷ places)) None (digest_at digests k) in
+    let f = λ (k : ℕ). cond (list_any (eqb k) places) None (kept_digest new k) in
+    let g = λ (k : ℕ). cond (list_any (eqb k) (place ∷ places)) None (kept_digest digests k) in
     fill_by_all g (map f (range_with_len 0 (length new))) (length digests) None (length-map-range_with_len f 0 (length new) ∙ length-set digests place None)
     (λ k less. get_or-map-range_with_len f 0 (length new) k k None (omega (arith, length-set digests place (no_digest))) (omega arith) ∙ at digests place places k less)
   where
     no_digest : Option (List ℕ)
     no_digest = None
 
-    at : (digests : Digests) (place : ℕ) (places : List ℕ) (k : ℕ) → k < length digests → cond (list_any (eqb k) places) None (digest_at (set digests place None) k) ≡ cond (eqb k place || list_any (eqb k) places) None (digest_at digests k)
+    at : (digests : Digests) (place : ℕ) (places : List ℕ) (k : ℕ) → k < length digests → cond (list_any (eqb k) places) None (kept_digest (set digests place None) k) ≡ cond (eqb k place || list_any (eqb k) places) None (kept_digest digests k)
     at digests place places k less = elim (cases_eq k place) [
       | inl same ↦
-          let here : digest_at (set digests place None) k ≡ None = rw same (get_or-set_same digests place no_digest None (omega (arith, same))) in
-          cond_both (list_any (eqb k) places) no_digest (digest_at (set digests place None) k) (λ (o : Option (List ℕ)). o ≡ None) (λ on. refl) (λ off. here)
-          ∙ sym (cond-true (eqb k place || list_any (eqb k) places) no_digest (digest_at digests k) (or_left (eqb k place) (list_any (eqb k) places) (eq-eqb k place same)))
+          let here : kept_digest (set digests place None) k ≡ None = rw same (get_or-set_same digests place no_digest None (omega (arith, same))) in
+          cond_both (list_any (eqb k) places) no_digest (kept_digest (set digests place None) k) (λ (o : Option (List ℕ)). o ≡ None) (λ on. refl) (λ off. here)
+          ∙ sym (cond-true (eqb k place || list_any (eqb k) places) no_digest (kept_digest digests k) (or_left (eqb k place) (list_any (eqb k) places) (eq-eqb k place same)))
       | inr other ↦ rw (ne_eqb k place other, get_or-set_other digests place k no_digest None other) refl
     ]
 

@@ -6,7 +6,7 @@ use Rattle.std.proofs.lemmas.List.{get_or_default, length-take, length-drop}
 use Rattle.std.proofs.lemmas.List.Sums.{AllPass-from_list_all, list_all-from_AllPass}
 use Rattle.vclock.specs.declared.format.Format.{Format}
 use Rattle.row_bytes.specs.declared.row.Row.{Row}
-use Rattle.hash_tree.specs.Nodes.{tree_depth, node_count, place_at, digest_at, children_of, are_clean, is_ready, ready_from}
+use Rattle.hash_tree.specs.Nodes.{tree_depth, node_count, place_at, kept_digest, children_of, are_clean, is_ready, ready_from}
 use Rattle.hash_tree.specs.Texts.{node_digest, AreTrue}
 use Rattle.hash_tree.proofs.PlaceLaws.{Digests, place_within}
 use Rattle.hash_tree.proofs.TreeLaws.{child_at}
@@ -69,17 +69,17 @@ ready_is digests from place rest e =
     (first.0, first.1, omega arith)
 
 -- A node that can be hashed is dirty, and its children are clean.
-pub ready_parts : (digests : Digests) (place : ℕ) → is_ready digests place ≡ true → (digest_at digests place ≡ None) × (are_clean (children_of digests place) ≡ true)
+pub ready_parts : (digests : Digests) (place : ℕ) → is_ready digests place ≡ true → (kept_digest digests place ≡ None) × (are_clean (children_of digests place) ≡ true)
 ready_parts digests place ready =
-    let parts = and_parts (is_none (digest_at digests place)) (are_clean (children_of digests place)) ready in
-    (none (digest_at digests place) parts.0, parts.1)
+    let parts = and_parts (is_none (kept_digest digests place)) (are_clean (children_of digests place)) ready in
+    (none (kept_digest digests place) parts.0, parts.1)
   where
     none : (o : Option (List ℕ)) → is_none o ≡ true → o ≡ None
     none None e = refl
     none (Some d) e = absurd (cc)
 
 -- where no node can be hashed, those from a place on are clean, since children stand behind their parents
-clean_from : (digests : Digests) → ((k : ℕ) → k < length digests → is_ready digests k ≡ false) → (n from : ℕ) → from + n ≡ length digests → (k : ℕ) → from ≤ k → k < length digests → is_some (digest_at digests k) ≡ true
+clean_from : (digests : Digests) → ((k : ℕ) → k < length digests → is_ready digests k ≡ false) → (n from : ℕ) → from + n ≡ length digests → (k : ℕ) → from ≤ k → k < length digests → is_some (kept_digest digests k) ≡ true
 clean_from digests none zero from all k least most = absurd (omega arith)
 clean_from digests none (suc n) from all k least most =
     let behind = clean_from digests none n (from + 1) (omega arith) in
@@ -90,7 +90,7 @@ clean_from digests none (suc n) from all k least most =
           let sixteen : j < 16 = omega (arith, length-take 16 (drop (16 * from + 1) digests)) in
           let inside : 16 * from + 1 + j < length digests = omega (arith, length-take 16 (drop (16 * from + 1) digests), length-drop (16 * from + 1) digests) in
           subst (λ (o : Option (List ℕ)). is_some o ≡ true) (sym (child_at digests from j sixteen) ∙ get_or_default (children_of digests from) j None d less) (behind (16 * from + 1 + j) (omega arith) inside)) in
-          some (digest_at digests k) (λ dirty. both_ways (is_ready digests k) (none k most) (and_from (is_none (digest_at digests k)) (are_clean (children_of digests k)) dirty (subst (λ (q : ℕ). are_clean (children_of digests q) ≡ true) (sym same) children)))
+          some (kept_digest digests k) (λ dirty. both_ways (is_ready digests k) (none k most) (and_from (is_none (kept_digest digests k)) (are_clean (children_of digests k)) dirty (subst (λ (q : ℕ). are_clean (children_of digests q) ≡ true) (sym same) children)))
     ]
   where
     some : (o : Option (List ℕ)) → (is_none o ≡ true → ⊥) → is_some o ≡ true
@@ -105,12 +105,12 @@ none_ready digests e =
 
 -- Right digests of a clean tree are those of the nodes' texts.
 pub clean_all : (format : Format) (leaf : List ℕ → ℕ) (rows : List Row) (digests : Digests) → AreTrue format leaf rows digests → length digests ≡ node_count format → are_clean digests ≡ true
-    → (depth height index : ℕ) → depth + height ≡ tree_depth format → index < 16 ^ depth → digest_at digests (place_at depth index) ≡ Some (node_digest format leaf rows height index)
+    → (depth height index : ℕ) → depth + height ≡ tree_depth format → index < 16 ^ depth → kept_digest digests (place_at depth index) ≡ Some (node_digest format leaf rows height index)
 unfolding AreTrue
 clean_all format leaf rows digests right all clean depth height index sum within =
     let place = place_at depth index in
     let inside : place < length digests = omega (arith, place_within format depth index (omega arith) within) in
-    read (digest_at digests place) (node_digest format leaf rows height index) (AllPass-from_list_all is_some digests clean place None inside) (λ d e. right depth height index d sum within e)
+    read (kept_digest digests place) (node_digest format leaf rows height index) (AllPass-from_list_all is_some digests clean place None inside) (λ d e. right depth height index d sum within e)
   where
     read : (o : Option (List ℕ)) (x : List ℕ) → is_some o ≡ true → ((d : List ℕ) → o ≡ Some d → d ≡ x) → o ≡ Some x
     read None x e h = absurd (cc)

@@ -13,7 +13,7 @@ use Rattle.row_bytes.specs.declared.row.Row.{Row}
 use Rattle.row_bytes.specs.Rows.{row_text, IsRow}
 use Rattle.row_bytes.proofs.RowLaws.{one_row}
 use Rattle.hash_tree.proofs.StripLaws.{flat_map-at}
-use Rattle.hash_tree.specs.Leaves.{AscendByKey, rows_at, with_offer}
+use Rattle.hash_tree.specs.Leaves.{AscendByKey, rows_in_leaf, with_offer}
 use Rattle.hash_tree.specs.Nodes.{ancestor_of}
 use Rattle.hash_tree.specs.Texts.{leaf_text, inner_text, per_child, node_text, node_digest}
 use Rattle.hash_tree.proofs.LeafLaws.{rows_at-with_offer}
@@ -42,7 +42,7 @@ per_child_same f g same = per_child_is g (per_child f) (length-per_child f) (λ 
 -- ---- nodes
 
 -- The text of a leaf, as the definition has it.
-pub leaf_node : (format : Format) (leaf : List ℕ → ℕ) (rows : List Row) (index : ℕ) → node_text format leaf rows zero index ≡ leaf_text format (rows_at leaf index rows)
+pub leaf_node : (format : Format) (leaf : List ℕ → ℕ) (rows : List Row) (index : ℕ) → node_text format leaf rows zero index ≡ leaf_text format (rows_in_leaf leaf index rows)
 unfolding node_text
 leaf_node format leaf rows index = refl
 
@@ -52,10 +52,10 @@ unfolding node_text
 inner_node format leaf rows height index = refl
 
 -- A version of a key leaves the rows of each other leaf.
-pub rows_kept : (leaf : List ℕ → ℕ) (index : ℕ) (key : List ℕ) (v : Version) (rows : List Row) → AscendByKey rows → index ≢ leaf key → rows_at leaf index (with_offer key v rows) ≡ rows_at leaf index rows
+pub rows_kept : (leaf : List ℕ → ℕ) (index : ℕ) (key : List ℕ) (v : Version) (rows : List Row) → AscendByKey rows → index ≢ leaf key → rows_in_leaf leaf index (with_offer key v rows) ≡ rows_in_leaf leaf index rows
 rows_kept leaf index key v rows ascend other =
     rows_at-with_offer leaf index key v rows ascend
-    ∙ cond-false (nat_eq (leaf key) index) (with_offer key v (rows_at leaf index rows)) (rows_at leaf index rows) (ne_eqb (leaf key) index (λ e. other (sym e)))
+    ∙ cond-false (nat_eq (leaf key) index) (with_offer key v (rows_in_leaf leaf index rows)) (rows_in_leaf leaf index rows) (ne_eqb (leaf key) index (λ e. other (sym e)))
 
 -- A version of a key leaves the text of each node that doesn't lie above the key's leaf.
 pub text_kept : (format : Format) (leaf : List ℕ → ℕ) (rows : List Row) (key : List ℕ) (v : Version) (height index : ℕ) → AscendByKey rows → index ≢ ancestor_of height (leaf key)

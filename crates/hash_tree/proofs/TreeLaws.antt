@@ -9,7 +9,7 @@ use Rattle.vclock.specs.declared.format.Format.{Format}
 use Rattle.version_set.specs.declared.version.Version.{Version}
 use Rattle.row_bytes.specs.declared.row.Row.{Row}
 use Rattle.hash_tree.specs.Leaves.{AscendByKey, with_offer}
-use Rattle.hash_tree.specs.Nodes.{tree_depth, nodes_above, node_count, place_at, digest_at, children_of, are_clean, AreCleanBelow, IsTree, ancestor_of, is_on_path, dirtied}
+use Rattle.hash_tree.specs.Nodes.{tree_depth, nodes_above, node_count, place_at, kept_digest, children_of, are_clean, AreCleanBelow, IsTree, ancestor_of, is_on_path, dirtied}
 use Rattle.hash_tree.specs.Texts.{node_text, node_digest, inner_text, AreTrue}
 use Rattle.hash_tree.proofs.PlaceLaws.{Digests, same_place, node_count_is, place_within, child_place, child_within, on_path_up, ancestor_on_path}
 use Rattle.hash_tree.proofs.TextLaws.{text_kept, per_child_is, inner_node}
@@ -31,19 +31,19 @@ some_is x y e = cc
 -- As many digests stand there.
 pub length-dirtied : (format : Format) (leaf : ℕ) (digests : Digests) → length (dirtied format leaf digests) ≡ length digests
 unfolding dirtied
-length-dirtied format leaf digests = length-map-range_with_len (λ (place : ℕ). cond (is_on_path format leaf place) no_digest (digest_at digests place)) 0 (length digests)
+length-dirtied format leaf digests = length-map-range_with_len (λ (place : ℕ). cond (is_on_path format leaf place) no_digest (kept_digest digests place)) 0 (length digests)
 
-dirtied_within : (format : Format) (leaf place : ℕ) (digests : Digests) → place < length digests → digest_at (dirtied format leaf digests) place ≡ cond (is_on_path format leaf place) None (digest_at digests place)
+dirtied_within : (format : Format) (leaf place : ℕ) (digests : Digests) → place < length digests → kept_digest (dirtied format leaf digests) place ≡ cond (is_on_path format leaf place) None (kept_digest digests place)
 unfolding dirtied
-dirtied_within format leaf place digests within = get_or-map-range_with_len (λ (p : ℕ). cond (is_on_path format leaf p) no_digest (digest_at digests p)) 0 (length digests) place place None within (omega arith)
+dirtied_within format leaf place digests within = get_or-map-range_with_len (λ (p : ℕ). cond (is_on_path format leaf p) no_digest (kept_digest digests p)) 0 (length digests) place place None within (omega arith)
 
 -- What stands at a place.
-pub dirtied-at : (format : Format) (leaf place : ℕ) (digests : Digests) → digest_at (dirtied format leaf digests) place ≡ cond (is_on_path format leaf place) None (digest_at digests place)
+pub dirtied-at : (format : Format) (leaf place : ℕ) (digests : Digests) → kept_digest (dirtied format leaf digests) place ≡ cond (is_on_path format leaf place) None (kept_digest digests place)
 dirtied-at format leaf place digests = elim (cases_lt place (length digests)) [
   | inl within ↦ dirtied_within format leaf place digests within
   | inr past ↦
       let long : length (dirtied format leaf digests) ≤ place = omega (arith, length-dirtied format leaf digests) in
-      get_or_past (dirtied format leaf digests) place None long ∙ sym (cond_both (is_on_path format leaf place) no_digest (digest_at digests place) (λ (o : Option (List ℕ)). o ≡ None) (λ on. refl) (λ off. get_or_past digests place None past))
+      get_or_past (dirtied format leaf digests) place None long ∙ sym (cond_both (is_on_path format leaf place) no_digest (kept_digest digests place) (λ (o : Option (List ℕ)). o ≡ None) (λ on. refl) (λ off. get_or_past digests place None past))
 ]
 
 -- The children of a clean node are clean after a leaf's path was made dirty.
@@ -52,12 +52,12 @@ unfolding AreCleanBelow
 clean_dirtied format leaf digests within clean place j less behind none =
     let child = 16 * place + 1 + j in
     elim (cases_Bool (is_on_path format leaf place)) [
-      | inl on ↦ dirtied-at format leaf place digests ∙ cond-true (is_on_path format leaf place) no_digest (digest_at digests place) on
+      | inl on ↦ dirtied-at format leaf place digests ∙ cond-true (is_on_path format leaf place) no_digest (kept_digest digests place) on
       | inr off ↦ elim (cases_Bool (is_on_path format leaf child)) [
         | inl on ↦ absurd (both_ways (is_on_path format leaf place) off (on_path_up (tree_depth format) leaf place j within less on))
         | inr child_off ↦
-            let old : digest_at digests child ≡ None = sym (dirtied-at format leaf child digests ∙ cond-false (is_on_path format leaf child) no_digest (digest_at digests child) child_off) ∙ none in
-            dirtied-at format leaf place digests ∙ cond-false (is_on_path format leaf place) no_digest (digest_at digests place) off
+            let old : kept_digest digests child ≡ None = sym (dirtied-at format leaf child digests ∙ cond-false (is_on_path format leaf child) no_digest (kept_digest digests child) child_off) ∙ none in
+            dirtied-at format leaf place digests ∙ cond-false (is_on_path format leaf place) no_digest (kept_digest digests place) off
             ∙ clean place j less (omega (arith, length-dirtied format leaf digests)) old
       ]
     ]
@@ -65,7 +65,7 @@ clean_dirtied format leaf digests within clean place j less behind none =
 -- ---- children
 
 -- The child of a place, among the place's children.
-pub child_at : (digests : Digests) (place j : ℕ) → j < 16 → get_or (children_of digests place) j None ≡ digest_at digests (16 * place + 1 + j)
+pub child_at : (digests : Digests) (place j : ℕ) → j < 16 → get_or (children_of digests place) j None ≡ kept_digest digests (16 * place + 1 + j)
 child_at digests place j less = get_or-take 16 (drop (16 * place + 1) digests) j None less ∙ get_or-drop (16 * place + 1) digests j None
 
 -- A leaf has no children.
@@ -83,7 +83,7 @@ sixteen_children format digests depth index inner within all =
     omega (arith, length-take 16 (drop (16 * place + 1) digests), length-drop (16 * place + 1) digests)
 
 -- A child among clean ones is clean.
-pub clean_child : (digests : Digests) (place j : ℕ) → are_clean (children_of digests place) ≡ true → j < 16 → 16 * place + 1 + j < length digests → is_some (digest_at digests (16 * place + 1 + j)) ≡ true
+pub clean_child : (digests : Digests) (place j : ℕ) → are_clean (children_of digests place) ≡ true → j < 16 → 16 * place + 1 + j < length digests → is_some (kept_digest digests (16 * place + 1 + j)) ≡ true
 clean_child digests place j clean less within =
     let behind : j < length (children_of digests place) = omega (arith, length-take 16 (drop (16 * place + 1) digests), length-drop (16 * place + 1) digests) in
     subst (λ (o : Option (List ℕ)). is_some o ≡ true) (child_at digests place j less) (AllPass-from_list_all is_some (children_of digests place) clean j None behind)
@@ -95,13 +95,13 @@ clean_set digests place d within children clean p j less behind none =
     let child = 16 * p + 1 + j in
     elim (cases_eq child place) [
       | inl here ↦
-          let got : digest_at (set digests place (Some d)) child ≡ Some d = rw here (get_or-set_same digests place (Some d) None within) in
+          let got : kept_digest (set digests place (Some d)) child ≡ Some d = rw here (get_or-set_same digests place (Some d) None within) in
           absurd (some_none d (sym none ∙ got))
       | inr elsewhere ↦
-          let old : digest_at digests child ≡ None = sym (get_or-set_other digests place child (Some d) None elsewhere) ∙ none in
+          let old : kept_digest digests child ≡ None = sym (get_or-set_other digests place child (Some d) None elsewhere) ∙ none in
           let inside : child < length digests = omega (arith, length-set digests place (Some d)) in
           elim (cases_eq p place) [
-            | inl same ↦ absurd (none_some (digest_at digests child) old (clean_child digests p j (subst (λ (q : ℕ). are_clean (children_of digests q) ≡ true) (sym same) children) less inside))
+            | inl same ↦ absurd (none_some (kept_digest digests child) old (clean_child digests p j (subst (λ (q : ℕ). are_clean (children_of digests q) ≡ true) (sym same) children) less inside))
             | inr other ↦ get_or-set_other digests place p (Some d) None other ∙ clean p j less inside old
           ]
     ]
@@ -122,7 +122,7 @@ tree_set format place d digests within children tree = record {
 
 -- ---- a tree whose nodes are all dirty
 
-fresh-at : (n place : ℕ) → digest_at (replicate n None) place ≡ None
+fresh-at : (n place : ℕ) → kept_digest (replicate n None) place ≡ None
 fresh-at n place = elim (cases_lt place n) [
   | inl within ↦ get_or-replicate n place no_digest None within
   | inr past ↦ get_or_past (replicate n no_digest) place None (omega (arith, length-replicate n no_digest))
@@ -150,15 +150,15 @@ unfolding AreTrue
 true_kept format leaf rows key v digests ascend right at depth height index d sum within e =
     let place = place_at depth index in
     elim (cases_Bool (is_on_path format (leaf key) place)) [
-      | inl on ↦ absurd (some_none d (sym (dirtied-at format (leaf key) place digests ∙ cond-true (is_on_path format (leaf key) place) no_digest (digest_at digests place) on) ∙ e))
+      | inl on ↦ absurd (some_none d (sym (dirtied-at format (leaf key) place digests ∙ cond-true (is_on_path format (leaf key) place) no_digest (kept_digest digests place) on) ∙ e))
       | inr off ↦
-          let old : digest_at digests place ≡ Some d = sym (dirtied-at format (leaf key) place digests ∙ cond-false (is_on_path format (leaf key) place) no_digest (digest_at digests place) off) ∙ e in
+          let old : kept_digest digests place ≡ Some d = sym (dirtied-at format (leaf key) place digests ∙ cond-false (is_on_path format (leaf key) place) no_digest (kept_digest digests place) off) ∙ e in
           let apart : index ≢ ancestor_of height (leaf key) = λ same. both_ways (is_on_path format (leaf key) place) off (subst (λ (i : ℕ). is_on_path format (leaf key) (place_at depth i) ≡ true) (sym same) (ancestor_on_path height depth (tree_depth format) (leaf key) sum at)) in
           right depth height index d sum within old ∙ sym (ap sha256 (text_kept format leaf rows key v height index ascend apart))
     ]
 
 -- a digest that is read where it was written
-written : (digests : Digests) (place : ℕ) (a d : List ℕ) → digest_at (set digests place (Some a)) place ≡ Some d → a ≡ d
+written : (digests : Digests) (place : ℕ) (a d : List ℕ) → kept_digest (set digests place (Some a)) place ≡ Some d → a ≡ d
 written digests place a d e = elim (cases_lt place (length digests)) [
   | inl within ↦ some_is a d (sym (get_or-set_same digests place (Some a) None within) ∙ e)
   | inr past ↦
@@ -176,7 +176,7 @@ true_set format leaf rows digests depth height index text right sum within now o
       | inl same ↦
           let node = same_place other at depth index here within same in
           let level : k ≡ height = omega (arith, node.0) in
-          let is : sha256 text ≡ d = written digests place (sha256 text) d (subst (λ (q : ℕ). digest_at (set digests place (Some (sha256 text))) q ≡ Some d) same e) in
+          let is : sha256 text ≡ d = written digests place (sha256 text) d (subst (λ (q : ℕ). kept_digest (set digests place (Some (sha256 text))) q ≡ Some d) same e) in
           sym is ∙ ap sha256 (now ∙ sym (λ i. node_text format leaf rows (level i) (node.1 i)))
       | inr apart ↦ right other k at d other_sum here (sym (get_or-set_other digests place (place_at other at) (Some (sha256 text)) None apart) ∙ e)
     ]
@@ -189,8 +189,8 @@ children_text format leaf rows digests depth height index ds right all sum withi
     let place = place_at depth index in
     let sixteen = sixteen_children format digests depth index (omega arith) within all in
     let long : length ds ≡ 16 = sym (length-map ds (λ (d : List ℕ). Some d)) ∙ sym (ap (λ (xs : Digests). length xs) are) ∙ sixteen in
-    let child : (j : ℕ) → j < 16 → digest_at digests (place_at (suc depth) (16 * index + j)) ≡ Some (get_or ds j []) =
-    λ j less. ap (λ (p : ℕ). digest_at digests p) (child_place depth index j) ∙ sym (child_at digests place j less) ∙ ap (λ (xs : Digests). get_or xs j None) are ∙ get_or-map (λ (d : List ℕ). Some d) ds j [] None (omega arith) in
+    let child : (j : ℕ) → j < 16 → kept_digest digests (place_at (suc depth) (16 * index + j)) ≡ Some (get_or ds j []) =
+    λ j less. ap (λ (p : ℕ). kept_digest digests p) (child_place depth index j) ∙ sym (child_at digests place j less) ∙ ap (λ (xs : Digests). get_or xs j None) are ∙ get_or-map (λ (d : List ℕ). Some d) ds j [] None (omega arith) in
     let each : (j : ℕ) → j < 16 → get_or ds j [] ≡ node_digest format leaf rows height (16 * index + j) =
     λ j less. right (suc depth) height (16 * index + j) (get_or ds j []) (omega arith) (child_within depth index j within less) (child j less) in
     ap (inner_text format) (per_child_is (λ j. node_digest format leaf rows height (16 * index + j)) ds long each) ∙ sym (inner_node format leaf rows height index)

@@ -14,10 +14,10 @@ abbrev pub all_rows : List Bucket → List Row
 all_rows chunks = flat_map (λ (c : Bucket). c.rows) chunks
 
 -- the rows of chunk i
-abbrev pub rows_of : List Bucket → ℕ → List Row
-rows_of [] i = []
-rows_of (c ∷ chunks) zero = c.rows
-rows_of (c ∷ chunks) (suc i) = rows_of chunks i
+abbrev pub chunk_rows : List Bucket → ℕ → List Row
+chunk_rows [] i = []
+chunk_rows (c ∷ chunks) zero = c.rows
+chunk_rows (c ∷ chunks) (suc i) = chunk_rows chunks i
 
 -- the texts of the rows of a chunk, one after another
 abbrev pub chunk_text : Bucket → List ℕ
@@ -42,13 +42,13 @@ place_in chunks i at = length (all_rows (take i chunks)) + at
 pub record IsRowSpot (chunks : List Bucket) (place i at : ℕ) : Type 0 where
   pub chunk : i < length chunks
   pub before : length (all_rows (take i chunks)) + at ≡ place
-  pub within : at < length (rows_of chunks i)
+  pub within : at < length (chunk_rows chunks i)
 
 -- a row inserted into chunk i, at `at` among the chunk's rows, is then at `place` among all rows
 pub record IsGapSpot (chunks : List Bucket) (place i at : ℕ) : Type 0 where
   pub chunk : i < length chunks
   pub before : length (all_rows (take i chunks)) + at ≡ place
-  pub within : at ≤ length (rows_of chunks i)
+  pub within : at ≤ length (chunk_rows chunks i)
 
 -- the key of the first row, or no bytes
 abbrev pub first_key : List Row → List ℕ
@@ -61,10 +61,10 @@ begin_by k [] = false
 begin_by k (r ∷ rows) = is_le (key_cmp r.key k)
 
 -- the versions of row i
-abbrev pub versions_at : List Row → ℕ → List Version
-versions_at [] i = []
-versions_at (r ∷ rows) zero = r.versions
-versions_at (r ∷ rows) (suc i) = versions_at rows i
+abbrev pub row_versions : List Row → ℕ → List Version
+row_versions [] i = []
+row_versions (r ∷ rows) zero = r.versions
+row_versions (r ∷ rows) (suc i) = row_versions rows i
 
 -- the rows after an offer of a version to the set of row i
 abbrev pub offered_at : List Row → ℕ → Version → List Row
@@ -77,7 +77,7 @@ pub record IsSplit (chunks : List Bucket) (i cut : ℕ) (parts : List Bucket) : 
   pub rows : all_rows parts ≡ all_rows chunks
   pub more : length parts ≡ length chunks + 1
   pub before : take i parts ≡ take i chunks
-  pub front : length (rows_of parts i) ≡ cut
-  pub first : all_rows (take (i + 1) parts) ≡ all_rows (take i chunks) ++ rows_of parts i
-  pub back : length (rows_of parts (i + 1)) + cut ≡ 15
+  pub front : length (chunk_rows parts i) ≡ cut
+  pub first : all_rows (take (i + 1) parts) ≡ all_rows (take i chunks) ++ chunk_rows parts i
+  pub back : length (chunk_rows parts (i + 1)) + cut ≡ 15
   pub each : (format : Format) → AreChunks format chunks → AreChunks format parts

@@ -31,8 +31,8 @@ pub record IsBucket (b : Bucket) : Type 0 where
   pub each : AllByRecursion (FitsText b.format) b.rows
 
 -- the rows of leaf i, if leaf gives the leaf of each key
-abbrev pub rows_at : (List ℕ → ℕ) → ℕ → List Row → List Row
-rows_at leaf i rows = filter (λ (r : Row). nat_eq (leaf r.key) i) rows
+abbrev pub rows_in_leaf : (List ℕ → ℕ) → ℕ → List Row → List Row
+rows_in_leaf leaf i rows = filter (λ (r : Row). nat_eq (leaf r.key) i) rows
 
 -- the versions that ascending rows have for a key
 abbrev pub versions_in : List ℕ → List Row → List Version

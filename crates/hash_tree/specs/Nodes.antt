@@ -30,8 +30,8 @@ pub record Tree : Type 0 where
   pub digests : List (Option (List ℕ))
 
 -- the digest of the node at a place: a node with a digest is clean, any other is dirty
-abbrev pub digest_at : List (Option (List ℕ)) → ℕ → Option (List ℕ)
-digest_at digests place = slice_index_or digests place None
+abbrev pub kept_digest : List (Option (List ℕ)) → ℕ → Option (List ℕ)
+kept_digest digests place = slice_index_or digests place None
 
 -- the digests of a node's children: an empty list for a leaf
 abbrev pub children_of : List (Option (List ℕ)) → ℕ → List (Option (List ℕ))
@@ -43,7 +43,7 @@ are_clean digests = list_all is_some digests
 
 -- the children of a clean node are clean
 unfoldable pub AreCleanBelow : List (Option (List ℕ)) → Type 0
-AreCleanBelow digests = (place j : ℕ) → j < 16 → 16 * place + 1 + j < length digests → digest_at digests (16 * place + 1 + j) ≡ None → digest_at digests place ≡ None
+AreCleanBelow digests = (place j : ℕ) → j < 16 → 16 * place + 1 + j < length digests → kept_digest digests (16 * place + 1 + j) ≡ None → kept_digest digests place ≡ None
 
 -- each node has its place, and the children of a clean node are clean
 pub record IsTree (t : Tree) : Type 0 where
@@ -56,7 +56,7 @@ dirty_count digests = length (filter is_none digests)
 
 -- a node can be hashed: it is dirty, and its children are clean
 abbrev pub is_ready : List (Option (List ℕ)) → ℕ → Bool
-is_ready digests place = is_none (digest_at digests place) && are_clean (children_of digests place)
+is_ready digests place = is_none (kept_digest digests place) && are_clean (children_of digests place)
 
 -- the places of the nodes that can be hashed, from a place on
 abbrev pub ready_from : List (Option (List ℕ)) → ℕ → List ℕ
@@ -78,4 +78,4 @@ is_on_path format leaf place = list_any (nat_eq place) (path_of (tree_depth form
 
 -- the digests after a leaf and the nodes above it become dirty: every other node is unchanged
 unfoldable pub dirtied : Format → ℕ → List (Option (List ℕ)) → List (Option (List ℕ))
-dirtied format leaf digests = map (λ place. if is_on_path format leaf place then None else digest_at digests place) (range_with_len 0 (length digests))
+dirtied format leaf digests = map (λ place. if is_on_path format leaf place then None else kept_digest digests place) (range_with_len 0 (length digests))

@@ -7,8 +7,8 @@ use Rattle.vclock.specs.declared.format.Format.{Format}
 use Rattle.vclock.specs.declared.format.Format.TheVariants.{One, Two}
 use Rattle.row_bytes.specs.declared.row.Row.{Row}
 use Rattle.row_bytes.specs.Rows.{row_text}
-use Rattle.hash_tree.specs.Leaves.{rows_at}
-use Rattle.hash_tree.specs.Nodes.{tree_depth, place_at, digest_at, Tree, IsTree}
+use Rattle.hash_tree.specs.Leaves.{rows_in_leaf}
+use Rattle.hash_tree.specs.Nodes.{tree_depth, place_at, kept_digest, Tree, IsTree}
 
 -- the first byte of a leaf's text
 abbrev pub leaf_byte : Format → ℕ
@@ -34,7 +34,7 @@ per_child f = map f (range_with_len 0 16)
 
 -- the text of a node over rows, by its height above the leaves and its index at that height
 unfoldable pub node_text : Format → (List ℕ → ℕ) → List Row → ℕ → ℕ → List ℕ
-node_text format leaf rows zero index = leaf_text format (rows_at leaf index rows)
+node_text format leaf rows zero index = leaf_text format (rows_in_leaf leaf index rows)
 node_text format leaf rows (suc height) index = inner_text format (per_child (λ j. sha256 (node_text format leaf rows height (16 * index + j))))
 
 -- the digest of that text
@@ -43,7 +43,7 @@ node_digest format leaf rows height index = sha256 (node_text format leaf rows h
 
 -- each clean node has the digest of its text
 unfoldable pub AreTrue : Format → (List ℕ → ℕ) → List Row → List (Option (List ℕ)) → Type 0
-AreTrue format leaf rows digests = (depth height index : ℕ) (d : List ℕ) → depth + height ≡ tree_depth format → index < 16 ^ depth → digest_at digests (place_at depth index) ≡ Some d → d ≡ node_digest format leaf rows height index
+AreTrue format leaf rows digests = (depth height index : ℕ) (d : List ℕ) → depth + height ≡ tree_depth format → index < 16 ^ depth → kept_digest digests (place_at depth index) ≡ Some d → d ≡ node_digest format leaf rows height index
 
 -- a valid tree whose clean nodes have the digests of their texts over rows
 pub record IsTreeFor (leaf : List ℕ → ℕ) (rows : List Row) (t : Tree) : Type 0 where

@@ -6,7 +6,7 @@ ghost use Rattle.version_set.specs.Kind.{value_fault};
 ghost use Rattle.version_set.specs.Version.{offer_fault};
 ghost use Rattle.row_bytes.specs.Rows.{row_text, FitsText};
 ghost use Rattle.row_bytes.specs.declared.row.Row.{Row};
-ghost use Rattle.hash_tree.specs.Chunks.{chunk_text, begin_by, versions_at, offered_at};
+ghost use Rattle.hash_tree.specs.Chunks.{chunk_text, begin_by, row_versions, offered_at};
 
 use crate::written_rows::WrittenRows;
 use row_bytes::Row;
@@ -102,7 +102,7 @@ impl Chunk {
     /// Returns true if an offer of the version to the set of the row at a place is refused as Crowded.
     fn crowds(&self, at: usize, version: &Version) -> bool
         requires { at < length self.now.rows }
-        ensures { offer_fault version.now (versions_at self.now.rows at)
+        ensures { offer_fault version.now (row_versions self.now.rows at)
             ≡ (if result then Some Refusal.Crowded else None) }
     {
         self.rows()[at].versions.crowds(version)
@@ -119,7 +119,7 @@ impl Chunk {
     ) -> Result<(), Refusal>
         requires at { at < length self.old.rows }
         requires value { value_fault self.old.format version.kind version.value ≡ None }
-        ensures answers { Answers result (offer_fault version (versions_at self.old.rows at)) (λ _. ⊤) }
+        ensures answers { Answers result (offer_fault version (row_versions self.old.rows at)) (λ _. ⊤) }
         ensures ok { OnOk result (self.new ≡ record self.old { rows = offered_at self.old.rows at version }) }
         ensures err { OnErr result (self.new ≡ self.old) }
     {

@@ -7,7 +7,7 @@ ghost use Rattle.version_set.specs.Kind.{value_fault};
 ghost use Rattle.version_set.specs.Version.{offer_fault};
 ghost use Rattle.row_bytes.specs.Rows.{FitsText};
 ghost use Rattle.hash_tree.specs.Leaves.{Bucket, key_cmp, AscendByKey};
-ghost use Rattle.hash_tree.specs.Chunks.{all_rows, rows_of, chunk_text, AreChunks, place_in, IsRowSpot, IsGapSpot, IsSplit, versions_at, offered_at};
+ghost use Rattle.hash_tree.specs.Chunks.{all_rows, chunk_rows, chunk_text, AreChunks, place_in, IsRowSpot, IsGapSpot, IsSplit, row_versions, offered_at};
 
 use crate::chunk::Chunk;
 use crate::written_rows::MOST_ROWS;
@@ -78,7 +78,7 @@ pub(crate) fn offer_at(
     requires spot { IsRowSpot chunks.old.items (place_in chunks.old.items spot.chunk spot.at) spot.chunk spot.at }
     requires value { AllByRecursion (λ (c : Bucket). value_fault c.format version.kind version.value ≡ None) chunks.old.items }
     ensures answers { Answers result (offer_fault version
-        (versions_at (all_rows chunks.old.items) (place_in chunks.old.items spot.chunk spot.at))) (λ _. ⊤) }
+        (row_versions (all_rows chunks.old.items) (place_in chunks.old.items spot.chunk spot.at))) (λ _. ⊤) }
     ensures ok { OnOk result (all_rows chunks.new.items
         ≡ offered_at (all_rows chunks.old.items) (place_in chunks.old.items spot.chunk spot.at) version) }
     ensures chunks { (format : Format) → AreChunks format chunks.old.items → AreChunks format chunks.new.items }
@@ -117,7 +117,7 @@ fn roomy_gap(alloc: Global, chunks: &mut Vec<Chunk>, gap: Spot) -> Result<Spot, 
     requires each { AllByRecursion (λ (c : Bucket). length c.rows ≤ 15) chunks.old.items }
     ensures answers { Answers result None (λ _. ⊤) }
     ensures gap { IfOk result (λ now. IsGapSpot chunks.new.items (place_in chunks.old.items gap.chunk gap.at) now.chunk now.at) }
-    ensures room { IfOk result (λ now. length (rows_of chunks.new.items now.chunk) < 15) }
+    ensures room { IfOk result (λ now. length (chunk_rows chunks.new.items now.chunk) < 15) }
     ensures rows { all_rows chunks.new.items ≡ all_rows chunks.old.items }
     ensures chunks { (format : Format) → AreChunks format chunks.old.items → AreChunks format chunks.new.items }
 {
@@ -158,7 +158,7 @@ fn split_at(
     requires within { number < length chunks.old.items }
     requires some { 1 ≤ cut }
     requires less { cut < 15 }
-    requires full { length (rows_of chunks.old.items number) ≡ 15 }
+    requires full { length (chunk_rows chunks.old.items number) ≡ 15 }
     ensures answers { Answers result None (λ _. ⊤) }
     ensures ok { OnOk result (IsSplit chunks.old.items number cut chunks.new.items) }
     ensures err { OnErr result (chunks.new.items ≡ chunks.old.items) }

@@ -1,7 +1,7 @@
 //! The clean nodes of a tree, and their digests.
 ghost use Rattle.std.specs.Prelude.{◌≡◌, ◌+◌, ◌/◌, ◌<◌, ◌≤◌, ◌^◌, ◌∷◌, [], length, Option, Some, None, map, replicate, slice_set, false, if◌then◌else◌, IsTrue, MatchOption};
 ghost use Rattle.vclock.specs.Answer.{Answers};
-ghost use Rattle.hash_tree.specs.Nodes.{tree_depth, nodes_above, node_count, place_at, digest_at, children_of, are_clean, is_ready, ready_from, dirtied, dirty_count, IsTree};
+ghost use Rattle.hash_tree.specs.Nodes.{tree_depth, nodes_above, node_count, place_at, kept_digest, children_of, are_clean, is_ready, ready_from, dirtied, dirty_count, IsTree};
 
 use crate::digest::Digest;
 use crate::node::{NodeAt, tree_depth};
@@ -43,7 +43,7 @@ impl Marks {
 
     /// Returns the digest of a node, or `None` if the node is dirty or isn't in the tree. Doesn't allocate.
     pub fn get(&self, node: NodeAt) -> Option<Digest>
-        ensures digest { result ≡ digest_at self.now.digests (place_at node.depth node.index) }
+        ensures digest { result ≡ kept_digest self.now.digests (place_at node.depth node.index) }
         ensures valid { IsTree self.now }
     {
         match self.digests.get(node.place()) {

@@ -7,7 +7,7 @@ ghost use Rattle.version_set.specs.Kind.{value_fault};
 ghost use Rattle.version_set.specs.Version.{offer_fault};
 ghost use Rattle.row_bytes.specs.Rows.{row_text, FitsText};
 ghost use Rattle.row_bytes.specs.declared.row.Row.{Row};
-ghost use Rattle.hash_tree.specs.Chunks.{chunk_text, versions_at, offered_at};
+ghost use Rattle.hash_tree.specs.Chunks.{chunk_text, row_versions, offered_at};
 
 use row_bytes::{Row, put_row, row_len, version_len};
 use std::alloc::{AllocError, Global};
@@ -136,7 +136,7 @@ impl WrittenRows {
     ) -> Result<(), Refusal>
         requires at { at < length self.old.rows }
         requires value { value_fault self.old.format version.kind version.value ≡ None }
-        requires room { offer_fault version (versions_at self.old.rows at) ≡ None }
+        requires room { offer_fault version (row_versions self.old.rows at) ≡ None }
         ensures answers { Answers result None (λ _. ⊤) }
         ensures ok { OnOk result (self.new ≡ record self.old { rows = offered_at self.old.rows at version }) }
         ensures err { OnErr result (self.new ≡ self.old) }

@@ -22,19 +22,19 @@ use Rattle.hint_store.specs.declared.hint.Delivery.{Delivery}
 use Rattle.hint_store.specs.declared.hint.Fate.{Fate}
 use Rattle.hint_store.specs.declared.hint.Fate.TheVariants.{Pending, Taken, Known}
 use Rattle.hint_store.specs.declared.hint.Kept.{Kept}
-use Rattle.hint_store.specs.Waits.{lesser}
-use Rattle.hint_store.specs.Hints.{is_open, is_pending, pending_count, AreNumberedFrom, kept_at, keep_fault, is_due, next_hint, is_of, is_answered, IsAnswered, fate_of, answered, confirm, confirmed, answer_of, delivery_of}
+use Rattle.hint_store.specs.Waits.{earliest}
+use Rattle.hint_store.specs.Hints.{is_undelivered, is_pending, pending_count, HaveIdsFrom, kept_at, keep_fault, is_due, next_hint, delivers_hint, is_answered, IsAnswered, fate_of, answered, confirm, confirmed, owner_answer, delivery_of}
 
 pub get_or_same : {X : Type 0} (xs : List X) (i : ℕ) (d e : X) → i < length xs → get_or xs i d ≡ get_or xs i e
 get_or_same xs i d e h = same_Some (get_or xs i d) (get_or xs i e) (sym (slice_get-get_or xs i d h) ∙ slice_get-get_or xs i e h)
 
 -- the hint at a place has the number of the place
-pub id_at : (n : ℕ) (hints : List Kept) (j : ℕ) (d : Kept) → AreNumberedFrom n hints → j < length hints → (get_or hints j d).hint.id ≡ n + j
+pub id_at : (n : ℕ) (hints : List Kept) (j : ℕ) (d : Kept) → HaveIdsFrom n hints → j < length hints → (get_or hints j d).hint.id ≡ n + j
 id_at n [] j d a h = absurd (omega arith)
 id_at n (k ∷ ks) zero d a h = a.0 ∙ sym (add-zero n)
 id_at n (k ∷ ks) (suc j) d a h = let e = id_at (n + 1) ks j d a.1 (omega arith) in omega (arith, e)
 
-pub AreNumberedFrom-push : (n : ℕ) (ks : List Kept) (k : Kept) → AreNumberedFrom n ks → k.hint.id ≡ n + length ks → AreNumberedFrom n (ks ++ k ∷ [])
+pub AreNumberedFrom-push : (n : ℕ) (ks : List Kept) (k : Kept) → HaveIdsFrom n ks → k.hint.id ≡ n + length ks → HaveIdsFrom n (ks ++ k ∷ [])
 AreNumberedFrom-push n [] k all is = (is ∙ add-zero n, tt)
 AreNumberedFrom-push n (x ∷ ks) k all is = (all.0, AreNumberedFrom-push (n + 1) ks k all.1 (omega arith))
 
@@ -62,7 +62,7 @@ kept_none hints id j d e is h =
     cc
 
 -- a test that only the hint of one number passes
-pub any_at_place : (t : Kept → Bool) (n i j : ℕ) (hints : List Kept) (d : Kept) → ((k : Kept) → t k ≡ true → k.hint.id ≡ i) → AreNumberedFrom n hints → i ≡ n + j → j < length hints → list_any t hints ≡ t (get_or hints j d)
+pub any_at_place : (t : Kept → Bool) (n i j : ℕ) (hints : List Kept) (d : Kept) → ((k : Kept) → t k ≡ true → k.hint.id ≡ i) → HaveIdsFrom n hints → i ≡ n + j → j < length hints → list_any t hints ≡ t (get_or hints j d)
 any_at_place t n i j hints d one a is h =
     elim (cases_Bool (t (get_or hints j d))) [
       | inl passes ↦ list_any_at t hints j d h passes ∙ sym passes
@@ -74,27 +74,27 @@ any_at_place t n i j hints d one a is h =
           both_ways _ fails passed) ∙ sym fails
     ]
 
-pub any_nowhere : (t : Kept → Bool) (i : ℕ) (hints : List Kept) → ((k : Kept) → t k ≡ true → k.hint.id ≡ i) → AreNumberedFrom 1 hints → kept_at hints i ≡ None → list_any t hints ≡ false
+pub any_nowhere : (t : Kept → Bool) (i : ℕ) (hints : List Kept) → ((k : Kept) → t k ≡ true → k.hint.id ≡ i) → HaveIdsFrom 1 hints → kept_at hints i ≡ None → list_any t hints ≡ false
 any_nowhere t i hints one a none = false_from_ne_true (list_any t hints) (λ e.
     let found = Any-from_list_any t hints e in
     let number : found.1.hint.id ≡ 1 + found.0 = ap (λ (k : Kept). k.hint.id) (sym found.3) ∙ id_at 1 hints found.0 found.1 a found.2 in
     kept_none hints i found.0 found.1 none (omega (arith, one found.1 found.4)) found.2)
 
 pub answered-id : (id : ℕ) (d : Delivery) (k : Kept) → is_answered id d k ≡ true → k.hint.id ≡ id
-answered-id id d k e = eqb-true k.hint.id id (and_parts (is_pending k) (nat_eq k.hint.id id) (and_parts (is_pending k && nat_eq k.hint.id id) (is_of d k.hint) e).0).1
+answered-id id d k e = eqb-true k.hint.id id (and_parts (is_pending k) (nat_eq k.hint.id id) (and_parts (is_pending k && nat_eq k.hint.id id) (delivers_hint d k.hint) e).0).1
 
 pub and-true : (b : Bool) → (b && true) ≡ b
 and-true true = refl
 and-true false = refl
 
-pub awaits_some : (hints : List Kept) (id : ℕ) (d : Delivery) (k : Kept) → AreNumberedFrom 1 hints → Some k ≡ kept_at hints id → list_any (is_answered id d) hints ≡ (is_open k.fate && is_of d k.hint)
+pub awaits_some : (hints : List Kept) (id : ℕ) (d : Delivery) (k : Kept) → HaveIdsFrom 1 hints → Some k ≡ kept_at hints id → list_any (is_answered id d) hints ≡ (is_undelivered k.fate && delivers_hint d k.hint)
 awaits_some hints id d k a e =
     let there = kept_some hints id k (sym e) in
     let number : k.hint.id ≡ id = let n = id_at 1 hints (id - 1) k a there.1 in ap (λ (x : Kept). x.hint.id) (sym there.2) ∙ n ∙ omega (arith, there.0) in
     any_at_place (is_answered id d) 1 id (id - 1) hints k (answered-id id d) a (omega (arith, there.0)) there.1
-    ∙ (ap (is_answered id d) there.2 ∙ (ap (λ b. (is_open k.fate && b) && is_of d k.hint) (eq-eqb k.hint.id id number) ∙ ap (λ b. b && is_of d k.hint) (and-true (is_open k.fate))))
+    ∙ (ap (is_answered id d) there.2 ∙ (ap (λ b. (is_undelivered k.fate && b) && delivers_hint d k.hint) (eq-eqb k.hint.id id number) ∙ ap (λ b. b && delivers_hint d k.hint) (and-true (is_undelivered k.fate))))
 
-pub awaits_none : (hints : List Kept) (id : ℕ) (d : Delivery) → AreNumberedFrom 1 hints → None ≡ kept_at hints id → list_any (is_answered id d) hints ≡ false
+pub awaits_none : (hints : List Kept) (id : ℕ) (d : Delivery) → HaveIdsFrom 1 hints → None ≡ kept_at hints id → list_any (is_answered id d) hints ≡ false
 awaits_none hints id d a e = any_nowhere (is_answered id d) id hints (answered-id id d) a (sym e)
 
 -- the first hint that passes a test
@@ -113,7 +113,7 @@ find_some q hints k e =
     (_, slice_get_within hints _ k there, get_or_from_slice_get hints _ k k there)
 
 -- the hint of the number of a hint that was found is that hint
-pub found_again : (q : Kept → Bool) (hints : List Kept) → AreNumberedFrom 1 hints → option_and_then (kept_at hints) (option_map (λ h. h.id) (option_map (λ k. k.hint) (find q hints))) ≡ find q hints
+pub found_again : (q : Kept → Bool) (hints : List Kept) → HaveIdsFrom 1 hints → option_and_then (kept_at hints) (option_map (λ h. h.id) (option_map (λ k. k.hint) (find q hints))) ≡ find q hints
 found_again q hints a =
     elim (find q hints) as (λ o. find q hints ≡ o → option_and_then (kept_at hints) (option_map (λ h. h.id) (option_map (λ k. k.hint) o)) ≡ o) [
       | None ↦ λ e. refl
@@ -124,8 +124,8 @@ found_again q hints a =
           kept_there hints k.hint.id k (omega arith) (omega arith) ∙ ap (λ x. Some x) (ap (λ j. get_or hints j k) place ∙ there.2)
     ] refl
 
--- the number of the first hint that passes one of two tests is the lesser of the numbers
-ids_above : (q : Kept → Bool) (n : ℕ) (hints : List Kept) (k : Kept) → AreNumberedFrom n hints → find q hints ≡ Some k → n ≤ k.hint.id
+-- the number of the first hint that passes one of two tests is the earliest of the numbers
+ids_above : (q : Kept → Bool) (n : ℕ) (hints : List Kept) (k : Kept) → HaveIdsFrom n hints → find q hints ≡ Some k → n ≤ k.hint.id
 ids_above q n hints k a e =
     let there = find_some q hints k e in
     let number : k.hint.id ≡ n + there.0 = ap (λ (x : Kept). x.hint.id) (sym there.2) ∙ id_at n hints there.0 k a there.1 in
@@ -135,33 +135,33 @@ ids_above q n hints k a e =
 abbrev pub ids : Option Kept → Option ℕ
 ids o = option_map (λ h. h.id) (option_map (λ k. k.hint) o)
 
-first_lesser : (q : Kept → Bool) (n m : ℕ) (hints : List Kept) → AreNumberedFrom n hints → m < n → lesser (Some m) (ids (find q hints)) ≡ Some m
-first_lesser q n m hints a h = elim (find q hints) as (λ o. find q hints ≡ o → lesser (Some m) (ids o) ≡ Some m) [
+first_lesser : (q : Kept → Bool) (n m : ℕ) (hints : List Kept) → HaveIdsFrom n hints → m < n → earliest (Some m) (ids (find q hints)) ≡ Some m
+first_lesser q n m hints a h = elim (find q hints) as (λ o. find q hints ≡ o → earliest (Some m) (ids o) ≡ Some m) [
   | None ↦ λ e. refl
   | Some k ↦ λ e. let over = ids_above q n hints k a e in ap (λ x. Some x) (let low : min m k.hint.id ≡ m = omega arith in low)
 ] refl
 
-last_lesser : (q : Kept → Bool) (n m : ℕ) (hints : List Kept) → AreNumberedFrom n hints → m < n → lesser (ids (find q hints)) (Some m) ≡ Some m
-last_lesser q n m hints a h = elim (find q hints) as (λ o. find q hints ≡ o → lesser (ids o) (Some m) ≡ Some m) [
+last_lesser : (q : Kept → Bool) (n m : ℕ) (hints : List Kept) → HaveIdsFrom n hints → m < n → earliest (ids (find q hints)) (Some m) ≡ Some m
+last_lesser q n m hints a h = elim (find q hints) as (λ o. find q hints ≡ o → earliest (ids o) (Some m) ≡ Some m) [
   | None ↦ λ e. refl
   | Some k ↦ λ e. let over = ids_above q n hints k a e in ap (λ x. Some x) (let low : min k.hint.id m ≡ m = omega arith in low)
 ] refl
 
-lesser_find : (p r q : Kept → Bool) → ((k : Kept) → q k ≡ (p k || r k)) → (n : ℕ) (hints : List Kept) → AreNumberedFrom n hints → ids (find q hints) ≡ lesser (ids (find p hints)) (ids (find r hints))
+lesser_find : (p r q : Kept → Bool) → ((k : Kept) → q k ≡ (p k || r k)) → (n : ℕ) (hints : List Kept) → HaveIdsFrom n hints → ids (find q hints) ≡ earliest (ids (find p hints)) (ids (find r hints))
 lesser_find p r q same n [] a = refl
 lesser_find p r q same n (k ∷ ks) a =
     ap (λ b. ids (cond b (Some k) (find q ks))) (same k)
     ∙ by_tests (p k) (r k) (lesser_find p r q same (n + 1) ks a.1) (first_lesser r (n + 1) k.hint.id ks a.1 (omega (arith, a.0))) (last_lesser p (n + 1) k.hint.id ks a.1 (omega (arith, a.0)))
   where
-    by_tests : (b c : Bool) → ids (find q ks) ≡ lesser (ids (find p ks)) (ids (find r ks)) → lesser (Some k.hint.id) (ids (find r ks)) ≡ Some k.hint.id → lesser (ids (find p ks)) (Some k.hint.id) ≡ Some k.hint.id
-        → ids (cond (b || c) (Some k) (find q ks)) ≡ lesser (ids (cond b (Some k) (find p ks))) (ids (cond c (Some k) (find r ks)))
+    by_tests : (b c : Bool) → ids (find q ks) ≡ earliest (ids (find p ks)) (ids (find r ks)) → earliest (Some k.hint.id) (ids (find r ks)) ≡ Some k.hint.id → earliest (ids (find p ks)) (Some k.hint.id) ≡ Some k.hint.id
+        → ids (cond (b || c) (Some k) (find q ks)) ≡ earliest (ids (cond b (Some k) (find p ks))) (ids (cond c (Some k) (find r ks)))
     by_tests true true rest one two = ap (λ x. Some x) (let both : k.hint.id ≡ min k.hint.id k.hint.id = omega arith in both)
     by_tests true false rest one two = sym one
     by_tests false true rest one two = sym two
     by_tests false false rest one two = rest
 
 -- the next hint of one owner more
-pub next_push : (owners : List ℕ) (o after : ℕ) (hints : List Kept) → AreNumberedFrom 1 hints → ids (find (is_due (owners ++ o ∷ []) after) hints) ≡ lesser (ids (find (is_due owners after) hints)) (ids (find (is_due (o ∷ []) after) hints))
+pub next_push : (owners : List ℕ) (o after : ℕ) (hints : List Kept) → HaveIdsFrom 1 hints → ids (find (is_due (owners ++ o ∷ []) after) hints) ≡ earliest (ids (find (is_due owners after) hints)) (ids (find (is_due (o ∷ []) after) hints))
 next_push owners o after hints a =
     lesser_find (is_due owners after) (is_due (o ∷ []) after) (is_due (owners ++ o ∷ []) after)
     (λ k. ap (λ b. (is_pending k && nat_lt after k.hint.id) && b) (list_any-append (nat_eq k.hint.owner) owners (o ∷ [])) ∙ spread (is_pending k && nat_lt after k.hint.id) (list_any (nat_eq k.hint.owner) owners) (list_any (nat_eq k.hint.owner) (o ∷ [])))
@@ -180,24 +180,24 @@ no_owners after hints = ap ids (sym (find_none (is_due [] after) hints (λ k d h
     and-false false = refl
 
 -- at a step of a loop over owners
-pub next_more : (owners : List ℕ) (i d after : ℕ) (hints : List Kept) → AreNumberedFrom 1 hints → i < length owners
-    → ids (find (is_due (take (i + 1) owners) after) hints) ≡ lesser (ids (find (is_due (take i owners) after) hints)) (ids (find (is_due (get_or owners i d ∷ []) after) hints))
+pub next_more : (owners : List ℕ) (i d after : ℕ) (hints : List Kept) → HaveIdsFrom 1 hints → i < length owners
+    → ids (find (is_due (take (i + 1) owners) after) hints) ≡ earliest (ids (find (is_due (take i owners) after) hints)) (ids (find (is_due (get_or owners i d ∷ []) after) hints))
 next_more owners i d after hints a h =
     ap (λ os. ids (find (is_due os after) hints)) (take_more owners i d h) ∙ next_push (take i owners) (get_or owners i d) after hints a
 
 -- the copy of the next hint
-pub next_found : (owners : List ℕ) (after : ℕ) (hints : List Kept) (id : Option ℕ) → AreNumberedFrom 1 hints → id ≡ ids (find (is_due owners after) hints) → option_map (λ k. k.hint) (option_and_then (kept_at hints) id) ≡ next_hint owners after hints
+pub next_found : (owners : List ℕ) (after : ℕ) (hints : List Kept) (id : Option ℕ) → HaveIdsFrom 1 hints → id ≡ ids (find (is_due owners after) hints) → option_map (λ k. k.hint) (option_and_then (kept_at hints) id) ≡ next_hint owners after hints
 next_found owners after hints id a is =
     ap (λ i. option_map (λ k. k.hint) (option_and_then (kept_at hints) i)) is ∙ ap (λ o. option_map (λ k. k.hint) o) (found_again (is_due owners after) hints a)
 
-pub open_pending : (f : Fate) → is_open f ≡ true → f ≡ Pending
+pub open_pending : (f : Fate) → is_undelivered f ≡ true → f ≡ Pending
 open_pending Pending e = refl
 open_pending Taken e = cc
 open_pending Known e = cc
 
 answered_is : (id : ℕ) (d : Delivery) (k : Kept) → is_answered id d k ≡ true → IsAnswered id d k
 answered_is id d k t =
-    let parts = and_parts (is_pending k && nat_eq k.hint.id id) (is_of d k.hint) t in
+    let parts = and_parts (is_pending k && nat_eq k.hint.id id) (delivers_hint d k.hint) t in
     let front = and_parts (is_pending k) (nat_eq k.hint.id id) parts.0 in
     let of = and_parts (nat_eq k.hint.owner d.owner && bytes_eq k.hint.key d.key) (is_same k.hint.version d.version) parts.1 in
     let names = and_parts (nat_eq k.hint.owner d.owner) (bytes_eq k.hint.key d.key) of.0 in
@@ -211,8 +211,8 @@ answered_is id d k t =
 
 pub answered_from : (id : ℕ) (d : Delivery) (k : Kept) → IsAnswered id d k → is_answered id d k ≡ true
 answered_from id d k is =
-    and_from (is_pending k && nat_eq k.hint.id id) (is_of d k.hint)
-    (and_from (is_pending k) (nat_eq k.hint.id id) (ap is_open is.is_pending) (eq-eqb k.hint.id id is.same_id))
+    and_from (is_pending k && nat_eq k.hint.id id) (delivers_hint d k.hint)
+    (and_from (is_pending k) (nat_eq k.hint.id id) (ap is_undelivered is.is_pending) (eq-eqb k.hint.id id is.same_id))
     (and_from (nat_eq k.hint.owner d.owner && bytes_eq k.hint.key d.key) (is_same k.hint.version d.version)
     (and_from (nat_eq k.hint.owner d.owner) (bytes_eq k.hint.key d.key) (eq-eqb k.hint.owner d.owner is.same_owner) ((bytes_eq-Decides k.hint.key d.key).1 is.same_key))
     (subst (λ (v : Version). is_same k.hint.version v ≡ true) is.same_version (ap is_eq (tied_itself version_total k.hint.version))))
@@ -232,7 +232,7 @@ pub record IsFound (hints : List Kept) (id : ℕ) (d : Delivery) : Type 0 where
   pub stands : get_or hints (id - 1) kept ≡ kept
   pub answered : IsAnswered id d kept
 
-pub found_at : (hints : List Kept) (id : ℕ) (d : Delivery) → AreNumberedFrom 1 hints → list_any (is_answered id d) hints ≡ true → IsFound hints id d
+pub found_at : (hints : List Kept) (id : ℕ) (d : Delivery) → HaveIdsFrom 1 hints → list_any (is_answered id d) hints ≡ true → IsFound hints id d
 found_at hints id d a t =
     let found = Any-from_list_any (is_answered id d) hints t in
     let is = answered_is id d found.1 found.4 in
@@ -249,12 +249,12 @@ found_at hints id d a t =
 answered_other : (id : ℕ) (d : Delivery) (k : Kept) → (k.hint.id ≡ id → ⊥) → answered id d k ≡ k
 answered_other id d k other = ap (λ b. cond b (record { hint = k.hint; fate = fate_of d }) k) (ne_eqb k.hint.id id other)
 
-confirmed_past : (n id : ℕ) (hints : List Kept) (d : Delivery) → AreNumberedFrom n hints → id < n → confirmed hints id d ≡ hints
+confirmed_past : (n id : ℕ) (hints : List Kept) (d : Delivery) → HaveIdsFrom n hints → id < n → confirmed hints id d ≡ hints
 confirmed_past n id [] d a h = refl
 confirmed_past n id (k ∷ ks) d a h = λ i. answered_other id d k (λ e. omega (arith, e, a.0)) i ∷ confirmed_past (n + 1) id ks d a.1 (omega arith) i
 
 -- the hints after a delivery: a write at the place of its hint
-pub confirmed_set : (n id j : ℕ) (hints : List Kept) (d : Delivery) (x : Kept) → AreNumberedFrom n hints → id ≡ n + j → j < length hints
+pub confirmed_set : (n id j : ℕ) (hints : List Kept) (d : Delivery) (x : Kept) → HaveIdsFrom n hints → id ≡ n + j → j < length hints
     → confirmed hints id d ≡ set hints j (record { hint = (get_or hints j x).hint; fate = fate_of d })
 confirmed_set n id j [] d x a is h = absurd (omega arith)
 confirmed_set n id zero (k ∷ ks) d x a is h =
@@ -263,18 +263,18 @@ confirmed_set n id (suc j) (k ∷ ks) d x a is h =
     λ i. answered_other id d k (λ e. omega (arith, e, a.0)) i ∷ confirmed_set (n + 1) id j ks d x a.1 (omega arith) (omega arith) i
 
 -- the same for the hint that a delivery is of
-pub confirmed_at : (hints : List Kept) (id : ℕ) (d : Delivery) → AreNumberedFrom 1 hints → (f : IsFound hints id d) → confirmed hints id d ≡ set hints (id - 1) (record { hint = f.kept.hint; fate = fate_of d })
+pub confirmed_at : (hints : List Kept) (id : ℕ) (d : Delivery) → HaveIdsFrom 1 hints → (f : IsFound hints id d) → confirmed hints id d ≡ set hints (id - 1) (record { hint = f.kept.hint; fate = fate_of d })
 confirmed_at hints id d a f =
     confirmed_set 1 id (id - 1) hints d f.kept a (omega (arith, f.over)) f.inside ∙ ap (λ (x : Kept). set hints (id - 1) (record { hint = x.hint; fate = fate_of d })) f.stands
 
 -- a hint that was answered gives the delivery back
 delivery_back : (h : Hint) (d : Delivery) → h.owner ≡ d.owner → h.key ≡ d.key → h.version ≡ d.version → delivery_of (record { hint = h; fate = fate_of d }) ≡ Some d
-delivery_back h d o k v = elim d.known as (λ t. d.known ≡ t → option_map (λ known. record { owner = h.owner; key = h.key; version = h.version; known = known }) (answer_of (cond t Known Taken)) ≡ Some d) [
+delivery_back h d o k v = elim d.known as (λ t. d.known ≡ t → option_map (λ known. record { owner = h.owner; key = h.key; version = h.version; known = known }) (owner_answer (cond t Known Taken)) ≡ Some d) [
   | true ↦ λ e. λ i. Some (record { owner = o i; key = k i; version = v i; known = sym e i })
   | false ↦ λ e. λ i. Some (record { owner = o i; key = k i; version = v i; known = sym e i })
 ] refl
 
-pub kept_answered : (hints : List Kept) (id : ℕ) (d : Delivery) → AreNumberedFrom 1 hints → list_any (is_answered id d) hints ≡ true → option_and_then delivery_of (kept_at (confirmed hints id d) id) ≡ Some d
+pub kept_answered : (hints : List Kept) (id : ℕ) (d : Delivery) → HaveIdsFrom 1 hints → list_any (is_answered id d) hints ≡ true → option_and_then delivery_of (kept_at (confirmed hints id d) id) ≡ Some d
 kept_answered hints id d a t =
     let f = found_at hints id d a t in
     let k : Kept = record { hint = f.kept.hint; fate = fate_of d } in
@@ -287,12 +287,12 @@ kept_answered hints id d a t =
 answered-same_id : (id : ℕ) (d : Delivery) (k : Kept) → (answered id d k).hint ≡ k.hint
 answered-same_id id d k = elim (nat_eq k.hint.id id) as (λ b. (cond b (record { hint = k.hint; fate = fate_of d }) k).hint ≡ k.hint) [ true ↦ refl | false ↦ refl ]
 
-pub AreNumberedFrom-confirmed : (n id : ℕ) (hints : List Kept) (d : Delivery) → AreNumberedFrom n hints → AreNumberedFrom n (confirmed hints id d)
+pub AreNumberedFrom-confirmed : (n id : ℕ) (hints : List Kept) (d : Delivery) → HaveIdsFrom n hints → HaveIdsFrom n (confirmed hints id d)
 AreNumberedFrom-confirmed n id [] d a = tt
 AreNumberedFrom-confirmed n id (k ∷ ks) d a = (ap (λ (h : Hint). h.id) (answered-same_id id d k) ∙ a.0, AreNumberedFrom-confirmed (n + 1) id ks d a.1)
 
-pub fate_closed : (d : Delivery) → is_open (fate_of d) ≡ false
-fate_closed d = elim d.known as (λ t. is_open (cond t Known Taken) ≡ false) [ true ↦ refl | false ↦ refl ]
+pub fate_closed : (d : Delivery) → is_undelivered (fate_of d) ≡ false
+fate_closed d = elim d.known as (λ t. is_undelivered (cond t Known Taken) ≡ false) [ true ↦ refl | false ↦ refl ]
 
 -- why no hint can be kept, by the number of the pending ones, and else by that of all
 pub full_of_pending : (hints : List Kept) (n : ℕ) → n ≡ pending_count hints → 10000 ≤ n → keep_fault hints ≡ cond (leb 10000 n) (Some HintsFull) None

@@ -15,7 +15,7 @@ use Rattle.vclock.specs.declared.refusal.Refusal.TheVariants.{HintsFull}
 use Rattle.hint_store.specs.declared.hint.Delivery.{Delivery}
 use Rattle.hint_store.specs.declared.hint.Kept.{Kept}
 use Rattle.hint_store.specs.declared.store.Waiting.{Waiting}
-use Rattle.hint_store.specs.Hints.{is_open, is_pending, pending_count, AreNumberedFrom, fate_of, is_due, with_hint, keep_fault, AreHints}
+use Rattle.hint_store.specs.Hints.{is_undelivered, is_pending, pending_count, HaveIdsFrom, fate_of, is_due, with_hint, keep_fault, AreHints}
 use Rattle.hint_store.specs.Waits.{id_of, IsBefore, is_up_to, waits_by, AreWaiting}
 use Rattle.hint_store.proofs.HintLaws.{id_at, get_or_same, find_first, find_none, ids, and-true, AreNumberedFrom-push, AreNumberedFrom-confirmed, IsFound, confirmed_at, fate_closed}
 
@@ -189,7 +189,7 @@ no_due hints index o after p a at other = find_none (is_due (o ∷ []) after) hi
     ]))
 
 -- if an entry of the owner stands at the place, its hint is the first that is due
-one_due : (hints : List Kept) (index : List Waiting) (o after p : ℕ) (w : Waiting) → AreNumberedFrom 1 hints → AreWaiting hints index → IsPartitionPoint (λ v. is_up_to o after v ≡ true) (λ v. is_up_to o after v ≡ false) index p
+one_due : (hints : List Kept) (index : List Waiting) (o after p : ℕ) (w : Waiting) → HaveIdsFrom 1 hints → AreWaiting hints index → IsPartitionPoint (λ v. is_up_to o after v ≡ true) (λ v. is_up_to o after v ≡ false) index p
     → p < length index → get_or index p w ≡ w → w.owner ≡ o → after < w.id → ids (find (is_due (o ∷ []) after) hints) ≡ Some w.id
 one_due hints index o after p w numbered a at here is same over =
     let kept = pending_of hints index p w a here in
@@ -213,7 +213,7 @@ one_due hints index o after p w numbered a at here is same over =
     ])) in
     ap ids first ∙ ap (λ x. Some x) (ap (λ (x : Kept). x.hint.id) kept.stands ∙ id)
 
-pub first_due : (hints : List Kept) (index : List Waiting) (o after p : ℕ) → AreNumberedFrom 1 hints → AreWaiting hints index → IsPartitionPoint (λ v. is_up_to o after v ≡ true) (λ v. is_up_to o after v ≡ false) index p
+pub first_due : (hints : List Kept) (index : List Waiting) (o after p : ℕ) → HaveIdsFrom 1 hints → AreWaiting hints index → IsPartitionPoint (λ v. is_up_to o after v ≡ true) (λ v. is_up_to o after v ≡ false) index p
     → id_of o (slice_get index p) ≡ ids (find (is_due (o ∷ []) after) hints)
 first_due hints index o after p numbered a at = elim (slice_get_cases index p).1 [
   | inr past ↦
@@ -258,14 +258,14 @@ insert_ascends index p w pairs inside below above i j d less h =
     ]
 
 -- no entry has a number over the last hint's
-id_within : (hints : List Kept) (index : List Waiting) (m : ℕ) (d : Waiting) → AreNumberedFrom 1 hints → AreWaiting hints index → m < length index → (get_or index m d).id ≤ length hints
+id_within : (hints : List Kept) (index : List Waiting) (m : ℕ) (d : Waiting) → HaveIdsFrom 1 hints → AreWaiting hints index → m < length index → (get_or index m d).id ≤ length hints
 id_within hints index m d numbered a h =
     let kept = pending_of hints index m d a h in
     let number : kept.kept.hint.id ≡ 1 + kept.place = ap (λ (x : Kept). x.hint.id) (sym kept.stands) ∙ id_at 1 hints kept.place kept.kept numbered kept.inside in
     omega (arith, number, kept.same_id, kept.inside)
 
 -- one more hint, and its entry
-pub AreWaiting-keep : (hints : List Kept) (index : List Waiting) (o p : ℕ) (key : List ℕ) (v : Version) → AreNumberedFrom 1 hints → AreWaiting hints index
+pub AreWaiting-keep : (hints : List Kept) (index : List Waiting) (o p : ℕ) (key : List ℕ) (v : Version) → HaveIdsFrom 1 hints → AreWaiting hints index
     → IsPartitionPoint (λ w. is_up_to o (length hints) w ≡ true) (λ w. is_up_to o (length hints) w ≡ false) index p → p ≤ length index
     → AreWaiting (with_hint hints o key v) (insert index p (record { owner = o; id = length hints + 1 }))
 AreWaiting-keep hints index o p key v numbered a at inside = record {
@@ -307,7 +307,7 @@ pub record IsItsEntry (index : List Waiting) (p owner id : ℕ) : Type 0 where
 pub its_entry : (hints : List Kept) (index : List Waiting) (id p : ℕ) (d : Delivery) → AreWaiting hints index → IsFound hints id d
     → IsPartitionPoint (λ w. is_up_to d.owner (id - 1) w ≡ true) (λ w. is_up_to d.owner (id - 1) w ≡ false) index p → IsItsEntry index p d.owner id
 its_entry hints index id p d a f at =
-    let pending : is_pending (get_or hints (id - 1) f.kept) ≡ true = ap is_pending f.stands ∙ ap is_open f.answered.is_pending in
+    let pending : is_pending (get_or hints (id - 1) f.kept) ≡ true = ap is_pending f.stands ∙ ap is_undelivered f.answered.is_pending in
     let w = entry_of hints index (id - 1) f.kept a f.inside pending in
     let owner : w.entry.owner ≡ d.owner = w.same_owner ∙ (ap (λ (k : Kept). k.hint.owner) f.stands ∙ f.answered.same_owner) in
     let number : w.entry.id ≡ id = w.same_id ∙ (ap (λ (k : Kept). k.hint.id) f.stands ∙ f.answered.same_id) in
@@ -338,7 +338,7 @@ AreWaiting-confirm hints index id p d a f e = record {
       let gone : cond {A = ℕ} (waits_by test k) 1 0 ≡ 0 = ap (λ b. cond {A = ℕ} b 1 0) (and_right (test f.kept.hint.owner f.kept.hint.id) (is_pending k) (fate_closed d)) in
       let there : cond {A = ℕ} (test (get_or index p e.entry).owner (get_or index p e.entry).id) 1 0 ≡ cond {A = ℕ} (test d.owner id) 1 0 = ap (λ (u : Waiting). cond {A = ℕ} (test u.owner u.id) 1 0) e.stands ∙ (λ i. cond {A = ℕ} (test (e.same_owner i) (e.same_id i)) 1 0) in
       let here : cond {A = ℕ} (waits_by test (get_or hints (id - 1) f.kept)) 1 0 ≡ cond {A = ℕ} (test d.owner id) 1 0 =
-      ap (λ (x : Kept). cond {A = ℕ} (waits_by test x) 1 0) f.stands ∙ ((λ i. cond {A = ℕ} (test (f.answered.same_owner i) (f.answered.same_id i) && is_open (f.answered.is_pending i)) 1 0) ∙ ap (λ b. cond {A = ℕ} b 1 0) (and-true (test d.owner id))) in
+      ap (λ (x : Kept). cond {A = ℕ} (waits_by test x) 1 0) f.stands ∙ ((λ i. cond {A = ℕ} (test (f.answered.same_owner i) (f.answered.same_id i) && is_undelivered (f.answered.is_pending i)) 1 0) ∙ ap (λ b. cond {A = ℕ} b 1 0) (and-true (test d.owner id))) in
       omega (arith, one, two, gone, there, here, a.all test);
 }
 
@@ -350,7 +350,7 @@ AreHints-confirm hints id d a f =
     let gone : cond {A = ℕ} (is_pending k) 1 0 ≡ 0 = ap (λ b. cond {A = ℕ} b 1 0) (fate_closed d) in
     let long : length (set hints (id - 1) k) ≡ length hints = simp length-set in
     record {
-      numbered = subst (AreNumberedFrom 1) items (AreNumberedFrom-confirmed 1 id hints d a.numbered);
+      numbered = subst (HaveIdsFrom 1) items (AreNumberedFrom-confirmed 1 id hints d a.numbered);
       few = omega (arith, two, gone, a.few, length-filter is_pending hints, length-filter is_pending (set hints (id - 1) k));
       small = omega (arith, long, a.small);
     }

@@ -15,32 +15,32 @@ use Rattle.hint_store.specs.declared.hint.Fate.TheVariants.{Pending, Taken, Know
 use Rattle.hint_store.specs.declared.hint.Kept.{Kept}
 
 -- the answer of an owner, if there was one: true if the version was covered there
-abbrev pub answer_of : Fate → Option Bool
-answer_of Pending = None
-answer_of Taken = Some false
-answer_of Known = Some true
+abbrev pub owner_answer : Fate → Option Bool
+owner_answer Pending = None
+owner_answer Taken = Some false
+owner_answer Known = Some true
 
 -- the owner has not answered
-abbrev pub is_open : Fate → Bool
-is_open Pending = true
-is_open Taken = false
-is_open Known = false
+abbrev pub is_undelivered : Fate → Bool
+is_undelivered Pending = true
+is_undelivered Taken = false
+is_undelivered Known = false
 
 abbrev pub is_pending : Kept → Bool
-is_pending k = is_open k.fate
+is_pending k = is_undelivered k.fate
 
 -- the number of pending hints
 abbrev pub pending_count : List Kept → ℕ
 pending_count hints = length (filter is_pending hints)
 
 -- the hints have the numbers from n on, in order
-abbrev pub AreNumberedFrom : ℕ → List Kept → Type 0
-AreNumberedFrom n [] = Unit {0}
-AreNumberedFrom n (k ∷ ks) = (k.hint.id ≡ n) × AreNumberedFrom (n + 1) ks
+abbrev pub HaveIdsFrom : ℕ → List Kept → Type 0
+HaveIdsFrom n [] = Unit {0}
+HaveIdsFrom n (k ∷ ks) = (k.hint.id ≡ n) × HaveIdsFrom (n + 1) ks
 
 -- numbered from 1, at most 10,000 pending, and no number above 2^32 - 1
 pub record AreHints (hints : List Kept) : Type 0 where
-  pub numbered : AreNumberedFrom 1 hints
+  pub numbered : HaveIdsFrom 1 hints
   pub few : pending_count hints ≤ 10000
   pub small : length hints < 2 ^ 32
 
@@ -72,12 +72,12 @@ abbrev pub next_hint : List ℕ → ℕ → List Kept → Option Hint
 next_hint owners after hints = option_map (λ k. k.hint) (find (is_due owners after) hints)
 
 -- a delivery is that of a hint: owner, key and version are equal
-abbrev pub is_of : Delivery → Hint → Bool
-is_of d h = nat_eq h.owner d.owner && bytes_eq h.key d.key && is_same h.version d.version
+abbrev pub delivers_hint : Delivery → Hint → Bool
+delivers_hint d h = nat_eq h.owner d.owner && bytes_eq h.key d.key && is_same h.version d.version
 
 -- a hint is pending, has that number, and the delivery is that of the hint
 abbrev pub is_answered : ℕ → Delivery → Kept → Bool
-is_answered id d k = is_pending k && nat_eq k.hint.id id && is_of d k.hint
+is_answered id d k = is_pending k && nat_eq k.hint.id id && delivers_hint d k.hint
 
 -- is_answered as equations: a pending hint with that number has the delivery's owner, key and version
 pub record IsAnswered (id : ℕ) (d : Delivery) (k : Kept) : Type 0 where
@@ -109,4 +109,4 @@ delivery_by h known = record { owner = h.owner; key = h.key; version = h.version
 
 -- the delivery of a hint, if it was delivered
 abbrev pub delivery_of : Kept → Option Delivery
-delivery_of k = option_map (λ known. delivery_by k.hint known) (answer_of k.fate)
+delivery_of k = option_map (λ known. delivery_by k.hint known) (owner_answer k.fate)

@@ -21,11 +21,11 @@ pub record AreWaiting (hints : List Kept) (index : List Waiting) : Type 0 where
   pub ascending : AllPairs IsBefore index
   pub all : (p : ℕ → ℕ → Bool) → count_by (λ w. p w.owner w.id) index ≡ count_by (waits_by p) hints
 
--- the lesser of two numbers, either of which may be missing
-abbrev pub lesser : Option ℕ → Option ℕ → Option ℕ
-lesser None b = b
-lesser (Some a) None = Some a
-lesser (Some a) (Some b) = Some (min a b)
+-- the earliest of two numbers, either of which may be missing
+abbrev pub earliest : Option ℕ → Option ℕ → Option ℕ
+earliest None b = b
+earliest (Some a) None = Some a
+earliest (Some a) (Some b) = Some (min a b)
 
 -- the number of an entry, if there is one and it is of that owner
 abbrev pub id_of : ℕ → Option Waiting → Option ℕ

@@ -5,8 +5,8 @@ ghost use Rattle.std.specs.List.{list_any};
 ghost use Rattle.std.specs.List.Sorted.{IsPartitionPoint};
 ghost use Rattle.vclock.specs.Answer.{Answers};
 ghost use Rattle.vclock.specs.Outcome.{Does, DoesAtOnce};
-ghost use Rattle.hint_store.specs.Hints.{AreHints, pending_count, kept_at, keep_fault, keep, next_hint, is_open, is_of, is_answered, IsAnswered, confirm, fate_of, delivery_of};
-ghost use Rattle.hint_store.specs.Waits.{IsBefore, id_of, is_up_to, lesser};
+ghost use Rattle.hint_store.specs.Hints.{AreHints, pending_count, kept_at, keep_fault, keep, next_hint, is_undelivered, delivers_hint, is_answered, IsAnswered, confirm, fate_of, delivery_of};
+ghost use Rattle.hint_store.specs.Waits.{IsBefore, id_of, is_up_to, earliest};
 
 use crate::hint::{Delivery, Fate, Hint, Kept};
 use std::alloc::Global;
@@ -257,7 +257,7 @@ fn is_at_most(waiting: &Waiting, owner: u16, id: u32) -> bool
 
 /// Returns true if a fate is that of a pending hint.
 fn is_open(fate: Fate) -> bool
-    ensures { result ≡ is_open fate }
+    ensures { result ≡ is_undelivered fate }
 {
     match fate {
         Fate::Pending => true,
@@ -278,7 +278,7 @@ fn fate_of(delivery: &Delivery) -> Fate
 
 /// Returns true if a delivery has the owner, the key and the version of a hint.
 fn is_delivery_of(delivery: &Delivery, hint: &Hint) -> bool
-    ensures { result ≡ is_of delivery.now hint.now }
+    ensures { result ≡ delivers_hint delivery.now hint.now }
 {
     hint.owner == delivery.owner
         && hint.key.as_slice() == delivery.key.as_slice()
@@ -287,7 +287,7 @@ fn is_delivery_of(delivery: &Delivery, hint: &Hint) -> bool
 
 /// Returns the lesser of two ids, either of which may be missing.
 fn lesser(one: Option<u32>, other: Option<u32>) -> Option<u32>
-    ensures { result ≡ lesser one other }
+    ensures { result ≡ earliest one other }
 {
     match (one, other) {
         (Some(a), Some(b)) => Some(a.min(b)),

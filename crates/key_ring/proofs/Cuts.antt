@@ -10,7 +10,7 @@ use Rattle.md5.proofs.StandardFacts.{length-md5}
 use Rattle.vclock.proofs.ByteLaws.{IsBytes}
 use Rattle.vclock.specs.declared.format.Format.{Format}
 use Rattle.vclock.specs.declared.format.Format.TheVariants.{One, Two}
-use Rattle.key_ring.specs.Places.{number_of, key_number, range_at, leaf_bits, leaf_at}
+use Rattle.key_ring.specs.Places.{number_from, key_number, range_at, leaf_bits, leaf_at}
 
 -- bytes, and then bytes
 IsBytes-append : (xs ys : List ℕ) → IsBytes xs → IsBytes ys → IsBytes (xs ++ ys)
@@ -38,21 +38,21 @@ unfolding md5
 md5_fits m i = digest_bytes_fit _ 4 i
 
 -- bytes spell a number below that power of 256
-number_below : (bytes : List ℕ) → IsBytes bytes → number_of bytes < 256 ^ length bytes
+number_below : (bytes : List ℕ) → IsBytes bytes → number_from bytes < 256 ^ length bytes
 number_below [] fits = omega arith
 number_below (byte ∷ bytes) fits =
-    let rest : number_of bytes < 256 ^ length bytes = number_below bytes (λ i. fits (suc i)) in
-    let here : byte * 256 ^ length bytes + number_of bytes < 256 ^ length bytes * 256 = mul-add-lt byte (256 ^ length bytes) (number_of bytes) 256 (fits 0) rest in
+    let rest : number_from bytes < 256 ^ length bytes = number_below bytes (λ i. fits (suc i)) in
+    let here : byte * 256 ^ length bytes + number_from bytes < 256 ^ length bytes * 256 = mul-add-lt byte (256 ^ length bytes) (number_from bytes) 256 (fits 0) rest in
     rw (pow-suc 256 (length bytes)) here
 
 -- the number without its last 13 bytes
-first_three : (a b c : ℕ) (rest : List ℕ) → length rest ≡ 13 → IsBytes rest → number_of (a ∷ b ∷ c ∷ rest) / 2 ^ 104 ≡ a * 65536 + b * 256 + c
+first_three : (a b c : ℕ) (rest : List ℕ) → length rest ≡ 13 → IsBytes rest → number_from (a ∷ b ∷ c ∷ rest) / 2 ^ 104 ≡ a * 65536 + b * 256 + c
 first_three a b c rest len fits =
-    let low : number_of rest < 256 ^ 13 = subst (λ n. number_of rest < 256 ^ n) len (number_below rest fits) in
+    let low : number_from rest < 256 ^ 13 = subst (λ n. number_from rest < 256 ^ n) len (number_below rest fits) in
     rw len (omega (arith, low))
 
 -- the first 24 bits of 16 bytes
-first_bits : (digest : List ℕ) → length digest ≡ 16 → IsBytes digest → number_of digest / 2 ^ 104 ≡ get_or digest 0 0 * 65536 + get_or digest 1 0 * 256 + get_or digest 2 0
+first_bits : (digest : List ℕ) → length digest ≡ 16 → IsBytes digest → number_from digest / 2 ^ 104 ≡ get_or digest 0 0 * 65536 + get_or digest 1 0 * 256 + get_or digest 2 0
 first_bits [] len fits = absurd (omega arith)
 first_bits (a ∷ []) len fits = absurd (omega arith)
 first_bits (a ∷ b ∷ []) len fits = absurd (omega arith)
@@ -67,7 +67,7 @@ front_is key digest e = rw (← e) (first_bits digest (ap length e ∙ length-md
 key_number_below : (key : List ℕ) → key_number key < 2 ^ 128
 unfolding key_number
 key_number_below key =
-    let whole : number_of (md5 key) < 256 ^ 16 = subst (λ n. number_of (md5 key) < 256 ^ n) (length-md5 key) (number_below (md5 key) (md5_fits key)) in
+    let whole : number_from (md5 key) < 256 ^ 16 = subst (λ n. number_from (md5 key) < 256 ^ n) (length-md5 key) (number_below (md5 key) (md5_fits key)) in
     whole
 
 -- the first `keep` bits of a number are those of its first 24

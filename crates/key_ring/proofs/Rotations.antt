@@ -7,7 +7,7 @@ use Rattle.std.specs.List.{list_all}
 use Rattle.std.proofs.lemmas.List.{get_or-drop, get_or_append_left, get_or-append_right, get_or-take, length-drop, length-append, length-take, take-append-drop}
 use Rattle.std.proofs.lemmas.List.Sorted.{IsPermutation-append_comm}
 use Rattle.std.proofs.lemmas.Option.{slice_get-get_or}
-use Rattle.key_ring.specs.Ring.{Places, preference_list, is_node, is_ring}
+use Rattle.key_ring.specs.Ring.{Places, preference_list, is_node_number, is_ring}
 
 -- before the end of the node list, a place is read from there on
 read_before : (nodes : List ℕ) (k i d : ℕ) → k + i < length nodes → get_or (drop k nodes ++ take k nodes) i d ≡ get_or nodes (k + i) d
@@ -49,11 +49,11 @@ preference_once nodes r =
     subst (λ ns. IsPermutation (drop k nodes ++ take k nodes) ns) (take-append-drop k nodes) (IsPermutation-append_comm (drop k nodes) (take k nodes))
 
 -- each node of a list of nodes has a number
-pub node_at : (nodes : List ℕ) (i d : ℕ) → list_all is_node nodes ≡ true → i < length nodes → 1 ≤ get_or nodes i d
+pub node_at : (nodes : List ℕ) (i d : ℕ) → list_all is_node_number nodes ≡ true → i < length nodes → 1 ≤ get_or nodes i d
 node_at [] i d e h = absurd (omega arith)
 node_at (n ∷ nodes) zero d e h = omega (arith, ltb-true 0 n (and_parts _ _ (and_parts _ _ e).0).0)
 node_at (n ∷ nodes) (suc i) d e h = node_at nodes i d (and_parts _ _ e).1 (omega arith)
 
 -- the nodes of a ring are nodes
-pub ring_nodes : (p : Places) → is_ring p ≡ true → list_all is_node p.nodes ≡ true
+pub ring_nodes : (p : Places) → is_ring p ≡ true → list_all is_node_number p.nodes ≡ true
 ring_nodes p e = (and_parts _ _ (and_parts _ _ (and_parts _ _ (and_parts _ _ e).0).0).0).1

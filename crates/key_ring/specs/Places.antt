@@ -6,13 +6,13 @@ use Rattle.vclock.specs.declared.format.Format.{Format}
 use Rattle.vclock.specs.declared.format.Format.TheVariants.{One, Two}
 
 -- the number that bytes spell, the highest first
-abbrev pub number_of : List ℕ → ℕ
-number_of [] = 0
-number_of (byte ∷ bytes) = byte * 256 ^ length bytes + number_of bytes
+abbrev pub number_from : List ℕ → ℕ
+number_from [] = 0
+number_from (byte ∷ bytes) = byte * 256 ^ length bytes + number_from bytes
 
 -- a key's number, of 128 bits
 unfoldable pub key_number : List ℕ → ℕ
-key_number key = number_of (md5 key)
+key_number key = number_from (md5 key)
 
 -- the range of a key in a ring of 2^bits equal ranges: the first bits of its number
 unfoldable pub range_at : ℕ → List ℕ → ℕ

@@ -11,17 +11,17 @@ pub record Places : Type 0 where
   pub copies : ℕ
 
 -- a node has a number from 1 to 65,535
-abbrev pub is_node : ℕ → Bool
-is_node n = nat_lt 0 n && nat_lt n 65536
+abbrev pub is_node_number : ℕ → Bool
+is_node_number n = nat_lt 0 n && nat_lt n 65536
 
 -- some number is listed twice
-abbrev pub has_repeat : List ℕ → Bool
-has_repeat [] = false
-has_repeat (n ∷ rest) = list_any (λ m. m == n) rest || has_repeat rest
+abbrev pub repeats_number : List ℕ → Bool
+repeats_number [] = false
+repeats_number (n ∷ rest) = list_any (λ m. m == n) rest || repeats_number rest
 
 -- at most 8 bits; 1 to 32 nodes, each once; 1 to all of them keep a range
 abbrev pub is_ring : Places → Bool
-is_ring p = nat_le p.bits 8 && nat_lt 0 (length p.nodes) && nat_le (length p.nodes) 32 && list_all is_node p.nodes && not (has_repeat p.nodes) && nat_lt 0 p.copies && nat_le p.copies (length p.nodes)
+is_ring p = nat_le p.bits 8 && nat_lt 0 (length p.nodes) && nat_le (length p.nodes) 32 && list_all is_node_number p.nodes && not (repeats_number p.nodes) && nat_lt 0 p.copies && nat_le p.copies (length p.nodes)
 
 abbrev pub ring_fault : Places → Option Refusal
 ring_fault p = if is_ring p then None else Some BadRing

@@ -4,7 +4,7 @@ ghost use Rattle.std.specs.List.{list_all, list_any};
 ghost use Rattle.std.specs.List.Sorted.{IsPermutation};
 ghost use Rattle.vclock.specs.Answer.{Answers};
 ghost use Rattle.key_ring.specs.Places.{leaf_at, range_at};
-ghost use Rattle.key_ring.specs.Ring.{has_repeat, is_node, is_ring, preference_list, ring_fault};
+ghost use Rattle.key_ring.specs.Ring.{repeats_number, is_node_number, is_ring, preference_list, ring_fault};
 
 use crate::places::place;
 use std::alloc::Global;
@@ -143,21 +143,21 @@ fn is_ring(bits: u64, nodes: &[u64], copies: u64) -> bool
 
 /// Returns true if these are the nodes of a ring: 1 to 32 nodes, each once. Only a short list is searched.
 fn is_node_list(nodes: &[u64]) -> bool
-    ensures { result ≡ (nat_lt 0 (length nodes.now) && nat_le (length nodes.now) 32 && list_all is_node nodes.now && not (has_repeat nodes.now)) }
+    ensures { result ≡ (nat_lt 0 (length nodes.now) && nat_le (length nodes.now) 32 && list_all is_node_number nodes.now && not (repeats_number nodes.now)) }
 {
     !nodes.is_empty() && nodes.len() <= RING_NODES_MAX && are_nodes(nodes) && !has_repeat(nodes)
 }
 
 /// Returns true if each number is that of a node.
 fn are_nodes(nodes: &[u64]) -> bool
-    ensures { result ≡ list_all is_node nodes.now }
+    ensures { result ≡ list_all is_node_number nodes.now }
 {
     nodes.iter().all(|&node| 0 < node && node <= NODE_MAX)
 }
 
 /// Returns true if some number is listed twice. Takes time in proportion to the square of the length.
 fn has_repeat(nodes: &[u64]) -> bool
-    ensures { result ≡ has_repeat nodes.now }
+    ensures { result ≡ repeats_number nodes.now }
 {
     for i in 0..nodes.len() {
         if nodes[i + 1..].contains(&nodes[i]) {

@@ -5,7 +5,7 @@ use Rattle.std.specs.Option.{option_map}
 use Rattle.std.specs.List.{list_any}
 use Rattle.std.proofs.lemmas.Bool.{and_parts}
 use Rattle.std.proofs.lemmas.Bool.Decides.{nat_tests}
-use Rattle.hint_store.specs.Hints.{AreNumberedFrom, is_answered, is_due, is_open, is_pending, next_hint, answered, confirm, confirmed, delivery_by}
+use Rattle.hint_store.specs.Hints.{HaveIdsFrom, is_answered, is_due, is_undelivered, is_pending, next_hint, answered, confirm, confirmed, delivery_by}
 use Rattle.hint_store.specs.declared.hint.Delivery.{Delivery}
 use Rattle.hint_store.specs.declared.hint.Fate.{Fate}
 use Rattle.hint_store.specs.declared.hint.Fate.TheVariants.{Pending}
@@ -14,7 +14,7 @@ use Rattle.hint_store.specs.declared.hint.Kept.{Kept}
 use Rattle.hint_store.proofs.HintLaws.{answered_from, open_pending}
 use Rattle.range_state.specs.declared.event.Accepted.{Accepted}
 use Rattle.vclock.specs.Outcome.{Outcome, gives, refuses, is_given}
-use Rattle.outage_cluster.specs.Handoff.{Round, asked_in, is_offered, offer_one, offered_to, was_known}
+use Rattle.outage_cluster.specs.Handoff.{Round, asked_in, is_offered, offer_one, offered_to, is_known}
 use Rattle.outage_cluster.specs.Offers.{after_offer, pending_of, round_at}
 use Rattle.outage_cluster.specs.State.{Replica}
 
@@ -42,7 +42,7 @@ skipped : (up : List ℕ) (bits : ℕ) (r : Round) (k : Kept) → is_offered up 
 skipped up bits r k e = rw e refl
 
 -- if none is due, none of those after the number is offered
-pub skips : (up : List ℕ) (bits : ℕ) (ks : List Kept) (n after : ℕ) (r : Round) → AreNumberedFrom n ks → find (is_due up after) ks ≡ None → fold (offer_one up bits) r (drop (after + 1 - n) ks) ≡ r
+pub skips : (up : List ℕ) (bits : ℕ) (ks : List Kept) (n after : ℕ) (r : Round) → HaveIdsFrom n ks → find (is_due up after) ks ≡ None → fold (offer_one up bits) r (drop (after + 1 - n) ks) ≡ r
 skips up bits [] n after r numbered none = ap (fold (offer_one up bits) r) (drop_none (after + 1 - n) [] refl)
 skips up bits (k ∷ ks) n after r numbered none =
     let parts = none_parts (is_due up after k) k (find (is_due up after) ks) none in
@@ -87,7 +87,7 @@ any_later test x xs e = pick (test x)
     pick true = refl
     pick false = e
 
-pub finds : (up : List ℕ) (bits : ℕ) (ks : List Kept) (n after : ℕ) (r : Round) (x : Kept) → AreNumberedFrom n ks → find (is_due up after) ks ≡ Some x → Found up bits ks n after r x
+pub finds : (up : List ℕ) (bits : ℕ) (ks : List Kept) (n after : ℕ) (r : Round) (x : Kept) → HaveIdsFrom n ks → find (is_due up after) ks ≡ Some x → Found up bits ks n after r x
 finds up bits [] n after r x numbered found = cc
 finds up bits (k ∷ ks) n after r x numbered found = here (λ off. finds up bits ks (n + 1) after r x numbered.1 (some_parts (is_due up after k) k x (find (is_due up after) ks) found off)) (is_due up after k) (nat_lt after n) refl refl
   where
@@ -153,7 +153,7 @@ other : (id : ℕ) (d : Delivery) (k : Kept) → nat_eq k.hint.id id ≡ false �
 other id d k e = rw e refl
 
 -- after the hint that was confirmed, nothing changed
-pub confirmed_rest : (ks : List Kept) (n id : ℕ) (d : Delivery) → AreNumberedFrom n ks → drop (id + 1 - n) (confirmed ks id d) ≡ drop (id + 1 - n) ks
+pub confirmed_rest : (ks : List Kept) (n id : ℕ) (d : Delivery) → HaveIdsFrom n ks → drop (id + 1 - n) (confirmed ks id d) ≡ drop (id + 1 - n) ks
 confirmed_rest [] n id d numbered = refl
 confirmed_rest (k ∷ ks) n id d numbered = here (confirmed_rest ks (n + 1) id d numbered.1) (nat_lt id n) refl
   where
@@ -194,11 +194,11 @@ hint_of (Some k) hint e = record { kept = k; is = refl; same = cc }
 offered_here : (up : List ℕ) (bits : ℕ) (r : Round) (k : Kept) → is_offered up k ≡ true → offer_one up bits r k ≡ offered_to bits r k.hint (asked_in bits r.replicas k.hint)
 offered_here up bits r k e = rw e refl
 
-pub next_is : (up : List ℕ) (bits after : ℕ) (hs : List Kept) (r : Round) (hint : Hint) → AreNumberedFrom 1 hs → next_hint up after hs ≡ Some hint → IsNext up bits after hs r hint
+pub next_is : (up : List ℕ) (bits after : ℕ) (hs : List Kept) (r : Round) (hint : Hint) → HaveIdsFrom 1 hs → next_hint up after hs ≡ Some hint → IsNext up bits after hs r hint
 next_is up bits after hs r hint numbered e =
     let of = hint_of (find (is_due up after) hs) hint e in
     let f = finds up bits hs 1 after r of.kept numbered of.is in
-    let pending : is_open of.kept.fate ≡ true = (and_parts (is_pending of.kept) (list_any (nat_eq of.kept.hint.owner) up) f.offered).0 in
+    let pending : is_undelivered of.kept.fate ≡ true = (and_parts (is_pending of.kept) (list_any (nat_eq of.kept.hint.owner) up) f.offered).0 in
     let same : of.kept ≡ pending_of hint = found_pending of.kept (open_pending of.kept.fate pending) ∙ ap pending_of of.same in
     let id : of.kept.hint.id ≡ hint.id = ap (λ (h : Hint). h.id) of.same in
     let g : Found up bits hs 1 after r (pending_of hint) = subst (λ (k : Kept). Found up bits hs 1 after r k) same f in
@@ -209,7 +209,7 @@ next_is up bits after hs r hint numbered e =
     }
 
 -- if there is no next hint, nothing more is done
-pub last_is : (up : List ℕ) (bits after : ℕ) (hs : List Kept) (r : Round) → AreNumberedFrom 1 hs → next_hint up after hs ≡ None → fold (offer_one up bits) r (drop after hs) ≡ r
+pub last_is : (up : List ℕ) (bits after : ℕ) (hs : List Kept) (r : Round) → HaveIdsFrom 1 hs → next_hint up after hs ≡ None → fold (offer_one up bits) r (drop after hs) ≡ r
 last_is up bits after hs r numbered e = ap (λ (n : ℕ). fold (offer_one up bits) r (drop n hs)) (sym (one_less after)) ∙ skips up bits hs 1 after r numbered (no_hint (find (is_due up after) hs) e)
   where
     no_hint : (o : Option Kept) → option_map (λ (k : Kept). k.hint) o ≡ None → o ≡ None
@@ -218,14 +218,14 @@ last_is up bits after hs r numbered e = ap (λ (n : ℕ). fold (offer_one up bit
 
 -- ---- after the hint that was offered, nothing changed
 
-home_rest : (bits : ℕ) (r : Round) (hint : Hint) (o : Outcome Accepted (List Replica)) → AreNumberedFrom 1 r.hints → drop hint.id (offered_to bits r hint o).hints ≡ drop hint.id r.hints
+home_rest : (bits : ℕ) (r : Round) (hint : Hint) (o : Outcome Accepted (List Replica)) → HaveIdsFrom 1 r.hints → drop hint.id (offered_to bits r hint o).hints ≡ drop hint.id r.hints
 home_rest bits r hint (refuses e) numbered = refl
 home_rest bits r hint (gives reply reps) numbered =
-    let d = delivery_by hint (was_known reply) in
+    let d = delivery_by hint (is_known reply) in
     ap (λ (n : ℕ). drop n (confirmed r.hints hint.id d)) (sym (one_less hint.id)) ∙ confirmed_rest r.hints 1 hint.id d numbered ∙ ap (λ (n : ℕ). drop n r.hints) (one_less hint.id)
 
 -- a step of the loop
-pub stepped : (up : List ℕ) (bits after : ℕ) (hs new : List Kept) (reps now : List (List Replica)) (taken known : ℕ) (o : Option Bool) (hint : Hint) (whole : Round) → AreNumberedFrom 1 hs → next_hint up after hs ≡ Some hint → fold (offer_one up bits) (round_at reps hs taken known) (drop after hs) ≡ whole → after_offer o now new taken known ≡ offered_to bits (round_at reps hs taken known) hint (asked_in bits reps hint) → (after_offer o now new taken known).hints ≡ new → fold (offer_one up bits) (after_offer o now new taken known) (drop hint.id new) ≡ whole
+pub stepped : (up : List ℕ) (bits after : ℕ) (hs new : List Kept) (reps now : List (List Replica)) (taken known : ℕ) (o : Option Bool) (hint : Hint) (whole : Round) → HaveIdsFrom 1 hs → next_hint up after hs ≡ Some hint → fold (offer_one up bits) (round_at reps hs taken known) (drop after hs) ≡ whole → after_offer o now new taken known ≡ offered_to bits (round_at reps hs taken known) hint (asked_in bits reps hint) → (after_offer o now new taken known).hints ≡ new → fold (offer_one up bits) (after_offer o now new taken known) (drop hint.id new) ≡ whole
 stepped up bits after hs new reps now taken known o hint whole numbered e so done its =
     let r = round_at reps hs taken known in
     let f = next_is up bits after hs r hint numbered e in

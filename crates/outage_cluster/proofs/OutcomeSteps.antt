@@ -20,8 +20,8 @@ use Rattle.range_state.specs.declared.event.Accepted.TheVariants.{Taken, Known}
 use Rattle.range_state.specs.State.{State, place_fault, knows, full_fault, stale_fault, entry_of, journaled, accept, put, put_entry, put_version}
 use Rattle.range_state.specs.Trees.{rehashed}
 use Rattle.outage_cluster.specs.Acts.{clean_at, replied}
-use Rattle.outage_cluster.specs.declared.answer.Answer.{Answer}
-use Rattle.outage_cluster.specs.declared.answer.Answer.TheVariants.{Refused}
+use Rattle.outage_cluster.specs.declared.answer.CommandAnswer.{CommandAnswer}
+use Rattle.outage_cluster.specs.declared.answer.CommandAnswer.TheVariants.{Refused}
 use Rattle.outage_cluster.specs.Homes.{IsHome}
 use Rattle.outage_cluster.specs.State.{Replica, keeping, replica_of, without_records, with_home, in_replica, in_home, at_home, left}
 use Rattle.outage_cluster.proofs.SyncLaws.{rehash_kept}
@@ -132,7 +132,7 @@ homed n reps i r new call (Err e) its is (same, inr cause) = (unchanged reps i r
 -- ---- what is told
 
 -- a refusal is told by its name, and want of memory is not told
-pub told_reply : {S : Type 0} (r : Result Answer Refusal) (a : Result Answer AllocError) (old new : S) (o : Outcome Answer S) → DoesOrBreaksOff r old new o
+pub told_reply : {S : Type 0} (r : Result CommandAnswer Refusal) (a : Result CommandAnswer AllocError) (old new : S) (o : Outcome CommandAnswer S) → DoesOrBreaksOff r old new o
     → IfOk r (λ x. a ≡ Ok x) → IfErr r (λ e. IfOk a (λ x. (e ≢ NoMemory) × (x ≡ Refused e))) → IfOk a (λ x. x ≡ replied o)
 told_reply (Ok x) (Ok y) old new o did ok err = let same : y ≡ x = cc in same ∙ ap replied (sym did)
 told_reply (Ok x) (Err f) old new o did ok err = tt {0}
@@ -141,7 +141,7 @@ told_reply (Err e) (Ok y) old new o (inr is) ok err = err.1 ∙ ap replied (sym 
 told_reply (Err e) (Err f) old new o did ok err = tt {0}
 
 -- and changes nothing
-pub told_after : {S : Type 0} (r : Result Answer Refusal) (a : Result Answer AllocError) (old new : S) (o : Outcome Answer S) → DoesOrBreaksOff r old new o
+pub told_after : {S : Type 0} (r : Result CommandAnswer Refusal) (a : Result CommandAnswer AllocError) (old new : S) (o : Outcome CommandAnswer S) → DoesOrBreaksOff r old new o
     → IfOk r (λ x. a ≡ Ok x) → IfErr r (λ e. IfOk a (λ x. (e ≢ NoMemory) × (x ≡ Refused e))) → OnOk a (new ≡ left o old)
 told_after (Ok x) (Ok y) old new o did ok err = ap (λ p. left p old) (sym did)
 told_after (Ok x) (Err f) old new o did ok err = tt {0}

@@ -8,7 +8,7 @@ use Rattle.std.proofs.lemmas.List.FromFn.{length-range_with_len}
 use Rattle.std.proofs.lemmas.Bool.{and_parts}
 use Rattle.std.proofs.lemmas.Bool.Decides.{nat_tests}
 use Rattle.version_set.proofs.ListLaws.{all-append}
-use Rattle.key_ring.specs.Ring.{Places, is_ring, is_node, preference_list}
+use Rattle.key_ring.specs.Ring.{Places, is_ring, is_node_number, preference_list}
 use Rattle.hash_tree.proofs.ChunkLaws.{all-drop, all-set, all-take}
 use Rattle.hash_tree.proofs.KeyLaws.{all_get}
 use Rattle.range_state.specs.Config.{Config}
@@ -177,7 +177,7 @@ all_at p (y ∷ xs) zero x a e = let same : y ≡ x = cc in subst (λ z. p z ≡
 all_at p (y ∷ xs) (suc i) x a e = all_at p xs i x (and_parts (p y) (list_all p xs) a).1 e
 
 -- the nodes of a ring are nodes
-are_nodes : (ring : Places) → IsTrue (is_ring ring) → list_all is_node ring.nodes ≡ true
+are_nodes : (ring : Places) → IsTrue (is_ring ring) → list_all is_node_number ring.nodes ≡ true
 are_nodes ring valid = grind (arith, nat_tests, valid)
 
 -- a node of a preference list is at least 1
@@ -185,8 +185,8 @@ pub node_some : (ring : Places) (r i n : ℕ) → IsTrue (is_ring ring) → slic
 node_some ring r i n valid e =
     let nodes = are_nodes ring valid in
     let k = r % length ring.nodes in
-    let all = all_append is_node (drop k ring.nodes) (take k ring.nodes) (all_drop is_node k ring.nodes nodes) (all_take is_node k ring.nodes nodes) in
-    let here : is_node n ≡ true = all_at is_node (preference_list ring.nodes r) i n all e in
+    let all = all_append is_node_number (drop k ring.nodes) (take k ring.nodes) (all_drop is_node_number k ring.nodes nodes) (all_take is_node_number k ring.nodes nodes) in
+    let here : is_node_number n ≡ true = all_at is_node_number (preference_list ring.nodes r) i n all e in
     grind (arith, nat_tests, here)
 
 -- one more of the list was mapped

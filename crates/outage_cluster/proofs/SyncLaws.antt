@@ -18,7 +18,7 @@ use Rattle.range_state.specs.Syncs.{Progress, IsSyncedTo, IsPartWay, leaves_betw
 use Rattle.range_state.specs.declared.state.sync.Synced.{Synced}
 use Rattle.range_state.proofs.SyncStepLaws.{config_stays, taken_beside, fault_beside}
 use Rattle.outage_cluster.specs.State.{Replica, keeping, range_in, replica_of, without_records}
-use Rattle.outage_cluster.specs.Syncs.{IsCounted, after_sync, synced_with, walk_fault}
+use Rattle.outage_cluster.specs.Syncs.{IsReported, after_sync, synced_with, walk_fault}
 
 -- a replica that has a state is seen as that
 pub seen : (n : ℕ) (c : Config) (o : Option range.State) (s : range.State) (r : Replica) → replica_of n (range_in c o) ≡ r → o ≡ Some s → replica_of n s ≡ r
@@ -63,7 +63,7 @@ synced_replica n s new other a is =
     ∙ ap (λ (p : Progress). after_sync p (replica_of n s)) (sym (taken_bare s 0 other 0 (leaves_between (range.rows_now s) other)))
 
 -- and what was counted
-pub counted : (n : ℕ) (s new : range.State) (other : RowMap) (a : Synced) → IsSyncedTo s 0 other new a → IsCounted (replica_of n s) other a
+pub counted : (n : ℕ) (s new : range.State) (other : RowMap) (a : Synced) → IsSyncedTo s 0 other new a → IsReported (replica_of n s) other a
 counted n s new other a is =
     let same = sym (taken_bare s 0 other 0 (leaves_between (range.rows_now s) other)) in
     record {
@@ -99,7 +99,7 @@ sync_ok n s new other (Ok a) is = synced_replica n s new other a is
 sync_ok n s new other (Err e) is = tt
 
 -- what is returned
-pub sync_answers : (n : ℕ) (s new : range.State) (other : RowMap) (fault : Option Refusal) (r : Result Synced Refusal) → Answers r fault (λ _. ⊤) → IfOk r (λ a. IsSyncedTo s 0 other new a) → AnswersOrNoMemory r fault (IsCounted (replica_of n s) other)
+pub sync_answers : (n : ℕ) (s new : range.State) (other : RowMap) (fault : Option Refusal) (r : Result Synced Refusal) → Answers r fault (λ _. ⊤) → IfOk r (λ a. IsSyncedTo s 0 other new a) → AnswersOrNoMemory r fault (IsReported (replica_of n s) other)
 sync_answers n s new other fault (Ok a) answers is = (answers.0, counted n s new other a is)
 sync_answers n s new other fault (Err e) answers is = elim answers [ inl memory ↦ inl memory.1 | inr cause ↦ inr cause ]
 

@@ -26,16 +26,16 @@ use Rattle.range_state.specs.Sessions.{crowd_fault}
 use Rattle.range_state.specs.State as range
 use Rattle.range_state.specs.Trees.{rehashed}
 use Rattle.range_state.specs.declared.event.Accepted.{Accepted}
-use Rattle.hash_tree.specs.Nodes.{tree_depth, place_at, digest_at, dirty_count}
+use Rattle.hash_tree.specs.Nodes.{tree_depth, place_at, kept_digest, dirty_count}
 use Rattle.hash_tree.specs.Texts.{node_digest}
 use Rattle.outage_commands.specs.Asks.{RingAsk, PutAsk, GetAsk, RehashAsk, SyncAsk, NodeAsk, Ask, ring, put, get, row, take_down, bring_up, deliver, rehash, sync, show_node, slot, sample}
-use Rattle.outage_cluster.specs.declared.answer.Answer.{Answer}
-use Rattle.outage_cluster.specs.declared.answer.Answer.TheVariants as Answers
-use Rattle.outage_cluster.specs.State.{Cluster, State, Replica, first_slots, made, in_replica, at_home, left, replica_at, at_node, replicas_of, with_range, with_replicas, home, is_member, is_down, taken_down, brought_up, hints_of}
+use Rattle.outage_cluster.specs.declared.answer.CommandAnswer.{CommandAnswer}
+use Rattle.outage_cluster.specs.declared.answer.CommandAnswer.TheVariants as Answers
+use Rattle.outage_cluster.specs.State.{Cluster, ClusterState, Replica, first_slots, made, in_replica, at_home, left, replica_at, at_node, replicas_of, with_range, with_replicas, home, is_member, is_down, taken_down, brought_up, hints_of}
 use Rattle.outage_cluster.specs.Handoff.{owners_of, carrier_of, hinted, deliver_at}
-use Rattle.outage_cluster.specs.Syncs.{told, synced_with}
+use Rattle.outage_cluster.specs.Syncs.{sync_report, synced_with}
 use Rattle.outage_cluster.specs.Slots.{slot_act, sample_act, is_target}
-use Rattle.outage_cluster.specs.declared.answer.Answer.TheVariants.{Refused}
+use Rattle.outage_cluster.specs.declared.answer.CommandAnswer.TheVariants.{Refused}
 
 -- ---- a ring
 
@@ -47,7 +47,7 @@ abbrev pub ring_config : RingAsk → Option Config
 ring_config r = config_of r.format r.bits 0 r.limit
 
 -- a new cluster, with new slots
-abbrev pub ring_act : RingAsk → Option Config → Outcome Answer State
+abbrev pub ring_act : RingAsk → Option Config → Outcome CommandAnswer ClusterState
 ring_act r None = refuses BadRing
 ring_act r (Some c) = do
   ring_fault (places_of r)
@@ -67,12 +67,12 @@ down_fault s node = if is_down s node then Some Down else None
 abbrev pub nodes_fault : Cluster → ℕ → List ℕ → Option Refusal
 nodes_fault s node others = first_fault (ring_nodes_fault s node others) (down_fault s node)
 
-unfoldable pub down_act : ℕ → Cluster → Outcome Answer Cluster
+unfoldable pub down_act : ℕ → Cluster → Outcome CommandAnswer Cluster
 down_act n s = do
   ring_nodes_fault s n []
   gives (Answers.Up n false) (taken_down s n)
 
-unfoldable pub up_act : ℕ → Cluster → Outcome Answer Cluster
+unfoldable pub up_act : ℕ → Cluster → Outcome CommandAnswer Cluster
 up_act n s = do
   ring_nodes_fault s n []
   gives (Answers.Up n true) (brought_up s n)
@@ -80,21 +80,21 @@ up_act n s = do
 -- ---- a put
 
 -- null is a tombstone, whose value is empty
-abbrev pub kind_of : Option (List ℕ) → Kind
-kind_of (Some value) = Live
-kind_of None = Tombstone
+abbrev pub value_kind : Option (List ℕ) → Kind
+value_kind (Some value) = Live
+value_kind None = Tombstone
 
-abbrev pub value_of : Option (List ℕ) → List ℕ
-value_of (Some value) = value
-value_of None = []
+abbrev pub value_bytes : Option (List ℕ) → List ℕ
+value_bytes (Some value) = value
+value_bytes None = []
 
 -- the fault of a put before its range is looked for
-abbrev pub ask_fault : PutAsk → Cluster → Option Refusal
-ask_fault p s = first_fault (nodes_fault s p.node p.lose) (first_fault (pairs_fault p.context) (first_fault (key_fault p.key) (value_fault s.format (kind_of p.value) (value_of p.value))))
+abbrev pub put_fault : PutAsk → Cluster → Option Refusal
+put_fault p s = first_fault (nodes_fault s p.node p.lose) (first_fault (pairs_fault p.context) (first_fault (key_fault p.key) (value_fault s.format (value_kind p.value) (value_bytes p.value))))
 
 -- a put into the state of its node: the script's seat is 0
-unfoldable pub put_at : PutAsk → range.State → Outcome Entry range.State
-put_at p h = range.put h 0 p.node p.key (clock_of p.context) (kind_of p.value) (value_of p.value)
+unfoldable pub put_by : PutAsk → range.State → Outcome Entry range.State
+put_by p h = range.put h 0 p.node p.key (clock_of p.context) (value_kind p.value) (value_bytes p.value)
 
 -- a replica is to have a put: it is another node, and not one that gets no copy
 abbrev pub is_sent_to : ℕ → List ℕ → ℕ → Bool
@@ -123,59 +123,59 @@ after_copy down node lose e r = if gets_copy down node lose r.node then left (co
 -- a put and its copies: the entry, and the number of replicas that take a copy or know it
 unfoldable pub put_into : List ℕ → PutAsk → List Replica → Outcome (Entry × ℕ) (List Replica)
 put_into down p reps = do
-  at ← at_home p.node (put_at p) reps
+  at ← at_home p.node (put_by p) reps
   gives (at.0, length (filter (takes down p.node p.lose at.0) at.1)) (map (after_copy down p.node p.lose at.0) at.1)
 
 -- a put whose hints were kept
-abbrev pub put_told : Entry × ℕ → ℕ × Cluster → Outcome Answer Cluster
+abbrev pub put_told : Entry × ℕ → ℕ × Cluster → Outcome CommandAnswer Cluster
 put_told e kept = gives (Answers.Put e.0.version.clock e.1 kept.0 e.0.number) kept.1
 
-unfoldable pub put_act : PutAsk → Cluster → Outcome Answer Cluster
+unfoldable pub put_act : PutAsk → Cluster → Outcome CommandAnswer Cluster
 put_act p s = do
-  ask_fault p s
+  put_fault p s
   at ← put_into s.down p (replicas_of s p.key)
   put_told at.0 (hinted at.0.0 (owners_of (gets_hint s.down p.node p.lose) (replicas_of s p.key)) (with_replicas s p.key at.1) (carrier_of s (range_at s.ring.bits p.key)))
 
 -- ---- reads of a node
 
 -- the answer about the state of a range at a node, if the node keeps the range
-abbrev pub shown : Cluster → (range.State → Answer) → Option range.State → Outcome Answer Cluster
+abbrev pub shown : Cluster → (range.State → CommandAnswer) → Option range.State → Outcome CommandAnswer Cluster
 shown s show None = refuses OtherRange
 shown s show (Some h) = gives (show h) s
 
 -- the answer about a key at a node
-unfoldable pub key_act : (range.State → Answer) → GetAsk → Cluster → Outcome Answer Cluster
+unfoldable pub key_act : (range.State → CommandAnswer) → GetAsk → Cluster → Outcome CommandAnswer Cluster
 key_act show g s = do
   nodes_fault s g.node []
   key_fault g.key
   shown s show (home g.node (replicas_of s g.key))
 
-abbrev pub held_at : GetAsk → range.State → Answer
+abbrev pub held_at : GetAsk → range.State → CommandAnswer
 held_at g h = Answers.Versions (held h.entries g.key)
 
 -- a row's text in a format, or no bytes if no version is held
-abbrev pub text_of : Format → List ℕ → List Version → List ℕ
-text_of format key [] = []
-text_of format key (v ∷ vs) = row_text format (record { key = key; versions = v ∷ vs })
+abbrev pub held_text : Format → List ℕ → List Version → List ℕ
+held_text format key [] = []
+held_text format key (v ∷ vs) = row_text format (record { key = key; versions = v ∷ vs })
 
-abbrev pub row_at : GetAsk → range.State → Answer
-row_at g h = Answers.Row (text_of h.config.format g.key (held h.entries g.key))
+abbrev pub row_answer : GetAsk → range.State → CommandAnswer
+row_answer g h = Answers.Row (held_text h.config.format g.key (held h.entries g.key))
 
 -- the state of the range of that number at a node: None if the node does not keep it or the ring has no such range
-abbrev pub kept_at : Cluster → ℕ → ℕ → Option range.State
-kept_at s node r = home node (slice_index_or s.replicas r [])
+abbrev pub range_on : Cluster → ℕ → ℕ → Option range.State
+range_on s node r = home node (slice_index_or s.replicas r [])
 
 -- the digest of a node if it is clean: that of the node's text for the rows now
 abbrev pub shown_digest : ℕ → ℕ → range.State → Option (List ℕ)
-shown_digest depth index h = if is_some (digest_at h.marks (place_at depth index)) then Some (node_digest h.config.format (range.leaf_in h.config) (rows_of h.entries) (tree_depth h.config.format - depth) index) else None
+shown_digest depth index h = if is_some (kept_digest h.marks (place_at depth index)) then Some (node_digest h.config.format (range.leaf_in h.config) (rows_of h.entries) (tree_depth h.config.format - depth) index) else None
 
-abbrev pub node_at : NodeAsk → range.State → Answer
+abbrev pub node_at : NodeAsk → range.State → CommandAnswer
 node_at q h = Answers.Node (shown_digest q.depth q.index h)
 
-unfoldable pub node_act : NodeAsk → Cluster → Outcome Answer Cluster
+unfoldable pub node_act : NodeAsk → Cluster → Outcome CommandAnswer Cluster
 node_act q s = do
   nodes_fault s q.node []
-  shown s (node_at q) (kept_at s q.node q.range)
+  shown s (node_at q) (range_on s q.node q.range)
 
 -- ---- background work
 
@@ -186,30 +186,30 @@ kept_fault (Some h) = None
 
 -- the fault of a command on a range at a node
 abbrev pub range_fault : Cluster → ℕ → ℕ → Option Refusal
-range_fault s node r = first_fault (nodes_fault s node []) (kept_fault (kept_at s node r))
+range_fault s node r = first_fault (nodes_fault s node []) (kept_fault (range_on s node r))
 
 -- all nodes of a range's tree made clean, and the number of those that were dirty
 abbrev pub clean_at : range.State → Outcome ℕ range.State
 clean_at h = gives (dirty_count h.marks) (rehashed h)
 
-unfoldable pub rehash_at : RehashAsk → Cluster → Outcome Answer Cluster
+unfoldable pub rehash_at : RehashAsk → Cluster → Outcome CommandAnswer Cluster
 rehash_at q s = do
   hashed ← at_home q.node clean_at (slice_index_or s.replicas q.range [])
   gives (Answers.Rehash hashed.0) (with_range s q.range hashed.1)
 
 -- the fault of the nodes of a sync: one is not on the ring, one is down, or one does not keep the range
-abbrev pub pair_fault : SyncAsk → Cluster → Option Refusal
-pair_fault q s = first_fault (ring_nodes_fault s q.node (q.from ∷ [])) (first_fault (down_fault s q.node) (down_fault s q.from))
+abbrev pub sync_nodes_fault : SyncAsk → Cluster → Option Refusal
+sync_nodes_fault q s = first_fault (ring_nodes_fault s q.node (q.from ∷ [])) (first_fault (down_fault s q.node) (down_fault s q.from))
 
 abbrev pub keepers_fault : SyncAsk → Cluster → Option Refusal
-keepers_fault q s = first_fault (pair_fault q s) (first_fault (kept_fault (kept_at s q.node q.range)) (kept_fault (kept_at s q.from q.range)))
+keepers_fault q s = first_fault (sync_nodes_fault q s) (first_fault (kept_fault (range_on s q.node q.range)) (kept_fault (range_on s q.from q.range)))
 
 -- the replica at a node of the range of that number
 abbrev pub replica_in : Cluster → ℕ → ℕ → Option Replica
 replica_in s node r = replica_at node (slice_index_or s.replicas r [])
 
 -- a sync of a replica with the range of another node
-abbrev pub synced_in : SyncAsk → Cluster → Option range.State → Option Replica → Outcome Answer Cluster
+abbrev pub synced_in : SyncAsk → Cluster → Option range.State → Option Replica → Outcome CommandAnswer Cluster
 synced_in q s None own = refuses OtherRange
 synced_in q s (Some h) None = do
   range.dirty_fault h
@@ -218,45 +218,45 @@ synced_in q s (Some h) (Some own) = do
   range.dirty_fault h
   crowd_fault own.sessions
   range.dirty_fault own.range
-  gives (Answers.Sync (told own (range.rows_now h))) (with_range s q.range (at_node q.node (synced_with (range.rows_now h)) (slice_index_or s.replicas q.range [])))
+  gives (Answers.Sync (sync_report own (range.rows_now h))) (with_range s q.range (at_node q.node (synced_with (range.rows_now h)) (slice_index_or s.replicas q.range [])))
 
-unfoldable pub sync_at : SyncAsk → Cluster → Outcome Answer Cluster
-sync_at q s = synced_in q s (kept_at s q.from q.range) (replica_in s q.node q.range)
+unfoldable pub sync_at : SyncAsk → Cluster → Outcome CommandAnswer Cluster
+sync_at q s = synced_in q s (range_on s q.from q.range) (replica_in s q.node q.range)
 
 -- ---- the commands
 
 -- a change of the cluster, or of the slots, as a change of the state
-abbrev pub in_cluster : State → Outcome Answer Cluster → Outcome Answer State
+abbrev pub in_cluster : ClusterState → Outcome CommandAnswer Cluster → Outcome CommandAnswer ClusterState
 in_cluster s done = through (λ c. record s { cluster = c }) done
 
-abbrev pub in_slots : State → Outcome Answer Admission → Outcome Answer State
+abbrev pub in_slots : ClusterState → Outcome CommandAnswer Admission → Outcome CommandAnswer ClusterState
 in_slots s done = through (λ a. record s { slots = a }) done
 
 -- background work, with a slot that is given back
-abbrev pub with_slot : State → Outcome Answer Cluster → Outcome Answer State
+abbrev pub with_slot : ClusterState → Outcome CommandAnswer Cluster → Outcome CommandAnswer ClusterState
 with_slot s work = lend s.slots >>= (λ lent. in_cluster s work)
 
-unfoldable pub deliver_act : ℕ → State → Outcome Answer State
+unfoldable pub deliver_act : ℕ → ClusterState → Outcome CommandAnswer ClusterState
 deliver_act n s = do
   nodes_fault s.cluster n []
   with_slot s (deliver_at s.cluster n (hints_of s.cluster n))
 
-unfoldable pub rehash_act : RehashAsk → State → Outcome Answer State
+unfoldable pub rehash_act : RehashAsk → ClusterState → Outcome CommandAnswer ClusterState
 rehash_act q s = do
   range_fault s.cluster q.node q.range
   with_slot s (rehash_at q s.cluster)
 
-unfoldable pub sync_act : SyncAsk → State → Outcome Answer State
+unfoldable pub sync_act : SyncAsk → ClusterState → Outcome CommandAnswer ClusterState
 sync_act q s = do
   keepers_fault q s.cluster
   with_slot s (sync_at q s.cluster)
 
 -- the answer of a command, and the state after it
-unfoldable pub act : Ask → State → Outcome Answer State
+unfoldable pub act : Ask → ClusterState → Outcome CommandAnswer ClusterState
 act (ring r) s = ring_act r (ring_config r)
 act (put p) s = in_cluster s (put_act p s.cluster)
 act (get g) s = in_cluster s (key_act (held_at g) g s.cluster)
-act (row g) s = in_cluster s (key_act (row_at g) g s.cluster)
+act (row g) s = in_cluster s (key_act (row_answer g) g s.cluster)
 act (take_down n) s = in_cluster s (down_act n s.cluster)
 act (bring_up n) s = in_cluster s (up_act n s.cluster)
 act (deliver n) s = deliver_act n s
@@ -276,13 +276,13 @@ abbrev pub has_value : Format → Option (List ℕ) → Bool
 has_value One value = is_some value
 has_value Two value = true
 
-abbrev pub suits : State → Ask → Bool
+abbrev pub suits : ClusterState → Ask → Bool
 suits s (put p) = has_value s.cluster.format p.value
 suits s (show_node q) = is_tree_node s.cluster.format q.depth q.index
 suits s (slot x) = is_target s.slots x
 suits s ask = true
 
 -- the answer of a command: its own, or its refusal
-abbrev pub replied : {S : Type 0} → Outcome Answer S → Answer
+abbrev pub replied : {S : Type 0} → Outcome CommandAnswer S → CommandAnswer
 replied (gives answer s) = answer
 replied (refuses refusal) = Refused refusal

@@ -13,8 +13,8 @@ use Rattle.range_state.specs.declared.event.Accepted.TheVariants.{Taken, Known}
 use Rattle.hint_store.specs.Hints.{is_pending, pending_count, keep, confirmed, delivery_by}
 use Rattle.hint_store.specs.declared.hint.Hint.{Hint}
 use Rattle.hint_store.specs.declared.hint.Kept.{Kept}
-use Rattle.outage_cluster.specs.declared.answer.Answer.{Answer}
-use Rattle.outage_cluster.specs.declared.answer.Answer.TheVariants as Answers
+use Rattle.outage_cluster.specs.declared.answer.CommandAnswer.{CommandAnswer}
+use Rattle.outage_cluster.specs.declared.answer.CommandAnswer.TheVariants as Answers
 use Rattle.outage_cluster.specs.State.{Cluster, Replica, at_home, left, is_down, hints_of, with_hints}
 
 -- the owners of a put's hints: the nodes among these replicas that are to have one, in order
@@ -59,9 +59,9 @@ pub record Round : Type 0 where
   pub known : ℕ
 
 -- an owner knew a version
-abbrev pub was_known : Accepted → Bool
-was_known Known = true
-was_known (Taken e) = false
+abbrev pub is_known : Accepted → Bool
+is_known Known = true
+is_known (Taken e) = false
 
 -- the delivery after an owner took a hint or knew it, with these replicas of the range
 abbrev pub round_after : ℕ → Round → Hint → Bool → List Replica → Round
@@ -75,7 +75,7 @@ round_after bits r h known reps = record {
 -- the delivery after a hint was offered to its owner: one that is refused stays pending
 abbrev pub offered_to : ℕ → Round → Hint → Outcome Accepted (List Replica) → Round
 offered_to bits r h (refuses e) = r
-offered_to bits r h (gives reply reps) = round_after bits r h (was_known reply) reps
+offered_to bits r h (gives reply reps) = round_after bits r h (is_known reply) reps
 
 -- a hint is offered: it is pending, and its owner is up
 abbrev pub is_offered : List ℕ → Kept → Bool
@@ -97,10 +97,10 @@ abbrev pub round_of : Cluster → List Kept → Round
 round_of s hs = fold (offer_one (up_nodes s) s.ring.bits) (first_round s.replicas hs) hs
 
 -- the answer of a delivery that is over, and the cluster after it
-abbrev pub delivered : Cluster → ℕ → Round → Outcome Answer Cluster
+abbrev pub delivered : Cluster → ℕ → Round → Outcome CommandAnswer Cluster
 delivered s n r = gives (Answers.Deliver r.taken r.known (pending_count r.hints)) (with_hints (record s { replicas = r.replicas }) n r.hints)
 
 -- a delivery of the hints that a node keeps; it is refused if the node is not on the ring
-abbrev pub deliver_at : Cluster → ℕ → Option (List Kept) → Outcome Answer Cluster
+abbrev pub deliver_at : Cluster → ℕ → Option (List Kept) → Outcome CommandAnswer Cluster
 deliver_at s n None = refuses BadRing
 deliver_at s n (Some hs) = delivered s n (round_of s hs)

@@ -6,7 +6,7 @@ use Rattle.hint_store.specs.declared.hint.Fate.TheVariants.{Pending}
 use Rattle.hint_store.specs.declared.hint.Hint.{Hint}
 use Rattle.hint_store.specs.declared.hint.Kept.{Kept}
 use Rattle.outage_cluster.specs.State.{Replica}
-use Rattle.outage_cluster.specs.Handoff.{Round, was_known}
+use Rattle.outage_cluster.specs.Handoff.{Round, is_known}
 
 -- a hint that is pending
 abbrev pub pending_of : Hint → Kept
@@ -24,5 +24,5 @@ after_offer (Some true) replicas hints taken known = round_at replicas hints tak
 
 -- the reply of an owner: true if it knew the version, None if it refused it
 abbrev pub told_by : Outcome Accepted (List Replica) → Option Bool
-told_by (gives reply reps) = Some (was_known reply)
+told_by (gives reply reps) = Some (is_known reply)
 told_by (refuses e) = None

@@ -3,8 +3,8 @@ use Rattle.std.specs.Prelude.{◌-◌, Bool, true, ◌&&◌, nat_le}
 use Rattle.vclock.specs.Outcome.{Outcome, gives, ◌>>=◌}
 use Rattle.admission.specs.Admission.{Admission, allowance_of, free_of, lend, sample, adjust}
 use Rattle.outage_commands.specs.Asks.{SlotAsk, SampleAsk, lend_slot, give_slot_back, set_target, adjust_target}
-use Rattle.outage_cluster.specs.declared.answer.Answer.{Answer}
-use Rattle.outage_cluster.specs.declared.answer.Answer.TheVariants as Answers
+use Rattle.outage_cluster.specs.declared.answer.CommandAnswer.{CommandAnswer}
+use Rattle.outage_cluster.specs.declared.answer.CommandAnswer.TheVariants as Answers
 use Rattle.outage_cluster.specs.declared.answer.SlotCounts.{SlotCounts}
 
 -- the controller after a slot is given back: unchanged if no slot is lent
@@ -16,7 +16,7 @@ abbrev pub counts : Admission → SlotCounts
 counts a = record { allowance = allowance_of a; free = free_of a; lent = a.slots; target = a.target }
 
 -- the answer of a command for the slots, and the controller after it
-unfoldable pub slot_act : SlotAsk → Admission → Outcome Answer Admission
+unfoldable pub slot_act : SlotAsk → Admission → Outcome CommandAnswer Admission
 slot_act lend_slot a = do
   lent ← lend a
   gives (Answers.Slots (counts lent.1)) lent.1
@@ -27,7 +27,7 @@ slot_act (adjust_target now) a = do
   gives (Answers.Adjusted (counts found.1) found.0) found.1
 
 -- a sample, and the number that are kept
-unfoldable pub sample_act : SampleAsk → Admission → Outcome Answer Admission
+unfoldable pub sample_act : SampleAsk → Admission → Outcome CommandAnswer Admission
 sample_act q a = do
   kept ← sample a q.moment q.micros
   gives (Answers.Sample kept.0) kept.1

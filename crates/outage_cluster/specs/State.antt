@@ -5,7 +5,7 @@ use Rattle.vclock.specs.declared.format.Format.{Format}
 use Rattle.vclock.specs.declared.format.Format.TheVariants.{One}
 use Rattle.vclock.specs.declared.refusal.Refusal.TheVariants.{OtherRange}
 use Rattle.vclock.specs.Outcome.{Outcome, gives, refuses, through}
-use Rattle.admission.specs.Admission.{Admission, fresh}
+use Rattle.admission.specs.Admission.{Admission, fresh_admission}
 use Rattle.hint_store.specs.declared.hint.Kept.{Kept}
 use Rattle.key_ring.specs.Places.{range_at}
 use Rattle.key_ring.specs.Ring.{Places, preference_list}
@@ -40,7 +40,7 @@ pub record Cluster : Type 0 where
   pub replicas : List (List Replica)
 
 -- the cluster, and the slots for background work
-pub record State : Type 0 where
+pub record ClusterState : Type 0 where
   pub cluster : Cluster
   pub slots : Admission
 
@@ -71,9 +71,9 @@ first_config = record { format = One; bits = 0; range = 0; limit = 1000000 }
 
 -- up to 8 slots, and at least 1, by a latency of 50 milliseconds; no slot is lent
 abbrev pub first_slots : Admission
-first_slots = fresh 1 8 50000
+first_slots = fresh_admission 1 8 50000
 
-abbrev pub start : State
+abbrev pub start : ClusterState
 start = record { cluster = made first_ring first_config; slots = first_slots }
 
 -- the replicas of a key's range

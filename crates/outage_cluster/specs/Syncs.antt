@@ -37,14 +37,14 @@ abbrev pub synced_with : RowMap → Replica → Replica
 synced_with other r = after_sync (progress other r) r
 
 -- the report of a sync: each node at which the trees differ was asked
-abbrev pub told_of : Replica → RowMap → Progress → Synced
-told_of r other p = record { accepted = length p.state.entries - length r.range.entries; known = p.known; asked = length (differ (rows_now r.range) other); fault = p.fault }
+abbrev pub report_of : Replica → RowMap → Progress → Synced
+report_of r other p = record { accepted = length p.state.entries - length r.range.entries; known = p.known; asked = length (differ (rows_now r.range) other); fault = p.fault }
 
-abbrev pub told : Replica → RowMap → Synced
-told r other = told_of r other (progress other r)
+abbrev pub sync_report : Replica → RowMap → Synced
+sync_report r other = report_of r other (progress other r)
 
 -- the counts and the refusal of a sync
-pub record IsCounted (r : Replica) (other : RowMap) (a : Synced) : Type 0 where
+pub record IsReported (r : Replica) (other : RowMap) (a : Synced) : Type 0 where
   pub accepted : length r.range.entries + a.accepted ≡ length (progress other r).state.entries
   pub asked : a.asked ≡ length (differ (rows_now r.range) other)
   pub known : a.known ≡ (progress other r).known

@@ -11,7 +11,7 @@ use version_set::VersionSet;
 
 /// The answer of a command.
 #[derive(Drop)]
-pub enum Answer {
+pub enum CommandAnswer {
     /// A new ring.
     Ring {
         /// The number of nodes.

@@ -6,12 +6,12 @@ ghost use Rattle.vclock.specs.Clock.{clock_of};
 ghost use Rattle.vclock.specs.Outcome.{gives, DoesOrBreaksOff};
 ghost use Rattle.vclock.specs.Bytes.{key_fault};
 ghost use Rattle.version_set.specs.Kind.{value_fault};
-ghost use Rattle.outage_cluster.specs.Acts.{ask_fault, down_act, down_fault, held_at, is_tree_node, keepers_fault, kept_at, key_act, kind_of, node_act, nodes_fault, put_act, range_fault, rehash_at, ring_nodes_fault, row_at, sync_at, text_of, up_act, value_of};
+ghost use Rattle.outage_cluster.specs.Acts.{put_fault, down_act, down_fault, held_at, is_tree_node, keepers_fault, range_on, key_act, value_kind, node_act, nodes_fault, put_act, range_fault, rehash_at, ring_nodes_fault, row_answer, sync_at, held_text, up_act, value_bytes};
 ghost use Rattle.outage_cluster.specs.Handoff.{carrier_of, deliver_at, hinted, up_nodes};
 ghost use Rattle.outage_commands.specs.Orders.{get_ask, node_ask, put_ask, rehash_ask, sync_ask};
 ghost use Rattle.outage_cluster.specs.State.{first_config, first_ring, hints_of, home, is_down, is_member, made, replicas_of};
 
-use crate::answer::Answer;
+use crate::answer::CommandAnswer;
 use crate::handoff::{deliver_all, keep_all};
 use crate::replica::Replica;
 use crate::replicas::{Replicas, Sent};
@@ -88,7 +88,7 @@ impl Cluster {
     }
 
     /// Puts a value at a node, sends the copies and keeps the hints. Returns the answer with the clock and the number.
-    pub(crate) fn put(&mut self, alloc: Global, put: Put) -> Result<Answer, Refusal>
+    pub(crate) fn put(&mut self, alloc: Global, put: Put) -> Result<CommandAnswer, Refusal>
         ensures { DoesOrBreaksOff result self.old self.new (put_act (put_ask put) self.old) }
     {
         let context = self.check_put(alloc, &put)?;
@@ -105,7 +105,7 @@ impl Cluster {
             version,
             ..
         } = receipt;
-        Ok(Answer::Put {
+        Ok(CommandAnswer::Put {
             clock: version.clock,
             copied,
             hinted,
@@ -153,24 +153,24 @@ impl Cluster {
 
     /// Takes a node down.
     #[tactic(auto, unfolding(crate::specs::Acts::down_act))]
-    pub(crate) fn take_down(&mut self, node: u64) -> Result<Answer, Refusal>
+    pub(crate) fn take_down(&mut self, node: u64) -> Result<CommandAnswer, Refusal>
         ensures { DoesOrBreaksOff result self.old self.new (down_act node self.old) }
     {
         self.check_ring_nodes(node, &[])?;
         if !self.is_down(node) {
             self.down.push(node)?;
         }
-        Ok(Answer::Up { node, up: false })
+        Ok(CommandAnswer::Up { node, up: false })
     }
 
     /// Brings a node up.
     #[tactic(auto, unfolding(crate::specs::Acts::up_act))]
-    pub(crate) fn bring_up(&mut self, node: u64) -> Result<Answer, Refusal>
+    pub(crate) fn bring_up(&mut self, node: u64) -> Result<CommandAnswer, Refusal>
         ensures { DoesOrBreaksOff result self.old self.new (up_act node self.old) }
     {
         self.check_ring_nodes(node, &[])?;
         self.down.retain(|member| *member != node);
-        Ok(Answer::Up { node, up: true })
+        Ok(CommandAnswer::Up { node, up: true })
     }
 
     /// Returns true if a node is down.
@@ -201,7 +201,7 @@ impl Cluster {
 
     /// Offers the hints that a node keeps to their owners. Returns the answer with the numbers of those that were
     /// taken, known, and still pending.
-    pub(crate) fn deliver(&mut self, alloc: Global, node: u64) -> Result<Answer, AllocError>
+    pub(crate) fn deliver(&mut self, alloc: Global, node: u64) -> Result<CommandAnswer, AllocError>
         requires { nodes_fault self.old node [] ≡ None }
         ensures { IfOk result (λ a. deliver_at self.old node (hints_of self.old node) ≡ gives a self.new) }
     {
@@ -211,7 +211,7 @@ impl Cluster {
         };
         let hints = &mut self.carriers[place];
         let done = deliver_all(alloc, &self.ring, &up, &mut self.ranges, hints)?;
-        Ok(Answer::Deliver {
+        Ok(CommandAnswer::Deliver {
             delivered: done.taken,
             known: done.known,
             pending: hints.pending(),
@@ -220,7 +220,7 @@ impl Cluster {
 
     /// Returns the answer with the versions that are held for a key.
     #[tactic(auto, unfolding(crate::specs::Acts::key_act))]
-    pub(crate) fn get(&self, alloc: Global, get: &Get) -> Result<Answer, Refusal>
+    pub(crate) fn get(&self, alloc: Global, get: &Get) -> Result<CommandAnswer, Refusal>
         ensures { DoesOrBreaksOff result self.now self.now (key_act (held_at (get_ask get.now)) (get_ask get.now) self.now) }
     {
         self.check_nodes(get.node, &[])?;
@@ -229,13 +229,13 @@ impl Cluster {
             return Err(Refusal::OtherRange);
         };
         let versions = replica.version_set(alloc, get.key.as_slice())?;
-        Ok(Answer::Versions(versions))
+        Ok(CommandAnswer::Versions(versions))
     }
 
     /// Returns the answer with the text of the row of a key.
     #[tactic(auto, unfolding(crate::specs::Acts::key_act))]
-    pub(crate) fn row(&self, alloc: Global, get: Get) -> Result<Answer, Refusal>
-        ensures { DoesOrBreaksOff result self.now self.now (key_act (row_at (get_ask get)) (get_ask get) self.now) }
+    pub(crate) fn row(&self, alloc: Global, get: Get) -> Result<CommandAnswer, Refusal>
+        ensures { DoesOrBreaksOff result self.now self.now (key_act (row_answer (get_ask get)) (get_ask get) self.now) }
     {
         self.check_nodes(get.node, &[])?;
         check_key(get.key.as_slice())?;
@@ -244,7 +244,7 @@ impl Cluster {
         };
         let versions = replica.version_set(alloc, get.key.as_slice())?;
         let text = row_text(alloc, replica.format(), get.key, versions)?;
-        Ok(Answer::Row(text))
+        Ok(CommandAnswer::Row(text))
     }
 
     /// Tests that a node that is up keeps a range of that number.
@@ -266,14 +266,14 @@ impl Cluster {
         rt: &(impl Threads + Sync),
         alloc: Global,
         ask: &Rehash,
-    ) -> Result<Answer, Refusal>
+    ) -> Result<CommandAnswer, Refusal>
         ensures { DoesOrBreaksOff result self.old self.new (rehash_at (rehash_ask ask.now) self.old) }
     {
         if ask.range >= self.ranges.len() as u64 {
             return Err(Refusal::OtherRange);
         }
         let hashed = self.ranges[ask.range as usize].rehash(rt, alloc, ask.node)?;
-        Ok(Answer::Rehash(hashed))
+        Ok(CommandAnswer::Rehash(hashed))
     }
 
     /// Tests that both nodes of a sync are up and keep the range.
@@ -293,19 +293,19 @@ impl Cluster {
 
     /// Makes a node fetch the versions of a range that another has. Returns the answer with the report.
     #[tactic(auto, unfolding(crate::specs::Acts::sync_at))]
-    pub(crate) fn sync(&mut self, alloc: Global, ask: &SyncFrom) -> Result<Answer, Refusal>
+    pub(crate) fn sync(&mut self, alloc: Global, ask: &SyncFrom) -> Result<CommandAnswer, Refusal>
         ensures { DoesOrBreaksOff result self.old self.new (sync_at (sync_ask ask.now) self.old) }
     {
         if ask.range >= self.ranges.len() as u64 {
             return Err(Refusal::OtherRange);
         }
         let done = self.ranges[ask.range as usize].sync(alloc, ask.node, ask.from)?;
-        Ok(Answer::Sync(done))
+        Ok(CommandAnswer::Sync(done))
     }
 
     /// Returns the answer with the digest of a node of the tree of a range.
     #[tactic(auto, unfolding(crate::specs::Acts::node_act))]
-    pub(crate) fn node(&self, ask: &ShowNode) -> Result<Answer, Refusal>
+    pub(crate) fn node(&self, ask: &ShowNode) -> Result<CommandAnswer, Refusal>
         requires { IsTrue (is_tree_node self.now.format ask.now.depth ask.now.index) }
         ensures { DoesOrBreaksOff result self.now self.now (node_act (node_ask ask.now) self.now) }
     {
@@ -316,12 +316,12 @@ impl Cluster {
         let Some(node) = tree_node(self.format, ask.depth, ask.index) else {
             unreachable!()
         };
-        Ok(Answer::Node(replica.digest_at(node)))
+        Ok(CommandAnswer::Node(replica.digest_at(node)))
     }
 
     /// Finds the replica at a node of the range of that number, if the ring has such a range.
     fn replica_at(&self, node: u64, range: u64) -> Option<&Replica>
-        ensures { option_map (λ r. r.now.range) result ≡ kept_at self.now node range }
+        ensures { option_map (λ r. r.now.range) result ≡ range_on self.now node range }
     {
         if range >= self.ranges.len() as u64 {
             return None;
@@ -339,7 +339,7 @@ impl Cluster {
 
     /// Makes the context of a put, if no part of the put is refused.
     fn check_put(&self, alloc: Global, put: &Put) -> Result<Clock, Refusal>
-        ensures { AnswersOrNoMemory result (ask_fault (put_ask put.now) self.now)
+        ensures { AnswersOrNoMemory result (put_fault (put_ask put.now) self.now)
             (λ context. context ≡ clock_of put.now.context.items) }
     {
         self.check_nodes(put.node, &put.lose)?;
@@ -412,7 +412,7 @@ pub(crate) fn tree_node(format: Format, depth: u64, index: u64) -> Option<NodeAt
 
 /// Tests that a put may have the value, or the tombstone, in a format.
 fn check_value(format: Format, value: &Option<Bytes>) -> Result<(), Refusal>
-    ensures { AnswersAtOnce result (value_fault format (kind_of value.now) (value_of value.now)) (λ _. ⊤) }
+    ensures { AnswersAtOnce result (value_fault format (value_kind value.now) (value_bytes value.now)) (λ _. ⊤) }
 {
     match value {
         Some(value) => Kind::Live.check_value(format, value.as_slice()),
@@ -429,7 +429,7 @@ fn row_text(
 ) -> Result<Text, Refusal>
     requires key { key_fault key ≡ None }
     requires fit { AllByRecursion (λ v. value_fault format v.kind v.value ≡ None) versions }
-    ensures { Answers result None (λ text. text ≡ text_of format key versions) }
+    ensures { Answers result None (λ text. text ≡ held_text format key versions) }
 {
     if versions.is_empty() {
         return Ok(Text::from(Vec::new(alloc)));

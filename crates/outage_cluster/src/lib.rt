@@ -20,5 +20,5 @@ mod replicas;
 mod slots;
 pub mod world;
 
-pub use answer::{Answer, SlotCounts};
+pub use answer::{CommandAnswer, SlotCounts};
 pub use world::{AtEnd, World};

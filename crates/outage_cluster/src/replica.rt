@@ -11,7 +11,7 @@ ghost use Rattle.range_state.specs.Syncs.{IsOfRange};
 ghost use Rattle.std.specs.Arc.{arc_value};
 ghost use Rattle.outage_cluster.specs.Acts.{takes, after_copy, clean_at, copied_to, gets_hint, is_sent_to, shown_digest};
 ghost use Rattle.outage_cluster.specs.State.{in_replica, replica_of};
-ghost use Rattle.outage_cluster.specs.Syncs.{IsCounted, session_fault, synced_with};
+ghost use Rattle.outage_cluster.specs.Syncs.{IsReported, session_fault, synced_with};
 
 use hash_tree::{Digest, NodeAt};
 use range_journal::Source;
@@ -164,7 +164,7 @@ impl Replica {
         other: &Snapshot,
     ) -> Result<Synced, Refusal>
         requires { IsOfRange self.old.range.config other.now }
-        ensures answers { AnswersOrNoMemory result (session_fault (Some self.old)) (IsCounted self.old other.now) }
+        ensures answers { AnswersOrNoMemory result (session_fault (Some self.old)) (IsReported self.old other.now) }
         ensures ok { OnOk result (self.new ≡ synced_with other.now self.old) }
         ensures err { IfErr result (λ e. e ≢ Refusal.NoMemory → self.new ≡ self.old) }
         ensures config { self.new.range.config ≡ self.old.range.config }

@@ -4,11 +4,11 @@ ghost use Rattle.std.specs.Result.{result_map_both};
 ghost use Rattle.vclock.specs.Answer.{AnswersOrNoMemory};
 ghost use Rattle.vclock.specs.Outcome.{DoesOrNoMemory, DoesOrBreaksOff};
 ghost use Rattle.vclock.specs.Clock.{clock_of};
-ghost use Rattle.outage_cluster.specs.Acts.{takes, after_copy, clean_at, gets_hint, put_into, kind_of, value_of};
+ghost use Rattle.outage_cluster.specs.Acts.{takes, after_copy, clean_at, gets_hint, put_into, value_kind, value_bytes};
 ghost use Rattle.outage_commands.specs.Orders.{put_ask};
 ghost use Rattle.outage_cluster.specs.State.{at_home, home, replica_at, at_node, replicas_made};
 ghost use Rattle.outage_cluster.specs.Homes.{AreOf, IsHome};
-ghost use Rattle.outage_cluster.specs.Syncs.{IsCounted, walk_fault, synced_with};
+ghost use Rattle.outage_cluster.specs.Syncs.{IsReported, walk_fault, synced_with};
 ghost use Rattle.range_state.specs.Config.{Config};
 ghost use Rattle.outage_cluster.specs.Handoff.{owners_of};
 ghost use Rattle.range_journal.specs.declared.journal.Source.{Source};
@@ -101,7 +101,7 @@ impl Replicas {
     pub(crate) fn sync(&mut self, alloc: Global, node: u64, from: u64) -> Result<Synced, Refusal>
         ensures answers { AnswersOrNoMemory result
             (walk_fault (home from self.old) (replica_at node self.old))
-            (λ a. IfSome (home from self.old) (λ h. IfSome (replica_at node self.old) (λ r. IsCounted r (rows_now h) a))) }
+            (λ a. IfSome (home from self.old) (λ h. IfSome (replica_at node self.old) (λ r. IsReported r (rows_now h) a))) }
         ensures ok { OnOk result (IfSome (home from self.old) (λ h.
             self.new ≡ at_node node (synced_with (rows_now h)) self.old)) }
         ensures err { IfErr result (λ e. e ≢ Refusal.NoMemory → self.new ≡ self.old) }
@@ -216,8 +216,8 @@ fn place_of(replicas: &[Replica], node: u64) -> Option<usize>
 
 /// Returns the kind and the value of a put: a tombstone's value is empty.
 fn payload(value: Option<Bytes>) -> (Kind, Bytes)
-    ensures kind { result.0 ≡ kind_of value }
-    ensures bytes { result.1 ≡ value_of value }
+    ensures kind { result.0 ≡ value_kind value }
+    ensures bytes { result.1 ≡ value_bytes value }
 {
     match value {
         Some(value) => (Kind::Live, value),

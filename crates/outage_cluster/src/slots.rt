@@ -7,9 +7,9 @@ ghost use Rattle.outage_commands.specs.Orders.{sample_ask, slot_ask};
 ghost use Rattle.outage_cluster.specs.Slots.{given_back, is_target, sample_act, slot_act};
 ghost use Rattle.outage_cluster.specs.State.{first_slots};
 
-use crate::answer::{Answer, SlotCounts};
+use crate::answer::{CommandAnswer, SlotCounts};
 use admission::{Controller, Slot};
-use outage_commands::{Sample, SlotCommand};
+use outage_commands::{NewSample, SlotCommand};
 use std::alloc::Global;
 use std::marker::Model;
 use std::sync::ledger::{Blank, Ledger};
@@ -113,7 +113,7 @@ impl<L: Ledger> Slots<L> {
 
     /// Acts on a command for the slots.
     #[tactic(auto, unfolding(crate::specs::Slots::slot_act))]
-    pub(crate) fn act(&mut self, command: SlotCommand) -> Result<Answer, Refusal>
+    pub(crate) fn act(&mut self, command: SlotCommand) -> Result<CommandAnswer, Refusal>
         requires { IsTrue (is_target self.old (slot_ask command)) }
         ensures { DoesOrBreaksOff result self.old self.new (slot_act (slot_ask command) self.old) }
     {
@@ -123,18 +123,18 @@ impl<L: Ledger> Slots<L> {
             SlotCommand::Target(n) => self.controller.set_target(n as u32),
             SlotCommand::Adjust(now) => {
                 let percentile = self.controller.adjust(now)?;
-                return Ok(Answer::Adjusted(SlotCounts::of(&self.controller), percentile));
+                return Ok(CommandAnswer::Adjusted(SlotCounts::of(&self.controller), percentile));
             }
         }
-        Ok(Answer::Slots(SlotCounts::of(&self.controller)))
+        Ok(CommandAnswer::Slots(SlotCounts::of(&self.controller)))
     }
 
     /// Takes a sample, and returns the number that are kept.
     #[tactic(auto, unfolding(crate::specs::Slots::sample_act))]
-    pub(crate) fn sample(&mut self, sample: Sample) -> Result<Answer, Refusal>
+    pub(crate) fn sample(&mut self, sample: NewSample) -> Result<CommandAnswer, Refusal>
         ensures { DoesOrBreaksOff result self.old self.new (sample_act (sample_ask sample) self.old) }
     {
         let kept = self.controller.sample(sample.moment, sample.micros)?;
-        Ok(Answer::Sample(kept))
+        Ok(CommandAnswer::Sample(kept))
     }
 }

@@ -5,7 +5,7 @@ ghost use Rattle.outage_commands.specs.Orders.{ask_of, rehash_ask, ring_ask, syn
 ghost use Rattle.outage_cluster.specs.State.{left, start};
 ghost use Rattle.vclock.specs.Outcome.{DoesOrBreaksOff};
 
-use crate::answer::Answer;
+use crate::answer::CommandAnswer;
 use crate::cluster::{Cluster, tree_node};
 use crate::slots::Slots;
 use key_ring::Ring;
@@ -34,9 +34,9 @@ pub struct World<L: Ledger> {
 }
 
 impl<L: Ledger> Model for World<L> {
-    ghost use Rattle.outage_cluster.specs.State.{State};
+    ghost use Rattle.outage_cluster.specs.State.{ClusterState};
 
-    ghost Value = { State };
+    ghost Value = { ClusterState };
 
     ghost view = { λ w. record { cluster = w.cluster; slots = w.slots } };
 }
@@ -84,7 +84,7 @@ impl<L: Ledger> World<L> {
         rt: &(impl Threads + Sync),
         alloc: Global,
         command: Command,
-    ) -> Result<Answer, AllocError>
+    ) -> Result<CommandAnswer, AllocError>
         requires { IsTrue (suits self.old (ask_of command)) }
         ensures reply { IfOk result (λ answer. answer ≡ replied (act (ask_of command) self.old)) }
         ensures after { OnOk result (self.new ≡ left (act (ask_of command) self.old) self.old) }
@@ -100,7 +100,7 @@ impl<L: Ledger> World<L> {
         rt: &(impl Threads + Sync),
         alloc: Global,
         command: Command,
-    ) -> Result<Answer, Refusal>
+    ) -> Result<CommandAnswer, Refusal>
         requires { IsTrue (suits self.old (ask_of command)) }
         ensures { DoesOrBreaksOff result self.old self.new (act (ask_of command) self.old) }
     {
@@ -121,7 +121,7 @@ impl<L: Ledger> World<L> {
     }
 
     /// Makes a new cluster, with new slots.
-    fn renew(&mut self, alloc: Global, ask: &NewRing) -> Result<Answer, Refusal>
+    fn renew(&mut self, alloc: Global, ask: &NewRing) -> Result<CommandAnswer, Refusal>
         ensures { DoesOrBreaksOff result self.old self.new (ring_act (ring_ask ask.now) (ring_config (ring_ask ask.now))) }
     {
         let Some(config) = RangeConfig::new(ask.format, ask.bits, 0, ask.limit) else {
@@ -131,12 +131,12 @@ impl<L: Ledger> World<L> {
         let (nodes, ranges) = (ring.nodes().len() as u64, u64::from(ring.ranges()));
         self.cluster = Cluster::new(alloc, ring, config)?;
         self.slots.renew();
-        Ok(Answer::Ring { nodes, ranges })
+        Ok(CommandAnswer::Ring { nodes, ranges })
     }
 
     /// Delivers the hints that a node keeps, with a slot that is given back.
     #[tactic(auto, unfolding(crate::specs::Acts::deliver_act))]
-    fn deliver(&mut self, alloc: Global, node: u64) -> Result<Answer, Refusal>
+    fn deliver(&mut self, alloc: Global, node: u64) -> Result<CommandAnswer, Refusal>
         ensures { DoesOrBreaksOff result self.old self.new (deliver_act node self.old) }
     {
         self.cluster.check_carrier(node)?;
@@ -153,7 +153,7 @@ impl<L: Ledger> World<L> {
         rt: &(impl Threads + Sync),
         alloc: Global,
         ask: &Rehash,
-    ) -> Result<Answer, Refusal>
+    ) -> Result<CommandAnswer, Refusal>
         ensures { DoesOrBreaksOff result self.old self.new (rehash_act (rehash_ask ask.now) self.old) }
     {
         self.cluster.check_range(ask.node, ask.range)?;
@@ -165,7 +165,7 @@ impl<L: Ledger> World<L> {
 
     /// Makes a node fetch the versions of a range that another has, with a slot that is given back.
     #[tactic(auto, unfolding(crate::specs::Acts::sync_act))]
-    fn sync(&mut self, alloc: Global, ask: &SyncFrom) -> Result<Answer, Refusal>
+    fn sync(&mut self, alloc: Global, ask: &SyncFrom) -> Result<CommandAnswer, Refusal>
         ensures { DoesOrBreaksOff result self.old self.new (sync_act (sync_ask ask.now) self.old) }
     {
         self.cluster.check_sync(ask)?;
@@ -177,14 +177,14 @@ impl<L: Ledger> World<L> {
 }
 
 /// Returns the answer of a command, or that of its refusal. NoMemory has no answer.
-fn answered(answer: Result<Answer, Refusal>) -> Result<Answer, AllocError>
+fn answered(answer: Result<CommandAnswer, Refusal>) -> Result<CommandAnswer, AllocError>
     ensures ok { IfOk answer (λ a. result ≡ Ok a) }
     ensures refused { IfErr answer
-        (λ e. IfOk result (λ a. (e ≢ Refusal.NoMemory) × (a ≡ Answer.Refused e))) }
+        (λ e. IfOk result (λ a. (e ≢ Refusal.NoMemory) × (a ≡ CommandAnswer.Refused e))) }
 {
     match answer {
         Ok(answer) => Ok(answer),
         Err(Refusal::NoMemory) => Err(AllocError),
-        Err(refusal) => Ok(Answer::Refused(refusal)),
+        Err(refusal) => Ok(CommandAnswer::Refused(refusal)),
     }
 }

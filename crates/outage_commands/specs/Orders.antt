@@ -10,7 +10,7 @@ use Rattle.outage_commands.specs.declared.command.ShowNode.{ShowNode}
 use Rattle.outage_commands.specs.declared.command.SyncFrom.{SyncFrom}
 use Rattle.outage_commands.specs.declared.command.SlotCommand.{SlotCommand}
 use Rattle.outage_commands.specs.declared.command.SlotCommand.TheVariants as Slots
-use Rattle.outage_commands.specs.declared.command.Sample.{Sample}
+use Rattle.outage_commands.specs.declared.command.NewSample.{NewSample}
 
 abbrev pub ring_ask : NewRing → RingAsk
 ring_ask r = record { bits = r.bits; copies = r.copies; nodes = r.nodes.items; limit = r.limit; format = r.format }
@@ -36,7 +36,7 @@ slot_ask Slots.Back = give_slot_back
 slot_ask (Slots.Target n) = set_target n
 slot_ask (Slots.Adjust n) = adjust_target n
 
-abbrev pub sample_ask : Sample → SampleAsk
+abbrev pub sample_ask : NewSample → SampleAsk
 sample_ask s = record { moment = s.moment; micros = s.micros }
 
 abbrev pub ask_of : Command → Ask

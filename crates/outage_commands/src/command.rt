@@ -104,7 +104,7 @@ pub enum SlotCommand {
 
 /// A latency of the foreground.
 #[derive(Clone, Copy)]
-pub struct Sample {
+pub struct NewSample {
     /// The moment of the measurement, in milliseconds.
     pub moment: u64,
     /// The latency in microseconds.
@@ -137,7 +137,7 @@ pub enum Command {
     /// `slot`.
     Slot(SlotCommand),
     /// `sample`.
-    Sample(Sample),
+    Sample(NewSample),
 }
 
 /// Reads the command of a line. `None` if the line isn't a command.
@@ -372,13 +372,13 @@ fn numbered_slot(word: &str, n: u64) -> Option<SlotCommand>
 
 /// Reads the sample of these members.
 #[tactic(auto, unfolding(crate::specs::Commands::sample_of))]
-fn sample_in(members: &Value<'_>) -> Option<Sample>
+fn sample_in(members: &Value<'_>) -> Option<NewSample>
     ensures { option_map sample_ask result ≡ sample_of (seen members.now) }
 {
     if !has_only(members, &["at", "micros"]) {
         return None;
     }
-    Some(Sample {
+    Some(NewSample {
         moment: number_at(members, "at")?,
         micros: short_number_at(members, "micros")?,
     })

@@ -18,6 +18,6 @@ mod member;
 mod tree;
 
 pub use command::{
-    Command, Get, NewRing, Put, Rehash, Sample, ShowNode, SlotCommand, SyncFrom, command_in,
+    Command, Get, NewRing, NewSample, Put, Rehash, ShowNode, SlotCommand, SyncFrom, command_in,
 };
 pub use fault::{LineFault, fault_of};

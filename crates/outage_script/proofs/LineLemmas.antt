@@ -8,9 +8,9 @@ use Rattle.std.specs.List.{list_all}
 use Rattle.outage_script.specs.declared.ScriptEnd.{ScriptEnd}
 use Rattle.outage_script.specs.declared.ScriptEnd.TheVariants.{Done, BadLine, Device, NoMemory}
 use Rattle.outage_script.specs.Lines.{lines_of, is_inside}
-use Rattle.outage_cluster.specs.State.{State}
+use Rattle.outage_cluster.specs.State.{ClusterState}
 use Rattle.outage_commands.specs.Faults.{line_limit}
-use Rattle.outage_script.specs.Script.{Outcome, step, outcome_of, bad_line, preceded}
+use Rattle.outage_script.specs.Script.{ScriptOutcome, step, outcome_of, bad_line, preceded}
 use Rattle.outage_script.specs.Ends.{Begins}
 use Rattle.outage_script.specs.Moves.{Place, to_come, Moves, Stops, Ends, Spoils, KeepsLine, Feeds, Finishes}
 
@@ -72,12 +72,12 @@ unfolding to_come
 bytes_kept p bytes = record { goes = λ rest. ap (λ t. outcome_of p.number p.state (lines_of t)) (sym (append_assoc p.line bytes rest)) }
 
 -- a line was answered
-pub line_done : (p : Place) (text : List ℕ) (next : State) → Inside p.line → step p.state p.line ≡ Some (text, next) → Moves p (10 ∷ []) (record { number = p.number + 1; state = next; line = []; long = p.long }) text
+pub line_done : (p : Place) (text : List ℕ) (next : ClusterState) → Inside p.line → step p.state p.line ≡ Some (text, next) → Moves p (10 ∷ []) (record { number = p.number + 1; state = next; line = []; long = p.long }) text
 unfolding to_come
 line_done p text next h e = record { goes = λ rest. rw (whole_line p.line rest h, e) refl }
 
 -- what a bad line gives
-abbrev pub bad_outcome : ℕ → List ℕ → Outcome
+abbrev pub bad_outcome : ℕ → List ℕ → ScriptOutcome
 bad_outcome n line = record { text = bad_line n; bad = Some n; spoiled = Some line }
 
 -- a bad line that is kept is kept at whatever end
@@ -88,7 +88,7 @@ spoils Device p spoiled kept = tt
 spoils NoMemory p spoiled kept = tt
 
 -- a line is bad, and is kept whole
-pub line_bad : (p : Place) (next : State) (end : ScriptEnd) (some : List ℕ) → Inside p.line → length p.line ≤ line_limit → step p.state p.line ≡ None → Ends end (bad_outcome p.number p.line) some → Stops p (10 ∷ []) (record p { state = next; long = false }) end some
+pub line_bad : (p : Place) (next : ClusterState) (end : ScriptEnd) (some : List ℕ) → Inside p.line → length p.line ≤ line_limit → step p.state p.line ≡ None → Ends end (bad_outcome p.number p.line) some → Stops p (10 ∷ []) (record p { state = next; long = false }) end some
 unfolding to_come
 line_bad p next end some h short e right = record {
   right = λ rest. rw (whole_line p.line rest h, e) right;
@@ -96,7 +96,7 @@ line_bad p next end some h short e right = record {
 }
 
 -- a line's answer was not written whole
-pub line_cut : (p : Place) (text : List ℕ) (next : State) (some : List ℕ) → Inside p.line → step p.state p.line ≡ Some (text, next) → Begins text some → (q : Place) → Stops p (10 ∷ []) q Device some
+pub line_cut : (p : Place) (text : List ℕ) (next : ClusterState) (some : List ℕ) → Inside p.line → step p.state p.line ≡ Some (text, next) → Begins text some → (q : Place) → Stops p (10 ∷ []) q Device some
 unfolding to_come
 line_cut p text next some h e begins q = record { right = λ rest. rw (whole_line p.line rest h, e) (begins.0 ++ (outcome_of (p.number + 1) next (lines_of rest)).text, ap (λ t. t ++ (outcome_of (p.number + 1) next (lines_of rest)).text) begins.1 ∙ append_assoc some begins.0 _); keeps = λ rest. tt }
 
@@ -105,7 +105,7 @@ pub no_memory : (p q : Place) (piece : List ℕ) → Stops p piece q NoMemory []
 no_memory p q piece = record { right = λ rest. ((to_come p (piece ++ rest)).text, refl); keeps = λ rest. tt }
 
 -- a line that is too long is bad
-too_long : (s : State) (line : List ℕ) → line_limit < length line → step s line ≡ None
+too_long : (s : ClusterState) (line : List ℕ) → line_limit < length line → step s line ≡ None
 unfolding step
 too_long s line h = rw (lt-ltb line_limit (length line) h) refl
 
@@ -137,7 +137,7 @@ line_long p bytes end some h e right = record {
 -- ---- piece after piece
 
 -- what was written before what was written
-pub preceded_both : (x y : List ℕ) (o : Outcome) → preceded x (preceded y o) ≡ preceded (x ++ y) o
+pub preceded_both : (x y : List ℕ) (o : ScriptOutcome) → preceded x (preceded y o) ≡ preceded (x ++ y) o
 preceded_both x y o = rw (append_assoc x y o.text) refl
 
 -- two pieces are one
@@ -145,7 +145,7 @@ pub moves_both : (a b c : Place) (p q x y : List ℕ) → Moves a p b x → Move
 moves_both a b c p q x y first second = record { goes = λ rest. ap (to_come a) (append_assoc p q rest) ∙ (first.goes (q ++ rest) ∙ (ap (preceded x) (second.goes rest) ∙ preceded_both x y (to_come c rest))) }
 
 -- an early end is right after what was written before
-pub ends_later : (end : ScriptEnd) (whole : Outcome) (some x : List ℕ) → Ends end whole some → Ends end (preceded x whole) (x ++ some)
+pub ends_later : (end : ScriptEnd) (whole : ScriptOutcome) (some x : List ℕ) → Ends end whole some → Ends end (preceded x whole) (x ++ some)
 ends_later Done whole some x e = e
 ends_later (BadLine n) whole some x e = record { text = ap (λ t. x ++ t) e.text; bad = e.bad }
 ends_later Device whole some x e = (e.0, ap (λ t. x ++ t) e.1 ∙ sym (append_assoc x some e.0))

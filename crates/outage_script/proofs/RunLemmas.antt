@@ -6,13 +6,13 @@ use Rattle.outage_script.specs.declared.ScriptEnd.{ScriptEnd}
 use Rattle.outage_script.specs.declared.ScriptEnd.TheVariants.{Done, BadLine, Device, NoMemory}
 use Rattle.outage_script.specs.Script.{script_outcome, preceded}
 use Rattle.outage_cluster.specs.State.{start}
-use Rattle.outage_script.specs.Ends.{Begins, IsRight, IsAnswer, Runs}
-use Rattle.outage_script.specs.Moves.{Place, place_of, to_come, Moves, Ends, Spoils, Holds, Feeds, Finishes}
+use Rattle.outage_script.specs.Ends.{Begins, IsRightEnd, IsAnswer, Runs}
+use Rattle.outage_script.specs.Moves.{Place, script_place, to_come, Moves, Ends, Spoils, Holds, Feeds, Finishes}
 use Rattle.outage_script.proofs.Known.{appends_both, appends_none}
 use Rattle.outage_script.proofs.LineLemmas.{ends_later, stops_later, moves_both}
 
 -- a run begins with the whole script to come
-starts : (bytes : List ℕ) → to_come (place_of 1 start [] false) bytes ≡ script_outcome bytes
+starts : (bytes : List ℕ) → to_come (script_place 1 start [] false) bytes ≡ script_outcome bytes
 unfolding to_come script_outcome
 starts bytes = refl
 
@@ -22,7 +22,7 @@ pub record Progress (found left before after : Option (List ℕ)) (p : Place) : 
   pub written : List ℕ
   pub reads : Consumes found left bytes
   pub writes : Appends before after written
-  pub moves : Moves (place_of 1 start [] false) bytes p written
+  pub moves : Moves (script_place 1 start [] false) bytes p written
 
 -- two reads are one
 consumes_both : (a b c : Option (List ℕ)) (x y : List ℕ) → Consumes a b x → Consumes b c y → Consumes a c (x ++ y)
@@ -45,7 +45,7 @@ progress_next found left left' before after after' p q piece old reads fed = rec
   written = old.written ++ fed.0;
   reads = consumes_both found left left' old.bytes piece old.reads reads;
   writes = appends_both before after after' old.written fed.0 old.writes fed.1;
-  moves = moves_both (place_of 1 start [] false) p q old.bytes piece old.written fed.0 old.moves fed.2;
+  moves = moves_both (script_place 1 start [] false) p q old.bytes piece old.written fed.0 old.moves fed.2;
 }
 
 -- a piece was read and taken, and a flush changed nothing of what was written
@@ -61,7 +61,7 @@ progress_flushed found left left' before after fed flushed p q piece old reads f
     }
 
 -- what is right for the bytes that were read, and for the whole input, is right
-right_of : (end : ScriptEnd) (bytes left w : List ℕ) → Ends end (script_outcome bytes) w → Ends end (script_outcome (bytes ++ left)) w → IsRight end bytes left w
+right_of : (end : ScriptEnd) (bytes left w : List ℕ) → Ends end (script_outcome bytes) w → Ends end (script_outcome (bytes ++ left)) w → IsRightEnd end bytes left w
 right_of Done bytes left w e f = absurd e
 right_of (BadLine n) bytes left w e f = (e, f)
 right_of Device bytes left w e f = (e, f)
@@ -76,19 +76,19 @@ no_more : (bytes left : List ℕ) → left ≡ [] → bytes ++ left ≡ bytes
 no_more bytes left e = ap (λ t. bytes ++ t) e ∙ append-nil bytes
 
 -- what is right is right too if the device fails after it
-device_of : (end : ScriptEnd) (bytes left w : List ℕ) → IsRight end bytes left w → IsRight Device bytes left w
+device_of : (end : ScriptEnd) (bytes left w : List ℕ) → IsRightEnd end bytes left w → IsRightEnd Device bytes left w
 device_of Done bytes left w e = (all_begins (script_outcome bytes).text w e.1.text, rw (no_more bytes left e.0) (all_begins (script_outcome bytes).text w e.1.text))
 device_of (BadLine n) bytes left w e = (all_begins (script_outcome bytes).text w e.0.text, all_begins (script_outcome (bytes ++ left)).text w e.1.text)
 device_of Device bytes left w e = e
 device_of NoMemory bytes left w e = e
 
 -- the end after the flush
-flushed_right : (end result : ScriptEnd) (bytes left w : List ℕ) → (result ≡ end) ⊎ (result ≡ Device) → IsRight end bytes left w → IsRight result bytes left w
+flushed_right : (end result : ScriptEnd) (bytes left w : List ℕ) → (result ≡ end) ⊎ (result ≡ Device) → IsRightEnd end bytes left w → IsRightEnd result bytes left w
 flushed_right end result bytes left w (inl e) right = rw e right
 flushed_right end result bytes left w (inr e) right = rw e (device_of end bytes left w right)
 
 -- a run, from what was read and written
-runs : (end : ScriptEnd) (found left before after : Option (List ℕ)) (bytes written : List ℕ) → Consumes found left bytes → Appends before after written → ((rest : List ℕ) → left ≡ Some rest → IsRight end bytes rest written) → Runs end found left before after
+runs : (end : ScriptEnd) (found left before after : Option (List ℕ)) (bytes written : List ℕ) → Consumes found left bytes → Appends before after written → ((rest : List ℕ) → left ≡ Some rest → IsRightEnd end bytes rest written) → Runs end found left before after
 runs end None left before after bytes written c a r = tt
 runs end (Some input) None before after bytes written c a r = absurd c
 runs end (Some input) (Some left) before after bytes written c a r = (bytes, written, c, a, r left refl)
@@ -110,7 +110,7 @@ runs_stopped found left left' before after after' after'' p q piece end result o
     (λ rest e. flushed_right end result (old.bytes ++ piece) rest (old.written ++ fed.0) ended (right_of end (old.bytes ++ piece) rest (old.written ++ fed.0) (rw (append-nil (old.bytes ++ piece)) at (cut [])) (cut rest)))
   where
     cut : (rest : List ℕ) → Ends end (script_outcome ((old.bytes ++ piece) ++ rest)) (old.written ++ fed.0)
-    cut rest = rw (← starts ((old.bytes ++ piece) ++ rest)) ((stops_later (place_of 1 start [] false) p q old.bytes piece old.written fed.0 end old.moves fed.2).right rest)
+    cut rest = rw (← starts ((old.bytes ++ piece) ++ rest)) ((stops_later (script_place 1 start [] false) p q old.bytes piece old.written fed.0 end old.moves fed.2).right rest)
 
 -- how a run ends, once the end of the input was answered
 abbrev pub end_of : Option ScriptEnd → ScriptEnd
@@ -119,7 +119,7 @@ end_of (Some end) = end
 
 -- the outcome of what was read, at the end of the input
 at_end_of : (found left before after : Option (List ℕ)) (p : Place) (old : Progress found left before after p) → script_outcome old.bytes ≡ preceded old.written (to_come p [])
-at_end_of found left before after p old = sym (starts old.bytes) ∙ (ap (to_come (place_of 1 start [] false)) (sym (append-nil old.bytes)) ∙ old.moves.goes [])
+at_end_of found left before after p old = sym (starts old.bytes) ∙ (ap (to_come (script_place 1 start [] false)) (sym (append-nil old.bytes)) ∙ old.moves.goes [])
 
 -- at the end of the input nothing is left
 none_left : (l : Option (List ℕ)) → IsAtEnd l → (rest : List ℕ) → l ≡ Some rest → rest ≡ []
@@ -137,7 +137,7 @@ runs_finished found left left' before after after' after'' p q some end result o
     whole : script_outcome old.bytes ≡ preceded old.written (to_come p [])
     whole = at_end_of found left before after p old
 
-    by_end : (f : Option ScriptEnd) → Finishes f q (to_come p []) some → (rest : List ℕ) → rest ≡ [] → IsRight (end_of f) old.bytes rest (old.written ++ some)
+    by_end : (f : Option ScriptEnd) → Finishes f q (to_come p []) some → (rest : List ℕ) → rest ≡ [] → IsRightEnd (end_of f) old.bytes rest (old.written ++ some)
     by_end None e rest none =
         let is : script_outcome old.bytes ≡ record { text = old.written ++ some; bad = None; spoiled = None } = whole ∙ ap (preceded old.written) e in
         (none, record { text = ap (λ o. o.text) is; bad = ap (λ o. o.bad) is })
@@ -166,7 +166,7 @@ pub holds_stopped : (found left left' before after after' : Option (List ℕ)) (
 holds_stopped found left left' before after after' p q piece end result old reads fed ended =
     holds_flushed end result q found ended
     (holds end q found left' (old.bytes ++ piece) (consumes_both found left left' old.bytes piece old.reads reads)
-    (λ rest e. rw (← starts ((old.bytes ++ piece) ++ rest)) ((stops_later (place_of 1 start [] false) p q old.bytes piece old.written fed.0 end old.moves fed.2).keeps rest)))
+    (λ rest e. rw (← starts ((old.bytes ++ piece) ++ rest)) ((stops_later (script_place 1 start [] false) p q old.bytes piece old.written fed.0 end old.moves fed.2).keeps rest)))
 
 -- a run that ended at the end of the input keeps the bad line
 pub holds_finished : (found left left' before after : Option (List ℕ)) (p q : Place) (some : List ℕ) (end : Option ScriptEnd) (result : ScriptEnd) → Progress found left before after p → Consumes left left' [] → IsAtEnd left' → Finishes end q (to_come p []) some → (result ≡ end_of end) ⊎ (result ≡ Device) → Holds result q found
@@ -186,7 +186,7 @@ pub refilled : (buf items : List ℕ) (len : ℕ) → length buf ≡ len → tak
 refilled buf items len same = grind (arith, common_steps)
 
 -- what is right for the whole input is its answer
-right_answer : (end : ScriptEnd) (bytes left w : List ℕ) → IsRight end bytes left w → IsAnswer end (bytes ++ left) w
+right_answer : (end : ScriptEnd) (bytes left w : List ℕ) → IsRightEnd end bytes left w → IsAnswer end (bytes ++ left) w
 right_answer Done bytes left w e = rw (no_more bytes left e.0) e.1
 right_answer (BadLine n) bytes left w e = e.1
 right_answer Device bytes left w e = e.1

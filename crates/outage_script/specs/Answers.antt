@@ -7,11 +7,11 @@ use Rattle.vclock.specs.Clock.{Pairs}
 use Rattle.version_set.specs.declared.kind.Kind.{Kind}
 use Rattle.version_set.specs.declared.kind.Kind.TheVariants.{Live, Tombstone}
 use Rattle.version_set.specs.declared.version.Version.{Version}
-use Rattle.vclock.specs.Refusal.{number_of, name_of}
+use Rattle.vclock.specs.Refusal.{cause_number, name_of}
 use Rattle.vclock.specs.declared.refusal.Refusal.{Refusal}
 use Rattle.vclock.specs.declared.refusal.Refusal.TheVariants as Refusals
-use Rattle.outage_cluster.specs.declared.answer.Answer.{Answer}
-use Rattle.outage_cluster.specs.declared.answer.Answer.TheVariants.{Ring, Put, Versions, Row, Rehash, Sync, Node, Up, Deliver, Slots, Adjusted, Sample, Refused, BadLine}
+use Rattle.outage_cluster.specs.declared.answer.CommandAnswer.{CommandAnswer}
+use Rattle.outage_cluster.specs.declared.answer.CommandAnswer.TheVariants.{Ring, Put, Versions, Row, Rehash, Sync, Node, Up, Deliver, Slots, Adjusted, Sample, Refused, BadLine}
 
 -- an item for each element of a list
 abbrev pub items_of : {A : Type 0} → (A → Data) → List A → Items
@@ -68,15 +68,15 @@ maybe_number None = null
 -- versions that were known, and the refusal of a leaf, if any
 abbrev pub sync_data : ℕ → ℕ → ℕ → Option Refusal → Data
 sync_data accepted asked known None = object_of ((codes "accepted", number_data accepted) ∷ (codes "asked", number_data asked) ∷ (codes "known", number_data known) ∷ (codes "state", string (codes "Finished")) ∷ [])
-sync_data accepted asked known (Some refusal) = object_of ((codes "accepted", number_data accepted) ∷ (codes "asked", number_data asked) ∷ (codes "cause", string (name_of refusal)) ∷ (codes "known", number_data known) ∷ (codes "refused", number_data (number_of refusal)) ∷ (codes "state", string (codes "Open")) ∷ [])
+sync_data accepted asked known (Some refusal) = object_of ((codes "accepted", number_data accepted) ∷ (codes "asked", number_data asked) ∷ (codes "cause", string (name_of refusal)) ∷ (codes "known", number_data known) ∷ (codes "refused", number_data (cause_number refusal)) ∷ (codes "state", string (codes "Open")) ∷ [])
 
 -- a refusal: its name and its number, and with StaleContext the clocks that are held
 abbrev pub refusal_data : Refusal → Data
-refusal_data (Refusals.StaleContext held) = object_of ((codes "cause", string (name_of (Refusals.StaleContext held))) ∷ (codes "held", list_data clock_data held) ∷ (codes "refused", number_data (number_of (Refusals.StaleContext held))) ∷ [])
-refusal_data refusal = object_of ((codes "cause", string (name_of refusal)) ∷ (codes "refused", number_data (number_of refusal)) ∷ [])
+refusal_data (Refusals.StaleContext held) = object_of ((codes "cause", string (name_of (Refusals.StaleContext held))) ∷ (codes "held", list_data clock_data held) ∷ (codes "refused", number_data (cause_number (Refusals.StaleContext held))) ∷ [])
+refusal_data refusal = object_of ((codes "cause", string (name_of refusal)) ∷ (codes "refused", number_data (cause_number refusal)) ∷ [])
 
 -- the value of an answer
-abbrev pub answer_data : Answer → Data
+abbrev pub answer_data : CommandAnswer → Data
 answer_data (Ring nodes ranges) = object_of ((codes "nodes", number_data nodes) ∷ (codes "ranges", number_data ranges) ∷ [])
 answer_data (Put clock copied hinted n) = object_of ((codes "clock", clock_data clock) ∷ (codes "copied", number_data copied) ∷ (codes "hinted", number_data hinted) ∷ (codes "number", number_data n) ∷ [])
 answer_data (Versions versions) = object_of ((codes "versions", list_data version_data versions) ∷ [])
@@ -90,8 +90,8 @@ answer_data (Slots s) = object_of ((codes "allowance", number_data s.allowance) 
 answer_data (Adjusted s p) = object_of ((codes "allowance", number_data s.allowance) ∷ (codes "free", number_data s.free) ∷ (codes "lent", number_data s.lent) ∷ (codes "p99", maybe_number p) ∷ (codes "target", number_data s.target) ∷ [])
 answer_data (Sample kept) = object_of ((codes "samples", number_data kept) ∷ [])
 answer_data (Refused refusal) = refusal_data refusal
-answer_data (BadLine line) = object_of ((codes "cause", string (name_of Refusals.BadLine)) ∷ (codes "line", number_data line) ∷ (codes "refused", number_data (number_of Refusals.BadLine)) ∷ [])
+answer_data (BadLine line) = object_of ((codes "cause", string (name_of Refusals.BadLine)) ∷ (codes "line", number_data line) ∷ (codes "refused", number_data (cause_number Refusals.BadLine)) ∷ [])
 
 -- the text of an answer, with its line feed
-abbrev pub answer_line : Answer → List ℕ
+abbrev pub answer_line : CommandAnswer → List ℕ
 answer_line answer = compact_text (answer_data answer) ++ 10 ∷ []

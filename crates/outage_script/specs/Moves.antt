@@ -4,24 +4,24 @@ use Rattle.std.specs.Io.KnownBytes.{Appends}
 use Rattle.outage_script.specs.declared.ScriptEnd.{ScriptEnd}
 use Rattle.outage_script.specs.declared.ScriptEnd.TheVariants.{Done, BadLine, Device, NoMemory}
 use Rattle.outage_script.specs.Lines.{lines_of}
-use Rattle.outage_cluster.specs.State.{State}
+use Rattle.outage_cluster.specs.State.{ClusterState}
 use Rattle.outage_commands.specs.Faults.{line_limit}
-use Rattle.outage_script.specs.Script.{Outcome, outcome_of, preceded, script_outcome}
+use Rattle.outage_script.specs.Script.{ScriptOutcome, outcome_of, preceded, script_outcome}
 use Rattle.outage_script.specs.Ends.{Begins, IsBadAt}
 
 -- the place of a run: the number of the line that it reads, the state, the part of that line that was read, and true if
 -- the run ended since the line is too long
 pub record Place : Type 0 where
   pub number : ℕ
-  pub state : State
+  pub state : ClusterState
   pub line : List ℕ
   pub long : Bool
 
-abbrev pub place_of : ℕ → State → List ℕ → Bool → Place
-place_of number state line long = record { number = number; state = state; line = line; long = long }
+abbrev pub script_place : ℕ → ClusterState → List ℕ → Bool → Place
+script_place number state line long = record { number = number; state = state; line = line; long = long }
 
 -- the outcome that is to follow, if these bytes are still to be read
-unfoldable pub to_come : Place → List ℕ → Outcome
+unfoldable pub to_come : Place → List ℕ → ScriptOutcome
 to_come p rest = outcome_of p.number p.state (lines_of (p.line ++ rest))
 
 -- the piece was read and this was written, for any bytes after it
@@ -29,20 +29,20 @@ pub record Moves (old : Place) (piece : List ℕ) (new : Place) (some : List ℕ
   pub goes : (rest : List ℕ) → to_come old (piece ++ rest) ≡ preceded some (to_come new rest)
 
 -- the output up to an early end is right for the whole
-abbrev pub Ends : ScriptEnd → Outcome → List ℕ → Type 0
+abbrev pub Ends : ScriptEnd → ScriptOutcome → List ℕ → Type 0
 Ends Done whole some = ⊥
 Ends (BadLine n) whole some = IsBadAt n some whole
 Ends Device whole some = Begins whole.text some
 Ends NoMemory whole some = Begins whole.text some
 
 -- the kept part of a line: all of it, or only that it is too long
-abbrev pub IsKept : Bool → List ℕ → List ℕ → Type 0
-IsKept true held line = IsTrue (nat_lt line_limit (length line))
-IsKept false held line = (held ≡ line) × IsTrue (nat_le (length line) line_limit)
+abbrev pub HoldsLine : Bool → List ℕ → List ℕ → Type 0
+HoldsLine true held line = IsTrue (nat_lt line_limit (length line))
+HoldsLine false held line = (held ≡ line) × IsTrue (nat_le (length line) line_limit)
 
 -- the place keeps the bad line
 abbrev pub KeepsLine : Place → Option (List ℕ) → Type 0
-KeepsLine p spoiled = (line : List ℕ) × (spoiled ≡ Some line) × IsKept p.long p.line line
+KeepsLine p spoiled = (line : List ℕ) × (spoiled ≡ Some line) × HoldsLine p.long p.line line
 
 -- if the run ended at a bad line, the place keeps it
 abbrev pub Spoils : ScriptEnd → Place → Option (List ℕ) → Type 0
@@ -70,6 +70,6 @@ Feeds old piece new None before after = (some : List ℕ) × Appends before afte
 Feeds old piece new (Some end) before after = (some : List ℕ) × Appends before after some × Stops old piece new end some
 
 -- the end of the input was answered: everything is written, or the run ended early
-abbrev pub Finishes : Option ScriptEnd → Place → Outcome → List ℕ → Type 0
+abbrev pub Finishes : Option ScriptEnd → Place → ScriptOutcome → List ℕ → Type 0
 Finishes None new whole some = whole ≡ record { text = some; bad = None; spoiled = None }
 Finishes (Some end) new whole some = Ends end whole some × Spoils end new whole.spoiled

@@ -6,7 +6,7 @@ ghost use Rattle.outage_script.specs.Told.{part_data, tokens_of};
 use crate::part::{Part, write_object};
 use hash_tree::Digest;
 use json::Writer;
-use outage_cluster::{Answer, SlotCounts};
+use outage_cluster::{CommandAnswer, SlotCounts};
 use range_state::Synced;
 use std::alloc::{AllocError, Global};
 use vclock::{Clock, Refusal};
@@ -15,7 +15,7 @@ use vclock::{Clock, Refusal};
 const LINE_ROOM: usize = 128;
 
 /// Makes the text of an answer, with its line feed.
-pub(crate) fn answer_line(alloc: Global, answer: &Answer) -> Result<Vec<u8>, AllocError>
+pub(crate) fn answer_line(alloc: Global, answer: &CommandAnswer) -> Result<Vec<u8>, AllocError>
     ensures { IfOk result (λ line. line.items ≡ answer_line answer.now) }
 {
     let mut out = Writer::new(Vec::with_capacity(alloc, LINE_ROOM)?);
@@ -26,36 +26,46 @@ pub(crate) fn answer_line(alloc: Global, answer: &Answer) -> Result<Vec<u8>, All
 }
 
 /// Writes an answer.
-fn write_answer(alloc: Global, answer: &Answer, out: &mut Writer) -> Result<(), AllocError>
+fn write_answer(alloc: Global, answer: &CommandAnswer, out: &mut Writer) -> Result<(), AllocError>
     ensures tokens { OnOk result (out.new.tokens ≡ out.old.tokens ++ tokens_of (answer_data answer.now)) }
     ensures before { out.new.before ≡ out.old.before }
 {
     match answer {
-        Answer::Ring { nodes, ranges } => write_ring(alloc, *nodes, *ranges, out),
-        Answer::Put {
+        CommandAnswer::Ring { nodes, ranges } => write_ring(alloc, *nodes, *ranges, out),
+        CommandAnswer::Put {
             clock,
             copied,
             hinted,
             number,
         } => write_put(alloc, clock, *copied, *hinted, *number, out),
-        Answer::Versions(versions) => {
+        CommandAnswer::Versions(versions) => {
             write_one(alloc, "versions", Part::Versions(versions.as_slice()), out)
         }
-        Answer::Row(text) => write_one(alloc, "row", Part::Bytes(text.as_slice()), out),
-        Answer::Rehash(hashed) => write_one(alloc, "hashed", Part::Number(*hashed), out),
-        Answer::Sync(done) => write_sync(alloc, done, out),
-        Answer::Node(digest) => write_one(alloc, "digest", digest_part(digest), out),
-        Answer::Up { node, up } => write_up(alloc, *node, *up, out),
-        Answer::Deliver {
+        CommandAnswer::Row(text) => write_one(alloc, "row", Part::Bytes(text.as_slice()), out),
+        CommandAnswer::Rehash(hashed) => write_one(alloc, "hashed", Part::Number(*hashed), out),
+        CommandAnswer::Sync(done) => write_sync(alloc, done, out),
+        CommandAnswer::Node(digest) => write_one(alloc, "digest", digest_part(digest), out),
+        CommandAnswer::Up { node, up } => write_up(alloc, *node, *up, out),
+        CommandAnswer::Deliver {
             delivered,
             known,
             pending,
         } => write_delivery(alloc, *delivered, *known, *pending, out),
-        Answer::Slots(slots) => write_slots(alloc, slots, out),
-        Answer::Adjusted(slots, percentile) => write_adjusted(alloc, slots, *percentile, out),
-        Answer::Sample(kept) => write_one(alloc, "samples", Part::Number(u64::from(*kept)), out),
-        Answer::Refused(refusal) => write_refusal(alloc, refusal, out),
-        Answer::BadLine(line) => write_bad_line(alloc, *line, out),
+        CommandAnswer::Slots(slots) => write_slots(alloc, slots, out),
+        CommandAnswer::Adjusted(slots, percentile) => write_adjusted(
+            alloc,
+            slots,
+            *percentile,
+            out,
+        ),
+        CommandAnswer::Sample(kept) => write_one(
+            alloc,
+            "samples",
+            Part::Number(u64::from(*kept)),
+            out,
+        ),
+        CommandAnswer::Refused(refusal) => write_refusal(alloc, refusal, out),
+        CommandAnswer::BadLine(line) => write_bad_line(alloc, *line, out),
     }
 }
 
@@ -71,7 +81,7 @@ fn write_one(alloc: Global, name: &str, part: Part<'_>, out: &mut Writer) -> Res
 /// Writes the numbers of nodes and ranges of a new ring.
 fn write_ring(alloc: Global, nodes: u64, ranges: u64, out: &mut Writer) -> Result<(), AllocError>
     ensures tokens { OnOk result (out.new.tokens
-        ≡ out.old.tokens ++ tokens_of (answer_data (Answer.Ring nodes ranges))) }
+        ≡ out.old.tokens ++ tokens_of (answer_data (CommandAnswer.Ring nodes ranges))) }
     ensures before { out.new.before ≡ out.old.before }
 {
     write_object(
@@ -94,7 +104,7 @@ fn write_put(
     out: &mut Writer,
 ) -> Result<(), AllocError>
     ensures tokens { OnOk result (out.new.tokens
-        ≡ out.old.tokens ++ tokens_of (answer_data (Answer.Put clock.now copied hinted number))) }
+        ≡ out.old.tokens ++ tokens_of (answer_data (CommandAnswer.Put clock.now copied hinted number))) }
     ensures before { out.new.before ≡ out.old.before }
 {
     write_object(
@@ -112,7 +122,7 @@ fn write_put(
 /// Writes a node, and true if it is up.
 fn write_up(alloc: Global, node: u64, up: bool, out: &mut Writer) -> Result<(), AllocError>
     ensures tokens { OnOk result (out.new.tokens
-        ≡ out.old.tokens ++ tokens_of (answer_data (Answer.Up node up))) }
+        ≡ out.old.tokens ++ tokens_of (answer_data (CommandAnswer.Up node up))) }
     ensures before { out.new.before ≡ out.old.before }
 {
     write_object(
@@ -131,7 +141,7 @@ fn write_delivery(
     out: &mut Writer,
 ) -> Result<(), AllocError>
     ensures tokens { OnOk result (out.new.tokens
-        ≡ out.old.tokens ++ tokens_of (answer_data (Answer.Deliver delivered known pending))) }
+        ≡ out.old.tokens ++ tokens_of (answer_data (CommandAnswer.Deliver delivered known pending))) }
     ensures before { out.new.before ≡ out.old.before }
 {
     write_object(
@@ -148,7 +158,7 @@ fn write_delivery(
 /// Writes the counts of slots.
 fn write_slots(alloc: Global, slots: &SlotCounts, out: &mut Writer) -> Result<(), AllocError>
     ensures tokens { OnOk result (out.new.tokens
-        ≡ out.old.tokens ++ tokens_of (answer_data (Answer.Slots slots.now))) }
+        ≡ out.old.tokens ++ tokens_of (answer_data (CommandAnswer.Slots slots.now))) }
     ensures before { out.new.before ≡ out.old.before }
 {
     write_object(
@@ -171,7 +181,7 @@ fn write_adjusted(
     out: &mut Writer,
 ) -> Result<(), AllocError>
     ensures tokens { OnOk result (out.new.tokens
-        ≡ out.old.tokens ++ tokens_of (answer_data (Answer.Adjusted slots.now percentile))) }
+        ≡ out.old.tokens ++ tokens_of (answer_data (CommandAnswer.Adjusted slots.now percentile))) }
     ensures before { out.new.before ≡ out.old.before }
 {
     write_object(
@@ -190,7 +200,7 @@ fn write_adjusted(
 /// Writes that a line isn't a command.
 fn write_bad_line(alloc: Global, line: u64, out: &mut Writer) -> Result<(), AllocError>
     ensures tokens { OnOk result (out.new.tokens
-        ≡ out.old.tokens ++ tokens_of (answer_data (Answer.BadLine line))) }
+        ≡ out.old.tokens ++ tokens_of (answer_data (CommandAnswer.BadLine line))) }
     ensures before { out.new.before ≡ out.old.before }
 {
     let refusal = Refusal::BadLine;

@@ -25,7 +25,7 @@ mod answer;
 mod memory;
 mod part;
 mod run;
-mod session;
+mod script_run;
 mod write;
 
 pub use memory::{line_law, run_bytes};

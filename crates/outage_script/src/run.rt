@@ -2,11 +2,11 @@
 ghost use Rattle.std.specs.Prelude.{false, ◌≡◌, ◌⊎◌, ◌+◌, [], vec_len, IfOk};
 ghost use Rattle.std.specs.Io.KnownBytes.{Keeps};
 ghost use Rattle.outage_script.specs.Ends.{Explains, Runs};
-ghost use Rattle.outage_script.specs.Moves.{Holds, place_of};
+ghost use Rattle.outage_script.specs.Moves.{Holds, script_place};
 ghost use Rattle.outage_cluster.specs.State.{start};
 
 use crate::ScriptEnd;
-use crate::session::Session;
+use crate::script_run::ScriptRun;
 use outage_cluster::AtEnd;
 use outage_commands::LineFault;
 use std::alloc::{AllocError, Global};
@@ -67,11 +67,11 @@ fn run_freed<L: Ledger, T: Threads + Sync, R: Read, W: Write>(
     ensures { Runs result (R.remaining reader.old) (R.remaining reader.new)
         (W.contents writer.old) (W.contents writer.new) }
 {
-    let Ok(mut session) = Session::<L>::new(blank, alloc) else {
+    let Ok(mut script) = ScriptRun::<L>::new(blank, alloc) else {
         return ScriptEnd::NoMemory;
     };
-    let end = run_in(rt, alloc, &mut session, reader, writer);
-    session.close(AtEnd::Free);
+    let end = run_in(rt, alloc, &mut script, reader, writer);
+    script.close(AtEnd::Free);
     end
 }
 
@@ -89,60 +89,60 @@ fn run_left<L: Ledger, T: Threads + Sync, R: Read, W: Write>(
         (W.contents writer.old) (W.contents writer.new) }
     ensures why { Explains result.0 result.1 (R.remaining reader.old) }
 {
-    let Ok(mut session) = Session::<L>::new(blank, alloc) else {
+    let Ok(mut script) = ScriptRun::<L>::new(blank, alloc) else {
         return (ScriptEnd::NoMemory, None);
     };
-    let end = run_in(rt, alloc, &mut session, reader, writer);
-    let fault = session.fault(alloc, end);
-    session.close(AtEnd::Leave);
+    let end = run_in(rt, alloc, &mut script, reader, writer);
+    let fault = script.fault(alloc, end);
+    script.close(AtEnd::Leave);
     (end, fault)
 }
 
-/// Runs a reader's script in a session that has read nothing.
+/// Runs a reader's script from its first line.
 fn run_in<L: Ledger, T: Threads + Sync, R: Read, W: Write>(
     rt: &T,
     alloc: Global,
-    session: &mut Session<L>,
+    script: &mut ScriptRun<L>,
     reader: &mut R,
     writer: &mut W,
 ) -> ScriptEnd
-    requires new { place_of session.old.number session.old.world session.old.line.items session.old.too_long
-        ≡ place_of 1 start [] false }
+    requires new { script_place script.old.number script.old.world script.old.line.items script.old.too_long
+        ≡ script_place 1 start [] false }
     ensures runs { Runs result (R.remaining reader.old) (R.remaining reader.new)
         (W.contents writer.old) (W.contents writer.new) }
     ensures holds { Holds result
-        (place_of session.new.number session.new.world session.new.line.items session.new.too_long)
+        (script_place script.new.number script.new.world script.new.line.items script.new.too_long)
         (R.remaining reader.old) }
 {
     let Ok(buffer) = zeros(alloc, READ_SIZE) else {
         return ScriptEnd::NoMemory;
     };
-    drive(rt, alloc, session, buffer, reader, writer)
+    drive(rt, alloc, script, buffer, reader, writer)
 }
 
-/// Feeds a session with the reader's bytes. The output is flushed after each piece, for a caller who sends the next
+/// Feeds a script the reader's bytes. The output is flushed after each piece, for a caller who sends the next
 /// line only after this one's answer; a batch pays one more write for each piece.
 fn drive<L: Ledger, T: Threads + Sync, R: Read, W: Write>(
     rt: &T,
     alloc: Global,
-    session: &mut Session<L>,
+    script: &mut ScriptRun<L>,
     mut buffer: Vec<u8>,
     reader: &mut R,
     writer: &mut W,
 ) -> ScriptEnd
-    requires new { place_of session.old.number session.old.world session.old.line.items session.old.too_long
-        ≡ place_of 1 start [] false }
+    requires new { script_place script.old.number script.old.world script.old.line.items script.old.too_long
+        ≡ script_place 1 start [] false }
     requires room { vec_len buffer ≡ 65536 }
     ensures runs { Runs result (R.remaining reader.old) (R.remaining reader.new)
         (W.contents writer.old) (W.contents writer.new) }
     ensures holds { Holds result
-        (place_of session.new.number session.new.world session.new.line.items session.new.too_long)
+        (script_place script.new.number script.new.world script.new.line.items script.new.too_long)
         (R.remaining reader.old) }
 {
     for calls in 0..READ_CALLS {
         let count = match reader.read(buffer.as_mut_slice()) {
             Ok(0) => {
-                return match session.finish(rt, alloc, writer) {
+                return match script.finish(rt, alloc, writer) {
                     Some(end) => flushed(writer, end),
                     None => flushed(writer, ScriptEnd::Done),
                 };
@@ -150,7 +150,7 @@ fn drive<L: Ledger, T: Threads + Sync, R: Read, W: Write>(
             Ok(count) => count,
             Err(_) => return ScriptEnd::Device,
         };
-        if let Some(end) = session.feed(rt, alloc, &buffer[..count], writer) {
+        if let Some(end) = script.feed(rt, alloc, &buffer[..count], writer) {
             return flushed(writer, end);
         }
         if writer.flush().is_err() {

@@ -21,10 +21,10 @@ use Rattle.range_journal.specs.Log.{Log}
 use Rattle.range_journal.specs.declared.journal.Source.TheVariants.{Partner}
 use Rattle.key_ring.specs.Places.{leaf_bits}
 use Rattle.row_bytes.specs.declared.row.Row.{Row}
-use Rattle.hash_tree.specs.Leaves.{Bucket, rows_at}
+use Rattle.hash_tree.specs.Leaves.{Bucket, rows_in_leaf}
 use Rattle.hash_tree.specs.Nodes.{tree_depth, dirtied}
 use Rattle.sync_session.specs.Walks.{Walk, TakenText, IsInnerText, AreSpelled, IsCanonical}
-use Rattle.sync_session.specs.Readings.{AreNews}
+use Rattle.sync_session.specs.Readings.{AreOthers}
 use Rattle.sync_session.specs.declared.news.News.{News}
 use Rattle.sync_session.specs.Steps.{IsDue, after, failed, after_refusal, IsTakeFault}
 use Rattle.sync_session.proofs.StepLaws.{All-weaker}
@@ -178,11 +178,11 @@ no_room s seat id t rows e log n ok h fits count entries limit cause = with_reco
 
 -- ---- a text of a leaf that is taken
 
-leaf_off : (c : Config) (i leaf : ℕ) (es more : List Entry) → i ≢ leaf → AllByRecursion (λ (e : Entry). leaf ≡ leaf_in c e.key) more → rows_at (leaf_in c) i (rows_of (es ++ more)) ≡ rows_at (leaf_in c) i (rows_of es)
-leaf_off c i leaf es [] other all = ap (λ (xs : List Entry). rows_at (leaf_in c) i (rows_of xs)) (append-nil es)
+leaf_off : (c : Config) (i leaf : ℕ) (es more : List Entry) → i ≢ leaf → AllByRecursion (λ (e : Entry). leaf ≡ leaf_in c e.key) more → rows_in_leaf (leaf_in c) i (rows_of (es ++ more)) ≡ rows_in_leaf (leaf_in c) i (rows_of es)
+leaf_off c i leaf es [] other all = ap (λ (xs : List Entry). rows_in_leaf (leaf_in c) i (rows_of xs)) (append-nil es)
 leaf_off c i leaf es (e ∷ more) other all =
     let off : nat_eq (leaf_in c e.key) i ≡ false = apart (leaf_in c e.key) i (λ h. other (sym (all.0 ∙ h))) in
-    ap (λ (xs : List Entry). rows_at (leaf_in c) i (rows_of xs)) (sym (append_assoc es (e ∷ []) more))
+    ap (λ (xs : List Entry). rows_in_leaf (leaf_in c) i (rows_of xs)) (sym (append_assoc es (e ∷ []) more))
     ∙ leaf_off c i leaf (es ++ e ∷ []) more other all.1
     ∙ leaf-push (leaf_in c) es e i ∙ rw off refl
   where
@@ -297,7 +297,7 @@ leaf_inside c depth index deep within = counted c.format index (subst (λ (d : �
 -- ---- what was read
 
 abbrev pub Reads : Record → TakenText → News → Type 0
-Reads r t news = ((t.node.depth < tree_depth r.session.own.format) × IsInnerText r.session.own.format t.text × (news.rows.items ≡ []) × (news.known ≡ 0)) ⊎ ((t.node.depth ≡ tree_depth r.session.own.format) × ((rows : List Row) × AreSpelled r.session.own t.node t.text rows × AreNews r.session.own.rows rows news.rows.items news.known))
+Reads r t news = ((t.node.depth < tree_depth r.session.own.format) × IsInnerText r.session.own.format t.text × (news.rows.items ≡ []) × (news.known ≡ 0)) ⊎ ((t.node.depth ≡ tree_depth r.session.own.format) × ((rows : List Row) × AreSpelled r.session.own t.node t.text rows × AreOthers r.session.own.rows rows news.rows.items news.known))
 
 pub leaf_read : (s : State) (id : ℕ) (r : Record) (t : TakenText) (news : News) → IsRight s → slice_get s.records id ≡ Some r → IsDue r.session t → Reads r t news → t.node.depth ≡ tree_depth s.config.format → IsNewsRead s r t news
 leaf_read s id r t news ok here due reads deep =

@@ -15,7 +15,7 @@ use Rattle.range_journal.specs.Journal.{accepted, held}
 use Rattle.range_journal.specs.Log.{AreNumberedFrom}
 use Rattle.range_journal.proofs.JournalLaws.{AreNumberedFrom-push}
 use Rattle.row_bytes.specs.declared.row.Row.{Row}
-use Rattle.hash_tree.specs.Leaves.{Bucket, rows_at, versions_in, with_offer}
+use Rattle.hash_tree.specs.Leaves.{Bucket, rows_in_leaf, versions_in, with_offer}
 use Rattle.range_state.specs.declared.state.preparation.Batch.{Batch}
 use Rattle.range_state.specs.Config.{Config}
 use Rattle.range_state.specs.Rows.{rows_of}
@@ -128,7 +128,7 @@ offers_split rows i = ap offers_of (sym (take-append-drop i rows)) ∙ flat_map-
 pub set_ahead : (s : State) (leaf : ℕ) (b : Batch) (key : List ℕ) → IsBatch s leaf b → leaf ≡ leaf_in s.config key → versions_in key b.leaf.rows ≡ held (ahead s b).entries key
 set_ahead s leaf b key is at =
     ap (λ (x : Bucket). versions_in key x.rows) is.leaf_is
-    ∙ ap (λ (n : ℕ). versions_in key (rows_at (leaf_in s.config) n (rows_of (ahead s b).entries))) at
+    ∙ ap (λ (n : ℕ). versions_in key (rows_in_leaf (leaf_in s.config) n (rows_of (ahead s b).entries))) at
     ∙ leaf_holds (leaf_in s.config) (ahead s b).entries key
 
 alone : (s : State) (seat : ℕ) (key : List ℕ) (v : Version) → crowded_in s seat ((key, v) ∷ []) ≡ offer_fault v (held s.entries key)

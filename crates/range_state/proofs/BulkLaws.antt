@@ -11,7 +11,7 @@ use Rattle.std.proofs.lemmas.List.FromFn.{fill_by_all, length-range_with_len, ge
 use Rattle.std.proofs.lemmas.List.Sums.{list_all-from_AllPass, length-filter, sum_by-set}
 use Rattle.sha2.specs.Sha256.{sha256}
 use Rattle.hash_tree.specs.declared.node.NodeAt.{NodeAt}
-use Rattle.hash_tree.specs.Nodes.{tree_depth, nodes_above, node_count, place_at, digest_at, children_of, are_clean, dirty_count, is_ready, ready_from}
+use Rattle.hash_tree.specs.Nodes.{tree_depth, nodes_above, node_count, place_at, kept_digest, children_of, are_clean, dirty_count, is_ready, ready_from}
 use Rattle.hash_tree.specs.Texts.{node_digest}
 use Rattle.hash_tree.proofs.KeyLaws.{all_get}
 use Rattle.hash_tree.proofs.PlaceLaws.{above_more, above_below, node_count_is}
@@ -19,7 +19,7 @@ use Rattle.hash_tree.proofs.TreeLaws.{child_at, clean_child}
 use Rattle.hash_tree.proofs.ReadyLaws.{ready_parts, none_ready, clean_all}
 use Rattle.rehash.specs.Jobs.{NodeText}
 use Rattle.range_state.specs.Rows.{rows_of}
-use Rattle.range_state.specs.State.{State, IsRight, IsJob, AreJobs, has_node, place_of, text_in, leaf_in, is_current, installed}
+use Rattle.range_state.specs.State.{State, IsRight, IsJob, AreJobs, has_tree_node, place_of, text_in, leaf_in, is_current, installed}
 use Rattle.range_state.specs.Trees.{level_digests, digests_below, rehashed, IsSameRange}
 
 abbrev Marks : Type 0
@@ -31,7 +31,7 @@ no_digest = None
 -- ---- one more clean node
 
 -- how many nodes are dirty after a digest was set
-dirty-set : (marks : Marks) (place : ℕ) (d : List ℕ) → place < length marks → dirty_count (set marks place (Some d)) + cond (is_none (digest_at marks place)) 1 0 ≡ dirty_count marks
+dirty-set : (marks : Marks) (place : ℕ) (d : List ℕ) → place < length marks → dirty_count (set marks place (Some d)) + cond (is_none (kept_digest marks place)) 1 0 ≡ dirty_count marks
 dirty-set marks place d within =
     let old = length-filter is_none marks in
     let new = length-filter is_none (set marks place (Some d)) in
@@ -41,9 +41,9 @@ dirty-set marks place d within =
 dirty_no_more : (marks : Marks) (place : ℕ) (d : List ℕ) → place < length marks → dirty_count (set marks place (Some d)) ≤ dirty_count marks
 dirty_no_more marks place d within = omega (arith, dirty-set marks place d within)
 
-dirty_fewer : (marks : Marks) (place : ℕ) (d : List ℕ) → place < length marks → digest_at marks place ≡ None → dirty_count (set marks place (Some d)) < dirty_count marks
+dirty_fewer : (marks : Marks) (place : ℕ) (d : List ℕ) → place < length marks → kept_digest marks place ≡ None → dirty_count (set marks place (Some d)) < dirty_count marks
 dirty_fewer marks place d within dirty =
-    let one : ◌≡◌ {A = ℕ} (cond (is_none (digest_at marks place)) 1 0) 1 = ap (λ (o : Option (List ℕ)). cond (is_none o) 1 0) dirty in
+    let one : ◌≡◌ {A = ℕ} (cond (is_none (kept_digest marks place)) 1 0) 1 = ap (λ (o : Option (List ℕ)). cond (is_none o) 1 0) dirty in
     omega (arith, one, dirty-set marks place d within)
 
 -- clean children stay clean
@@ -55,9 +55,9 @@ children-set marks place other d clean =
     let inside : 16 * other + 1 + j < length marks = omega (arith, length-take 16 (drop (16 * other + 1) new), length-drop (16 * other + 1) new, length-set marks place (Some d)) in
     subst (λ (o : Option (List ℕ)). is_some o ≡ true) (sym (child_at new other j sixteen) ∙ get_or_default (children_of new other) j None e less) (at (16 * other + 1 + j) inside (clean_child marks other j clean sixteen inside)))
   where
-    at : (child : ℕ) → child < length marks → is_some (digest_at marks child) ≡ true → is_some (digest_at (set marks place (Some d)) child) ≡ true
+    at : (child : ℕ) → child < length marks → is_some (kept_digest marks child) ≡ true → is_some (kept_digest (set marks place (Some d)) child) ≡ true
     at child inside was = elim (cases_eq child place) [
-      | inl here ↦ ap (λ (o : Option (List ℕ)). is_some o) (ap (λ (p : ℕ). digest_at (set marks place (Some d)) p) here ∙ get_or-set_same marks place (Some d) None (omega (arith, here)))
+      | inl here ↦ ap (λ (o : Option (List ℕ)). is_some o) (ap (λ (p : ℕ). kept_digest (set marks place (Some d)) p) here ∙ get_or-set_same marks place (Some d) None (omega (arith, here)))
       | inr elsewhere ↦ ap (λ (o : Option (List ℕ)). is_some o) (get_or-set_other marks place child (Some d) None elsewhere) ∙ was
     ]
 
@@ -71,7 +71,7 @@ middle false b c d f h = absurd (let no : false ≡ true = h in cc)
 pub still_current : (s : State) (node other : NodeAt) (text digested : List ℕ) → is_current s node text ≡ true → is_current (installed s other digested) node text ≡ true
 still_current s node other text digested current =
     let new = set s.marks (place_of other) (Some (sha256 digested)) in
-    middle (has_node s.config node) (are_clean (children_of s.marks (place_of node))) (pointwise nat_eq text (text_in s node)) (are_clean (children_of new (place_of node)))
+    middle (has_tree_node s.config node) (are_clean (children_of s.marks (place_of node))) (pointwise nat_eq text (text_in s node)) (are_clean (children_of new (place_of node)))
     (children-set s.marks (place_of other) (place_of node) (sha256 digested)) current
 
 -- ---- making nodes clean, one after another
@@ -85,11 +85,11 @@ pub record IsCleaning (start : State) (nodes : List NodeAt) (texts : List (List 
   pub fewer : 0 < done → dirty_count s.marks < dirty_count start.marks
 
 -- a clean node is another one than a dirty one
-elsewhere : (marks : Marks) (dirty clean : ℕ) (d : List ℕ) → digest_at marks dirty ≡ None → digest_at marks clean ≡ Some d → clean ≡ dirty → ⊥
-elsewhere marks dirty clean d none some same = let clash : no_digest ≡ Some d = sym none ∙ ap (digest_at marks) (sym same) ∙ some in cc
+elsewhere : (marks : Marks) (dirty clean : ℕ) (d : List ℕ) → kept_digest marks dirty ≡ None → kept_digest marks clean ≡ Some d → clean ≡ dirty → ⊥
+elsewhere marks dirty clean d none some same = let clash : no_digest ≡ Some d = sym none ∙ ap (kept_digest marks) (sym same) ∙ some in cc
 
 pub cleaning_next : (start : State) (nodes : List NodeAt) (texts : List (List ℕ)) (done : ℕ) (s t : State) (node : NodeAt) (text : List ℕ) → IsCleaning start nodes texts done s
-    → place_of node < length start.marks → digest_at start.marks (place_of node) ≡ None → t ≡ installed s node text → IsCleaning start nodes texts (done + 1) t
+    → place_of node < length start.marks → kept_digest start.marks (place_of node) ≡ None → t ≡ installed s node text → IsCleaning start nodes texts (done + 1) t
 cleaning_next start nodes texts done s t node text was within dirty is =
     subst (λ (u : State). IsCleaning start nodes texts (done + 1) u) (sym is) (record {
       same = record {
@@ -138,7 +138,7 @@ ready_within marks most =
 
 -- The jobs' nodes are dirty nodes of the tree.
 pub jobs_dirty : (s : State) (most : ℕ) (jobs : List NodeText) (nodes : List NodeAt) → AreJobs s most jobs → nodes ≡ map (λ (job : NodeText). job.node) jobs
-    → (i : ℕ) (node : NodeAt) → i < length nodes → (place_of (get_or nodes i node) < length s.marks) × (digest_at s.marks (place_of (get_or nodes i node)) ≡ None)
+    → (i : ℕ) (node : NodeAt) → i < length nodes → (place_of (get_or nodes i node) < length s.marks) × (kept_digest s.marks (place_of (get_or nodes i node)) ≡ None)
 jobs_dirty s most jobs nodes are ns i node less =
     let job : NodeText = record { node = node; text = [] } in
     let places = take most (ready_from s.marks 0) in
@@ -147,7 +147,7 @@ jobs_dirty s most jobs nodes are ns i node less =
     let short : i < length places = omega (arith, ap (λ (xs : List ℕ). length xs) are.nodes, length-map jobs (λ (j : NodeText). place_of j.node)) in
     let place : place_of (get_or nodes i node) ≡ get_or places i 0 = ap place_of n ∙ sym (get_or-map (λ (j : NodeText). place_of j.node) jobs i job 0 within) ∙ ap (λ (xs : List ℕ). get_or xs i 0) are.nodes in
     let here : get_or places i 0 < length s.marks = All-get_or (λ (p : ℕ). p < length s.marks) places i 0 short (ready_within s.marks most) in
-    (omega (arith, place, here), ap (λ (x : NodeAt). digest_at s.marks (place_of x)) n ∙ (ready_parts s.marks (place_of (get_or jobs i job).node) (all_get (IsJob s) jobs i job are.each within).ready).0)
+    (omega (arith, place, here), ap (λ (x : NodeAt). kept_digest s.marks (place_of x)) n ∙ (ready_parts s.marks (place_of (get_or jobs i job).node) (all_get (IsJob s) jobs i job are.each within).ready).0)
 
 -- Where there is no job, all nodes are clean.
 pub no_jobs : (s : State) (most : ℕ) (jobs : List NodeText) → AreJobs s most jobs → 0 < most → length jobs ≡ 0 → are_clean s.marks ≡ true
@@ -163,7 +163,7 @@ no_jobs s most jobs are some none =
 
 -- from a depth down, the digests are those of the nodes' texts
 levels : (s : State) (marks : Marks) → length marks ≡ node_count s.config.format
-    → ((depth height index : ℕ) → depth + height ≡ tree_depth s.config.format → index < 16 ^ depth → digest_at marks (place_at depth index) ≡ Some (node_digest s.config.format (leaf_in s.config) (rows_of s.entries) height index))
+    → ((depth height index : ℕ) → depth + height ≡ tree_depth s.config.format → index < 16 ^ depth → kept_digest marks (place_at depth index) ≡ Some (node_digest s.config.format (leaf_in s.config) (rows_of s.entries) height index))
     → (height depth : ℕ) → depth + height ≡ tree_depth s.config.format → drop (nodes_above depth) marks ≡ digests_below s depth height
 unfolding digests_below
 levels s marks all are zero depth sum =

@@ -13,7 +13,7 @@ use Rattle.range_journal.specs.Journal.{held}
 use Rattle.row_bytes.specs.declared.row.Row.{Row}
 use Rattle.hash_tree.proofs.KeyLaws.{all_get}
 use Rattle.sync_session.specs.declared.news.News.{News}
-use Rattle.sync_session.specs.Readings.{AreNews}
+use Rattle.sync_session.specs.Readings.{AreOthers}
 use Rattle.sync_session.specs.Walks.{TakenText, Held}
 use Rattle.sync_session.proofs.StepLaws.{Held-grows}
 use Rattle.range_state.specs.declared.«record».Record.{Record}
@@ -81,7 +81,7 @@ same_idle s seat r rows others n known quiet total is = record {
   count = omega (arith, is.count, total, length-append (offers_in r) (offers_of rows), length-map {B = List ℕ × Version} r.versions (λ (v : Version). (r.key, v)));
 }
 
-pub news_stand : (s : State) (seat : ℕ) (own rows others : List Row) (known : ℕ) → Held own (held s.entries) → AreNews own rows others known → IsSame s seat rows others known
+pub news_stand : (s : State) (seat : ℕ) (own rows others : List Row) (known : ℕ) → Held own (held s.entries) → AreOthers own rows others known → IsSame s seat rows others known
 news_stand s seat own [] others known h news = record {
   taken = ap (λ (rs : List Row). taken_in s seat (offers_of rs)) (sym news.0);
   crowded = ap (λ (rs : List Row). crowded_in s seat (offers_of rs)) (sym news.0);
@@ -99,7 +99,7 @@ news_stand s seat own (r ∷ rows) others known h news = elim news [
 ]
 
 -- what holds of all rows holds of the news
-pub news_all : (P : Row → Type 0) (own rows others : List Row) (known : ℕ) → AllByRecursion P rows → AreNews own rows others known → AllByRecursion P others
+pub news_all : (P : Row → Type 0) (own rows others : List Row) (known : ℕ) → AllByRecursion P rows → AreOthers own rows others known → AllByRecursion P others
 news_all P own [] others known all news = subst (AllByRecursion P) (sym news.0) tt
 news_all P own (r ∷ rows) others known all news = elim news [
   | inl other ↦ subst (AllByRecursion P) (sym other.1.1) (all.0, news_all P own rows other.1.0 known all.1 other.1.2)
@@ -113,7 +113,7 @@ pub record NewsRead (s : State) (id : ℕ) (t : TakenText) (news : News) : Type 
   pub own : List Row
   pub rows : List Row
   pub held : Held own (held s.entries)
-  pub parted : AreNews own rows news.rows.items news.known
+  pub parted : AreOthers own rows news.rows.items news.known
   pub read : MatchOption (slice_get s.records id) ⊥ (λ r. IsLeafRead s r t rows)
 
 pub news_read : (s : State) (id : ℕ) (t : TakenText) (news : News) → IsRight s → MatchOption (slice_get s.records id) ⊥ (λ r. IsNewsRead s r t news) → NewsRead s id t news

@@ -21,13 +21,13 @@ use Rattle.row_bytes.specs.declared.row.Row.{Row}
 use Rattle.row_bytes.specs.Rows.{IsRow}
 use Rattle.row_bytes.proofs.LimitLaws.{no_fault_else}
 use Rattle.hash_tree.specs.Leaves.{key_cmp, AscendByKey, versions_in}
-use Rattle.hash_tree.specs.Nodes.{tree_depth, node_count, digest_at, are_clean}
+use Rattle.hash_tree.specs.Nodes.{tree_depth, node_count, kept_digest, are_clean}
 use Rattle.hash_tree.specs.Texts.{leaf_text, node_digest, AreTrue}
 use Rattle.hash_tree.proofs.KeyLaws.{turned}
 use Rattle.hash_tree.proofs.LeafLaws.{versions_in-rows_at}
 use Rattle.hash_tree.proofs.TextLaws.{leaf_node, same_leaf}
 use Rattle.snapshot.specs.RowMaps.{RowMap, IsRowMap, leaf_in, root_of}
-use Rattle.sync_session.specs.TreeNodes.{Node, is_node, has_node, text_of}
+use Rattle.sync_session.specs.TreeNodes.{Node, is_same_node, contains_node, text_of}
 use Rattle.sync_session.specs.Walks.{child_digest, IsCompared, NoTwoShareADigest}
 use Rattle.sync_session.specs.Differing.{first_of_level, nodes_above_depth, all_nodes, is_unlike, differs_at, differ}
 use Rattle.sync_session.proofs.DescentLaws.{at_node, is_node-same}
@@ -47,30 +47,30 @@ use Rattle.range_state.proofs.UnionLaws.{offers_unite, union_alike, union_swap, 
 eq_itself : (n : ℕ) → nat_eq n n ≡ true
 eq_itself n = eq-eqb n n refl
 
-level_has : (d k i : ℕ) → i < k → has_node (at_node d i) (first_of_level d k) ≡ true
+level_has : (d k i : ℕ) → i < k → contains_node (at_node d i) (first_of_level d k) ≡ true
 unfolding first_of_level
 level_has d zero i lt = absurd (omega arith)
 level_has d (suc k) i lt =
-    list_any-append (is_node (at_node d i)) (first_of_level d k) (at_node d k ∷ [])
+    list_any-append (is_same_node (at_node d i)) (first_of_level d k) (at_node d k ∷ [])
     ∙ elim (cases_lt i k) [
-      | inl less ↦ or_left (has_node (at_node d i) (first_of_level d k)) (has_node (at_node d i) (at_node d k ∷ [])) (level_has d k i less)
-      | inr more ↦ or_right (has_node (at_node d i) (first_of_level d k)) (has_node (at_node d i) (at_node d k ∷ []))
-          (subst (λ (j : ℕ). has_node (at_node d i) (at_node d j ∷ []) ≡ true) (omega arith) (or_left (is_node (at_node d i) (at_node d i)) false (is_node-same (at_node d i))))
+      | inl less ↦ or_left (contains_node (at_node d i) (first_of_level d k)) (contains_node (at_node d i) (at_node d k ∷ [])) (level_has d k i less)
+      | inr more ↦ or_right (contains_node (at_node d i) (first_of_level d k)) (contains_node (at_node d i) (at_node d k ∷ []))
+          (subst (λ (j : ℕ). contains_node (at_node d i) (at_node d j ∷ []) ≡ true) (omega arith) (or_left (is_same_node (at_node d i) (at_node d i)) false (is_node-same (at_node d i))))
     ]
 
-levels_have : (m d i : ℕ) → d < m → i < 16 ^ d → has_node (at_node d i) (nodes_above_depth m) ≡ true
+levels_have : (m d i : ℕ) → d < m → i < 16 ^ d → contains_node (at_node d i) (nodes_above_depth m) ≡ true
 unfolding nodes_above_depth
 levels_have zero d i lt within = absurd (omega arith)
 levels_have (suc m) d i lt within =
-    list_any-append (is_node (at_node d i)) (nodes_above_depth m) (first_of_level m (16 ^ m))
+    list_any-append (is_same_node (at_node d i)) (nodes_above_depth m) (first_of_level m (16 ^ m))
     ∙ elim (cases_lt d m) [
-      | inl less ↦ or_left (has_node (at_node d i) (nodes_above_depth m)) (has_node (at_node d i) (first_of_level m (16 ^ m))) (levels_have m d i less within)
-      | inr more ↦ or_right (has_node (at_node d i) (nodes_above_depth m)) (has_node (at_node d i) (first_of_level m (16 ^ m))) (subst (λ (k : ℕ). has_node (at_node d i) (first_of_level k (16 ^ k)) ≡ true) (omega arith) (level_has d (16 ^ d) i within))
+      | inl less ↦ or_left (contains_node (at_node d i) (nodes_above_depth m)) (contains_node (at_node d i) (first_of_level m (16 ^ m))) (levels_have m d i less within)
+      | inr more ↦ or_right (contains_node (at_node d i) (nodes_above_depth m)) (contains_node (at_node d i) (first_of_level m (16 ^ m))) (subst (λ (k : ℕ). contains_node (at_node d i) (first_of_level k (16 ^ k)) ≡ true) (omega arith) (level_has d (16 ^ d) i within))
     ]
 
 -- what a test finds among nodes that another keeps
-kept : (p q : Node → Bool) (n : Node) (xs : List Node) → has_node n xs ≡ true → p n ≡ true → q n ≡ true → list_any q (filter p xs) ≡ true
-kept p q n [] h a b = absurd (both_ways (has_node n []) refl h)
+kept : (p q : Node → Bool) (n : Node) (xs : List Node) → contains_node n xs ≡ true → p n ≡ true → q n ≡ true → list_any q (filter p xs) ≡ true
+kept p q n [] h a b = absurd (both_ways (contains_node n []) refl h)
 kept p q n (x ∷ xs) h a b = elim (member_of n x xs h) [
   | inl same ↦
       ap (λ c. list_any q (cond c (x ∷ filter p xs) (filter p xs))) (ap p (sym same) ∙ a)
@@ -86,7 +86,7 @@ leaf_listed : (own other : RowMap) (i : ℕ) → i < 16 ^ tree_depth own.format 
 leaf_listed own other i lt h =
     let d = tree_depth own.format in
     let n = at_node d i in
-    let among : has_node n (differ own other) ≡ true = kept (λ m. differs_at own other m.depth m.index) (is_node n) n (all_nodes own.format) (levels_have (suc d) d i (omega arith) lt) h (is_node-same n) in
+    let among : contains_node n (differ own other) ≡ true = kept (λ m. differs_at own other m.depth m.index) (is_same_node n) n (all_nodes own.format) (levels_have (suc d) d i (omega arith) lt) h (is_node-same n) in
     kept (λ m. nat_eq m.depth d) (λ m. nat_eq m.index i) n (differ own other) among (eq_itself d) (eq_itself i)
 
 -- ---- a leaf where they don't differ has the same rows in both
@@ -278,13 +278,13 @@ same_rows_now a b here same =
 
 -- ---- roots
 
-clean_root : (digests : List (Option (List ℕ))) → 0 < length digests → are_clean digests ≡ true → (d : List ℕ) × (digest_at digests 0 ≡ Some d)
+clean_root : (digests : List (Option (List ℕ))) → 0 < length digests → are_clean digests ≡ true → (d : List ℕ) × (kept_digest digests 0 ≡ Some d)
 clean_root [] some clean = absurd (omega arith)
 clean_root (Some d ∷ rest) some clean = (d, refl)
 clean_root (None ∷ rest) some clean = absurd (let clash : false ≡ true = clean in cc)
 
 -- a clean tree has the root of the rows now
-pub root_now : (s : State) → IsRight s → dirty_fault s ≡ None → digest_at s.marks 0 ≡ Some (root_of (rows_now s))
+pub root_now : (s : State) → IsRight s → dirty_fault s ≡ None → kept_digest s.marks 0 ≡ Some (root_of (rows_now s))
 unfolding AreTrue
 root_now s ok clean =
     let f = s.config.format in
@@ -299,7 +299,7 @@ root_now s ok clean =
     some_node Two = omega arith
 
 -- Clean ranges that hold the same have the same root.
-pub same_roots : (a b : State) → IsRight a → IsRight b → IsOfRange a.config (rows_now b) → ((key : List ℕ) → held a.entries key ≡ held b.entries key) → dirty_fault a ≡ None → dirty_fault b ≡ None → digest_at a.marks 0 ≡ digest_at b.marks 0
+pub same_roots : (a b : State) → IsRight a → IsRight b → IsOfRange a.config (rows_now b) → ((key : List ℕ) → held a.entries key ≡ held b.entries key) → dirty_fault a ≡ None → dirty_fault b ≡ None → kept_digest a.marks 0 ≡ kept_digest b.marks 0
 same_roots a b ok_a ok_b here same clean_a clean_b = root_now a ok_a clean_a ∙ ap (λ (m : RowMap). Some (root_of m)) (same_rows_now a b here same) ∙ sym (root_now b ok_b clean_b)
 
 -- ---- both ways

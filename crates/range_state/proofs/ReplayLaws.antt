@@ -8,7 +8,7 @@ use Rattle.version_set.specs.Version.{offer_fault}
 use Rattle.range_journal.specs.declared.journal.Entry.{Entry}
 use Rattle.range_journal.specs.Journal.{held}
 use Rattle.range_journal.proofs.JournalLaws.{never_refused}
-use Rattle.hash_tree.specs.Leaves.{Bucket, with_offer, versions_in, rows_at}
+use Rattle.hash_tree.specs.Leaves.{Bucket, with_offer, versions_in, rows_in_leaf}
 use Rattle.range_state.specs.Config.{Config}
 use Rattle.range_state.specs.State.{State, IsRight, IsOwn, AreLeaves, leaf_in, leaf_count, bucket_of}
 use Rattle.range_state.specs.Rows.{rows_of}
@@ -51,8 +51,8 @@ next_leaves r e leaves leaf b new key v below is are at was same copy now =
     let es = take r.front r.entries in
     let s : State = of_entries r.config es in
     let rows : b ≡ bucket_of r.config es leaf = rows_here s leaves leaf e.key b are at was in
-    let made : new ≡ record { format = r.config.format; rows = with_offer e.key e.version (rows_at (leaf_in r.config) (leaf_in r.config e.key) (rows_of es)) } =
-    now ∙ (λ i. record { format = (rows i).format; rows = with_offer (same i) (copy i) (rows i).rows }) ∙ ap (λ (n : ℕ). record { format = r.config.format; rows = with_offer e.key e.version (rows_at (leaf_in r.config) n (rows_of es)) }) at in
+    let made : new ≡ record { format = r.config.format; rows = with_offer e.key e.version (rows_in_leaf (leaf_in r.config) (leaf_in r.config e.key) (rows_of es)) } =
+    now ∙ (λ i. record { format = (rows i).format; rows = with_offer (same i) (copy i) (rows i).rows }) ∙ ap (λ (n : ℕ). record { format = r.config.format; rows = with_offer e.key e.version (rows_in_leaf (leaf_in r.config) n (rows_of es)) }) at in
     let more : take (r.front + 1) r.entries ≡ es ++ e ∷ [] = take_more r.entries r.front e below ∙ ap (λ (x : Entry). es ++ x ∷ []) (sym is) in
     subst (λ (xs : List Entry). AreLeaves r.config xs (set leaves leaf new)) (sym more)
     (subst (λ (n : ℕ). AreLeaves r.config (es ++ e ∷ []) (set leaves n new)) (sym at) (grown-leaves s leaves e new are made))

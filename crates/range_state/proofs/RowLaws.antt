@@ -15,7 +15,7 @@ use Rattle.range_journal.specs.declared.journal.Entry.{Entry}
 use Rattle.range_journal.specs.Journal.{held, versions_of}
 use Rattle.range_journal.proofs.JournalLaws.{held-push, contains_cons, contains_later, any_cons, any_later}
 use Rattle.row_bytes.specs.declared.row.Row.{Row}
-use Rattle.hash_tree.specs.Leaves.{key_cmp, AscendByKey, rows_at, with_offer, versions_in}
+use Rattle.hash_tree.specs.Leaves.{key_cmp, AscendByKey, rows_in_leaf, with_offer, versions_in}
 use Rattle.hash_tree.proofs.KeyLaws.{key_exact, turned}
 use Rattle.hash_tree.proofs.LeafLaws.{rows_at-with_offer, versions_in-rows_at}
 use Rattle.range_state.specs.Rows.{with_key, keys_from, rows_of}
@@ -134,12 +134,12 @@ versions_in-rows_of es k = versions_in-map (held es) k (keys_from [] es) (KeysAs
 -- ---- the rows of one leaf
 
 -- What the leaf of a key has for it is what is held for it.
-pub leaf_holds : (leaf : List ℕ → ℕ) (es : List Entry) (k : List ℕ) → versions_in k (rows_at leaf (leaf k) (rows_of es)) ≡ held es k
+pub leaf_holds : (leaf : List ℕ → ℕ) (es : List Entry) (k : List ℕ) → versions_in k (rows_in_leaf leaf (leaf k) (rows_of es)) ≡ held es k
 leaf_holds leaf es k = versions_in-rows_at leaf k (rows_of es) (rows_of-ascend es) ∙ versions_in-rows_of es k
 
 -- one more entry, in a leaf
-pub leaf-push : (leaf : List ℕ → ℕ) (es : List Entry) (e : Entry) (i : ℕ) → rows_at leaf i (rows_of (es ++ e ∷ [])) ≡ cond (nat_eq (leaf e.key) i) (with_offer e.key e.version (rows_at leaf i (rows_of es))) (rows_at leaf i (rows_of es))
-leaf-push leaf es e i = ap (rows_at leaf i) (rows_of-push es e) ∙ rows_at-with_offer leaf i e.key e.version (rows_of es) (rows_of-ascend es)
+pub leaf-push : (leaf : List ℕ → ℕ) (es : List Entry) (e : Entry) (i : ℕ) → rows_in_leaf leaf i (rows_of (es ++ e ∷ [])) ≡ cond (nat_eq (leaf e.key) i) (with_offer e.key e.version (rows_in_leaf leaf i (rows_of es))) (rows_in_leaf leaf i (rows_of es))
+leaf-push leaf es e i = ap (rows_in_leaf leaf i) (rows_of-push es e) ∙ rows_at-with_offer leaf i e.key e.version (rows_of es) (rows_of-ascend es)
 
 -- ---- which rows there are
 

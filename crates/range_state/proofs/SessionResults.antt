@@ -8,10 +8,10 @@ use Rattle.range_journal.specs.Journal.{held}
 use Rattle.hash_tree.proofs.KeyLaws.{all_get}
 use Rattle.snapshot.specs.RowMaps.{RowMap}
 use Rattle.sync_session.specs.declared.state.SessionState.TheVariants.{Open, Finished, Failed, Cancelled}
-use Rattle.sync_session.specs.TreeNodes.{Node, has_node, text_of}
+use Rattle.sync_session.specs.TreeNodes.{Node, contains_node, text_of}
 use Rattle.sync_session.specs.Walks.{Walk, Held, IsCanonical, IsRightlyTaken, NoTwoShareADigest, IsPartners}
 use Rattle.sync_session.specs.Steps.{IsDue}
-use Rattle.sync_session.specs.Differing.{differ, times, IsHonest, IsNearlyDone, IsInTurn, Ascends}
+use Rattle.sync_session.specs.Differing.{differ, times, IsHonest, IsNearlyDone, IsInTurn, AscendByPlace}
 use Rattle.sync_session.proofs.DescentLaws.{finished_held}
 use Rattle.sync_session.proofs.HonestLaws.{asked_is_differ, differ_is_asked, true_text_due}
 use Rattle.sync_session.proofs.OrderLaws.{asked_in_order}
@@ -50,16 +50,16 @@ rightly_taken s ok r has = (kept_of s r ok has).traced.texts
 pub asked_once : (s : State) → IsRight s → (r : Record) → Contains s.records r → (n : Node) → times n r.session.asked ≤ 1
 asked_once s ok r has = (kept_of s r ok has).traced.once
 
-pub asked_ordered : (s : State) → IsRight s → (r : Record) → Contains s.records r → IsInTurn r.session → Ascends r.session.asked
+pub asked_ordered : (s : State) → IsRight s → (r : Record) → Contains s.records r → IsInTurn r.session → AscendByPlace r.session.asked
 asked_ordered s ok r has = asked_in_order r.session (kept_of s r ok has).traced
 
-pub asked_only : (s : State) → IsRight s → (r : Record) → Contains s.records r → (other : RowMap) → IsPartners r.session other → IsHonest r.session other → (n : Node) → has_node n r.session.asked ≡ true → has_node n (differ r.session.own other) ≡ true
+pub asked_only : (s : State) → IsRight s → (r : Record) → Contains s.records r → (other : RowMap) → IsPartners r.session other → IsHonest r.session other → (n : Node) → contains_node n r.session.asked ≡ true → contains_node n (differ r.session.own other) ≡ true
 asked_only s ok r has other = asked_is_differ r.session other (kept_of s r ok has).traced
 
-none_due : (w : Walk) (P : Type 0) (n : Node) → w.outstanding ≡ [] → has_node n w.outstanding ≡ true → P
-none_due w P n none asked = absurd (both_ways (has_node n []) refl (ap (has_node n) (sym none) ∙ asked))
+none_due : (w : Walk) (P : Type 0) (n : Node) → w.outstanding ≡ [] → contains_node n w.outstanding ≡ true → P
+none_due w P n none asked = absurd (both_ways (contains_node n []) refl (ap (contains_node n) (sym none) ∙ asked))
 
-pub still_due : (s : State) → IsRight s → (r : Record) → Contains s.records r → (other : RowMap) → IsPartners r.session other → IsHonest r.session other → (n : Node) → has_node n r.session.outstanding ≡ true
+pub still_due : (s : State) → IsRight s → (r : Record) → Contains s.records r → (other : RowMap) → IsPartners r.session other → IsHonest r.session other → (n : Node) → contains_node n r.session.outstanding ≡ true
     → IsDue r.session (record { node = n; text = text_of other n }) × IsCanonical r.session.own n (text_of other n)
 still_due s ok r has other partner honest n asked =
     let kept = kept_of s r ok has in
@@ -74,7 +74,7 @@ ended_done s ok r has = (kept_of s r ok has).ended
 -- ---- what one that was not ended early asked
 
 pub asked_all : (s : State) → IsRight s → (r : Record) → Contains s.records r → ¬ IsOver r.session → (other : RowMap) → IsPartners r.session other → IsHonest r.session other → IsNearlyDone r.session
-    → (n : Node) → has_node n (differ r.session.own other) ≡ true → has_node n r.session.asked ≡ true
+    → (n : Node) → contains_node n (differ r.session.own other) ≡ true → contains_node n r.session.asked ≡ true
 asked_all s ok r has on other partner honest near n differs =
     let going = going_of s r ok has on in
     differ_is_asked (held s.entries) r.session other going.walked going.orderly partner honest near n differs

@@ -31,7 +31,7 @@ use Rattle.row_bytes.specs.Rows.{IsRow}
 use Rattle.row_bytes.proofs.LimitLaws.{no_fault, no_fault_else}
 use Rattle.row_bytes.specs.declared.row.Row.{Row}
 use Rattle.key_ring.specs.Places.{leaf_at, leaf_bits, range_at}
-use Rattle.hash_tree.specs.Leaves.{Bucket, rows_at, with_offer, versions_in}
+use Rattle.hash_tree.specs.Leaves.{Bucket, rows_in_leaf, with_offer, versions_in}
 use Rattle.hash_tree.specs.Nodes.{Tree, tree_depth, node_count, dirtied}
 use Rattle.hash_tree.specs.Texts.{AreTrue, IsTreeFor}
 use Rattle.hash_tree.proofs.TreeLaws.{true_kept, true_fresh, tree_fresh, tree_dirtied}
@@ -66,7 +66,7 @@ rows_here s leaves leaf key b ok at is = is ∙ ok.each leaf b (omega (arith, at
 pub set_here : (s : State) (leaves : List Bucket) (leaf : ℕ) (key : List ℕ) (b : Bucket) → AreLeaves s.config s.entries leaves → leaf ≡ leaf_in s.config key → b ≡ get_or leaves leaf b → versions_in key b.rows ≡ held s.entries key
 set_here s leaves leaf key b ok at is =
     ap (λ (x : Bucket). versions_in key x.rows) (rows_here s leaves leaf key b ok at is)
-    ∙ ap (λ (n : ℕ). versions_in key (rows_at (leaf_in s.config) n (rows_of s.entries))) at
+    ∙ ap (λ (n : ℕ). versions_in key (rows_in_leaf (leaf_in s.config) n (rows_of s.entries))) at
     ∙ leaf_holds (leaf_in s.config) s.entries key
 
 -- ---- what holds of the entries
@@ -99,7 +99,7 @@ held_fit s key ok = all-held (Fits s.config) s.entries key (own_values s.config 
 abbrev pub no_rows : List Row
 no_rows = []
 
-leaf_of_none : (leaf : List ℕ → ℕ) (i : ℕ) → no_rows ≡ rows_at leaf i (rows_of [])
+leaf_of_none : (leaf : List ℕ → ℕ) (i : ℕ) → no_rows ≡ rows_in_leaf leaf i (rows_of [])
 unfolding rows_of
 leaf_of_none leaf i = refl
 
@@ -264,7 +264,7 @@ grown-right s e ok other here unknown clock fits =
     }
 
 pub grown-leaves : (s : State) (leaves : List Bucket) (e : Entry) (new : Bucket) → AreLeaves s.config s.entries leaves
-    → new ≡ record { format = s.config.format; rows = with_offer e.key e.version (rows_at (leaf_in s.config) (leaf_in s.config e.key) (rows_of s.entries)) }
+    → new ≡ record { format = s.config.format; rows = with_offer e.key e.version (rows_in_leaf (leaf_in s.config) (leaf_in s.config e.key) (rows_of s.entries)) }
     → AreLeaves s.config (s.entries ++ e ∷ []) (set leaves (leaf_in s.config e.key) new)
 grown-leaves s leaves e new ok is = record {
   all = simp length-set ok.all;
@@ -281,8 +281,8 @@ grown-leaves s leaves e new ok is = record {
     of_rows rows = record { format = s.config.format; rows = rows }
 
     -- the rows of a leaf after the entry
-    grown : (i : ℕ) (b : Bool) → nat_eq (leaf_in s.config e.key) i ≡ b → bucket_of s.config (s.entries ++ e ∷ []) i ≡ of_rows (cond b (with_offer e.key e.version (rows_at (leaf_in s.config) i (rows_of s.entries))) (rows_at (leaf_in s.config) i (rows_of s.entries)))
-    grown i b h = ap of_rows (leaf-push (leaf_in s.config) s.entries e i ∙ ap (λ t. cond t (with_offer e.key e.version (rows_at (leaf_in s.config) i (rows_of s.entries))) (rows_at (leaf_in s.config) i (rows_of s.entries))) h)
+    grown : (i : ℕ) (b : Bool) → nat_eq (leaf_in s.config e.key) i ≡ b → bucket_of s.config (s.entries ++ e ∷ []) i ≡ of_rows (cond b (with_offer e.key e.version (rows_in_leaf (leaf_in s.config) i (rows_of s.entries))) (rows_in_leaf (leaf_in s.config) i (rows_of s.entries)))
+    grown i b h = ap of_rows (leaf-push (leaf_in s.config) s.entries e i ∙ ap (λ t. cond t (with_offer e.key e.version (rows_in_leaf (leaf_in s.config) i (rows_of s.entries))) (rows_in_leaf (leaf_in s.config) i (rows_of s.entries))) h)
 
     each_leaf : (i : ℕ) (d : Bucket) → i < leaf_count s.config → get_or (set leaves (leaf_in s.config e.key) new) i d ≡ bucket_of s.config (s.entries ++ e ∷ []) i
     each_leaf i d lt =
@@ -306,8 +306,8 @@ pub admitted : (s : State) (leaves : List Bucket) (leaf : ℕ) (e : Entry) (entr
     → IsRight (record { config = s.config; entries = entries; marks = marks; records = s.records }) × AreLeaves s.config entries (set leaves leaf new)
 admitted s leaves leaf e entries marks b new key w ok are other at here news clock fits was k copy now es path =
     let rows = rows_here s leaves leaf e.key b are at was in
-    let made : new ≡ record { format = s.config.format; rows = with_offer e.key e.version (rows_at (leaf_in s.config) (leaf_in s.config e.key) (rows_of s.entries)) } =
-    now ∙ (λ i. record { format = (rows i).format; rows = with_offer (k i) (copy i) (rows i).rows }) ∙ ap (λ (n : ℕ). record { format = s.config.format; rows = with_offer e.key e.version (rows_at (leaf_in s.config) n (rows_of s.entries)) }) at in
+    let made : new ≡ record { format = s.config.format; rows = with_offer e.key e.version (rows_in_leaf (leaf_in s.config) (leaf_in s.config e.key) (rows_of s.entries)) } =
+    now ∙ (λ i. record { format = (rows i).format; rows = with_offer (k i) (copy i) (rows i).rows }) ∙ ap (λ (n : ℕ). record { format = s.config.format; rows = with_offer e.key e.version (rows_in_leaf (leaf_in s.config) n (rows_of s.entries)) }) at in
     let dirty : marks ≡ dirtied s.config.format (leaf_in s.config e.key) s.marks = path ∙ ap (λ (n : ℕ). dirtied s.config.format n s.marks) at in
     let right = grown-right s e ok other here (covered-maximal e.version (accepted s.entries e.key) ∙ news) clock fits in (
       subst (λ (m : Marks). IsRight (record { config = s.config; entries = entries; marks = m; records = s.records })) (sym dirty)

@@ -15,10 +15,10 @@ use Rattle.hash_tree.specs.Nodes.{tree_depth}
 use Rattle.hash_tree.specs.declared.node.NodeAt.{NodeAt}
 use Rattle.snapshot.specs.RowMaps.{RowMap, IsRowMap, root_of}
 use Rattle.walk_messages.specs.declared.message.Offer.{Offer}
-use Rattle.sync_session.specs.TreeNodes.{Node, has_node, is_node, place_of, text_of}
+use Rattle.sync_session.specs.TreeNodes.{Node, contains_node, is_same_node, place_of, text_of}
 use Rattle.sync_session.specs.Walks.{TakenText, IsPartners, IsCanonical, asks}
 use Rattle.sync_session.specs.Steps.{started, after, state_by, IsDue}
-use Rattle.sync_session.specs.Differing.{nodes_of, differ, Ascends, IsTraced, IsHonest, IsNearlyDone}
+use Rattle.sync_session.specs.Differing.{nodes_of, differ, AscendByPlace, IsTraced, IsHonest, IsNearlyDone}
 use Rattle.sync_session.specs.declared.state.SessionState.{SessionState}
 use Rattle.sync_session.specs.declared.state.SessionState.TheVariants.{Open, Finished, Failed, Cancelled}
 use Rattle.sync_session.proofs.StepLaws.{All-weaker}
@@ -129,8 +129,8 @@ true_walk s now seat known other u ok here map =
 pub here_is : (s now : State) (seat known id : ℕ) (other : RowMap) (u : IsUnderWay s seat other known now) → id ≡ length s.records → slice_get now.records id ≡ Some u.r
 here_is s now seat known id other u at = ap (λ (rs : List Record). slice_get rs id) u.records ∙ ap (slice_get (s.records ++ u.r ∷ [])) at ∙ got_last s.records u.r
 
-first_has : (nodes : List Node) (n : Node) (rest : List Node) → nodes ≡ n ∷ rest → has_node n nodes ≡ true
-first_has nodes n rest is = ap (has_node n) is ∙ has_head n rest
+first_has : (nodes : List Node) (n : Node) (rest : List Node) → nodes ≡ n ∷ rest → contains_node n nodes ≡ true
+first_has nodes n rest is = ap (contains_node n) is ∙ has_head n rest
 
 pub first_is : (s now : State) (seat known id : ℕ) (other : RowMap) (u : IsUnderWay s seat other known now) → id ≡ length s.records → (o : Option NodeAt) → MatchOption (slice_get now.records id) ⊥ (λ r. IsFirstOf r.session.outstanding o) → IsFirstOf u.r.session.outstanding o
 first_is s now seat known id other u at o h = subst (λ (x : Option Record). MatchOption x ⊥ (λ r. IsFirstOf r.session.outstanding o)) (here_is s now seat known id other u at) h
@@ -146,21 +146,21 @@ shallow s now seat known other u n rest is first = elim (first_due s now other u
   | inr leaf ↦ omega (arith, leaf.0, ap tree_depth is.partner.format)
 ]
 
-pub asked_ascend : (s now : State) (seat known : ℕ) (other : RowMap) (u : IsUnderWay s seat other known now) → IsTrueWalk s now other u.r → Ascends u.r.session.asked
+pub asked_ascend : (s now : State) (seat known : ℕ) (other : RowMap) (u : IsUnderWay s seat other known now) → IsTrueWalk s now other u.r → AscendByPlace u.r.session.asked
 asked_ascend s now seat known other u is = asked_in_order u.r.session is.traced (u.r.session.outstanding, u.turn)
 
 asked_in : (s now : State) (seat known : ℕ) (other : RowMap) (u : IsUnderWay s seat other known now) → IsTrueWalk s now other u.r → AreIn u.r.session.asked (differ (rows_now s) other)
 asked_in s now seat known other u is n h =
-    ap (λ (m : RowMap). has_node n (differ m other)) (sym u.own) ∙ asked_is_differ u.r.session other is.traced is.partner u.honest n h
+    ap (λ (m : RowMap). contains_node n (differ m other)) (sym u.own) ∙ asked_is_differ u.r.session other is.traced is.partner u.honest n h
 
-left_ascend : (s now : State) (seat known : ℕ) (other : RowMap) (u : IsUnderWay s seat other known now) (n : Node) (rest : List Node) → IsTrueWalk s now other u.r → u.r.session.outstanding ≡ n ∷ rest → Ascends (n ∷ rest)
+left_ascend : (s now : State) (seat known : ℕ) (other : RowMap) (u : IsUnderWay s seat other known now) (n : Node) (rest : List Node) → IsTrueWalk s now other u.r → u.r.session.outstanding ≡ n ∷ rest → AscendByPlace (n ∷ rest)
 left_ascend s now seat known other u n rest is first =
-    Ascends-suffix (nodes_of u.r.session.taken) (n ∷ rest) (subst (λ (xs : List Node). Ascends xs) (u.turn ∙ ap (λ (xs : List Node). nodes_of u.r.session.taken ++ xs) first) (asked_ascend s now seat known other u is))
+    Ascends-suffix (nodes_of u.r.session.taken) (n ∷ rest) (subst (λ (xs : List Node). AscendByPlace xs) (u.turn ∙ ap (λ (xs : List Node). nodes_of u.r.session.taken ++ xs) first) (asked_ascend s now seat known other u is))
 
 -- ---- the session goes on
 
-has_left : (n : Node) (xs ys : List Node) → has_node n ys ≡ true → has_node n (xs ++ ys) ≡ true
-has_left n xs ys h = list_any-append (is_node n) xs ys ∙ or_right (has_node n xs) (has_node n ys) h
+has_left : (n : Node) (xs ys : List Node) → contains_node n ys ≡ true → contains_node n (xs ++ ys) ≡ true
+has_left n xs ys h = list_any-append (is_same_node n) xs ys ∙ or_right (contains_node n xs) (contains_node n ys) h
 
 turned : (done : List TakenText) (t : TakenText) (rest kids asked outstanding : List Node) → asked ≡ nodes_of done ++ outstanding → outstanding ≡ t.node ∷ rest → (left : List Node) → left ≡ rest → asked ++ kids ≡ nodes_of (done ++ t ∷ []) ++ (left ++ kids)
 turned done t rest kids asked outstanding turn first left is =
@@ -213,8 +213,8 @@ moved s now new base seat id known count other u n rest is at first same config 
         ∙ ap (λ (k : ℕ). set (s.records ++ u.r ∷ []) k r) at
         ∙ set_last s.records u.r r
 
-    left : filter (λ m. not (is_node m n)) u.r.session.outstanding ≡ rest
-    left = ap (filter (λ m. not (is_node m n))) first ∙ without_first n rest (left_ascend s now seat known other u n rest is first).0
+    left : filter (λ m. not (is_same_node m n)) u.r.session.outstanding ≡ rest
+    left = ap (filter (λ m. not (is_same_node m n))) first ∙ without_first n rest (left_ascend s now seat known other u n rest is first).0
 
 inner_on : (s now new : State) (seat id known : ℕ) (other : RowMap) (u : IsUnderWay s seat other known now) (n : Node) (rest : List Node) (a : AnswerTaken) (count : ℕ) → count ≡ known + a.known → IsTrueWalk s now other u.r → id ≡ length s.records → u.r.session.outstanding ≡ n ∷ rest
     → TakesInner now id u.r (entry n (text_of other n)) a new → HasMoved s now new seat id count other u.r n
@@ -292,14 +292,14 @@ no_memory s now new seat id known other u t at answer =
 -- ---- the end
 
 none_left : (s now : State) (seat known : ℕ) (other : RowMap) (u : IsUnderWay s seat other known now) → u.r.session.outstanding ≡ [] → IsNearlyDone u.r.session
-none_left s now seat known other u done n h = let clash : false ≡ true = sym (ap (has_node n) done) ∙ h in cc
+none_left s now seat known other u done n h = let clash : false ≡ true = sym (ap (contains_node n) done) ∙ h in cc
 
 leaves_left : (s now : State) (seat known : ℕ) (other : RowMap) (u : IsUnderWay s seat other known now) (n : Node) (rest : List Node) → IsTrueWalk s now other u.r → u.r.session.outstanding ≡ n ∷ rest → n.depth ≡ tree_depth s.config.format → IsNearlyDone u.r.session
 leaves_left s now seat known other u n rest is first deep m h =
-    let differs = asked_in s now seat known other u is m (ap (has_node m) u.turn ∙ has_left m (nodes_of u.r.session.taken) u.r.session.outstanding h) in
+    let differs = asked_in s now seat known other u is m (ap (contains_node m) u.turn ∙ has_left m (nodes_of u.r.session.taken) u.r.session.outstanding h) in
     let inside = all_has _ (differ (rows_now s) other) (differ_inside (rows_now s) other) m differs in
     let format = ap (λ (x : RowMap). tree_depth x.format) u.own in
-    elim (member_of m n rest (sym (ap (has_node m) first) ∙ h)) [
+    elim (member_of m n rest (sym (ap (contains_node m) first) ∙ h)) [
       | inl same ↦ ap (λ (x : Node). x.depth) same ∙ deep ∙ sym format
       | inr later ↦
           let less : place_of n < place_of m = all_has (λ x. place_of n < place_of x) rest (left_ascend s now seat known other u n rest is first).0 m later in
@@ -309,7 +309,7 @@ leaves_left s now seat known other u n rest is first deep m h =
 pub asked_all : (s now : State) (seat known : ℕ) (other : RowMap) (u : IsUnderWay s seat other known now) → IsTrueWalk s now other u.r → IsNearlyDone u.r.session → u.r.session.asked ≡ differ (rows_now s) other
 asked_all s now seat known other u is near =
     same_nodes u.r.session.asked (differ (rows_now s) other) (asked_ascend s now seat known other u is) (differ_ascends (rows_now s) other) (asked_in s now seat known other u is)
-    (λ n h. differ_is_asked (held now.entries) u.r.session other is.right.walked is.right.orderly is.partner u.honest near n (ap (λ (m : RowMap). has_node n (differ m other)) u.own ∙ h))
+    (λ n h. differ_is_asked (held now.entries) u.r.session other is.right.walked is.right.orderly is.partner u.honest near n (ap (λ (m : RowMap). contains_node n (differ m other)) u.own ∙ h))
 
 -- what is answered at the end
 pub record IsTold (s now : State) (id count : ℕ) (cause : Option Refusal) (a : Synced) : Type 0 where
@@ -403,11 +403,11 @@ up_to s now seat known other u n rest is first = elim (cases_lt n.depth (tree_de
 
     inside : (n.depth < suc (tree_depth f)) × (n.index < 16 ^ n.depth)
     inside = all_has (λ m. (m.depth < suc (tree_depth f)) × (m.index < 16 ^ m.depth)) all (differ_inside (rows_now s) other) n
-        (asked_in s now seat known other u is n (ap (has_node n) turn ∙ has_left n done (n ∷ rest) (has_head n rest)))
+        (asked_in s now seat known other u is n (ap (contains_node n) turn ∙ has_left n done (n ∷ rest) (has_head n rest)))
 
     none : n.depth < tree_depth f → leaves_in f (done ++ n ∷ []) ≡ []
     none less = leaves-append f done (n ∷ [])
-        ∙ ap (λ (xs : List Node). xs ++ leaves_in f (n ∷ [])) (no_leaves f done (all_above f done n less inside.1 (ascends_before done n rest (subst (λ (xs : List Node). Ascends xs) turn (asked_ascend s now seat known other u is)))))
+        ∙ ap (λ (xs : List Node). xs ++ leaves_in f (n ∷ [])) (no_leaves f done (all_above f done n less inside.1 (ascends_before done n rest (subst (λ (xs : List Node). AscendByPlace xs) turn (asked_ascend s now seat known other u is)))))
         ∙ inner_counts f n [] less
 
 pub taken_first : (s now : State) (seat known : ℕ) (other : RowMap) (u : IsUnderWay s seat other known now) (n : Node) (rest : List Node) → IsTrueWalk s now other u.r → u.r.session.outstanding ≡ n ∷ rest → AreFirst s.config.format (nodes_of u.r.session.taken) (differ (rows_now s) other)

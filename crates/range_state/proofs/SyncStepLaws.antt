@@ -13,7 +13,7 @@ use Rattle.range_journal.specs.Journal.{held}
 use Rattle.range_journal.specs.declared.journal.Source.TheVariants.{Partner}
 use Rattle.row_bytes.specs.declared.row.Row.{Row}
 use Rattle.row_bytes.specs.Rows.{IsRow}
-use Rattle.hash_tree.specs.Leaves.{rows_at}
+use Rattle.hash_tree.specs.Leaves.{rows_in_leaf}
 use Rattle.hash_tree.specs.Nodes.{tree_depth}
 use Rattle.hash_tree.specs.Texts.{leaf_text}
 use Rattle.hash_tree.proofs.TextLaws.{leaf_node, same_leaf}
@@ -127,7 +127,7 @@ all_last P (x ∷ rs) r all = all_last P rs r all.1
 
 -- ---- the rows that a true text of a leaf spells
 
-pub true_rows : (w : Walk) (other : RowMap) → IsPartners w other → (n : Node) → n.depth ≡ tree_depth w.own.format → (rows : List Row) → AreSpelled w.own n (text_of other n) rows → rows ≡ rows_at (leaf_in other) n.index other.rows
+pub true_rows : (w : Walk) (other : RowMap) → IsPartners w other → (n : Node) → n.depth ≡ tree_depth w.own.format → (rows : List Row) → AreSpelled w.own n (text_of other n) rows → rows ≡ rows_in_leaf (leaf_in other) n.index other.rows
 true_rows w other p n deep rows is =
     let height : tree_depth other.format - n.depth ≡ zero = omega (arith, deep, ap tree_depth p.format) in
     let texts : leaf_text w.own.format rows ≡ leaf_text w.own.format (leaf_rows other n.index) =

@@ -23,13 +23,13 @@ use Rattle.range_journal.proofs.JournalLaws.{covered-held, versions_of-push, con
 use Rattle.key_ring.specs.Places.{range_at, leaf_at}
 use Rattle.row_bytes.specs.declared.row.Row.{Row}
 use Rattle.row_bytes.specs.Rows.{IsRow, IsVersion, row_text}
-use Rattle.hash_tree.specs.Nodes.{tree_depth, digest_at, is_on_path, dirtied}
+use Rattle.hash_tree.specs.Nodes.{tree_depth, kept_digest, is_on_path, dirtied}
 use Rattle.hash_tree.specs.Texts.{leaf_text}
 use Rattle.hash_tree.proofs.KeyLaws.{all_get}
 use Rattle.hash_tree.proofs.TreeLaws.{dirtied-at, length-dirtied}
 use Rattle.snapshot.specs.RowMaps.{RowMap}
 use Rattle.snapshot.specs.RowMaps as maps
-use Rattle.sync_session.specs.TreeNodes.{Node, has_node}
+use Rattle.sync_session.specs.TreeNodes.{Node, contains_node}
 use Rattle.sync_session.specs.Walks.{Walk, TakenText, AreSpelled, IsCanonical, IsInnerText, IsLeafHeld}
 use Rattle.sync_session.specs.Steps.{IsDue, left_after, after, failed}
 use Rattle.sync_session.specs.declared.state.SessionState.{SessionState}
@@ -54,9 +54,9 @@ use Rattle.range_state.proofs.BatchLaws.{Offers}
 dirtied_twice : (format : Format) (leaf : ℕ) (marks : List (Option (List ℕ))) → dirtied format leaf (dirtied format leaf marks) ≡ dirtied format leaf marks
 unfolding dirtied
 dirtied_twice format leaf marks =
-    fill_by_all (λ (place : ℕ). cond (is_on_path format leaf place) None (digest_at marks place)) (dirtied format leaf (dirtied format leaf marks)) (length marks) None
+    fill_by_all (λ (place : ℕ). cond (is_on_path format leaf place) None (kept_digest marks place)) (dirtied format leaf (dirtied format leaf marks)) (length marks) None
     (length-dirtied format leaf (dirtied format leaf marks) ∙ length-dirtied format leaf marks)
-    (λ k less. dirtied-at format leaf k (dirtied format leaf marks) ∙ ap (λ (o : Option (List ℕ)). cond (is_on_path format leaf k) None o) (dirtied-at format leaf k marks) ∙ once (is_on_path format leaf k) (digest_at marks k))
+    (λ k less. dirtied-at format leaf k (dirtied format leaf marks) ∙ ap (λ (o : Option (List ℕ)). cond (is_on_path format leaf k) None o) (dirtied-at format leaf k marks) ∙ once (is_on_path format leaf k) (kept_digest marks k))
   where
     once : (b : Bool) (o : Option (List ℕ)) → cond b None (cond b None o) ≡ cond b None o
     once true o = refl
@@ -272,7 +272,7 @@ spelled_rows c w n text rows format here spelled =
 
 -- a session that awaits a text is open
 awaits : (c : Config) (es : List Entry) (r : Record) (t : TakenText) → IsKept c es r → IsDue r.session t → (r.session.state ≢ Open) → ⊥
-awaits c es r t kept due off = both_ways (has_node t.node []) refl (ap (has_node t.node) (sym (kept.ended off)) ∙ due.asked)
+awaits c es r t kept due off = both_ways (contains_node t.node []) refl (ap (contains_node t.node) (sym (kept.ended off)) ∙ due.asked)
 
 open_state : (state : SessionState) → ((state ≢ Open) → ⊥) → state ≡ Open
 open_state Open h = refl

@@ -8,7 +8,7 @@ use Rattle.sha2.specs.Sha256.{sha256}
 use Rattle.vclock.specs.declared.format.Format.{Format}
 use Rattle.vclock.specs.declared.format.Format.TheVariants.{One, Two}
 use Rattle.hash_tree.specs.Leaves.{Bucket}
-use Rattle.hash_tree.specs.Nodes.{Tree, IsTree, tree_depth, node_count, digest_at, children_of, are_clean, is_ready, ready_from}
+use Rattle.hash_tree.specs.Nodes.{Tree, IsTree, tree_depth, node_count, kept_digest, children_of, are_clean, is_ready, ready_from}
 use Rattle.hash_tree.specs.Texts.{leaf_text, inner_text, node_text, AreTrue}
 use Rattle.hash_tree.specs.declared.node.NodeAt.{NodeAt}
 use Rattle.hash_tree.proofs.PlaceLaws.{depth_within}
@@ -17,12 +17,12 @@ use Rattle.hash_tree.proofs.TreeLaws.{true_set, children_text, leaf_children}
 use Rattle.hash_tree.proofs.ReadyLaws.{ready_is}
 use Rattle.key_ring.specs.Places.{leaf_bits}
 use Rattle.range_state.specs.Rows.{rows_of}
-use Rattle.range_state.specs.State.{State, IsRight, AreLeaves, all_dirty, bucket_of, leaf_in, has_node, place_of, text_in, is_current}
+use Rattle.range_state.specs.State.{State, IsRight, AreLeaves, all_dirty, bucket_of, leaf_in, has_tree_node, place_of, text_in, is_current}
 
 -- ---- nodes that are for a job
 
 -- the first node that is ready is the tree's, and is ready
-pub found_ready : (s : State) (node : NodeAt) (from : ℕ) (rest : List ℕ) → IsRight s → ready_from s.marks from ≡ place_of node ∷ rest → IsTrue (has_node s.config node) × IsTrue (is_ready s.marks (place_of node))
+pub found_ready : (s : State) (node : NodeAt) (from : ℕ) (rest : List ℕ) → IsRight s → ready_from s.marks from ≡ place_of node ∷ rest → IsTrue (has_tree_node s.config node) × IsTrue (is_ready s.marks (place_of node))
 found_ready s node from rest ok e =
     let found = ready_is s.marks from (place_of node) rest e in
     (le-leb node.depth (tree_depth s.config.format) (depth_within s.config.format node.depth node.index (omega (arith, found.2, ok.marks.tree.all))), found.0)
@@ -31,7 +31,7 @@ found_ready s node from rest ok e =
 abbrev pub Found : State → ℕ → Option NodeAt → Type 0
 Found s from o = MatchOption o (ready_from s.marks from ≡ []) (λ (node : NodeAt). ready_from s.marks from ≡ place_of node ∷ ready_from s.marks (place_of node + 1))
 
-pub found_has : (s : State) (from : ℕ) (o : Option NodeAt) → IsRight s → Found s from o → IfSome o (λ (node : NodeAt). IsTrue (has_node s.config node))
+pub found_has : (s : State) (from : ℕ) (o : Option NodeAt) → IsRight s → Found s from o → IfSome o (λ (node : NodeAt). IsTrue (has_tree_node s.config node))
 found_has s from None ok h = tt
 found_has s from (Some node) ok h = (found_ready s node from (ready_from s.marks (place_of node + 1)) ok h).0
 
@@ -81,24 +81,24 @@ pub leaf_current : (s : State) (leaves : List Bucket) (node : NodeAt) (text : Li
     → (IsTrue b ↔ (text ≡ leaf_text leaf.format leaf.rows)) → b ≡ is_current s node text
 leaf_current s leaves node text leaf b ok are deep is h =
     let now = (leaf_text_here s leaves node leaf are deep is).1 in
-    let has : has_node s.config node ≡ true = le-leb node.depth (tree_depth s.config.format) (omega (arith, deep)) in
+    let has : has_tree_node s.config node ≡ true = le-leb node.depth (tree_depth s.config.format) (omega (arith, deep)) in
     let clean : are_clean (children_of s.marks (place_of node)) ≡ true = ap are_clean (leaf_children s.config.format s.marks node.depth node.index deep ok.marks.tree.all) in
     rw (has, clean) (decided b text (text_in s node) (subst (λ (t : List ℕ). IsTrue b ↔ (text ≡ t)) now h))
 
 pub inner_current : (s : State) (node : NodeAt) (text : List ℕ) (ds : List (List ℕ)) (b : Bool) → IsRight s → node.depth < tree_depth s.config.format → children_of s.marks (place_of node) ≡ map Some ds
     → (IsTrue b ↔ (text ≡ inner_text s.config.format ds)) → b ≡ is_current s node text
 inner_current s node text ds b ok above children h =
-    let has : has_node s.config node ≡ true = le-leb node.depth (tree_depth s.config.format) (omega (arith, above)) in
+    let has : has_tree_node s.config node ≡ true = le-leb node.depth (tree_depth s.config.format) (omega (arith, above)) in
     let clean : are_clean (children_of s.marks (place_of node)) ≡ true = ap are_clean children ∙ clean_some ds in
     rw (has, clean) (decided b text (text_in s node) (subst (λ (t : List ℕ). IsTrue b ↔ (text ≡ t)) (inner_text_here s node ds ok above children) h))
 
 -- ---- after a digest was set
 
 -- what a current text means
-pub current_parts : (s : State) (node : NodeAt) (text : List ℕ) → IsTrue (is_current s node text) → IsTrue (has_node s.config node) × IsTrue (are_clean (children_of s.marks (place_of node))) × (text ≡ text_in s node)
+pub current_parts : (s : State) (node : NodeAt) (text : List ℕ) → IsTrue (is_current s node text) → IsTrue (has_tree_node s.config node) × IsTrue (are_clean (children_of s.marks (place_of node))) × (text ≡ text_in s node)
 current_parts s node text h =
-    let first = and_parts (has_node s.config node && are_clean (children_of s.marks (place_of node))) (pointwise nat_eq text (text_in s node)) h in
-    let two = and_parts (has_node s.config node) (are_clean (children_of s.marks (place_of node))) first.0 in
+    let first = and_parts (has_tree_node s.config node && are_clean (children_of s.marks (place_of node))) (pointwise nat_eq text (text_in s node)) h in
+    let two = and_parts (has_tree_node s.config node) (are_clean (children_of s.marks (place_of node))) first.0 in
     (two.0, two.1, (bytes_decides text (text_in s node)).0 first.1)
 
 pub cleaned_right : (s : State) (node : NodeAt) (text : List ℕ) (tree : Tree) → IsRight s → IsTrue (is_current s node text) → tree ≡ record { format = s.config.format; digests = set s.marks (place_of node) (Some (sha256 text)) } → IsTree tree
@@ -124,7 +124,7 @@ cleaned_right s node text tree ok current is valid =
 -- ---- digests that are shown
 
 -- a node that has a digest has that of its text
-pub digest_is : (s : State) (node : NodeAt) (o : Option (List ℕ)) → IsRight s → o ≡ digest_at s.marks (place_of node) → IfSome o (λ (d : List ℕ). d ≡ sha256 (text_in s node))
+pub digest_is : (s : State) (node : NodeAt) (o : Option (List ℕ)) → IsRight s → o ≡ kept_digest s.marks (place_of node) → IfSome o (λ (d : List ℕ). d ≡ sha256 (text_in s node))
 unfolding AreTrue
 digest_is s node None ok e = tt
 digest_is s node (Some d) ok e = elim (cases_lt (place_of node) (length s.marks)) [
@@ -135,7 +135,7 @@ digest_is s node (Some d) ok e = elim (cases_lt (place_of node) (length s.marks)
 ]
 
 -- no node of a new range has one
-pub all_dirty-at : (format : Format) (place : ℕ) → digest_at (all_dirty format) place ≡ None
+pub all_dirty-at : (format : Format) (place : ℕ) → kept_digest (all_dirty format) place ≡ None
 unfolding all_dirty
 all_dirty-at format place = elim (cases_lt place (node_count format)) [
   | inl within ↦ get_or-replicate (node_count format) place None None within

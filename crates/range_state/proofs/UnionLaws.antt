@@ -20,7 +20,7 @@ use Rattle.range_journal.specs.declared.journal.Source.TheVariants.{Partner}
 use Rattle.range_journal.specs.Journal.{held, accepted, versions_of}
 use Rattle.range_journal.proofs.JournalLaws.{Ascends-set_from, held-push}
 use Rattle.row_bytes.specs.declared.row.Row.{Row}
-use Rattle.hash_tree.specs.Leaves.{key_cmp, AscendByKey, rows_at, versions_in}
+use Rattle.hash_tree.specs.Leaves.{key_cmp, AscendByKey, rows_in_leaf, versions_in}
 use Rattle.hash_tree.proofs.KeyLaws.{key_exact, turned, less_rows}
 use Rattle.hash_tree.proofs.LeafLaws.{versions_in-rows_at}
 use Rattle.snapshot.specs.RowMaps.{RowMap, leaf_in}
@@ -231,7 +231,7 @@ for_rows key (r ∷ rows) a =
     ] refl
 
 -- a leaf that is not the key's offers nothing for it
-other_leaf : (leaf : List ℕ → ℕ) (i : ℕ) (key : List ℕ) (rows : List Row) → nat_eq i (leaf key) ≡ false → AllByRecursion (λ (r : Row). pointwise nat_eq r.key key ≡ false) (rows_at leaf i rows)
+other_leaf : (leaf : List ℕ → ℕ) (i : ℕ) (key : List ℕ) (rows : List Row) → nat_eq i (leaf key) ≡ false → AllByRecursion (λ (r : Row). pointwise nat_eq r.key key ≡ false) (rows_in_leaf leaf i rows)
 other_leaf leaf i key [] away = tt
 other_leaf leaf i key (r ∷ rows) away = by_leaf (nat_eq (leaf r.key) i) refl (other_leaf leaf i key rows away)
   where
@@ -242,18 +242,18 @@ other_leaf leaf i key (r ∷ rows) away = by_leaf (nat_eq (leaf r.key) i) refl (
         itself n = grind (arith, nat_tests)
     apart here false is = refl
 
-    by_leaf : (b : Bool) → nat_eq (leaf r.key) i ≡ b → AllByRecursion (λ (x : Row). pointwise nat_eq x.key key ≡ false) (rows_at leaf i rows) → AllByRecursion (λ (x : Row). pointwise nat_eq x.key key ≡ false) (cond b (r ∷ rows_at leaf i rows) (rows_at leaf i rows))
+    by_leaf : (b : Bool) → nat_eq (leaf r.key) i ≡ b → AllByRecursion (λ (x : Row). pointwise nat_eq x.key key ≡ false) (rows_in_leaf leaf i rows) → AllByRecursion (λ (x : Row). pointwise nat_eq x.key key ≡ false) (cond b (r ∷ rows_in_leaf leaf i rows) (rows_in_leaf leaf i rows))
     by_leaf true here all = (apart here (pointwise nat_eq r.key key) (bytes_eq-Decides r.key key), all)
     by_leaf false there all = all
 
-leaf_any : (p : Version → Bool) (leaf : List ℕ → ℕ) (i : ℕ) (key : List ℕ) (rows : List Row) → AscendByKey rows → list_any p (offers_for key (offers_of (rows_at leaf i rows))) ≡ (nat_eq i (leaf key) && list_any p (versions_in key rows))
+leaf_any : (p : Version → Bool) (leaf : List ℕ → ℕ) (i : ℕ) (key : List ℕ) (rows : List Row) → AscendByKey rows → list_any p (offers_for key (offers_of (rows_in_leaf leaf i rows))) ≡ (nat_eq i (leaf key) && list_any p (versions_in key rows))
 leaf_any p leaf i key rows a = elim (cases_Bool (nat_eq i (leaf key))) [
   | inl here ↦
-      ap (λ (n : ℕ). list_any p (offers_for key (offers_of (rows_at leaf n rows)))) (eqb-true i (leaf key) here)
-      ∙ ap (list_any p) (for_rows key (rows_at leaf (leaf key) rows) (Pairwise-filter (λ (r x : Row). key_cmp r.key x.key ≡ Less) _ rows a) ∙ versions_in-rows_at leaf key rows a)
+      ap (λ (n : ℕ). list_any p (offers_for key (offers_of (rows_in_leaf leaf n rows)))) (eqb-true i (leaf key) here)
+      ∙ ap (list_any p) (for_rows key (rows_in_leaf leaf (leaf key) rows) (Pairwise-filter (λ (r x : Row). key_cmp r.key x.key ≡ Less) _ rows a) ∙ versions_in-rows_at leaf key rows a)
       ∙ sym (ap (λ b. b && list_any p (versions_in key rows)) here)
   | inr away ↦
-      ap (list_any p) (none_of key (rows_at leaf i rows) (other_leaf leaf i key rows away))
+      ap (list_any p) (none_of key (rows_in_leaf leaf i rows) (other_leaf leaf i key rows away))
       ∙ sym (ap (λ b. b && list_any p (versions_in key rows)) away)
 ]
 

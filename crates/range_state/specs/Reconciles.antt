@@ -5,7 +5,7 @@ use Rattle.vclock.specs.Outcome.{gives}
 use Rattle.vclock.specs.declared.refusal.Refusal.{Refusal}
 use Rattle.vclock.specs.declared.refusal.Refusal.TheVariants.{NoMemory}
 use Rattle.range_journal.specs.Journal.{held}
-use Rattle.hash_tree.specs.Nodes.{digest_at}
+use Rattle.hash_tree.specs.Nodes.{kept_digest}
 use Rattle.snapshot.specs.RowMaps.{RowMap}
 use Rattle.sync_session.specs.TreeNodes.{Node}
 use Rattle.sync_session.specs.Differing.{differ}
@@ -96,4 +96,4 @@ HoldBoth a b new_a new_b =
 abbrev pub HaveEqualRoots : State → State → Type 0
 HaveEqualRoots a b =
     (x y : State) → IsSameRange a x → IsSameRange b y → IsRight x → IsRight y
-    → dirty_fault x ≡ None → dirty_fault y ≡ None → digest_at x.marks 0 ≡ digest_at y.marks 0
+    → dirty_fault x ≡ None → dirty_fault y ≡ None → kept_digest x.marks 0 ≡ kept_digest y.marks 0

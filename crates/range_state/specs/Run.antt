@@ -25,7 +25,7 @@ use Rattle.range_state.specs.declared.event.Reply.TheVariants as replies
 use Rattle.range_state.specs.State.{State, IsRight, GivesJob, ask_fault, put, accept, install, rows_now, dirty_fault}
 use Rattle.range_state.specs.Sessions.{open_session, cancel_session, TakesAnswer}
 use Rattle.range_state.specs.Migrates.{migrate}
-use Rattle.sync_session.specs.TreeNodes.{node_of}
+use Rattle.sync_session.specs.TreeNodes.{as_node}
 use Rattle.rehash.specs.Jobs.{NodeText}
 use Rattle.snapshot.specs.RowMaps.{RowMap}
 
@@ -59,7 +59,7 @@ OpenStep s o r t = Does r s t (open_session s o.partner o.offer)
 
 -- a partner's text was taken or refused
 abbrev pub TakeAnswerStep : State → AnswerEvent → Result AnswerTaken Refusal → State → Type 0
-TakeAnswerStep s a r t = TakesAnswer s a.seat a.id (record { node = node_of a.node; text = a.text }) r t
+TakeAnswerStep s a r t = TakesAnswer s a.seat a.id (record { node = as_node a.node; text = a.text }) r t
 
 -- a session is cancelled
 abbrev pub CancelStep : State → ℕ → Result ⊤ Refusal → State → Type 0

@@ -2,7 +2,7 @@
 use Rattle.std.specs.Prelude.{◌≡◌, ◌⊎◌, ℕ, ◌+◌, ◌<◌, nat_le, ◌==◌, ◌||◌, ◌++◌, List, [], ◌∷◌, length, slice_get, map, slice_set, Option, Some, None, Result, Ok, Err, if◌then◌else◌}
 use Rattle.std.specs.List.{filter, flat_map}
 use Rattle.vclock.specs.Answer.{first_fault}
-use Rattle.vclock.specs.Format.{number_of}
+use Rattle.vclock.specs.Format.{format_number}
 use Rattle.vclock.specs.Outcome.{Outcome, gives, refuses, ◌>>◌}
 use Rattle.vclock.specs.declared.refusal.Refusal.{Refusal}
 use Rattle.vclock.specs.declared.refusal.Refusal.TheVariants as refusals
@@ -13,7 +13,7 @@ use Rattle.range_journal.specs.Journal.{held}
 use Rattle.row_bytes.specs.declared.row.Row.{Row}
 use Rattle.hash_tree.specs.Nodes.{tree_depth}
 use Rattle.walk_messages.specs.declared.message.Offer.{Offer}
-use Rattle.sync_session.specs.Readings.{AreNews}
+use Rattle.sync_session.specs.Readings.{AreOthers}
 use Rattle.sync_session.specs.declared.news.News.{News}
 use Rattle.sync_session.specs.Steps.{started, after, failed, cancelled_by, IsDue, IsTakeFault}
 use Rattle.sync_session.specs.Walks.{TakenText, Walk, AreSpelled, IsInnerText}
@@ -28,7 +28,7 @@ use Rattle.range_state.specs.State.{State, rows_now, dirty_fault, accept_step}
 
 -- the fault of an offer that is not for this range
 abbrev pub foreign_fault : Config → Offer → Option Refusal
-foreign_fault c offer = if offer.format == number_of c.format then (if offer.range == c.range then None else Some refusals.OtherRange) else Some refusals.OtherFormat
+foreign_fault c offer = if offer.format == format_number c.format then (if offer.range == c.range then None else Some refusals.OtherRange) else Some refusals.OtherFormat
 
 -- the state of each session
 abbrev pub standings : List Record → List SessionState
@@ -116,7 +116,7 @@ pub record IsLeafRead (s : State) (r : Record) (t : TakenText) (rows : List Row)
 pub record IsNewsRead (s : State) (r : Record) (t : TakenText) (news : News) : Type 0 where
   pub rows : List Row
   pub read : IsLeafRead s r t rows
-  pub parted : AreNews r.session.own.rows rows news.rows.items news.known
+  pub parted : AreOthers r.session.own.rows rows news.rows.items news.known
 
 -- an inner node has no versions, and only the session changes
 pub record TakesInner (s : State) (id : ℕ) (r : Record) (t : TakenText) (a : AnswerTaken) (new : State) : Type 0 where

@@ -22,7 +22,7 @@ use Rattle.range_journal.specs.Journal.{accepted, held, AreNews, NeverCrowded}
 use Rattle.key_ring.specs.Places.{range_at, leaf_at, leaf_bits}
 use Rattle.row_bytes.specs.Rows.{IsRow, AreRows}
 use Rattle.row_bytes.specs.declared.row.Row.{Row}
-use Rattle.hash_tree.specs.Leaves.{Bucket, rows_at}
+use Rattle.hash_tree.specs.Leaves.{Bucket, rows_in_leaf}
 use Rattle.hash_tree.specs.Nodes.{Tree, tree_depth, node_count, place_at, children_of, are_clean, is_ready, ready_from, dirtied}
 use Rattle.hash_tree.specs.Texts.{node_text, leaf_text, IsTreeFor}
 use Rattle.hash_tree.specs.declared.node.NodeAt.{NodeAt}
@@ -125,8 +125,8 @@ put s seat at key context kind value = do
   admit s (put_entry s seat at key context kind value)
 
 -- the range's tree has a node
-abbrev pub has_node : Config → NodeAt → Bool
-has_node c node = nat_le node.depth (tree_depth c.format)
+abbrev pub has_tree_node : Config → NodeAt → Bool
+has_tree_node c node = nat_le node.depth (tree_depth c.format)
 
 -- the place of a node
 abbrev pub place_of : NodeAt → ℕ
@@ -138,7 +138,7 @@ text_in s node = node_text s.config.format (leaf_in s.config) (rows_of s.entries
 
 -- a job: a dirty node with clean children, and its text
 pub record IsJob (s : State) (job : NodeText) : Type 0 where
-  pub has : IsTrue (has_node s.config job.node)
+  pub has : IsTrue (has_tree_node s.config job.node)
   pub ready : IsTrue (is_ready s.marks (place_of job.node))
   pub text : job.text ≡ text_in s job.node
 
@@ -154,7 +154,7 @@ pub record AreJobs (s : State) (most : ℕ) (jobs : List NodeText) : Type 0 wher
 
 -- a node's digest can be that of a text: the tree has the node, its children are clean, and it has that text now
 abbrev pub is_current : State → NodeAt → List ℕ → Bool
-is_current s node text = has_node s.config node && are_clean (children_of s.marks (place_of node)) && pointwise nat_eq text (text_in s node)
+is_current s node text = has_tree_node s.config node && are_clean (children_of s.marks (place_of node)) && pointwise nat_eq text (text_in s node)
 
 -- the state with the digest of a text
 abbrev pub installed : State → NodeAt → List ℕ → State
@@ -216,7 +216,7 @@ pub record IsRight (s : State) : Type 0 where
 
 -- the rows of a leaf
 abbrev pub bucket_of : Config → List Entry → ℕ → Bucket
-bucket_of c entries leaf = record { format = c.format; rows = rows_at (leaf_in c) leaf (rows_of entries) }
+bucket_of c entries leaf = record { format = c.format; rows = rows_in_leaf (leaf_in c) leaf (rows_of entries) }
 
 -- the leaves have the journal's rows, each row in its leaf
 pub record AreLeaves (c : Config) (entries : List Entry) (leaves : List Bucket) : Type 0 where

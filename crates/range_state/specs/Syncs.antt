@@ -4,11 +4,11 @@ use Rattle.std.specs.List.{filter}
 use Rattle.vclock.specs.declared.refusal.Refusal.{Refusal}
 use Rattle.vclock.specs.declared.format.Format.{Format}
 use Rattle.version_set.specs.declared.version.Version.{Version}
-use Rattle.hash_tree.specs.Leaves.{rows_at}
+use Rattle.hash_tree.specs.Leaves.{rows_in_leaf}
 use Rattle.hash_tree.specs.Nodes.{tree_depth}
 use Rattle.snapshot.specs.RowMaps.{RowMap, leaf_in, root_of}
 use Rattle.hash_tree.specs.declared.node.NodeAt.{NodeAt}
-use Rattle.sync_session.specs.TreeNodes.{Node, node_of}
+use Rattle.sync_session.specs.TreeNodes.{Node, as_node}
 use Rattle.sync_session.specs.Differing.{differ, nodes_of, IsHonest}
 use Rattle.sync_session.specs.Steps.{state_by}
 use Rattle.sync_session.specs.declared.state.SessionState.{SessionState}
@@ -35,7 +35,7 @@ leaves_between own other = leaves_in own.format (differ own other)
 
 -- the versions of the partner's rows in a leaf, with their keys
 abbrev pub offers_at : RowMap → Node → List (List ℕ × Version)
-offers_at other n = offers_of (rows_at (leaf_in other) n.index other.rows)
+offers_at other n = offers_of (rows_in_leaf (leaf_in other) n.index other.rows)
 
 -- the progress of a session: the state then, the number of versions that were known already, and the refusal of a leaf,
 -- if any
@@ -112,4 +112,4 @@ pub record IsPartWay (s : State) (seat partner : ℕ) (other : RowMap) (new : St
 -- the first of some nodes, if any
 abbrev pub IsFirstOf : List Node → Option NodeAt → Type 0
 IsFirstOf nodes None = nodes ≡ []
-IsFirstOf nodes (Some n) = (rest : List Node) × (nodes ≡ node_of n ∷ rest)
+IsFirstOf nodes (Some n) = (rest : List Node) × (nodes ≡ as_node n ∷ rest)

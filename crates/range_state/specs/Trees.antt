@@ -1,7 +1,7 @@
 -- A range whose tree was rehashed: the paper of 2007, section 4.7.
 use Rattle.std.specs.Prelude.{◌≡◌, ℕ, zero, suc, ◌^◌, ◌++◌, Option, Some, List, map}
 use Rattle.std.specs.List.{range_with_len}
-use Rattle.hash_tree.specs.Nodes.{tree_depth, digest_at}
+use Rattle.hash_tree.specs.Nodes.{tree_depth, kept_digest}
 use Rattle.hash_tree.specs.Texts.{node_digest}
 use Rattle.range_state.specs.Rows.{rows_of}
 use Rattle.range_state.specs.State.{State, leaf_in}
@@ -24,4 +24,4 @@ pub record IsSameRange (s t : State) : Type 0 where
   pub config : t.config ≡ s.config
   pub entries : t.entries ≡ s.entries
   pub records : t.records ≡ s.records
-  pub kept : (place : ℕ) (d : List ℕ) → digest_at s.marks place ≡ Some d → digest_at t.marks place ≡ Some d
+  pub kept : (place : ℕ) (d : List ℕ) → kept_digest s.marks place ≡ Some d → kept_digest t.marks place ≡ Some d

@@ -5,20 +5,20 @@ ghost use Rattle.range_journal.specs.declared.journal.Entry.{Entry};
 ghost use Rattle.range_journal.specs.Journal.{held};
 ghost use Rattle.row_bytes.specs.declared.row.Row.{Row};
 ghost use Rattle.hash_tree.specs.Leaves.{AscendByKey};
-ghost use Rattle.hash_tree.specs.Nodes.{digest_at};
+ghost use Rattle.hash_tree.specs.Nodes.{kept_digest};
 ghost use Rattle.range_journal.specs.declared.journal.Source.TheVariants.{Partner};
 ghost use Rattle.snapshot.specs.RowMaps.{RowMap};
-ghost use Rattle.sync_session.specs.TreeNodes.{Node, has_node, text_of};
+ghost use Rattle.sync_session.specs.TreeNodes.{Node, contains_node, text_of};
 ghost use Rattle.sync_session.specs.Walks.{Held, IsCanonical, IsRightlyTaken, NoTwoShareADigest, IsPartners};
 ghost use Rattle.sync_session.specs.Steps.{IsDue};
-ghost use Rattle.sync_session.specs.Differing.{differ, times, IsHonest, IsNearlyDone, IsInTurn, Ascends};
+ghost use Rattle.sync_session.specs.Differing.{differ, times, IsHonest, IsNearlyDone, IsInTurn, AscendByPlace};
 ghost use Rattle.sync_session.specs.declared.state.SessionState.TheVariants.{Open, Finished};
 ghost use Rattle.range_state.specs.declared.«record».Record.{Record};
 ghost use Rattle.range_state.specs.Records.{IsOver};
 ghost use Rattle.range_state.specs.Rows.{rows_of};
 ghost use Rattle.range_state.specs.Unions.{union_of, offered_all};
 ghost use Rattle.version_set.specs.declared.version.Version.{Version};
-ghost use Rattle.version_set.specs.Version.{maximal, Ascends as AscendsByText};
+ghost use Rattle.version_set.specs.Version.{maximal, AscendByPlace as AscendsByText};
 ghost use Rattle.range_state.specs.State.{State, IsRight, IsFromPartner, rows_now, dirty_fault};
 ghost use Rattle.range_state.specs.Syncs.{IsOfRange, synced};
 
@@ -67,17 +67,17 @@ pub fn sessions_ask_where_the_trees_differ()
     ensures once { (s : State) → IsRight s → (r : Record) → Contains s.records r
         → (n : Node) → times n r.session.asked ≤ 1 }
     ensures ordered { (s : State) → IsRight s → (r : Record) → Contains s.records r
-        → IsInTurn r.session → Ascends r.session.asked }
+        → IsInTurn r.session → AscendByPlace r.session.asked }
     ensures only { (s : State) → IsRight s → (r : Record) → Contains s.records r
         → (other : RowMap) → IsPartners r.session other → IsHonest r.session other
-        → (n : Node) → has_node n r.session.asked ≡ true → has_node n (differ r.session.own other) ≡ true }
+        → (n : Node) → contains_node n r.session.asked ≡ true → contains_node n (differ r.session.own other) ≡ true }
     ensures due { (s : State) → IsRight s → (r : Record) → Contains s.records r
         → (other : RowMap) → IsPartners r.session other → IsHonest r.session other
-        → (n : Node) → has_node n r.session.outstanding ≡ true
+        → (n : Node) → contains_node n r.session.outstanding ≡ true
         → IsDue r.session (record { node = n; text = text_of other n }) × IsCanonical r.session.own n (text_of other n) }
     ensures all { (s : State) → IsRight s → (r : Record) → Contains s.records r → ¬ IsOver r.session
         → (other : RowMap) → IsPartners r.session other → IsHonest r.session other → IsNearlyDone r.session
-        → (n : Node) → has_node n (differ r.session.own other) ≡ true → has_node n r.session.asked ≡ true }
+        → (n : Node) → contains_node n (differ r.session.own other) ≡ true → contains_node n r.session.asked ≡ true }
     ensures done { (s : State) → IsRight s → (r : Record) → Contains s.records r → r.session.state ≡ Finished
         → (¬ IsOver r.session) × IsNearlyDone r.session }
     ensures ended { (s : State) → IsRight s → (r : Record) → Contains s.records r
@@ -111,5 +111,5 @@ pub fn ranges_that_hold_the_same_have_equal_roots()
         → ((key : List ℕ) → held a.entries key ≡ held b.entries key) → rows_now a ≡ rows_now b }
     ensures roots { (a b : State) → IsRight a → IsRight b → IsOfRange a.config (rows_now b)
         → ((key : List ℕ) → held a.entries key ≡ held b.entries key) → dirty_fault a ≡ None → dirty_fault b ≡ None
-        → digest_at a.marks 0 ≡ digest_at b.marks 0 }
+        → kept_digest a.marks 0 ≡ kept_digest b.marks 0 }
 {}

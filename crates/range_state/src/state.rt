@@ -9,7 +9,7 @@ ghost use Rattle.version_set.specs.Version.{covered, offer_fault};
 ghost use Rattle.range_journal.specs.Journal.{held};
 ghost use Rattle.range_journal.specs.declared.journal.Source.{Source};
 ghost use Rattle.key_ring.specs.Places.{leaf_bits};
-ghost use Rattle.hash_tree.specs.Leaves.{rows_at};
+ghost use Rattle.hash_tree.specs.Leaves.{rows_in_leaf};
 ghost use Rattle.range_state.specs.State.{is_sent, IsRight, fresh, leaf_in, leaf_count, place_fault, ask_fault, stale_fault, full_fault, entry_of, put_version, knows, admit, accept, put};
 ghost use Rattle.range_state.specs.Rows.{rows_of};
 ghost use Rattle.range_state.specs.Fitting.{IsFitting, made_fault, sent_fault};
@@ -110,7 +110,7 @@ impl RangeState {
     /// The rows of a leaf, in ascending order of key, and their text. Doesn't allocate.
     pub fn rows(&self, leaf: u16) -> &SharedLeaf
         requires { leaf < leaf_count self.now.config }
-        ensures { result.now ≡ record { format = self.now.config.format; rows = rows_at (leaf_in self.now.config) leaf (rows_of self.now.entries) } }
+        ensures { result.now ≡ record { format = self.now.config.format; rows = rows_in_leaf (leaf_in self.now.config) leaf (rows_of self.now.entries) } }
     {
         &self.leaves[usize::from(leaf)]
     }

@@ -3,7 +3,7 @@ ghost use Rattle.std.specs.Prelude.{◌≡◌, None};
 ghost use Rattle.vclock.specs.Answer.{Answers};
 ghost use Rattle.hash_tree.specs.Texts.{leaf_text, inner_text};
 
-use crate::source::Source;
+use crate::source::TextSource;
 use hash_tree::{Digest, Hashed, INNER_LEN, NodeAt, SharedLeaf, Text, hash, put_inner_text};
 use std::alloc::Global;
 use std::marker::Model;
@@ -20,7 +20,7 @@ use vclock::{Format, Refusal};
 #[derive(Debug, Drop)]
 pub struct Job {
     node: NodeAt,
-    source: Source,
+    source: TextSource,
     room: Vec<u8>,
 }
 
@@ -46,7 +46,7 @@ impl Job {
         };
         Ok(Job {
             node,
-            source: Source::Leaf(leaf),
+            source: TextSource::Leaf(leaf),
             room: Vec::with_capacity(alloc, len)?,
         })
     }
@@ -62,7 +62,7 @@ impl Job {
     {
         Ok(Job {
             node,
-            source: Source::Children(format, digests),
+            source: TextSource::Children(format, digests),
             room: Vec::with_capacity(alloc, INNER_LEN)?,
         })
     }
@@ -85,8 +85,8 @@ impl Job {
     {
         let mut text = self.room;
         match &self.source {
-            Source::Leaf(leaf) => leaf.put_text(&mut text).unwrap(),
-            Source::Children(format, digests) => {
+            TextSource::Leaf(leaf) => leaf.put_text(&mut text).unwrap(),
+            TextSource::Children(format, digests) => {
                 put_inner_text(&mut text, *format, digests).unwrap()
             }
         }

@@ -4,7 +4,7 @@ use vclock::Format;
 
 /// The source of a node's text.
 #[derive(Debug, Drop)]
-pub(crate) enum Source {
+pub(crate) enum TextSource {
     /// A leaf, shared when the job was made.
     Leaf(SharedLeaf),
     /// The digests of the node's children.

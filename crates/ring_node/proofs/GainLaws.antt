@@ -8,7 +8,7 @@ use Rattle.version_set.specs.declared.version.Version.{Version}
 use Rattle.caller_pass.specs.Passes.{PassView}
 use Rattle.range_state.specs.declared.event.Accepted.{Accepted}
 use Rattle.range_state.specs.declared.event.Accepted.TheVariants.{Taken}
-use Rattle.ring_node.specs.Passes.{IsReceiptOf, IsToldOf, IsSent}
+use Rattle.ring_node.specs.Passes.{IsReceiptOf, HasReceiptOf, IsSent}
 use Rattle.ring_node.specs.Gains.{IsGain, Gains, GainsSome}
 
 -- nothing
@@ -28,7 +28,7 @@ pub gains_same : (p q : PassView) (source : Source) → q ≡ p → Gains p q so
 gains_same p q source same = subst (λ (x : PassView). Gains p x source 0) (sym same) (gains_none p source)
 
 -- one entry
-gains_one : (p q : PassView) (source : Source) (key : List ℕ) (v : Version) (e : Entry) → IsReceiptOf p.seat source key v e → IsToldOf p q e → Gains p q source 1
+gains_one : (p q : PassView) (source : Source) (key : List ℕ) (v : Version) (e : Entry) → IsReceiptOf p.seat source key v e → HasReceiptOf p q e → Gains p q source 1
 gains_one p q source key v e is told = record {
   gained = e ∷ [];
   count = refl;
@@ -43,7 +43,7 @@ gains_one p q source key v e is told = record {
 -- a version of another node that was taken
 pub gains_taken : (p q : PassView) (source : Source) (key : List ℕ) (v : Version) (a : Accepted) (e : Entry) → a ≡ Taken e → IsSent p source key v q a → Gains p q source 1
 gains_taken p q source key v a e is sent =
-    let both : IsReceiptOf p.seat source key v e × IsToldOf p q e = subst (IsSent p source key v q) is sent in
+    let both : IsReceiptOf p.seat source key v e × HasReceiptOf p q e = subst (IsSent p source key v q) is sent in
     gains_one p q source key v e both.0 both.1
 
 pub still : (seat other : ℕ) (source : Source) (seen more : ℕ) (es : List Entry) → seat ≡ other → seen ≤ more → AllByRecursion (IsGain seat source seen) es → AllByRecursion (IsGain other source more) es

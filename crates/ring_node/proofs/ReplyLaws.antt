@@ -12,8 +12,8 @@ use Rattle.walk_messages.specs.declared.message.Message.TheVariants as messages
 use Rattle.ring_node.specs.Moments.{FoundAtSomeMoment}
 use Rattle.ring_node.specs.Offers.{Offered, AreOffers, kept_under, text_fault, serve_fault, IsAnswerIn}
 use Rattle.ring_node.specs.Replies.{RepliesAsk, IsEncoded, IsGoneIn}
-use Rattle.ring_node.specs.declared.server.Reply.{Reply}
-use Rattle.ring_node.specs.declared.server.Reply.TheVariants.{Bytes, Gone, Refused}
+use Rattle.ring_node.specs.declared.server.ServerReply.{ServerReply}
+use Rattle.ring_node.specs.declared.server.ServerReply.TheVariants.{Bytes, Gone, Refused}
 use Rattle.ring_node.proofs.CauseLaws.{where_fails}
 
 -- an ask is too deep for the tree that was offered
@@ -24,7 +24,7 @@ too_deep o p node is deep = rw is (grind (arith, nat_tests))
 abbrev pub Served : Ask → Answer → Type 0
 Served ask a = FoundAtSomeMoment AreOffers (λ o. Answers (Ok a) (serve_fault o ask) (IsAnswerIn o ask))
 
-pub replied : (asked : List ℕ) (ask : Ask) (a : Answer) (r : Reply) → message_text (messages.Ask ask) ≡ asked → Served ask a → IsEncoded (messages.Answer a) r → RepliesAsk asked r
+pub replied : (asked : List ℕ) (ask : Ask) (a : Answer) (r : ServerReply) → message_text (messages.Ask ask) ≡ asked → Served ask a → IsEncoded (messages.Answer a) r → RepliesAsk asked r
 replied asked ask a (Bytes bytes) asks served says = record {
   state = served.state;
   right = served.right;

@@ -21,7 +21,7 @@ use Rattle.range_state.specs.State.{State, place_fault, ask_fault, full_fault, s
 use Rattle.range_state.proofs.StateLaws.{first_none, later_none}
 use Rattle.caller_pass.specs.Passes.{PassView, with_receipts}
 use Rattle.caller_pass.specs.Locks.{Locked, told, put_in, accept_in, after_sent, missing_fault}
-use Rattle.ring_node.specs.Passes.{IsReceiptOf, IsToldOf, IsSent, IsPutRefusal, IsSentRefusal, IsRead, IsBehind}
+use Rattle.ring_node.specs.Passes.{IsReceiptOf, HasReceiptOf, IsSent, IsPutRefusal, IsSentRefusal, IsReading, IsBehind}
 use Rattle.ring_node.proofs.OutcomeLaws.{given, refused, first_cause}
 use Rattle.ring_node.proofs.CauseLaws.{of_key, of_value, of_range, place_cause, clock_cause, crowd_cause, where_holds, where_fails}
 
@@ -41,7 +41,7 @@ admitted l p x e s number is =
 -- what a put told
 pub record PutTold (p q : PassView) (at : ℕ) (key : List ℕ) (context : Pairs) (kind : Kind) (value : List ℕ) (e : Entry) : Type 0 where
   pub receipt : IsReceiptOf p.seat Client key (put_version at context kind value) e
-  pub told_of : IsToldOf p q e
+  pub told_of : HasReceiptOf p q e
   pub fits : (key_fault key ≡ None) × (raise_fault context at ≡ None)
 
 put_told : (l m : Locked) (p q : PassView) (at : ℕ) (key : List ℕ) (context : Pairs) (kind : Kind) (value : List ℕ) (e : Entry) → put_in l p at key context kind value ≡ gives e (m, q) → PutTold p q at key context kind value e
@@ -104,7 +104,7 @@ put_refused l p at key context kind value e is =
 -- what a put says of pass and result
 pub record PutTells (p q : PassView) (at : ℕ) (key : List ℕ) (context : Pairs) (kind : Kind) (value : List ℕ) (r : Result Entry Refusal) : Type 0 where
   pub receipt : IfOk r (IsReceiptOf p.seat Client key (put_version at context kind value))
-  pub told_of : IfOk r (IsToldOf p q)
+  pub told_of : IfOk r (HasReceiptOf p q)
   pub fits : OnOk r ((key_fault key ≡ None) × (raise_fault context at ≡ None))
   pub refusal : IfErr r (IsPutRefusal at key context kind value)
   pub same : OnErr r (q ≡ p)
@@ -135,7 +135,7 @@ put_tells l m p q at key context kind value (Err e) does early =
 
 -- news that came
 news_told : (l : Locked) (p q : PassView) (source : Source) (key : List ℕ) (v : Version) (e : Entry) (s : State) (known : Bool) → cond known (gives Known l.state) (offer_fault v (held l.state.entries key) >> (admit l.state (entry_of l.state p.seat source key v) >>= (λ taken. gives (Taken taken.0) taken.1))) ≡ gives (Taken e) s
-    → q ≡ (told l p s (e ∷ [])).1 → IsReceiptOf p.seat source key v e × IsToldOf p q e
+    → q ≡ (told l p s (e ∷ [])).1 → IsReceiptOf p.seat source key v e × HasReceiptOf p q e
 news_told l p q source key v e s true is pass = absurd (let no : Known ≡ Taken e = cc in cc)
 news_told l p q source key v e s false is pass =
     let crowd = passed (offer_fault v (held l.state.entries key)) _ (Taken e) s is in
@@ -233,7 +233,7 @@ sent_tells l m p q source key v (Err e) does =
 
 -- what a read says of pass and result
 pub record ReadTells (p q : PassView) (key : List ℕ) (r : Result (List Version) Refusal) : Type 0 where
-  pub reading : IfOk r (IsRead p key q)
+  pub reading : IfOk r (IsReading p key q)
   pub behind : IfErr r (IsBehind p key)
   pub same : OnErr r (q ≡ p)
 

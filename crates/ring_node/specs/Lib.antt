@@ -2,7 +2,7 @@ pub mod Moments
 pub mod Passes
 pub mod Reports
 pub mod Gains
-pub mod Answered
+pub mod HintOutcomes
 pub mod Offers
 pub mod Links
 pub mod Replies

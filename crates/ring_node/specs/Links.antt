@@ -6,10 +6,10 @@ use Rattle.ring_node.specs.declared.link.Reached.{Reached}
 use Rattle.ring_node.specs.declared.link.Reached.TheVariants.{Bytes, Lost, Gone}
 
 -- the count rose if the call was lost, and is unchanged otherwise
-abbrev pub IsCounted : ℕ → ℕ → Reached → Type 0
-IsCounted before after Lost = before < after
-IsCounted before after (Bytes bytes) = after ≡ before
-IsCounted before after Gone = after ≡ before
+abbrev pub CountsLosses : ℕ → ℕ → Reached → Type 0
+CountsLosses before after Lost = before < after
+CountsLosses before after (Bytes bytes) = after ≡ before
+CountsLosses before after Gone = after ≡ before
 
 -- a call that asked a link is refused as LinkLost if and only if the count rose, and otherwise the count is unchanged
 abbrev pub IsLostExactly : {T : Type 0} → ℕ → ℕ → Result T Refusal → Type 0

@@ -3,7 +3,7 @@
 use Rattle.std.specs.Prelude.{◌≡◌, ℕ, ◌+◌, ◌-◌, ◌≤◌, ◌^◌, nat_lt, ◌==◌, List, [], ◌∷◌, ◌++◌, length, drop, find, slice_get, Option, Some, None, MatchOption, if◌then◌else◌}
 use Rattle.std.specs.List.{AllByRecursion}
 use Rattle.std.specs.Option.{option_map}
-use Rattle.vclock.specs.Format.{number_of}
+use Rattle.vclock.specs.Format.{format_number}
 use Rattle.vclock.specs.Outcome.{Outcome, gives, ◌>>◌}
 use Rattle.vclock.specs.declared.refusal.Refusal.{Refusal}
 use Rattle.vclock.specs.declared.refusal.Refusal.TheVariants.{SessionsFull, Gone}
@@ -35,7 +35,7 @@ unpublished = record { last = 0; kept = [] }
 
 -- the offer of some rows
 abbrev pub offer_of : Offered → Offer
-offer_of p = record { offer = p.number; format = number_of p.rows.format; range = p.rows.range; root = root_of p.rows }
+offer_of p = record { offer = p.number; format = format_number p.rows.format; range = p.rows.range; root = root_of p.rows }
 
 -- the fault if nothing can be published: the last number was used
 abbrev pub number_fault : Offers → Option Refusal

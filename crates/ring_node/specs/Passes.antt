@@ -24,12 +24,12 @@ pub record IsReceiptOf (seat : ℕ) (source : Source) (key : List ℕ) (version 
   pub version_is : e.version ≡ version
 
 -- the pass got the receipt of that entry alone, and has seen the journal up to it
-abbrev pub IsToldOf : PassView → PassView → Entry → Type 0
-IsToldOf p q e = q ≡ with_receipts p (e.number + 1) (e ∷ [])
+abbrev pub HasReceiptOf : PassView → PassView → Entry → Type 0
+HasReceiptOf p q e = q ≡ with_receipts p (e.number + 1) (e ∷ [])
 
 -- the pass got the receipt of a version that was accepted, and is unchanged if the version was known
 abbrev pub IsSent : PassView → Source → List ℕ → Version → PassView → Accepted → Type 0
-IsSent p source key version q (Taken e) = IsReceiptOf p.seat source key version e × IsToldOf p q e
+IsSent p source key version q (Taken e) = IsReceiptOf p.seat source key version e × HasReceiptOf p q e
 IsSent p source key version q Known = q ≡ p
 
 -- some format refuses a value of that kind
@@ -62,7 +62,7 @@ IsSentRefusal key v _ = ⊥
 
 -- The pass has one more reading, of these versions of the key: they cover each receipt of the pass for it, and are
 -- those of a journal that is at least as long as the part that it had seen.
-pub record IsRead (p : PassView) (key : List ℕ) (q : PassView) (versions : List Version) : Type 0 where
+pub record IsReading (p : PassView) (key : List ℕ) (q : PassView) (versions : List Version) : Type 0 where
   pub journal : ℕ
   pub seen : p.seen ≤ journal
   pub covers : first_missing p.receipts key versions ≡ None

@@ -7,17 +7,17 @@ use Rattle.walk_messages.specs.declared.message.Message.{Message}
 use Rattle.walk_messages.specs.declared.message.Message.TheVariants as messages
 use Rattle.ring_node.specs.Moments.{FoundAtSomeMoment}
 use Rattle.ring_node.specs.Offers.{Offers, AreOffers, latest, kept_under, IsAnswerIn}
-use Rattle.ring_node.specs.declared.server.Reply.{Reply}
-use Rattle.ring_node.specs.declared.server.Reply.TheVariants.{Bytes, Gone, Refused}
+use Rattle.ring_node.specs.declared.server.ServerReply.{ServerReply}
+use Rattle.ring_node.specs.declared.server.ServerReply.TheVariants.{Bytes, Gone, Refused}
 
 -- the message of the newest offer, or Gone if there is no offer
-abbrev pub RepliesOffer : Reply → Type 0
+abbrev pub RepliesOffer : ServerReply → Type 0
 RepliesOffer (Bytes bytes) = FoundAtSomeMoment AreOffers (λ o. MatchOption (latest o) ⊥ (λ offer. bytes.items ≡ message_text (messages.Offer offer)))
 RepliesOffer Gone = FoundAtSomeMoment AreOffers (λ o. latest o ≡ None)
 RepliesOffer Refused = Unit {0}
 
 -- the bytes of a message, or a refusal
-abbrev pub IsEncoded : Message → Reply → Type 0
+abbrev pub IsEncoded : Message → ServerReply → Type 0
 IsEncoded message (Bytes bytes) = bytes.items ≡ message_text message
 IsEncoded message Gone = ⊥
 IsEncoded message Refused = Unit {0}
@@ -37,7 +37,7 @@ pub record IsGoneIn (o : Offers) (asked : List ℕ) : Type 0 where
   pub gone : kept_under o ask.offer ≡ None
 
 -- the message that answers an ask, or Gone if the offer is not kept
-abbrev pub RepliesAsk : List ℕ → Reply → Type 0
+abbrev pub RepliesAsk : List ℕ → ServerReply → Type 0
 RepliesAsk asked (Bytes bytes) = FoundAtSomeMoment AreOffers (λ o. IsReplyIn o asked bytes.items)
 RepliesAsk asked Gone = FoundAtSomeMoment AreOffers (λ o. IsGoneIn o asked)
 RepliesAsk asked Refused = Unit {0}

@@ -1,10 +1,10 @@
 //! Links over channels, and the servers at their other ends.
 ghost use Rattle.std.specs.Prelude.{◌≡◌, IfOk, IfErr};
-ghost use Rattle.ring_node.specs.Links.{IsCounted};
+ghost use Rattle.ring_node.specs.Links.{CountsLosses};
 
 use crate::link::{Link, Reached, lose};
 use crate::offers::OfferPool;
-use crate::server::Reply;
+use crate::server::ServerReply;
 use crossbeam_channel::{Receiver, Sender, bounded};
 use std::alloc::Global;
 use std::sync::Wait;
@@ -40,7 +40,7 @@ enum Request {
 pub struct ChannelLink {
     alloc: Global,
     requests: Sender<Request>,
-    replies: Receiver<Reply>,
+    replies: Receiver<ServerReply>,
     failures: u64,
 }
 
@@ -49,7 +49,7 @@ pub struct ChannelLink {
 pub struct ChannelServer {
     alloc: Global,
     requests: Receiver<Request>,
-    replies: Sender<Reply>,
+    replies: Sender<ServerReply>,
 }
 
 /// Makes a link that hasn't failed, and its server. Refused: NoMemory.
@@ -82,7 +82,7 @@ impl ChannelLink {
 
     /// Sends a request to the server, and returns its reply.
     fn call<R: Wait>(&mut self, rt: &R, request: Request) -> Reached
-        ensures { IsCounted self.old.failures self.new.failures result }
+        ensures { CountsLosses self.old.failures self.new.failures result }
     {
         if self.requests.send(rt, request).is_err() {
             return lose(&mut self.failures);

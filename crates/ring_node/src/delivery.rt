@@ -3,7 +3,7 @@ ghost use Rattle.std.specs.Prelude.{◌≡◌, ◌≢◌, ◌⊎◌, ◌+◌, �
 ghost use Rattle.std.specs.Option.{option_map};
 ghost use Rattle.range_journal.specs.declared.journal.Source.{Source};
 ghost use Rattle.hint_store.specs.Hints.{delivery_by};
-ghost use Rattle.ring_node.specs.Answered.{count_of, was_known};
+ghost use Rattle.ring_node.specs.HintOutcomes.{taken_count, was_known};
 ghost use Rattle.ring_node.specs.Gains.{Gains, GainsSome};
 
 use crate::hints::SharedHints;
@@ -40,16 +40,16 @@ pub struct DeliverReport {
 
 impl DeliverReport {
     /// The report with the outcome of one more hint.
-    fn with(self, answered: Answered) -> DeliverReport
+    fn with(self, answered: HintOutcome) -> DeliverReport
         requires { self.delivered + self.known + self.kept < u64.MAX }
-        ensures delivered { result.delivered ≡ self.delivered + count_of answered }
+        ensures delivered { result.delivered ≡ self.delivered + taken_count answered }
         ensures turns { result.delivered + result.known + result.kept ≡ self.delivered + self.known + self.kept + 1 }
     {
         let mut report = self;
         match answered {
-            Answered::Taken => report.delivered += 1,
-            Answered::Known => report.known += 1,
-            Answered::Refused => report.kept += 1,
+            HintOutcome::Taken => report.delivered += 1,
+            HintOutcome::Known => report.known += 1,
+            HintOutcome::Refused => report.kept += 1,
         }
         report
     }
@@ -57,7 +57,7 @@ impl DeliverReport {
 
 /// The outcome of a hint at its owner.
 #[derive(Clone, Copy, Debug, PartialEq, Eq)]
-enum Answered {
+enum HintOutcome {
     /// It journaled the version.
     Taken,
     /// It knew the version.
@@ -122,8 +122,8 @@ fn offer<R: Wait, L: Ledger>(
     range: &SharedRange<L>,
     pass: &mut Pass<L>,
     hint: Hint,
-) -> Result<Answered, Refusal>
-    ensures gains { IfOk result (λ answered. Gains pass.old pass.new Source.Hint (count_of answered)) }
+) -> Result<HintOutcome, Refusal>
+    ensures gains { IfOk result (λ answered. Gains pass.old pass.new Source.Hint (taken_count answered)) }
     ensures same { OnErr result (pass.new ≡ pass.old) }
     ensures refusal { IfErr result (λ e. e ≡ Refusal.NoMemory) }
 {
@@ -142,21 +142,21 @@ fn send<R: Wait, L: Ledger>(
     pass: &mut Pass<L>,
     key: &[u8],
     version: Version,
-) -> Result<Answered, Refusal>
-    ensures gains { IfOk result (λ answered. Gains pass.old pass.new Source.Hint (count_of answered)) }
+) -> Result<HintOutcome, Refusal>
+    ensures gains { IfOk result (λ answered. Gains pass.old pass.new Source.Hint (taken_count answered)) }
     ensures same { OnErr result (pass.new ≡ pass.old) }
     ensures refusal { IfErr result (λ e. e ≡ Refusal.NoMemory) }
 {
     match range.copy(rt, alloc, pass, Source::Hint, key, version) {
-        Ok(Accepted::Taken(_)) => Ok(Answered::Taken),
-        Ok(Accepted::Known) => Ok(Answered::Known),
+        Ok(Accepted::Taken(_)) => Ok(HintOutcome::Taken),
+        Ok(Accepted::Known) => Ok(HintOutcome::Known),
         Err(Refusal::NoMemory) => Err(Refusal::NoMemory),
-        Err(_) => Ok(Answered::Refused),
+        Err(_) => Ok(HintOutcome::Refused),
     }
 }
 
 /// Confirms a hint whose version its owner took or knew.
-fn confirm<R: Wait>(rt: &R, hints: &SharedHints, hint: Hint, answered: Answered) {
+fn confirm<R: Wait>(rt: &R, hints: &SharedHints, hint: Hint, answered: HintOutcome) {
     let id = hint.id;
     if let Some(delivery) = delivery_of(hint, answered) {
         // UnknownHint: another caller confirmed the hint meanwhile. Its owner has the version anyway.
@@ -165,12 +165,12 @@ fn confirm<R: Wait>(rt: &R, hints: &SharedHints, hint: Hint, answered: Answered)
 }
 
 /// Returns the delivery of a hint to its owner, unless the owner refused it.
-fn delivery_of(hint: Hint, answered: Answered) -> Option<Delivery>
+fn delivery_of(hint: Hint, answered: HintOutcome) -> Option<Delivery>
     ensures { result ≡ option_map (delivery_by hint) (was_known answered) }
 {
     match answered {
-        Answered::Taken => Some(hint.into_delivery(false)),
-        Answered::Known => Some(hint.into_delivery(true)),
-        Answered::Refused => None,
+        HintOutcome::Taken => Some(hint.into_delivery(false)),
+        HintOutcome::Known => Some(hint.into_delivery(true)),
+        HintOutcome::Refused => None,
     }
 }

@@ -1,6 +1,6 @@
 //! Links, over which a node reaches a partner.
 ghost use Rattle.std.specs.Prelude.{◌≡◌, ℕ};
-ghost use Rattle.ring_node.specs.Links.{IsCounted};
+ghost use Rattle.ring_node.specs.Links.{CountsLosses};
 
 use std::sync::Wait;
 
@@ -34,16 +34,16 @@ pub trait Link {
 
     /// Fetches the message of the partner's newest offer.
     fn offer<R: Wait>(&mut self, rt: &R) -> Reached
-        ensures { IsCounted (failed self.old) (failed self.new) result };
+        ensures { CountsLosses (failed self.old) (failed self.new) result };
 
     /// Fetches the message that answers an ask, which is sent as the bytes of its message.
     fn ask<R: Wait>(&mut self, rt: &R, message: &[u8]) -> Reached
-        ensures { IsCounted (failed self.old) (failed self.new) result };
+        ensures { CountsLosses (failed self.old) (failed self.new) result };
 }
 
 /// Counts a failure of a link, unless the count is at its last value.
 pub(crate) fn lose(failures: &mut u64) -> Reached
-    ensures { IsCounted failures.old failures.new result }
+    ensures { CountsLosses failures.old failures.new result }
 {
     match failures.checked_add(1) {
         Some(count) => {

@@ -3,7 +3,7 @@ ghost use Rattle.std.specs.Prelude.{◌≡◌, ◌⊎◌, ◌==◌, IfOk, IfErr,
 ghost use Rattle.std.specs.Option.{option_copied};
 ghost use Rattle.std.specs.Arc.{arc_value};
 ghost use Rattle.vclock.specs.Answer.{Answers};
-ghost use Rattle.vclock.specs.Format.{number_of};
+ghost use Rattle.vclock.specs.Format.{format_number};
 ghost use Rattle.vclock.specs.Outcome.{Does};
 ghost use Rattle.snapshot.specs.RowMaps.{root_of};
 ghost use Rattle.ring_node.specs.Moments.{FoundAtSomeMoment, ChangedAtSomeMoment};
@@ -20,12 +20,12 @@ use walk_messages::{Answer, Ask, Offer};
 
 /// A snapshot with the number of its offer.
 #[derive(Drop)]
-struct Published {
+struct KeptOffer {
     number: u32,
     snapshot: Arc<Snapshot, Global>,
 }
 
-impl Model for Published {
+impl Model for KeptOffer {
     ghost use Rattle.std.specs.Arc.{arc_value};
     ghost use Rattle.ring_node.specs.Offers.{Offered};
 
@@ -38,7 +38,7 @@ impl Model for Published {
 #[derive(Drop)]
 struct Offers {
     last: u32,
-    kept: Vec<Published>,
+    kept: Vec<KeptOffer>,
 }
 
 impl Model for Offers {
@@ -68,7 +68,7 @@ impl Offers {
     fn publish(
         &mut self,
         snapshot: Arc<Snapshot, Global>,
-        oldest: &mut Option<Published>,
+        oldest: &mut Option<KeptOffer>,
     ) -> Result<Offer, Refusal>
         ensures { Does result self.old self.new (publish self.old (arc_value snapshot)) }
     {
@@ -82,7 +82,7 @@ impl Offers {
         }
         let number = self.last + 1;
         let offer = snapshot.offer(number);
-        self.kept.push_reserved(Published { number, snapshot });
+        self.kept.push_reserved(KeptOffer { number, snapshot });
         self.last = number;
         Ok(offer)
     }
@@ -113,7 +113,7 @@ impl Offers {
 }
 
 /// Returns the snapshot under a number, if it is kept.
-fn published_as(kept: &[Published], number: u32) -> Option<&Published>
+fn published_as(kept: &[KeptOffer], number: u32) -> Option<&KeptOffer>
     ensures { option_copied result ≡ find (λ (p : Offered). p.number == number) kept.now }
 {
     for published in kept {
@@ -154,7 +154,7 @@ impl OfferPool {
         rt: &R,
         snapshot: Arc<Snapshot, Global>,
     ) -> Result<Offer, Refusal>
-        ensures format { IfOk result (λ offer. offer.format ≡ number_of (arc_value snapshot).format) }
+        ensures format { IfOk result (λ offer. offer.format ≡ format_number (arc_value snapshot).format) }
         ensures range { IfOk result (λ offer. offer.range ≡ (arc_value snapshot).range) }
         ensures root { IfOk result (λ offer. offer.root ≡ root_of (arc_value snapshot)) }
         ensures refusal { IfErr result (λ e. (e ≡ Refusal.SessionsFull) ⊎ (e ≡ Refusal.NoMemory)) }

@@ -10,7 +10,7 @@ ghost use Rattle.range_state.specs.State.{is_sent, put_version, dirty_fault, row
 ghost use Rattle.caller_pass.specs.Closings.{AllThere, IsSettled, IsUnclosed};
 ghost use Rattle.caller_pass.specs.Locks.{IsLocked, moved, put_in, accept_in, get_in, plainly};
 ghost use Rattle.ring_node.specs.Moments.{FoundAtSomeMoment, ChangedAtSomeMoment};
-ghost use Rattle.ring_node.specs.Passes.{IsReceiptOf, IsToldOf, IsSent, IsPutRefusal, IsSentRefusal, IsRead, IsBehind};
+ghost use Rattle.ring_node.specs.Passes.{IsReceiptOf, HasReceiptOf, IsSent, IsPutRefusal, IsSentRefusal, IsReading, IsBehind};
 
 use caller_pass::{Book, Closed, LockedRange, Pass, Unclosed, Unread};
 use range_journal::Source;
@@ -104,7 +104,7 @@ impl<L: Ledger> SharedRange<L> {
     ) -> Result<Receipt, Refusal>
         ensures receipt { IfOk result (IsReceiptOf pass.old.seat Source.Client key.now
             (put_version self.now context.now kind value)) }
-        ensures told { IfOk result (IsToldOf pass.old pass.new) }
+        ensures told { IfOk result (HasReceiptOf pass.old pass.new) }
         ensures fits { OnOk result ((key_fault key.now ≡ None) × (raise_fault context.now self.now ≡ None)) }
         ensures refusal { IfErr result (IsPutRefusal self.now key.now context.now kind value) }
         ensures same { OnErr result (pass.new ≡ pass.old) }
@@ -160,7 +160,7 @@ impl<L: Ledger> SharedRange<L> {
         pass: &mut Pass<L>,
         key: &[u8],
     ) -> Result<VersionSet, Unread<L>>
-        ensures reading { IfOk result (IsRead pass.old key.now pass.new) }
+        ensures reading { IfOk result (IsReading pass.old key.now pass.new) }
         ensures behind { IfErr result (λ unread. (unread.seat ≡ pass.old.seat)
             × IsBehind pass.old key.now unread.refusal) }
         ensures same { OnErr result (pass.new ≡ pass.old) }

@@ -1,6 +1,6 @@
 //! Links that follow a script, for tests of what a link can do.
 ghost use Rattle.std.specs.Prelude.{◌≡◌};
-ghost use Rattle.ring_node.specs.Links.{IsCounted};
+ghost use Rattle.ring_node.specs.Links.{CountsLosses};
 
 use crate::deed::Deed;
 use crate::link::{Link, Reached, lose};
@@ -60,7 +60,7 @@ impl<K: Link> ScriptedLink<K> {
 
     /// Applies a deed to the outcome of the other link, and passes it on.
     fn hand_on(&mut self, deed: Deed, reached: Reached) -> Reached
-        ensures { IsCounted self.old.failures self.new.failures result }
+        ensures { CountsLosses self.old.failures self.new.failures result }
     {
         let mut bytes = match reached {
             Reached::Bytes(bytes) => bytes,
@@ -79,7 +79,7 @@ impl<K: Link> ScriptedLink<K> {
 
     /// Passes the last message on again.
     fn repeat(&mut self) -> Reached
-        ensures { IsCounted self.old.failures self.new.failures result }
+        ensures { CountsLosses self.old.failures self.new.failures result }
     {
         match &self.last {
             Some(bytes) => match bytes.clone() {

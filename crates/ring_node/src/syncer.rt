@@ -3,7 +3,7 @@ ghost use Rattle.std.specs.Prelude.{◌≡◌, ◌⊎◌, ◌+◌, ◌<◌, ◌�
 ghost use Rattle.vclock.specs.Answer.{AnswersAtOnce};
 ghost use Rattle.vclock.specs.Outcome.{Does, through};
 ghost use Rattle.range_journal.specs.declared.journal.Source.{Source};
-ghost use Rattle.sync_session.specs.TreeNodes.{node_of};
+ghost use Rattle.sync_session.specs.TreeNodes.{as_node};
 ghost use Rattle.range_state.specs.Sessions.{open_session, unknown_fault};
 ghost use Rattle.range_state.specs.Syncs.{IsFirstOf};
 ghost use Rattle.caller_pass.specs.Locks.{IsLocked, moved, TellsAnswer};
@@ -221,7 +221,7 @@ impl<L: Ledger> SharedRange<L> {
         ensures some { GainsSome pass.old pass.new Source.Partner }
         ensures refusal { IfErr result IsTakeRefusal }
         ensures moment { ChangedAtSomeMoment (IsLocked L.parts) (λ before after. TellsAnswer before pass.old id
-            (record { node = node_of answer.node; text = answer.text }) result after pass.new) }
+            (record { node = as_node answer.node; text = answer.text }) result after pass.new) }
     {
         let text = hash(answer.text);
         let mut range = self.range.lock(rt);

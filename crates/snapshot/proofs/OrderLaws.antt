@@ -7,7 +7,7 @@ use Rattle.std.proofs.lemmas.Bool.{cases_eq, ne_eqb, eq-eqb}
 use Rattle.std.proofs.lemmas.List.Folds.{flat_map-map}
 use Rattle.row_bytes.specs.declared.row.Row.{Row}
 use Rattle.key_ring.specs.Places.{leaf_bits, leaf_at}
-use Rattle.hash_tree.specs.Leaves.{Bucket, key_cmp, AscendByKey, rows_at}
+use Rattle.hash_tree.specs.Leaves.{Bucket, key_cmp, AscendByKey, rows_in_leaf}
 use Rattle.hash_tree.proofs.KeyLaws.{turned}
 use Rattle.snapshot.specs.RowMaps.{RowMap, leaf_in}
 use Rattle.snapshot.specs.Snapshots.{with_row, in_order, leaves_of, map_of}
@@ -47,14 +47,14 @@ later r (x ∷ front) rows others all is =
 
 -- the rows of so many leaves from one on
 abbrev spread : (List ℕ → ℕ) → List Row → ℕ → ℕ → List Row
-spread leaf rows from n = flat_map (λ i. rows_at leaf i rows) (range_with_len from n)
+spread leaf rows from n = flat_map (λ i. rows_in_leaf leaf i rows) (range_with_len from n)
 
 all-spread : (P : Row → Type 0) (leaf : List ℕ → ℕ) (rows : List Row) (n from : ℕ) → AllByRecursion P rows → AllByRecursion P (spread leaf rows from n)
 all-spread P leaf rows zero from all = tt
-all-spread P leaf rows (suc n) from all = all-append P (rows_at leaf from rows) (spread leaf rows (from + 1) n) (all-filter P (λ (x : Row). nat_eq (leaf x.key) from) rows all) (all-spread P leaf rows n (from + 1) all)
+all-spread P leaf rows (suc n) from all = all-append P (rows_in_leaf leaf from rows) (spread leaf rows (from + 1) n) (all-filter P (λ (x : Row). nat_eq (leaf x.key) from) rows all) (all-spread P leaf rows n (from + 1) all)
 
 -- a row of a leaf is not in the others
-not_here : (leaf : List ℕ → ℕ) (r : Row) (rows : List Row) (i : ℕ) → nat_eq (leaf r.key) i ≡ false → rows_at leaf i (r ∷ rows) ≡ rows_at leaf i rows
+not_here : (leaf : List ℕ → ℕ) (r : Row) (rows : List Row) (i : ℕ) → nat_eq (leaf r.key) i ≡ false → rows_in_leaf leaf i (r ∷ rows) ≡ rows_in_leaf leaf i rows
 not_here leaf r rows i off = rw off refl
 
 not_behind : (leaf : List ℕ → ℕ) (r : Row) (rows : List Row) (n from : ℕ) → leaf r.key < from → spread leaf (r ∷ rows) from n ≡ spread leaf rows from n
@@ -66,11 +66,11 @@ not_behind leaf r rows (suc n) from before =
 spread_first : (leaf : List ℕ → ℕ) (r : Row) (rows : List Row) (n from : ℕ) → AllByRecursion (IsBefore r) rows → from ≤ leaf r.key → leaf r.key < from + n → in_order (spread leaf (r ∷ rows) from n) ≡ r ∷ in_order (spread leaf rows from n)
 spread_first leaf r rows zero from all least most = absurd (omega arith)
 spread_first leaf r rows (suc n) from all least most =
-    let front = rows_at leaf from rows in
+    let front = rows_in_leaf leaf from rows in
     let behind = spread leaf rows (from + 1) n in
     elim (cases_eq (leaf r.key) from) [
       | inl here ↦
-          let mine : rows_at leaf from (r ∷ rows) ≡ r ∷ front = rw (eq-eqb (leaf r.key) from here) refl in
+          let mine : rows_in_leaf leaf from (r ∷ rows) ≡ r ∷ front = rw (eq-eqb (leaf r.key) from here) refl in
           let whole : spread leaf (r ∷ rows) from (suc n) ≡ r ∷ (front ++ behind) = λ i. mine i ++ not_behind leaf r rows n (from + 1) (omega arith) i in
           ap in_order whole ∙ first_in_order r (front ++ behind) (all-spread (IsBefore r) leaf rows (suc n) from all)
       | inr there ↦
@@ -85,7 +85,7 @@ spread_none leaf zero from = refl
 spread_none leaf (suc n) from = spread_none leaf n (from + 1)
 
 -- The rows of all leaves, in order, are the rows.
-pub spread_all : (leaf : List ℕ → ℕ) (rows : List Row) (n : ℕ) → ((key : List ℕ) → leaf key < n) → AscendByKey rows → in_order (flat_map (λ i. rows_at leaf i rows) (range_with_len 0 n)) ≡ rows
+pub spread_all : (leaf : List ℕ → ℕ) (rows : List Row) (n : ℕ) → ((key : List ℕ) → leaf key < n) → AscendByKey rows → in_order (flat_map (λ i. rows_in_leaf leaf i rows) (range_with_len 0 n)) ≡ rows
 spread_all leaf [] n below ascend = spread_none leaf n 0
 spread_all leaf (r ∷ rows) n below ascend =
     spread_first leaf r rows n 0 ascend.0 (omega arith) (omega (arith, below r.key)) ∙ ap (λ (t : List Row). r ∷ t) (spread_all leaf rows n below ascend.1)
@@ -99,7 +99,7 @@ leaf_below Two bits key = omega arith
 
 -- what leaf i has
 abbrev pub bucket_at : RowMap → ℕ → Bucket
-bucket_at m i = record { format = m.format; rows = rows_at (leaf_in m) i m.rows }
+bucket_at m i = record { format = m.format; rows = rows_in_leaf (leaf_in m) i m.rows }
 
 -- The leaves of a row map make that row map again.
 pub leaves_make : (m : RowMap) → AscendByKey m.rows → map_of m.format m.bits m.range (leaves_of m) ≡ m

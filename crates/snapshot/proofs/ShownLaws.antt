@@ -5,7 +5,7 @@ use Rattle.std.proofs.lemmas.List.FromFn.{get_or-map-range_with_len, length-map-
 use Rattle.vclock.specs.declared.format.Format.{Format}
 use Rattle.vclock.specs.declared.format.Format.TheVariants.{One, Two}
 use Rattle.key_ring.specs.Places.{leaf_bits}
-use Rattle.hash_tree.specs.Leaves.{Bucket, rows_at}
+use Rattle.hash_tree.specs.Leaves.{Bucket, rows_in_leaf}
 use Rattle.hash_tree.specs.Nodes.{tree_depth, place_at, children_of}
 use Rattle.hash_tree.specs.Texts.{leaf_text, inner_text, node_text, AreTrue}
 use Rattle.hash_tree.proofs.PlaceLaws.{place_within, child_place, child_within}
@@ -36,7 +36,7 @@ leaf_within f depth index deep within = counted f index (subst (λ (d : ℕ). in
     counted Two n h = h
 
 -- the text of a leaf
-pub leaf_text_at : (m : RowMap) (depth index : ℕ) → depth ≡ tree_depth m.format → leaf_text m.format (rows_at (leaf_in m) index m.rows) ≡ text_at m depth index
+pub leaf_text_at : (m : RowMap) (depth index : ℕ) → depth ≡ tree_depth m.format → leaf_text m.format (rows_in_leaf (leaf_in m) index m.rows) ≡ text_at m depth index
 leaf_text_at m depth index deep =
     let none : tree_depth m.format - depth ≡ 0 = omega (arith, deep) in
     sym (leaf_node m.format (leaf_in m) m.rows index) ∙ sym (ap (λ (h : ℕ). node_text m.format (leaf_in m) m.rows h index) none)

@@ -7,7 +7,7 @@ use Rattle.vclock.specs.declared.refusal.Refusal.TheVariants.{BadMessage}
 use Rattle.version_set.specs.Order.{inserted}
 use Rattle.key_ring.specs.Places.{leaf_bits}
 use Rattle.row_bytes.specs.declared.row.Row.{Row}
-use Rattle.hash_tree.specs.Leaves.{Bucket, key_cmp, rows_at}
+use Rattle.hash_tree.specs.Leaves.{Bucket, key_cmp, rows_in_leaf}
 use Rattle.hash_tree.specs.Nodes.{tree_depth, node_count}
 use Rattle.hash_tree.specs.Texts.{AreTrue}
 use Rattle.hash_tree.specs.declared.node.NodeAt.{NodeAt}
@@ -24,7 +24,7 @@ in_order (r ∷ rows) = with_row r (in_order rows)
 
 -- the leaves of a row map, by ascending index
 unfoldable pub leaves_of : RowMap → List Bucket
-leaves_of m = map (λ i. record { format = m.format; rows = rows_at (leaf_in m) i m.rows }) (range_with_len 0 (2 ^ leaf_bits m.format))
+leaves_of m = map (λ i. record { format = m.format; rows = rows_in_leaf (leaf_in m) i m.rows }) (range_with_len 0 (2 ^ leaf_bits m.format))
 
 -- the row map of leaves
 abbrev pub map_of : Format → ℕ → ℕ → List Bucket → RowMap

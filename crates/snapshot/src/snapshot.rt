@@ -2,9 +2,9 @@
 ghost use Rattle.std.specs.Prelude.{◌≡◌, ◌<◌, ◌≤◌, ◌^◌, None};
 ghost use Rattle.std.specs.Arc.{arc_value};
 ghost use Rattle.vclock.specs.Answer.{Answers};
-ghost use Rattle.vclock.specs.Format.{number_of};
+ghost use Rattle.vclock.specs.Format.{format_number};
 ghost use Rattle.key_ring.specs.Places.{leaf_bits};
-ghost use Rattle.hash_tree.specs.Leaves.{rows_at};
+ghost use Rattle.hash_tree.specs.Leaves.{rows_in_leaf};
 ghost use Rattle.hash_tree.specs.Nodes.{tree_depth};
 ghost use Rattle.hash_tree.specs.Texts.{inner_text, leaf_text};
 ghost use Rattle.snapshot.specs.RowMaps.{IsRowMap, leaf_in, text_at, digest_at, root_of};
@@ -102,7 +102,7 @@ impl Snapshot {
     /// Returns the offer of these rows to another replica. The replica's offers differ by `number`.
     pub fn offer(&self, number: u32) -> Offer
         ensures number { result.offer ≡ number }
-        ensures format { result.format ≡ number_of self.now.format }
+        ensures format { result.format ≡ format_number self.now.format }
         ensures range { result.range ≡ self.now.range }
         ensures root { result.root ≡ root_of self.now }
         ensures valid { IsRowMap self.now }
@@ -126,7 +126,7 @@ impl Snapshot {
     /// Returns a leaf: its rows in ascending order of key, and their text.
     pub fn rows(&self, leaf: u16) -> &SharedLeaf
         requires { leaf < 2 ^ leaf_bits self.now.format }
-        ensures { result.now ≡ record { format = self.now.format; rows = rows_at (leaf_in self.now) leaf self.now.rows } }
+        ensures { result.now ≡ record { format = self.now.format; rows = rows_in_leaf (leaf_in self.now) leaf self.now.rows } }
     {
         &self.leaves[usize::from(leaf)]
     }

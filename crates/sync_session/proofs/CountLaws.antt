@@ -5,7 +5,7 @@ use Rattle.std.specs.List.{flat_map, filter, AllByRecursion}
 use Rattle.std.proofs.lemmas.Bool.{cases_Bool, cases_lt, both_ways, ltb-true, lt-ltb, ne_eqb, false_from_ne_true}
 use Rattle.std.proofs.lemmas.List.{map-append}
 use Rattle.version_set.specs.declared.version.Version.{Version}
-use Rattle.sync_session.specs.TreeNodes.{Node, top, child, is_node, has_node}
+use Rattle.sync_session.specs.TreeNodes.{Node, top, child, is_same_node, contains_node}
 use Rattle.snapshot.specs.RowMaps.{RowMap, root_of}
 use Rattle.hash_tree.specs.Nodes.{tree_depth}
 use Rattle.sync_session.specs.TreeNodes.{digest_of}
@@ -18,19 +18,19 @@ pub times-append : (n : Node) (xs ys : List Node) → times n (xs ++ ys) ≡ tim
 times-append n [] ys = omega arith
 times-append n (x ∷ xs) ys = let rest = times-append n xs ys in omega (arith, rest)
 
-pub has_times : (n : Node) (xs : List Node) → has_node n xs ≡ true → 1 ≤ times n xs
+pub has_times : (n : Node) (xs : List Node) → contains_node n xs ≡ true → 1 ≤ times n xs
 has_times n [] h = absurd (cc)
-has_times n (x ∷ xs) h = either (is_node n x) h (has_times n xs)
+has_times n (x ∷ xs) h = either (is_same_node n x) h (has_times n xs)
   where
-    either : (b : Bool) → (b || has_node n xs) ≡ true → (has_node n xs ≡ true → 1 ≤ times n xs) → 1 ≤ cond b 1 0 + times n xs
+    either : (b : Bool) → (b || contains_node n xs) ≡ true → (contains_node n xs ≡ true → 1 ≤ times n xs) → 1 ≤ cond b 1 0 + times n xs
     either true h again = omega arith
     either false h again = omega (arith, again h)
 
-pub times_has : (n : Node) (xs : List Node) → 1 ≤ times n xs → has_node n xs ≡ true
+pub times_has : (n : Node) (xs : List Node) → 1 ≤ times n xs → contains_node n xs ≡ true
 times_has n [] h = absurd (omega arith)
-times_has n (x ∷ xs) h = either (is_node n x) h (times_has n xs)
+times_has n (x ∷ xs) h = either (is_same_node n x) h (times_has n xs)
   where
-    either : (b : Bool) → 1 ≤ cond b 1 0 + times n xs → (1 ≤ times n xs → has_node n xs ≡ true) → (b || has_node n xs) ≡ true
+    either : (b : Bool) → 1 ≤ cond b 1 0 + times n xs → (1 ≤ times n xs → contains_node n xs ≡ true) → (b || contains_node n xs) ≡ true
     either true h again = refl
     either false h again = again (omega arith)
 
@@ -47,13 +47,13 @@ last_kid own m text k = cond (bytes_eq (child_digest text k) (digest_of own (chi
 last_node : (own : RowMap) (m : Node) (text : List ℕ) (k : ℕ) (n : Node) → 1 ≤ times n (last_kid own m text k) → n ≡ child m k
 last_node own m text k n h = by_case (bytes_eq (child_digest text k) (digest_of own (child m k))) h
   where
-    same : (c : Bool) → is_node n (child m k) ≡ c → 1 ≤ cond c 1 0 + 0 → is_node n (child m k) ≡ true
+    same : (c : Bool) → is_same_node n (child m k) ≡ c → 1 ≤ cond c 1 0 + 0 → is_same_node n (child m k) ≡ true
     same true e h = e
     same false e h = absurd (omega arith)
 
     by_case : (b : Bool) → 1 ≤ times n (cond b [] (child m k ∷ [])) → n ≡ child m k
     by_case true h = absurd (omega arith)
-    by_case false h = is_node-true n (child m k) (same (is_node n (child m k)) refl h)
+    by_case false h = is_node-true n (child m k) (same (is_same_node n (child m k)) refl h)
 
 last_is : (own : RowMap) (m : Node) (text : List ℕ) (k : ℕ) (n : Node) → 1 ≤ times n (last_kid own m text k) → IsKid own m text (suc k) n
 last_is own m text k n h = by_case (bytes_eq (child_digest text k) (digest_of own (child m k))) refl (last_node own m text k n h) h
@@ -88,7 +88,7 @@ one_last own m text k n = by_case (bytes_eq (child_digest text k) (digest_of own
 
     by_case : (b : Bool) → times n (cond b [] (child m k ∷ [])) ≤ 1
     by_case true = omega arith
-    by_case false = one (is_node n (child m k))
+    by_case false = one (is_same_node n (child m k))
 
 pub kid_once : (own : RowMap) (m : Node) (text : List ℕ) (k : ℕ) (n : Node) → times n (differing own m text k) ≤ 1
 unfolding differing
@@ -144,7 +144,7 @@ pub asker : (P : TakenText → Type 0) (own : RowMap) (taken : List TakenText) (
 asker P own [] n all h = absurd (omega arith)
 asker P own (t ∷ ts) n all h =
     elim (cases_lt 0 (times n (asks own t))) [
-      | inl here ↦ record { t = t; good = all.0; by = asked_by_text own t n (omega arith); counts = counted (is_node t.node t.node) (is_node-same t.node) }
+      | inl here ↦ record { t = t; good = all.0; by = asked_by_text own t n (omega arith); counts = counted (is_same_node t.node t.node) (is_node-same t.node) }
       | inr later ↦
           let rest = asker P own ts n all.1 (omega (arith, times-append n (asks own t) (flat_map (asks own) ts))) in
           record { t = rest.t; good = rest.good; by = rest.by; counts = omega (arith, rest.counts) }
@@ -172,28 +172,28 @@ same_parent m o i j a b e =
     node_is : (m o : Node) → m.depth ≡ o.depth → m.index ≡ o.index → m ≡ o
     node_is m o d i = ap (λ (k : ℕ). let x : Node = record { depth = k; index = m.index } in x) d ∙ ap (λ (k : ℕ). let x : Node = record { depth = o.depth; index = k } in x) i
 
-times-filter : (xs : List Node) (n m : Node) → is_node n m ≡ false → times n (filter (λ x. not (is_node x m)) xs) ≡ times n xs
+times-filter : (xs : List Node) (n m : Node) → is_same_node n m ≡ false → times n (filter (λ x. not (is_same_node x m)) xs) ≡ times n xs
 times-filter [] n m other = refl
 times-filter (x ∷ xs) n m other =
-    elim (cases_Bool (is_node x m)) [
+    elim (cases_Bool (is_same_node x m)) [
       | inl gone ↦
-          let off : is_node n x ≡ false = subst (λ (y : Node). is_node n y ≡ false) (sym (is_node-true x m gone)) other in
-          ap (λ b. times n (cond (not b) (x ∷ filter (λ x. not (is_node x m)) xs) (filter (λ x. not (is_node x m)) xs))) gone
+          let off : is_same_node n x ≡ false = subst (λ (y : Node). is_same_node n y ≡ false) (sym (is_node-true x m gone)) other in
+          ap (λ b. times n (cond (not b) (x ∷ filter (λ x. not (is_same_node x m)) xs) (filter (λ x. not (is_same_node x m)) xs))) gone
           ∙ (times-filter xs n m other ∙ sym (ap (λ b. cond b 1 0 + times n xs) off ∙ zero-add (times n xs)))
       | inr stays ↦
-          ap (λ b. times n (cond (not b) (x ∷ filter (λ x. not (is_node x m)) xs) (filter (λ x. not (is_node x m)) xs))) stays
-          ∙ ap (λ k. cond (is_node n x) 1 0 + k) (times-filter xs n m other)
+          ap (λ b. times n (cond (not b) (x ∷ filter (λ x. not (is_same_node x m)) xs) (filter (λ x. not (is_same_node x m)) xs))) stays
+          ∙ ap (λ k. cond (is_same_node n x) 1 0 + k) (times-filter xs n m other)
     ]
 
-times-gone : (xs : List Node) (m : Node) → times m (filter (λ x. not (is_node x m)) xs) ≡ 0
+times-gone : (xs : List Node) (m : Node) → times m (filter (λ x. not (is_same_node x m)) xs) ≡ 0
 times-gone [] m = refl
 times-gone (x ∷ xs) m =
-    elim (cases_Bool (is_node x m)) [
-      | inl gone ↦ ap (λ b. times m (cond (not b) (x ∷ filter (λ x. not (is_node x m)) xs) (filter (λ x. not (is_node x m)) xs))) gone ∙ times-gone xs m
+    elim (cases_Bool (is_same_node x m)) [
+      | inl gone ↦ ap (λ b. times m (cond (not b) (x ∷ filter (λ x. not (is_same_node x m)) xs) (filter (λ x. not (is_same_node x m)) xs))) gone ∙ times-gone xs m
       | inr stays ↦
-          let off : is_node m x ≡ false = false_from_ne_true (is_node m x) (λ e. both_ways (is_node x m) stays (subst (λ (y : Node). is_node x y ≡ true) (sym (is_node-true m x e)) (is_node-same x))) in
-          ap (λ b. times m (cond (not b) (x ∷ filter (λ x. not (is_node x m)) xs) (filter (λ x. not (is_node x m)) xs))) stays
-          ∙ (ap (λ b. cond b 1 0 + times m (filter (λ x. not (is_node x m)) xs)) off ∙ (zero-add (times m (filter (λ x. not (is_node x m)) xs)) ∙ times-gone xs m))
+          let off : is_same_node m x ≡ false = false_from_ne_true (is_same_node m x) (λ e. both_ways (is_same_node x m) stays (subst (λ (y : Node). is_same_node x y ≡ true) (sym (is_node-true m x e)) (is_node-same x))) in
+          ap (λ b. times m (cond (not b) (x ∷ filter (λ x. not (is_same_node x m)) xs) (filter (λ x. not (is_same_node x m)) xs))) stays
+          ∙ (ap (λ b. cond b 1 0 + times m (filter (λ x. not (is_same_node x m)) xs)) off ∙ (zero-add (times m (filter (λ x. not (is_same_node x m)) xs)) ∙ times-gone xs m))
     ]
 
 pub all_unit : (ts : List TakenText) → AllByRecursion (λ u. Unit {0}) ts
@@ -220,18 +220,18 @@ orderly_after held w t h o due =
     record {
       shared = λ n.
           let asked = times-append n w.asked (asks w.own t) in
-          let left = times-append n (filter (λ x. not (is_node x t.node)) w.outstanding) (asks w.own t) in
-          let took : times n (nodes_of (w.taken ++ t ∷ [])) ≡ times n (nodes_of w.taken) + (cond (is_node n t.node) 1 0 + 0) = ap (times n) (map-append (λ (u : TakenText). u.node) w.taken (t ∷ [])) ∙ times-append n (nodes_of w.taken) (t.node ∷ []) in
-          elim (cases_Bool (is_node n t.node)) [
+          let left = times-append n (filter (λ x. not (is_same_node x t.node)) w.outstanding) (asks w.own t) in
+          let took : times n (nodes_of (w.taken ++ t ∷ [])) ≡ times n (nodes_of w.taken) + (cond (is_same_node n t.node) 1 0 + 0) = ap (times n) (map-append (λ (u : TakenText). u.node) w.taken (t ∷ [])) ∙ times-append n (nodes_of w.taken) (t.node ∷ []) in
+          elim (cases_Bool (is_same_node n t.node)) [
             | inl same ↦
                 let is = is_node-true n t.node same in
-                let gone : times n (filter (λ x. not (is_node x t.node)) w.outstanding) ≡ 0 = subst (λ (m : Node). times m (filter (λ x. not (is_node x t.node)) w.outstanding) ≡ 0) (sym is) (times-gone w.outstanding t.node) in
+                let gone : times n (filter (λ x. not (is_same_node x t.node)) w.outstanding) ≡ 0 = subst (λ (m : Node). times m (filter (λ x. not (is_same_node x t.node)) w.outstanding) ≡ 0) (sym is) (times-gone w.outstanding t.node) in
                 let out : 1 ≤ times n w.outstanding = subst (λ (m : Node). 1 ≤ times m w.outstanding) (sym is) (has_times t.node w.outstanding due.asked) in
-                let one : (cond (is_node n t.node) 1 0 + 0) ≡ 1 = ap (λ b. cond b 1 0 + 0) same in
+                let one : (cond (is_same_node n t.node) 1 0 + 0) ≡ 1 = ap (λ b. cond b 1 0 + 0) same in
                 omega (arith, asked, left, took, gone, out, one, o.shared n, o.once n)
             | inr other ↦
                 let kept = times-filter w.outstanding n t.node other in
-                let none : (cond (is_node n t.node) 1 0 + 0) ≡ 0 = ap (λ b. cond b 1 0 + 0) other in
+                let none : (cond (is_same_node n t.node) 1 0 + 0) ≡ 0 = ap (λ b. cond b 1 0 + 0) other in
                 omega (arith, asked, left, took, kept, none, o.shared n)
           ];
       once = λ n.
@@ -251,4 +251,4 @@ orderly_started own offered = record { shared = λ n. sym (zero-add (times n (fi
 
     one : (b : Bool) (n : Node) → times n (cond b [] (top ∷ [])) ≤ 1
     one true n = omega arith
-    one false n = single (is_node n top)
+    one false n = single (is_same_node n top)

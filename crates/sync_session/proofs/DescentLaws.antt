@@ -14,7 +14,7 @@ use Rattle.hash_tree.proofs.TextLaws.{leaf_node, same_leaf}
 use Rattle.vclock.specs.declared.format.Format.{Format}
 use Rattle.version_set.proofs.ListLaws.{all-filter}
 use Rattle.sync_session.specs.declared.state.SessionState.TheVariants.{Finished}
-use Rattle.sync_session.specs.TreeNodes.{Node, top, child, is_node, has_node}
+use Rattle.sync_session.specs.TreeNodes.{Node, top, child, is_same_node, contains_node}
 use Rattle.snapshot.specs.RowMaps.{RowMap, IsRowMap, leaf_in, root_of}
 use Rattle.hash_tree.specs.Nodes.{tree_depth, ancestor_of}
 use Rattle.hash_tree.specs.Texts.{leaf_text}
@@ -24,21 +24,21 @@ use Rattle.sync_session.proofs.TextLaws.{text_above, leaf_rows, leaf_are, child_
 
 -- ---- lists
 
-pub is_node-true : (m n : Node) → is_node m n ≡ true → m ≡ n
+pub is_node-true : (m n : Node) → is_same_node m n ≡ true → m ≡ n
 is_node-true m n e =
     let h = and_parts (eqb m.depth n.depth) (eqb m.index n.index) e in
     let d = eqb-true m.depth n.depth h.0 in
     let i = eqb-true m.index n.index h.1 in
     ap (λ (k : ℕ). let x : Node = record { depth = k; index = m.index } in x) d ∙ ap (λ (k : ℕ). let x : Node = record { depth = n.depth; index = k } in x) i
 
-pub is_node-same : (n : Node) → is_node n n ≡ true
+pub is_node-same : (n : Node) → is_same_node n n ≡ true
 is_node-same n = rw (eq-eqb n.depth n.depth refl, eq-eqb n.index n.index refl) refl
 
 -- an entry that was found is one of the list
 abbrev pub entry : Node → List ℕ → TakenText
 entry n text = record { node = n; text = text }
 
-found_here : (t : TakenText) (n : Node) (text : List ℕ) (rest : Option (List ℕ)) → is_node t.node n ≡ true → cond (is_node t.node n) (Some t.text) rest ≡ Some text → t ≡ entry n text
+found_here : (t : TakenText) (n : Node) (text : List ℕ) (rest : Option (List ℕ)) → is_same_node t.node n ≡ true → cond (is_same_node t.node n) (Some t.text) rest ≡ Some text → t ≡ entry n text
 found_here t n text rest same e =
     let at : t.text ≡ text = some_is t.text text (sym (ap (λ b. cond b (Some t.text) rest) same) ∙ e) in
     ap (λ (m : Node). entry m t.text) (is_node-true t.node n same) ∙ ap (entry n) at
@@ -46,13 +46,13 @@ found_here t n text rest same e =
     some_is : (x y : List ℕ) → (let s : Option (List ℕ) = Some x in s) ≡ Some y → x ≡ y
     some_is x y e = cc
 
-found_later : (t : TakenText) (n : Node) (text : List ℕ) (rest : Option (List ℕ)) → is_node t.node n ≡ false → cond (is_node t.node n) (Some t.text) rest ≡ Some text → rest ≡ Some text
+found_later : (t : TakenText) (n : Node) (text : List ℕ) (rest : Option (List ℕ)) → is_same_node t.node n ≡ false → cond (is_same_node t.node n) (Some t.text) rest ≡ Some text → rest ≡ Some text
 found_later t n text rest other e = sym (ap (λ b. cond b (Some t.text) rest) other) ∙ e
 
 pub All-taken_at : (P : TakenText → Type 0) (ts : List TakenText) (n : Node) (text : List ℕ) → AllByRecursion P ts → taken_at ts n ≡ Some text → P (entry n text)
 All-taken_at P [] n text h e = absurd (cc)
 All-taken_at P (t ∷ ts) n text h e =
-    elim (cases_Bool (is_node t.node n)) [
+    elim (cases_Bool (is_same_node t.node n)) [
       | inl same ↦ subst P (found_here t n text (taken_at ts n) same e) h.0
       | inr other ↦ All-taken_at P ts n text h.1 (found_later t n text (taken_at ts n) other e)
     ]
@@ -60,35 +60,35 @@ All-taken_at P (t ∷ ts) n text h e =
 pub Contains-taken_at : (ts : List TakenText) (n : Node) (text : List ℕ) → taken_at ts n ≡ Some text → Contains ts (entry n text)
 Contains-taken_at [] n text e = absurd (cc)
 Contains-taken_at (t ∷ ts) n text e =
-    elim (cases_Bool (is_node t.node n)) [
+    elim (cases_Bool (is_same_node t.node n)) [
       | inl same ↦ (0, omega arith, found_here t n text (taken_at ts n) same e)
       | inr other ↦ Contains-append_right (t ∷ []) ts (entry n text) (Contains-taken_at ts n text (found_later t n text (taken_at ts n) other e))
     ]
 
-pub has_node-flat_map : (f : TakenText → List Node) (ts : List TakenText) (n m : Node) (text : List ℕ) → taken_at ts n ≡ Some text → has_node m (f (entry n text)) ≡ true → has_node m (flat_map f ts) ≡ true
+pub has_node-flat_map : (f : TakenText → List Node) (ts : List TakenText) (n m : Node) (text : List ℕ) → taken_at ts n ≡ Some text → contains_node m (f (entry n text)) ≡ true → contains_node m (flat_map f ts) ≡ true
 has_node-flat_map f [] n m text e h = absurd (cc)
 has_node-flat_map f (t ∷ ts) n m text e h =
-    list_any-append (is_node m) (f t) (flat_map f ts)
-    ∙ elim (cases_Bool (is_node t.node n)) [
-      | inl same ↦ or_left (has_node m (f t)) (has_node m (flat_map f ts)) (ap (λ (x : TakenText). has_node m (f x)) (found_here t n text (taken_at ts n) same e) ∙ h)
-      | inr other ↦ or_right (has_node m (f t)) (has_node m (flat_map f ts)) (has_node-flat_map f ts n m text (found_later t n text (taken_at ts n) other e) h)
+    list_any-append (is_same_node m) (f t) (flat_map f ts)
+    ∙ elim (cases_Bool (is_same_node t.node n)) [
+      | inl same ↦ or_left (contains_node m (f t)) (contains_node m (flat_map f ts)) (ap (λ (x : TakenText). contains_node m (f x)) (found_here t n text (taken_at ts n) same e) ∙ h)
+      | inr other ↦ or_right (contains_node m (f t)) (contains_node m (flat_map f ts)) (has_node-flat_map f ts n m text (found_later t n text (taken_at ts n) other e) h)
     ]
 
 -- ---- what a text asks
 
-pub differing_has : (own : RowMap) (n : Node) (text : List ℕ) (k j : ℕ) → j < k → bytes_eq (child_digest text j) (digest_of own (child n j)) ≡ false → has_node (child n j) (differing own n text k) ≡ true
+pub differing_has : (own : RowMap) (n : Node) (text : List ℕ) (k j : ℕ) → j < k → bytes_eq (child_digest text j) (digest_of own (child n j)) ≡ false → contains_node (child n j) (differing own n text k) ≡ true
 unfolding differing
 differing_has own n text zero j lt e = absurd (omega arith)
 differing_has own n text (suc k) j lt e =
     let last : List Node = cond (bytes_eq (child_digest text k) (digest_of own (child n k))) [] (child n k ∷ []) in
-    list_any-append (is_node (child n j)) (differing own n text k) last
+    list_any-append (is_same_node (child n j)) (differing own n text k) last
     ∙ elim (cases_lt j k) [
-      | inl less ↦ or_left (has_node (child n j) (differing own n text k)) (has_node (child n j) last) (differing_has own n text k j less e)
+      | inl less ↦ or_left (contains_node (child n j) (differing own n text k)) (contains_node (child n j) last) (differing_has own n text k j less e)
       | inr more ↦
           let at : j ≡ k = omega arith in
-          or_right (has_node (child n j) (differing own n text k)) (has_node (child n j) last)
-          (subst (λ (i : ℕ). has_node (child n j) (cond (bytes_eq (child_digest text i) (digest_of own (child n i))) [] (child n i ∷ [])) ≡ true) at
-          (ap (λ b. has_node (child n j) (cond b [] (child n j ∷ []))) e ∙ or_left (is_node (child n j) (child n j)) false (is_node-same (child n j))))
+          or_right (contains_node (child n j) (differing own n text k)) (contains_node (child n j) last)
+          (subst (λ (i : ℕ). contains_node (child n j) (cond (bytes_eq (child_digest text i) (digest_of own (child n i))) [] (child n i ∷ [])) ≡ true) at
+          (ap (λ b. contains_node (child n j) (cond b [] (child n j ∷ []))) e ∙ or_left (is_same_node (child n j) (child n j)) false (is_node-same (child n j))))
     ]
 
 -- ---- down to a leaf
@@ -124,11 +124,11 @@ taken_compared : (w : Walk) (other : RowMap) (n : Node) (text : List ℕ) → ta
 taken_compared w other n text e = inr (inr (entry n text, Contains-taken_at w.taken n text e, refl))
 
 -- a child that was asked was taken, with the partner's text
-taken_child : (held : List ℕ → List Version) (w : Walk) (other : RowMap) → IsGood held w other → (h d i : ℕ) → d + h ≡ levels w → i < 16 ^ d → has_node (at_node d i) w.asked ≡ true → expected w.root w.taken (at_node d i) ≡ Some (sha256 (text_above other h i)) → taken_at w.taken (at_node d i) ≡ Some (text_above other h i)
+taken_child : (held : List ℕ → List Version) (w : Walk) (other : RowMap) → IsGood held w other → (h d i : ℕ) → d + h ≡ levels w → i < 16 ^ d → contains_node (at_node d i) w.asked ≡ true → expected w.root w.taken (at_node d i) ≡ Some (sha256 (text_above other h i)) → taken_at w.taken (at_node d i) ≡ Some (text_above other h i)
 taken_child held w other good h d i e lt asked due =
     elim (good.walked.answered (at_node d i) asked) [
       | inl is ↦ taken_text (taken_at w.taken (at_node d i)) refl is
-      | inr still ↦ absurd (both_ways (has_node (at_node d i) []) refl (ap (has_node (at_node d i)) (sym (good.walked.finished good.done)) ∙ still))
+      | inr still ↦ absurd (both_ways (contains_node (at_node d i) []) refl (ap (contains_node (at_node d i)) (sym (good.walked.finished good.done)) ∙ still))
     ]
   where
     some_is : (x y : List ℕ) → (let s : Option (List ℕ) = Some x in s) ≡ Some y → x ≡ y
@@ -166,13 +166,13 @@ down held w other good h d c e lt (inr taken) =
           let equal : child_digest text (c % 16) ≡ digest_of w.own (child n (c % 16)) = (bytes_eq-Decides _ _).0 same in
           inl (good.distinct (text_above w.own h c) (text_above other h c) (own_compared w other h (suc d) c deep within) (other_compared w other h (suc d) c good.format deep within) (sym own_digest ∙ (sym equal ∙ digest)))
       | inr differs ↦
-          let asks_it : has_node (child n (c % 16)) (asks w.own (entry n text)) ≡ true =
-          ap (λ b. has_node (child n (c % 16)) (cond b (differing w.own n text 16) [])) (lt-ltb d (levels w) (omega (arith, e))) ∙ differing_has w.own n text 16 (c % 16) j differs in
-          let asked : has_node (at_node (suc d) c) w.asked ≡ true =
-          ap (has_node (at_node (suc d) c)) good.walked.asked
-          ∙ (list_any-append (is_node (at_node (suc d) c)) (cond (bytes_eq w.root (root_of w.own)) [] (top ∷ [])) (flat_map (asks w.own) w.taken)
-          ∙ or_right (has_node (at_node (suc d) c) (cond (bytes_eq w.root (root_of w.own)) [] (top ∷ []))) (has_node (at_node (suc d) c) (flat_map (asks w.own) w.taken))
-          (subst (λ (k : ℕ). has_node (at_node (suc d) k) (flat_map (asks w.own) w.taken) ≡ true) place (has_node-flat_map (asks w.own) w.taken n (child n (c % 16)) text taken asks_it))) in
+          let asks_it : contains_node (child n (c % 16)) (asks w.own (entry n text)) ≡ true =
+          ap (λ b. contains_node (child n (c % 16)) (cond b (differing w.own n text 16) [])) (lt-ltb d (levels w) (omega (arith, e))) ∙ differing_has w.own n text 16 (c % 16) j differs in
+          let asked : contains_node (at_node (suc d) c) w.asked ≡ true =
+          ap (contains_node (at_node (suc d) c)) good.walked.asked
+          ∙ (list_any-append (is_same_node (at_node (suc d) c)) (cond (bytes_eq w.root (root_of w.own)) [] (top ∷ [])) (flat_map (asks w.own) w.taken)
+          ∙ or_right (contains_node (at_node (suc d) c) (cond (bytes_eq w.root (root_of w.own)) [] (top ∷ []))) (contains_node (at_node (suc d) c) (flat_map (asks w.own) w.taken))
+          (subst (λ (k : ℕ). contains_node (at_node (suc d) k) (flat_map (asks w.own) w.taken) ≡ true) place (has_node-flat_map (asks w.own) w.taken n (child n (c % 16)) text taken asks_it))) in
           let due : expected w.root w.taken (at_node (suc d) c) ≡ Some (sha256 (text_above other h c)) =
           ap (option_map (λ t. child_digest t (c % 16))) taken ∙ ap (λ (x : List ℕ). Some x) digest in
           inr (taken_child held w other good h (suc d) c deep within asked due)
@@ -199,8 +199,8 @@ at_root held w other good e =
           inl (good.distinct (text_above w.own (levels w) 0) (text_above other (levels w) 0) (own_compared w other (levels w) 0 0 (omega arith) (omega arith)) (other_compared w other (levels w) 0 0 good.format (omega arith) (omega arith))
           (sym ours ∙ (sym ((bytes_eq-Decides w.root (root_of w.own)).0 equal) ∙ sym theirs)))
       | inr differs ↦
-          let asked : has_node (at_node 0 0) w.asked ≡ true =
-          ap (has_node (at_node 0 0)) good.walked.asked ∙ ap (λ b. has_node (at_node 0 0) (cond b [] (top ∷ []) ++ flat_map (asks w.own) w.taken)) differs in
+          let asked : contains_node (at_node 0 0) w.asked ≡ true =
+          ap (contains_node (at_node 0 0)) good.walked.asked ∙ ap (λ b. contains_node (at_node 0 0) (cond b [] (top ∷ []) ++ flat_map (asks w.own) w.taken)) differs in
           inr (taken_child held w other good (levels w) 0 0 (omega arith) (omega arith) asked (ap (λ (x : List ℕ). Some x) (sym theirs)))
     ]
 

@@ -13,7 +13,7 @@ use Rattle.hash_tree.proofs.TextLaws.{leaf_node}
 use Rattle.sync_session.proofs.StepLaws.{All-weaker}
 use Rattle.vclock.specs.declared.format.Format.{Format}
 use Rattle.version_set.proofs.ListLaws.{all-filter}
-use Rattle.sync_session.specs.TreeNodes.{Node, top, child, is_node, has_node}
+use Rattle.sync_session.specs.TreeNodes.{Node, top, child, is_same_node, contains_node}
 use Rattle.snapshot.specs.RowMaps.{RowMap, IsRowMap, leaf_in, root_of}
 use Rattle.hash_tree.specs.Nodes.{tree_depth}
 use Rattle.hash_tree.specs.Texts.{leaf_text, inner_text, node_text}
@@ -35,71 +35,71 @@ bytes_eq_comm a b =
       | inr off ↦ off ∙ sym (false_from_ne_true (bytes_eq b a) (λ e. both_ways (bytes_eq a b) off ((bytes_eq-Decides a b).1 (sym ((bytes_eq-Decides b a).0 e)))))
     ]
 
-has_filter : (p : Node → Bool) (n : Node) (xs : List Node) → p n ≡ true → has_node n xs ≡ true → has_node n (filter p xs) ≡ true
+has_filter : (p : Node → Bool) (n : Node) (xs : List Node) → p n ≡ true → contains_node n xs ≡ true → contains_node n (filter p xs) ≡ true
 has_filter p n [] e h = h
 has_filter p n (x ∷ xs) e h =
-    elim (or_cases (is_node n x) (has_node n xs) h) [
-      | inl here ↦ ap (λ b. has_node n (cond b (x ∷ filter p xs) (filter p xs))) (subst (λ (y : Node). p y ≡ true) (is_node-true n x here) e) ∙ or_left (is_node n x) (has_node n (filter p xs)) here
+    elim (or_cases (is_same_node n x) (contains_node n xs) h) [
+      | inl here ↦ ap (λ b. contains_node n (cond b (x ∷ filter p xs) (filter p xs))) (subst (λ (y : Node). p y ≡ true) (is_node-true n x here) e) ∙ or_left (is_same_node n x) (contains_node n (filter p xs)) here
       | inr later ↦ pick (p x) (filter p xs) (has_filter p n xs e later)
     ]
   where
-    pick : (b : Bool) (ys : List Node) → has_node n ys ≡ true → has_node n (cond b (x ∷ ys) ys) ≡ true
-    pick true ys h = or_right (is_node n x) (has_node n ys) h
+    pick : (b : Bool) (ys : List Node) → contains_node n ys ≡ true → contains_node n (cond b (x ∷ ys) ys) ≡ true
+    pick true ys h = or_right (is_same_node n x) (contains_node n ys) h
     pick false ys h = h
 
-filter_has : (p : Node → Bool) (n : Node) (xs : List Node) → has_node n (filter p xs) ≡ true → (p n ≡ true) × (has_node n xs ≡ true)
+filter_has : (p : Node → Bool) (n : Node) (xs : List Node) → contains_node n (filter p xs) ≡ true → (p n ≡ true) × (contains_node n xs ≡ true)
 filter_has p n [] h = absurd (cc)
 filter_has p n (x ∷ xs) h = by_case (p x) refl h (filter_has p n xs)
   where
-    by_case : (b : Bool) → p x ≡ b → has_node n (cond b (x ∷ filter p xs) (filter p xs)) ≡ true → (has_node n (filter p xs) ≡ true → (p n ≡ true) × (has_node n xs ≡ true)) → (p n ≡ true) × ((is_node n x || has_node n xs) ≡ true)
-    by_case true e h again = elim (or_cases (is_node n x) (has_node n (filter p xs)) h) [
-      | inl here ↦ (subst (λ (y : Node). p y ≡ true) (sym (is_node-true n x here)) e, or_left (is_node n x) (has_node n xs) here)
-      | inr later ↦ let r = again later in (r.0, or_right (is_node n x) (has_node n xs) r.1)
+    by_case : (b : Bool) → p x ≡ b → contains_node n (cond b (x ∷ filter p xs) (filter p xs)) ≡ true → (contains_node n (filter p xs) ≡ true → (p n ≡ true) × (contains_node n xs ≡ true)) → (p n ≡ true) × ((is_same_node n x || contains_node n xs) ≡ true)
+    by_case true e h again = elim (or_cases (is_same_node n x) (contains_node n (filter p xs)) h) [
+      | inl here ↦ (subst (λ (y : Node). p y ≡ true) (sym (is_node-true n x here)) e, or_left (is_same_node n x) (contains_node n xs) here)
+      | inr later ↦ let r = again later in (r.0, or_right (is_same_node n x) (contains_node n xs) r.1)
     ]
-    by_case false e h again = let r = again h in (r.0, or_right (is_node n x) (has_node n xs) r.1)
+    by_case false e h again = let r = again h in (r.0, or_right (is_same_node n x) (contains_node n xs) r.1)
 
 -- ---- all nodes
 
-single : (n m : Node) → n ≡ m → has_node n (m ∷ []) ≡ true
-single n m e = or_left (is_node n m) false (subst (λ (x : Node). is_node n x ≡ true) e (is_node-same n))
+single : (n m : Node) → n ≡ m → contains_node n (m ∷ []) ≡ true
+single n m e = or_left (is_same_node n m) false (subst (λ (x : Node). is_same_node n x ≡ true) e (is_node-same n))
 
-level_has : (d k i : ℕ) → i < k → has_node (at_node d i) (first_of_level d k) ≡ true
+level_has : (d k i : ℕ) → i < k → contains_node (at_node d i) (first_of_level d k) ≡ true
 unfolding first_of_level
 level_has d zero i lt = absurd (omega arith)
 level_has d (suc k) i lt =
-    list_any-append (is_node (at_node d i)) (first_of_level d k) (at_node d k ∷ [])
+    list_any-append (is_same_node (at_node d i)) (first_of_level d k) (at_node d k ∷ [])
     ∙ elim (cases_lt i k) [
-      | inl less ↦ or_left (has_node (at_node d i) (first_of_level d k)) (has_node (at_node d i) (at_node d k ∷ [])) (level_has d k i less)
-      | inr more ↦ or_right (has_node (at_node d i) (first_of_level d k)) (has_node (at_node d i) (at_node d k ∷ [])) (single (at_node d i) (at_node d k) (ap (at_node d) (omega arith)))
+      | inl less ↦ or_left (contains_node (at_node d i) (first_of_level d k)) (contains_node (at_node d i) (at_node d k ∷ [])) (level_has d k i less)
+      | inr more ↦ or_right (contains_node (at_node d i) (first_of_level d k)) (contains_node (at_node d i) (at_node d k ∷ [])) (single (at_node d i) (at_node d k) (ap (at_node d) (omega arith)))
     ]
 
-level_only : (d k : ℕ) (n : Node) → has_node n (first_of_level d k) ≡ true → (n.depth ≡ d) × (n.index < k)
+level_only : (d k : ℕ) (n : Node) → contains_node n (first_of_level d k) ≡ true → (n.depth ≡ d) × (n.index < k)
 unfolding first_of_level
 level_only d zero n h = absurd (cc)
 level_only d (suc k) n h =
-    elim (or_cases (has_node n (first_of_level d k)) (has_node n (at_node d k ∷ [])) (sym (list_any-append (is_node n) (first_of_level d k) (at_node d k ∷ [])) ∙ h)) [
+    elim (or_cases (contains_node n (first_of_level d k)) (contains_node n (at_node d k ∷ [])) (sym (list_any-append (is_same_node n) (first_of_level d k) (at_node d k ∷ [])) ∙ h)) [
       | inl early ↦ let r = level_only d k n early in (r.0, omega (arith, r.1))
-      | inr last ↦ elim (or_cases (is_node n (at_node d k)) false last) [
+      | inr last ↦ elim (or_cases (is_same_node n (at_node d k)) false last) [
         | inl here ↦ let is = is_node-true n (at_node d k) here in let index : n.index ≡ k = ap (λ (x : Node). x.index) is in (ap (λ (x : Node). x.depth) is, omega (arith, index))
         | inr never ↦ absurd (cc)
       ]
     ]
 
-levels_have : (m d i : ℕ) → d < m → i < 16 ^ d → has_node (at_node d i) (nodes_above_depth m) ≡ true
+levels_have : (m d i : ℕ) → d < m → i < 16 ^ d → contains_node (at_node d i) (nodes_above_depth m) ≡ true
 unfolding nodes_above_depth
 levels_have zero d i lt within = absurd (omega arith)
 levels_have (suc m) d i lt within =
-    list_any-append (is_node (at_node d i)) (nodes_above_depth m) (first_of_level m (16 ^ m))
+    list_any-append (is_same_node (at_node d i)) (nodes_above_depth m) (first_of_level m (16 ^ m))
     ∙ elim (cases_lt d m) [
-      | inl less ↦ or_left (has_node (at_node d i) (nodes_above_depth m)) (has_node (at_node d i) (first_of_level m (16 ^ m))) (levels_have m d i less within)
-      | inr more ↦ or_right (has_node (at_node d i) (nodes_above_depth m)) (has_node (at_node d i) (first_of_level m (16 ^ m))) (subst (λ (k : ℕ). has_node (at_node d i) (first_of_level k (16 ^ k)) ≡ true) (omega arith) (level_has d (16 ^ d) i within))
+      | inl less ↦ or_left (contains_node (at_node d i) (nodes_above_depth m)) (contains_node (at_node d i) (first_of_level m (16 ^ m))) (levels_have m d i less within)
+      | inr more ↦ or_right (contains_node (at_node d i) (nodes_above_depth m)) (contains_node (at_node d i) (first_of_level m (16 ^ m))) (subst (λ (k : ℕ). contains_node (at_node d i) (first_of_level k (16 ^ k)) ≡ true) (omega arith) (level_has d (16 ^ d) i within))
     ]
 
-levels_only : (m : ℕ) (n : Node) → has_node n (nodes_above_depth m) ≡ true → (n.depth < m) × (n.index < 16 ^ n.depth)
+levels_only : (m : ℕ) (n : Node) → contains_node n (nodes_above_depth m) ≡ true → (n.depth < m) × (n.index < 16 ^ n.depth)
 unfolding nodes_above_depth
 levels_only zero n h = absurd (cc)
 levels_only (suc m) n h =
-    elim (or_cases (has_node n (nodes_above_depth m)) (has_node n (first_of_level m (16 ^ m))) (sym (list_any-append (is_node n) (nodes_above_depth m) (first_of_level m (16 ^ m))) ∙ h)) [
+    elim (or_cases (contains_node n (nodes_above_depth m)) (contains_node n (first_of_level m (16 ^ m))) (sym (list_any-append (is_same_node n) (nodes_above_depth m) (first_of_level m (16 ^ m))) ∙ h)) [
       | inl early ↦ let r = levels_only m n early in (omega (arith, r.0), r.1)
       | inr last ↦ let r = level_only m (16 ^ m) n last in (omega (arith, r.0), subst (λ (d : ℕ). n.index < 16 ^ d) (sym r.0) r.1)
     ]
@@ -131,13 +131,13 @@ asked_times w h n = ap (times n) h.asked ∙ times-append n (first_asked w.own w
 first_only : (w : Walk) (n : Node) → 1 ≤ times n (first_asked w.own w.root) → (n ≡ top) × (bytes_eq w.root (root_of w.own) ≡ false)
 first_only w n h = by_case (bytes_eq w.root (root_of w.own)) refl h
   where
-    same : (c : Bool) → is_node n top ≡ c → 1 ≤ cond c 1 0 + 0 → n ≡ top
+    same : (c : Bool) → is_same_node n top ≡ c → 1 ≤ cond c 1 0 + 0 → n ≡ top
     same true e h = is_node-true n top e
     same false e h = absurd (omega arith)
 
     by_case : (b : Bool) → bytes_eq w.root (root_of w.own) ≡ b → 1 ≤ times n (cond b [] (top ∷ [])) → (n ≡ top) × (bytes_eq w.root (root_of w.own) ≡ false)
     by_case true e h = absurd (omega arith)
-    by_case false e h = (same (is_node n top) refl h, e)
+    by_case false e h = (same (is_same_node n top) refl h, e)
 
 root_unlike : (w : Walk) (other : RowMap) → IsPartners w other → is_unlike w.own other top ≡ not (bytes_eq w.root (root_of w.own))
 root_unlike w other p = ap not (bytes_eq_comm (root_of w.own) (root_of other) ∙ ap (λ r. bytes_eq r (root_of w.own)) p.root)
@@ -186,11 +186,11 @@ asked_differs w other fair (suc d) i h =
 is_taken_at : (ts : List TakenText) (n : Node) → 1 ≤ times n (nodes_of ts) → is_some (taken_at ts n) ≡ true
 is_taken_at [] n h = absurd (omega arith)
 is_taken_at (t ∷ ts) n h =
-    elim (cases_Bool (is_node t.node n)) [
+    elim (cases_Bool (is_same_node t.node n)) [
       | inl same ↦ ap (λ b. is_some (cond b (Some t.text) (taken_at ts n))) same
       | inr other ↦
-          let off : is_node n t.node ≡ false = false_from_ne_true (is_node n t.node) (λ e. both_ways (is_node t.node n) other (subst (λ (x : Node). is_node x n ≡ true) (is_node-true n t.node e) (is_node-same n))) in
-          let fewer : (cond (is_node n t.node) 1 0 + times n (nodes_of ts)) ≡ times n (nodes_of ts) = ap (λ b. cond b 1 0 + times n (nodes_of ts)) off ∙ zero-add (times n (nodes_of ts)) in
+          let off : is_same_node n t.node ≡ false = false_from_ne_true (is_same_node n t.node) (λ e. both_ways (is_same_node t.node n) other (subst (λ (x : Node). is_same_node x n ≡ true) (is_node-true n t.node e) (is_node-same n))) in
+          let fewer : (cond (is_same_node n t.node) 1 0 + times n (nodes_of ts)) ≡ times n (nodes_of ts) = ap (λ b. cond b 1 0 + times n (nodes_of ts)) off ∙ zero-add (times n (nodes_of ts)) in
           ap (λ b. is_some (cond b (Some t.text) (taken_at ts n))) other ∙ is_taken_at ts n (omega (arith, fewer))
     ]
 
@@ -228,12 +228,12 @@ differing_asked w other fair orderly done (suc d) i shallow within e =
           omega (arith, found, asked_times w fair.traced (at_node (suc d) i))
     ]
 
-pub asked_is_differ : (w : Walk) (other : RowMap) → IsTraced w → IsPartners w other → IsHonest w other → (n : Node) → has_node n w.asked ≡ true → has_node n (differ w.own other) ≡ true
+pub asked_is_differ : (w : Walk) (other : RowMap) → IsTraced w → IsPartners w other → IsHonest w other → (n : Node) → contains_node n w.asked ≡ true → contains_node n (differ w.own other) ≡ true
 asked_is_differ w other traced partner honest n h =
     let is = asked_differs w other (record { traced = traced; partner = partner; honest = honest }) n.depth n.index (has_times n w.asked h) in
     has_filter (λ m. differs_at w.own other m.depth m.index) n (all_nodes w.own.format) is.differs (levels_have (suc (levels w)) n.depth n.index (omega (arith, is.shallow)) is.within)
 
-pub differ_is_asked : (held : List ℕ → List Version) (w : Walk) (other : RowMap) → Walked held w → IsOrderly w → IsPartners w other → IsHonest w other → IsNearlyDone w → (n : Node) → has_node n (differ w.own other) ≡ true → has_node n w.asked ≡ true
+pub differ_is_asked : (held : List ℕ → List Version) (w : Walk) (other : RowMap) → Walked held w → IsOrderly w → IsPartners w other → IsHonest w other → IsNearlyDone w → (n : Node) → contains_node n (differ w.own other) ≡ true → contains_node n w.asked ≡ true
 differ_is_asked held w other walked orderly partner honest done n h =
     let f = filter_has (λ m. differs_at w.own other m.depth m.index) n (all_nodes w.own.format) h in
     let at = levels_only (suc (levels w)) n f.1 in
@@ -305,7 +305,7 @@ canonical_of w other p n shallow =
           inr (deep, (leaf_rows other n.index, own_spelled w other p n (text_of other n) (leaf_rows other n.index) form))
     ]
 
-pub true_text_due : (held : List ℕ → List Version) (w : Walk) (other : RowMap) → Walked held w → IsOrderly w → IsPartners w other → IsHonest w other → (n : Node) → has_node n w.outstanding ≡ true → IsDue w (entry n (text_of other n)) × IsCanonical w.own n (text_of other n)
+pub true_text_due : (held : List ℕ → List Version) (w : Walk) (other : RowMap) → Walked held w → IsOrderly w → IsPartners w other → IsHonest w other → (n : Node) → contains_node n w.outstanding ≡ true → IsDue w (entry n (text_of other n)) × IsCanonical w.own n (text_of other n)
 true_text_due held w other walked orderly partner honest n h =
     let fair : IsFair w other = record { traced = traced held w walked orderly; partner = partner; honest = honest } in
     let asked : 1 ≤ times n w.asked = omega (arith, has_times n w.outstanding h, orderly.shared n) in

@@ -20,7 +20,7 @@ use Rattle.row_bytes.specs.Rows.{is_before, row_text, IsRow, KeysAscend, AreRows
 use Rattle.row_bytes.specs.Reading.{key_of, last_key}
 use Rattle.row_bytes.proofs.RowLaws.{one_row}
 use Rattle.row_bytes.proofs.TextLengthLaws.{row_text_len, row_short}
-use Rattle.hash_tree.specs.Leaves.{Bucket, AscendByKey, rows_at, versions_in, key_cmp}
+use Rattle.hash_tree.specs.Leaves.{Bucket, AscendByKey, rows_in_leaf, versions_in, key_cmp}
 use Rattle.hash_tree.specs.Texts.{leaf_byte, leaf_text}
 use Rattle.hash_tree.proofs.KeyLaws.{all_get}
 use Rattle.hash_tree.proofs.KeySpotLaws.{ascend_middle}
@@ -28,7 +28,7 @@ use Rattle.hash_tree.proofs.LeafLaws.{held_by_row}
 use Rattle.snapshot.specs.RowMaps.{RowMap, IsRowMap, leaf_in}
 use Rattle.sync_session.specs.TreeNodes.{Node}
 use Rattle.sync_session.specs.Walks.{AreSpelled}
-use Rattle.sync_session.specs.Readings.{AreNews, LiesIn, FrontOwn, FrontRun}
+use Rattle.sync_session.specs.Readings.{AreOthers, LiesIn, FrontOwn, FrontRun}
 use Rattle.sync_session.proofs.ReadingLaws.{spelled_body}
 use Rattle.sync_session.proofs.TextLaws.{keys_ascend}
 
@@ -57,14 +57,14 @@ all-inner P (x ∷ xs) y ys h = all-inner P xs y ys h.1
 
 -- ---- one row more among the news
 
-news_own : (own rows others : List Row) (known : ℕ) (r : Row) → AreNews own rows others known → Contains own r → AreNews own (rows ++ r ∷ []) others (known + length r.versions)
+news_own : (own rows others : List Row) (known : ℕ) (r : Row) → AreOthers own rows others known → Contains own r → AreOthers own (rows ++ r ∷ []) others (known + length r.versions)
 news_own own [] others known r news has = inr (has, (0, omega (arith, news.1), (news.0, refl)))
 news_own own (x ∷ rows) others known r news has = elim news [
   | inl other ↦ inl (other.0, (other.1.0, other.1.1, news_own own rows other.1.0 known r other.1.2 has))
   | inr held ↦ inr (held.0, (held.1.0 + length r.versions, omega (arith, held.1.1), news_own own rows others held.1.0 r held.1.2 has))
 ]
 
-news_other : (own rows others : List Row) (known : ℕ) (r : Row) → AreNews own rows others known → (Contains own r → ⊥) → AreNews own (rows ++ r ∷ []) (others ++ r ∷ []) known
+news_other : (own rows others : List Row) (known : ℕ) (r : Row) → AreOthers own rows others known → (Contains own r → ⊥) → AreOthers own (rows ++ r ∷ []) (others ++ r ∷ []) known
 news_other own [] others known r news has = inl (has, ([], ap (λ (xs : List Row). xs ++ r ∷ []) news.0, (refl, news.1)))
 news_other own (x ∷ rows) others known r news has = elim news [
   | inl other ↦ inl (other.0, (other.1.0 ++ r ∷ [], ap (λ (xs : List Row). xs ++ r ∷ []) other.1.1, news_other own rows other.1.0 known r other.1.2 has))
@@ -72,7 +72,7 @@ news_other own (x ∷ rows) others known r news has = elim news [
 ]
 
 -- no more versions are known than there are bytes
-news_short : (format : Format) (own rows others : List Row) (known : ℕ) → AreNews own rows others known → known ≤ length (flat_map (row_text format) rows)
+news_short : (format : Format) (own rows others : List Row) (known : ℕ) → AreOthers own rows others known → known ≤ length (flat_map (row_text format) rows)
 news_short format own [] others known news = omega (arith, news.1)
 news_short format own (x ∷ rows) others known news = elim news [
   | inl other ↦ omega (arith, news_short format own rows other.1.0 known other.1.2, length-append (row_text format x) (flat_map (row_text format) rows))
@@ -88,7 +88,7 @@ pub record OnTheWay (m : RowMap) (n : Node) (text body last rest : List ℕ) (ot
   pub here : AllByRecursion (λ (r : Row). LiesIn m n.index r.key) rows
   pub body_is : body ≡ flat_map (row_text m.format) rows ++ rest
   pub last_is : last ≡ end_key [] rows
-  pub news : AreNews m.rows rows others known
+  pub news : AreOthers m.rows rows others known
   pub only : (all : List Row) → AreSpelled m n text all → (more : List Row) × (all ≡ rows ++ more) × (rest ≡ flat_map (row_text m.format) more)
 
 pub way_begins : (m : RowMap) (n : Node) (text body : List ℕ) (others : List Row) (known mark : ℕ) (format : Format) → format ≡ m.format → mark ≡ leaf_byte format → text ≡ mark ∷ body → others ≡ [] → known ≡ 0 → OnTheWay m n text body [] body others known
@@ -118,7 +118,7 @@ all-rest P (x ∷ xs) ys h = all-rest P xs ys h.1
 
 -- one row more
 way_more : (m : RowMap) (n : Node) (text body last rest : List ℕ) (others : List Row) (known : ℕ) (r : Row) (after : List ℕ) (others_now : List Row) (known_now : ℕ) (way : OnTheWay m n text body last rest others known)
-    → IsRow m.format r → LiesIn m n.index r.key → rest ≡ row_text m.format r ++ after → is_before last r.key ≡ true → AreNews m.rows (way.rows ++ r ∷ []) others_now known_now → OnTheWay m n text body r.key after others_now known_now
+    → IsRow m.format r → LiesIn m n.index r.key → rest ≡ row_text m.format r ++ after → is_before last r.key ≡ true → AreOthers m.rows (way.rows ++ r ∷ []) others_now known_now → OnTheWay m n text body r.key after others_now known_now
 way_more m n text body last rest others known r after others_now known_now way is here begins next news =
     let f = row_text m.format in
     record {
@@ -149,30 +149,30 @@ known_more m n text body last rest others known r after way begins =
     omega (arith, ap length way.body_is, ap length begins, length-append (flat_map f way.rows) rest, length-append (f r) after, news_short m.format m.rows way.rows others known way.news, row_short m.format r)
 
 -- the own rows of a leaf are of the range, and lie in the leaf
-own_lies : (m : RowMap) (leaf : ℕ) (rows : List Row) (r : Row) → AllByRecursion (λ (x : Row). range_at m.bits x.key ≡ m.range) rows → Contains (rows_at (leaf_in m) leaf rows) r → Contains rows r × LiesIn m leaf r.key
+own_lies : (m : RowMap) (leaf : ℕ) (rows : List Row) (r : Row) → AllByRecursion (λ (x : Row). range_at m.bits x.key ≡ m.range) rows → Contains (rows_in_leaf (leaf_in m) leaf rows) r → Contains rows r × LiesIn m leaf r.key
 own_lies m leaf [] r range has = absurd (omega (arith, has.1))
 own_lies m leaf (x ∷ rows) r range has = by_case (λ rest. own_lies m leaf rows r range.1 rest) (nat_eq (leaf_in m x.key) leaf) refl has
   where
     later : Contains rows r × LiesIn m leaf r.key → Contains (x ∷ rows) r × LiesIn m leaf r.key
     later rest = ((suc rest.0.0, omega (arith, rest.0.1), rest.0.2), rest.1)
 
-    by_case : (Contains (rows_at (leaf_in m) leaf rows) r → Contains rows r × LiesIn m leaf r.key) → (b : Bool) → nat_eq (leaf_in m x.key) leaf ≡ b → Contains (cond b (x ∷ rows_at (leaf_in m) leaf rows) (rows_at (leaf_in m) leaf rows)) r → Contains (x ∷ rows) r × LiesIn m leaf r.key
+    by_case : (Contains (rows_in_leaf (leaf_in m) leaf rows) r → Contains rows r × LiesIn m leaf r.key) → (b : Bool) → nat_eq (leaf_in m x.key) leaf ≡ b → Contains (cond b (x ∷ rows_in_leaf (leaf_in m) leaf rows) (rows_in_leaf (leaf_in m) leaf rows)) r → Contains (x ∷ rows) r × LiesIn m leaf r.key
     by_case more true here (zero, within, is) = ((0, omega arith, is), subst (λ (y : Row). LiesIn m leaf y.key) is (record { range = range.0; leaf_is = eqb-true _ _ here }))
     by_case more true here (suc k, within, is) = later (more (k, omega (arith, within), is))
     by_case more false here has = later (more has)
 
 -- an own row that lies in a leaf is one of the leaf's
-own_there : (m : RowMap) (leaf : ℕ) (rows : List Row) (r : Row) → leaf_in m r.key ≡ leaf → Contains rows r → Contains (rows_at (leaf_in m) leaf rows) r
+own_there : (m : RowMap) (leaf : ℕ) (rows : List Row) (r : Row) → leaf_in m r.key ≡ leaf → Contains rows r → Contains (rows_in_leaf (leaf_in m) leaf rows) r
 own_there m leaf [] r home has = absurd (omega (arith, has.1))
 own_there m leaf (x ∷ rows) r home (zero, within, is) =
     let here : nat_eq (leaf_in m x.key) leaf ≡ true = eq-eqb _ _ (ap (λ (y : Row). leaf_in m y.key) is ∙ home) in
     rw here (0, omega arith, is)
 own_there m leaf (x ∷ rows) r home (suc k, within, is) =
     let rest = own_there m leaf rows r home (k, omega (arith, within), is) in
-    elim (nat_eq (leaf_in m x.key) leaf) as (λ b. Contains (cond b (x ∷ rows_at (leaf_in m) leaf rows) (rows_at (leaf_in m) leaf rows)) r) [ true ↦ (suc rest.0, omega (arith, rest.1), rest.2) | false ↦ rest ]
+    elim (nat_eq (leaf_in m x.key) leaf) as (λ b. Contains (cond b (x ∷ rows_in_leaf (leaf_in m) leaf rows) (rows_in_leaf (leaf_in m) leaf rows)) r) [ true ↦ (suc rest.0, omega (arith, rest.1), rest.2) | false ↦ rest ]
 
 -- a row of the own leaf
-pub way_own : (m : RowMap) (n : Node) (text body last rest : List ℕ) (others : List Row) (known : ℕ) (r : Row) (after : List ℕ) → IsRowMap m → OnTheWay m n text body last rest others known → Contains (rows_at (leaf_in m) n.index m.rows) r
+pub way_own : (m : RowMap) (n : Node) (text body last rest : List ℕ) (others : List Row) (known : ℕ) (r : Row) (after : List ℕ) → IsRowMap m → OnTheWay m n text body last rest others known → Contains (rows_in_leaf (leaf_in m) n.index m.rows) r
     → rest ≡ row_text m.format r ++ after → is_before last r.key ≡ true → OnTheWay m n text body r.key after others (known + length r.versions)
 way_own m n text body last rest others known r after is way has begins next =
     let own = own_lies m n.index m.rows r is.here has in
@@ -182,7 +182,7 @@ way_own m n text body last rest others known r after is way has begins next =
 -- ---- a run of the own leaf's rows
 
 -- the rows of a leaf ascend
-pub leaf_ascends : (m : RowMap) (leaf : ℕ) → IsRowMap m → AscendByKey (rows_at (leaf_in m) leaf m.rows)
+pub leaf_ascends : (m : RowMap) (leaf : ℕ) → IsRowMap m → AscendByKey (rows_in_leaf (leaf_in m) leaf m.rows)
 leaf_ascends m leaf is = Pairwise-filter (λ (r x : Row). key_cmp r.key x.key ≡ Less) _ m.rows is.ascending
 
 run_short : (format : Format) (rows : List Row) → sum_by (λ (r : Row). length r.versions) rows ≤ length (flat_map (row_text format) rows)
@@ -218,7 +218,7 @@ run_contained front (r ∷ run) back = (
   subst (λ (rows : List Row). AllByRecursion (Contains (rows ++ back)) run) (append_assoc front (r ∷ []) run) (run_contained (front ++ r ∷ []) run back),
 )
 
-way_run : (m : RowMap) (n : Node) (text body last rest : List ℕ) (others : List Row) (known : ℕ) (run : List Row) (after : List ℕ) → IsRowMap m → OnTheWay m n text body last rest others known → AllByRecursion (Contains (rows_at (leaf_in m) n.index m.rows)) run
+way_run : (m : RowMap) (n : Node) (text body last rest : List ℕ) (others : List Row) (known : ℕ) (run : List Row) (after : List ℕ) → IsRowMap m → OnTheWay m n text body last rest others known → AllByRecursion (Contains (rows_in_leaf (leaf_in m) n.index m.rows)) run
     → KeysAscend last run → rest ≡ flat_map (row_text m.format) run ++ after → OnTheWay m n text body (end_key last run) after others (known + sum_by (λ (r : Row). length r.versions) run)
 way_run m n text body last rest others known [] after is way all rising begins =
     let same : known ≡ known + 0 = omega arith in
@@ -230,12 +230,12 @@ way_run m n text body last rest others known (r ∷ run) after is way all rising
     subst (OnTheWay m n text body (end_key r.key run) after others) (omega (arith, sum_by-cons (λ (x : Row). length x.versions) r run)) done
 
 -- the run that a text begins with
-pub way_front : (m : RowMap) (n : Node) (b : Bucket) (text body last rest : List ℕ) (others : List Row) (known : ℕ) (key : List ℕ) (versions : ℕ) (end after : List ℕ) → IsRowMap m → b ≡ record { format = m.format; rows = rows_at (leaf_in m) n.index m.rows }
+pub way_front : (m : RowMap) (n : Node) (b : Bucket) (text body last rest : List ℕ) (others : List Row) (known : ℕ) (key : List ℕ) (versions : ℕ) (end after : List ℕ) → IsRowMap m → b ≡ record { format = m.format; rows = rows_in_leaf (leaf_in m) n.index m.rows }
     → OnTheWay m n text body last rest others known → FrontRun b key rest versions end after → is_before last key ≡ true → OnTheWay m n text body end after others (known + versions)
 way_front m n b text body last rest others known key versions end after is same way there next =
     let front = subst (λ (x : Bucket). FrontRun x key rest versions end after) same there in
     let run = front.run in
-    let leaf = rows_at (leaf_in m) n.index m.rows in
+    let leaf = rows_in_leaf (leaf_in m) n.index m.rows in
     let all : AllByRecursion (Contains leaf) run = subst (λ (rows : List Row). AllByRecursion (Contains rows) run) (sym front.is.rows_are) (run_contained front.is.front run front.is.back) in
     let ascends : AscendByKey (front.is.first ∷ front.is.more) = subst AscendByKey front.is.run_is (ascend_middle front.is.front run front.is.back (subst AscendByKey front.is.rows_are (leaf_ascends m n.index is))) in
     let first : is_before last front.is.first.key ≡ true = ap (is_before last) front.is.key ∙ next in
@@ -260,7 +260,7 @@ run_is_text b key text versions last after front =
 
 -- a row that was read, which the own leaf has not
 pub way_other : (m : RowMap) (n : Node) (text body last rest : List ℕ) (others : List Row) (known : ℕ) (r : Row) (after : List ℕ) → OnTheWay m n text body last rest others known → IsRow m.format r → LiesIn m n.index r.key
-    → (Contains (rows_at (leaf_in m) n.index m.rows) r → ⊥) → rest ≡ row_text m.format r ++ after → is_before last r.key ≡ true → OnTheWay m n text body r.key after (others ++ r ∷ []) known
+    → (Contains (rows_in_leaf (leaf_in m) n.index m.rows) r → ⊥) → rest ≡ row_text m.format r ++ after → is_before last r.key ≡ true → OnTheWay m n text body r.key after (others ++ r ∷ []) known
 way_other m n text body last rest others known r after way row lies has begins next =
     way_more m n text body last rest others known r after (others ++ r ∷ []) known way row lies begins next
     (news_other m.rows way.rows others known r way.news (λ own. has (own_there m n.index m.rows r lies.leaf_is own)))
@@ -287,7 +287,7 @@ split_here m leaf [] all = (tt, tt)
 split_here m leaf (r ∷ rows) all = let rest = split_here m leaf rows all.1 in ((all.0.range, rest.0), (all.0.leaf_is, rest.1))
 
 pub way_done : (m : RowMap) (n : Node) (text body last rest : List ℕ) (others : List Row) (known mark : ℕ) (format : Format) → OnTheWay m n text body last rest others known → rest ≡ [] → format ≡ m.format → mark ≡ leaf_byte format → text ≡ mark ∷ body
-    → (rows : List Row) × AreSpelled m n text rows × AreNews m.rows rows others known
+    → (rows : List Row) × AreSpelled m n text rows × AreOthers m.rows rows others known
 unfolding leaf_text
 way_done m n text body last rest others known mark format way none same first is =
     let f = row_text m.format in

@@ -9,7 +9,7 @@ use Rattle.row_bytes.specs.declared.row.Row.{Row}
 use Rattle.version_set.specs.declared.version.Version.{Version}
 use Rattle.version_set.proofs.ListLaws.{all-push}
 use Rattle.sync_session.specs.declared.state.SessionState.TheVariants.{Finished}
-use Rattle.sync_session.specs.TreeNodes.{Node, is_node, has_node}
+use Rattle.sync_session.specs.TreeNodes.{Node, is_same_node, contains_node}
 use Rattle.snapshot.specs.RowMaps.{RowMap, IsRowMap}
 use Rattle.sync_session.specs.Walks.{Walk, TakenText, taken_at, child_digest, expected_at, first_asked, asks, Held, IsLeafHeld, IsCanonical, AreSpelled, IsRightlyTaken, Walked}
 use Rattle.sync_session.specs.Steps.{state_by, started, left_after, after, IsDue, Grows}
@@ -65,7 +65,7 @@ walked_started held own offered is h =
 
 taken_at-stays : (ts us : List TakenText) (n : Node) (text : List ℕ) → taken_at ts n ≡ Some text → taken_at (ts ++ us) n ≡ Some text
 taken_at-stays [] us n text e = absurd (cc)
-taken_at-stays (t ∷ ts) us n text e = both (is_node t.node n) (taken_at-stays ts us n text) e
+taken_at-stays (t ∷ ts) us n text e = both (is_same_node t.node n) (taken_at-stays ts us n text) e
   where
     both : (b : Bool) → (taken_at ts n ≡ Some text → taken_at (ts ++ us) n ≡ Some text) → cond b (Some t.text) (taken_at ts n) ≡ Some text → cond b (Some t.text) (taken_at (ts ++ us) n) ≡ Some text
     both true again e = e
@@ -80,7 +80,7 @@ some_stays ts us n e = by_case (taken_at ts n) refl e
 
 taken_now : (ts : List TakenText) (t : TakenText) → is_some (taken_at (ts ++ t ∷ []) t.node) ≡ true
 taken_now [] t = ap (λ b. is_some (cond b (Some t.text) None)) (is_node-same t.node)
-taken_now (u ∷ ts) t = either (is_node u.node t.node) (taken_now ts t)
+taken_now (u ∷ ts) t = either (is_same_node u.node t.node) (taken_now ts t)
   where
     either : (b : Bool) → is_some (taken_at (ts ++ t ∷ []) t.node) ≡ true → is_some (cond b (Some u.text) (taken_at (ts ++ t ∷ []) t.node)) ≡ true
     either true h = refl
@@ -98,32 +98,32 @@ expected_stays offered ts us (suc d) i x e = by_case (taken_at ts parent) refl e
     by_case (Some text) at e = ap (option_map (λ t. child_digest t (i % 16))) (taken_at-stays ts us parent text at) ∙ e
 
 -- what is still outstanding
-kept : (nodes : List Node) (n m : Node) → is_node m n ≡ false → has_node m nodes ≡ true → has_node m (filter (λ x. not (is_node x n)) nodes) ≡ true
+kept : (nodes : List Node) (n m : Node) → is_same_node m n ≡ false → contains_node m nodes ≡ true → contains_node m (filter (λ x. not (is_same_node x n)) nodes) ≡ true
 kept [] n m other h = h
 kept (x ∷ nodes) n m other h =
-    elim (or_cases (is_node m x) (has_node m nodes) h) [
+    elim (or_cases (is_same_node m x) (contains_node m nodes) h) [
       | inl here ↦
-          let stays : is_node x n ≡ false = subst (λ (y : Node). is_node y n ≡ false) (is_node-true m x here) other in
-          ap (λ b. has_node m (cond (not b) (x ∷ filter (λ x. not (is_node x n)) nodes) (filter (λ x. not (is_node x n)) nodes))) stays ∙ or_left (is_node m x) (has_node m (filter (λ x. not (is_node x n)) nodes)) here
-      | inr later ↦ pick (not (is_node x n)) (filter (λ x. not (is_node x n)) nodes) (kept nodes n m other later)
+          let stays : is_same_node x n ≡ false = subst (λ (y : Node). is_same_node y n ≡ false) (is_node-true m x here) other in
+          ap (λ b. contains_node m (cond (not b) (x ∷ filter (λ x. not (is_same_node x n)) nodes) (filter (λ x. not (is_same_node x n)) nodes))) stays ∙ or_left (is_same_node m x) (contains_node m (filter (λ x. not (is_same_node x n)) nodes)) here
+      | inr later ↦ pick (not (is_same_node x n)) (filter (λ x. not (is_same_node x n)) nodes) (kept nodes n m other later)
     ]
   where
-    pick : (b : Bool) (ys : List Node) → has_node m ys ≡ true → has_node m (cond b (x ∷ ys) ys) ≡ true
-    pick true ys h = or_right (is_node m x) (has_node m ys) h
+    pick : (b : Bool) (ys : List Node) → contains_node m ys ≡ true → contains_node m (cond b (x ∷ ys) ys) ≡ true
+    pick true ys h = or_right (is_same_node m x) (contains_node m ys) h
     pick false ys h = h
 
-answered_after : (held : List ℕ → List Version) (w : Walk) (t : TakenText) → Walked held w → (n : Node) → has_node n (w.asked ++ asks w.own t) ≡ true → (is_some (taken_at (w.taken ++ t ∷ []) n) ≡ true) ⊎ (has_node n (left_after w t) ≡ true)
+answered_after : (held : List ℕ → List Version) (w : Walk) (t : TakenText) → Walked held w → (n : Node) → contains_node n (w.asked ++ asks w.own t) ≡ true → (is_some (taken_at (w.taken ++ t ∷ []) n) ≡ true) ⊎ (contains_node n (left_after w t) ≡ true)
 answered_after held w t h n e =
-    let rest = filter (λ x. not (is_node x t.node)) w.outstanding in
-    elim (or_cases (has_node n w.asked) (has_node n (asks w.own t)) (sym (list_any-append (is_node n) w.asked (asks w.own t)) ∙ e)) [
+    let rest = filter (λ x. not (is_same_node x t.node)) w.outstanding in
+    elim (or_cases (contains_node n w.asked) (contains_node n (asks w.own t)) (sym (list_any-append (is_same_node n) w.asked (asks w.own t)) ∙ e)) [
       | inl before ↦ elim (h.answered n before) [
         | inl taken ↦ inl (some_stays w.taken (t ∷ []) n taken)
-        | inr out ↦ elim (cases_Bool (is_node n t.node)) [
+        | inr out ↦ elim (cases_Bool (is_same_node n t.node)) [
           | inl same ↦ inl (subst (λ (m : Node). is_some (taken_at (w.taken ++ t ∷ []) m) ≡ true) (sym (is_node-true n t.node same)) (taken_now w.taken t))
-          | inr other ↦ inr (list_any-append (is_node n) rest (asks w.own t) ∙ or_left (has_node n rest) (has_node n (asks w.own t)) (kept w.outstanding t.node n other out))
+          | inr other ↦ inr (list_any-append (is_same_node n) rest (asks w.own t) ∙ or_left (contains_node n rest) (contains_node n (asks w.own t)) (kept w.outstanding t.node n other out))
         ]
       ]
-      | inr new ↦ inr (list_any-append (is_node n) rest (asks w.own t) ∙ or_right (has_node n rest) (has_node n (asks w.own t)) new)
+      | inr new ↦ inr (list_any-append (is_same_node n) rest (asks w.own t) ∙ or_right (contains_node n rest) (contains_node n (asks w.own t)) new)
     ]
 
 pub walked_after : (held : List ℕ → List Version) (w : Walk) (t : TakenText) → Walked held w → IsDue w t → IsCanonical w.own t.node t.text → IsLeafHeld w.own held t → Walked held (after w t)

@@ -15,7 +15,7 @@ use Rattle.version_set.proofs.ListLaws.{all-filter, Pairwise-filter}
 use Rattle.key_ring.specs.Places.{leaf_at}
 use Rattle.row_bytes.specs.declared.row.Row.{Row}
 use Rattle.row_bytes.specs.Rows.{IsRow, KeysAscend, AreRows}
-use Rattle.hash_tree.specs.Leaves.{key_cmp, AscendByKey, rows_at}
+use Rattle.hash_tree.specs.Leaves.{key_cmp, AscendByKey, rows_in_leaf}
 use Rattle.hash_tree.specs.Nodes.{tree_depth, ancestor_of}
 use Rattle.hash_tree.specs.Texts.{inner_text, per_child, node_text}
 use Rattle.hash_tree.proofs.TextLaws.{length-per_child, per_child-at}
@@ -28,7 +28,7 @@ text_above m height index = node_text m.format (leaf_in m) m.rows height index
 
 -- the rows of a leaf
 abbrev pub leaf_rows : RowMap → ℕ → List Row
-leaf_rows m index = rows_at (leaf_in m) index m.rows
+leaf_rows m index = rows_in_leaf (leaf_in m) index m.rows
 
 -- ---- digests in texts
 

@@ -5,7 +5,7 @@ use Rattle.vclock.specs.declared.format.Format.{Format}
 use Rattle.version_set.specs.Order.{Pairwise}
 use Rattle.hash_tree.specs.Nodes.{tree_depth}
 use Rattle.snapshot.specs.RowMaps.{RowMap}
-use Rattle.sync_session.specs.TreeNodes.{Node, is_node, has_node, place_of, text_of, digest_of}
+use Rattle.sync_session.specs.TreeNodes.{Node, is_same_node, contains_node, place_of, text_of, digest_of}
 use Rattle.sync_session.specs.Walks.{TakenText, Walk, asked_by, IsRightlyTaken}
 
 -- the first k nodes of a depth
@@ -38,7 +38,7 @@ differ own other = filter (λ n. differs_at own other n.depth n.index) (all_node
 -- the number of times that a list has a node
 abbrev pub times : Node → List Node → ℕ
 times n [] = 0
-times n (m ∷ nodes) = (if is_node n m then 1 else 0) + times n nodes
+times n (m ∷ nodes) = (if is_same_node n m then 1 else 0) + times n nodes
 
 abbrev pub nodes_of : List TakenText → List Node
 nodes_of taken = map (λ t. t.node) taken
@@ -63,12 +63,12 @@ IsHonest w other = AllByRecursion (λ t. t.text ≡ text_of other t.node) w.take
 
 -- only leaves are outstanding, or nothing
 abbrev pub IsNearlyDone : Walk → Type 0
-IsNearlyDone w = (n : Node) → has_node n w.outstanding ≡ true → n.depth ≡ tree_depth w.own.format
+IsNearlyDone w = (n : Node) → contains_node n w.outstanding ≡ true → n.depth ≡ tree_depth w.own.format
 
 -- the texts were taken in the order in which their nodes were asked
 abbrev pub IsInTurn : Walk → Type 0
 IsInTurn w = (rest : List Node) × (w.asked ≡ nodes_of w.taken ++ rest)
 
 -- nodes by depth, and then by index
-abbrev pub Ascends : List Node → Type 0
-Ascends nodes = Pairwise (λ n m. place_of n < place_of m) nodes
+abbrev pub AscendByPlace : List Node → Type 0
+AscendByPlace nodes = Pairwise (λ n m. place_of n < place_of m) nodes

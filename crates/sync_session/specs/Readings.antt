@@ -35,15 +35,15 @@ Shows w t (Err e) = IsTakeFault w t e
 
 -- The rows of a text, compared with own rows: others are those that own does not contain, in order, and known is the
 -- number of versions of the rest.
-abbrev pub AreNews : List Row → List Row → List Row → ℕ → Type 0
-AreNews own [] others known = (others ≡ []) × (known ≡ 0)
-AreNews own (r ∷ rows) others known =
-    ((Contains own r → ⊥) × ((more : List Row) × (others ≡ r ∷ more) × AreNews own rows more known))
-    ⊎ (Contains own r × ((n : ℕ) × (known ≡ length r.versions + n) × AreNews own rows others n))
+abbrev pub AreOthers : List Row → List Row → List Row → ℕ → Type 0
+AreOthers own [] others known = (others ≡ []) × (known ≡ 0)
+AreOthers own (r ∷ rows) others known =
+    ((Contains own r → ⊥) × ((more : List Row) × (others ≡ r ∷ more) × AreOthers own rows more known))
+    ⊎ (Contains own r × ((n : ℕ) × (known ≡ length r.versions + n) × AreOthers own rows others n))
 
 -- the news in a leaf's text
 abbrev pub ReadsNews : RowMap → Node → List ℕ → Result News Refusal → Type 0
-ReadsNews m n text (Ok news) = (rows : List Row) × AreSpelled m n text rows × AreNews m.rows rows news.rows.items news.known
+ReadsNews m n text (Ok news) = (rows : List Row) × AreSpelled m n text rows × AreOthers m.rows rows news.rows.items news.known
 ReadsNews m n text (Err refusals.NotCanonical) = (rows : List Row) → AreSpelled m n text rows → ⊥
 ReadsNews m n text (Err e) = e ≡ refusals.NoMemory
 
@@ -52,7 +52,7 @@ abbrev pub Tells : Walk → TakenText → Result News Refusal → Type 0
 Tells w t (Ok news) =
     IsDue w t
     × (((t.node.depth < tree_depth w.own.format) × IsInnerText w.own.format t.text × (news.rows.items ≡ []) × (news.known ≡ 0))
-    ⊎ ((t.node.depth ≡ tree_depth w.own.format) × ((rows : List Row) × AreSpelled w.own t.node t.text rows × AreNews w.own.rows rows news.rows.items news.known)))
+    ⊎ ((t.node.depth ≡ tree_depth w.own.format) × ((rows : List Row) × AreSpelled w.own t.node t.text rows × AreOthers w.own.rows rows news.rows.items news.known)))
 Tells w t (Err e) = IsTakeFault w t e
 
 -- a key is in the range, and in this leaf

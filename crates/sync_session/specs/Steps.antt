@@ -12,7 +12,7 @@ use Rattle.sync_session.specs.declared.state.SessionState.{SessionState}
 use Rattle.sync_session.specs.declared.state.SessionState.TheVariants.{Open, Finished, Failed, Cancelled}
 use Rattle.sync_session.specs.declared.session.Answered.{Answered}
 use Rattle.sync_session.specs.declared.session.Answered.TheVariants.{Inner, Leaf}
-use Rattle.sync_session.specs.TreeNodes.{Node, is_node, has_node}
+use Rattle.sync_session.specs.TreeNodes.{Node, is_same_node, contains_node}
 use Rattle.sync_session.specs.Walks.{TakenText, Walk, expected, first_asked, asks, IsCanonical, IsInnerText, AreSpelled}
 
 -- open, or finished if nothing is outstanding
@@ -26,7 +26,7 @@ started own offered = record { own = own; root = offered; asked = first_asked ow
 
 -- the outstanding nodes after a text was taken: without its node, and with the nodes that it asks at the end
 abbrev pub left_after : Walk → TakenText → List Node
-left_after w t = filter (λ n. not (is_node n t.node)) w.outstanding ++ asks w.own t
+left_after w t = filter (λ n. not (is_same_node n t.node)) w.outstanding ++ asks w.own t
 
 -- the walk after a text was taken
 abbrev pub after : Walk → TakenText → Walk
@@ -45,14 +45,14 @@ cancelled_by w Cancelled = w
 
 -- the node is outstanding, and the text has the digest that is expected there
 pub record IsDue (w : Walk) (t : TakenText) : Type 0 where
-  pub asked : has_node t.node w.outstanding ≡ true
+  pub asked : contains_node t.node w.outstanding ≡ true
   pub digest : expected w.root w.taken t.node ≡ Some (sha256 t.text)
 
 -- The faults of a text; the first one is returned. Reading a leaf allocates, so at a leaf NoMemory may replace
 -- NotCanonical.
 abbrev pub IsTakeFault : Walk → TakenText → Refusal → Type 0
-IsTakeFault w t refusals.NotAsked = has_node t.node w.outstanding ≡ false
-IsTakeFault w t refusals.WrongDigest = (has_node t.node w.outstanding ≡ true) × (expected w.root w.taken t.node ≢ Some (sha256 t.text))
+IsTakeFault w t refusals.NotAsked = contains_node t.node w.outstanding ≡ false
+IsTakeFault w t refusals.WrongDigest = (contains_node t.node w.outstanding ≡ true) × (expected w.root w.taken t.node ≢ Some (sha256 t.text))
 IsTakeFault w t refusals.NotCanonical = IsDue w t × (IsCanonical w.own t.node t.text → ⊥)
 IsTakeFault w t refusals.NoMemory = IsDue w t × (t.node.depth < tree_depth w.own.format → IsInnerText w.own.format t.text)
 IsTakeFault w t e = ⊥
@@ -63,13 +63,13 @@ after_refusal w refusals.NotCanonical = failed w
 after_refusal w e = w
 
 -- the result for a text that is taken: its kind, and for a leaf the rows that the text spells
-abbrev pub Gives : Walk → TakenText → Answered → Type 0
-Gives w t Inner = (t.node.depth < tree_depth w.own.format) × IsInnerText w.own.format t.text
-Gives w t (Leaf rows) = (t.node.depth ≡ tree_depth w.own.format) × AreSpelled w.own t.node t.text rows
+abbrev pub IsAnswerTo : Walk → TakenText → Answered → Type 0
+IsAnswerTo w t Inner = (t.node.depth < tree_depth w.own.format) × IsInnerText w.own.format t.text
+IsAnswerTo w t (Leaf rows) = (t.node.depth ≡ tree_depth w.own.format) × AreSpelled w.own t.node t.text rows
 
 -- the result of taking a text, and the walk afterwards
 abbrev pub Takes : Walk → TakenText → Result Answered Refusal → Walk → Type 0
-Takes w t (Ok answer) new = IsDue w t × Gives w t answer × (new ≡ after w t)
+Takes w t (Ok answer) new = IsDue w t × IsAnswerTo w t answer × (new ≡ after w t)
 Takes w t (Err e) new = IsTakeFault w t e × (new ≡ after_refusal w e)
 
 -- all versions covered before are covered now

@@ -10,8 +10,8 @@ pub record Node : Type 0 where
   pub depth : ℕ
   pub index : ℕ
 
-abbrev pub node_of : NodeAt → Node
-node_of n = record { depth = n.depth; index = n.index }
+abbrev pub as_node : NodeAt → Node
+as_node n = record { depth = n.depth; index = n.index }
 
 -- a tree of this depth has the node
 pub record IsNode (depth : ℕ) (n : Node) : Type 0 where
@@ -34,12 +34,12 @@ abbrev pub parent_of : Node → Option Node
 parent_of n = parent_at n.depth n.index
 
 -- two nodes are equal
-abbrev pub is_node : Node → Node → Bool
-is_node m n = nat_eq m.depth n.depth && nat_eq m.index n.index
+abbrev pub is_same_node : Node → Node → Bool
+is_same_node m n = nat_eq m.depth n.depth && nat_eq m.index n.index
 
 -- a list has the node
-abbrev pub has_node : Node → List Node → Bool
-has_node n nodes = list_any (is_node n) nodes
+abbrev pub contains_node : Node → List Node → Bool
+contains_node n nodes = list_any (is_same_node n) nodes
 
 -- the number of nodes before it, by depth and then by index
 abbrev pub place_of : Node → ℕ

@@ -14,7 +14,7 @@ use Rattle.hash_tree.specs.Texts.{inner_byte, leaf_text}
 use Rattle.snapshot.specs.RowMaps.{RowMap, IsRowMap, leaf_in, root_of}
 use Rattle.sync_session.specs.declared.state.SessionState.{SessionState}
 use Rattle.sync_session.specs.declared.state.SessionState.TheVariants.{Finished}
-use Rattle.sync_session.specs.TreeNodes.{Node, IsNode, top, child, is_node, has_node, text_of, digest_of}
+use Rattle.sync_session.specs.TreeNodes.{Node, IsNode, top, child, is_same_node, contains_node, text_of, digest_of}
 
 -- a node, and the text that was taken for it
 pub record TakenText : Type 0 where
@@ -34,7 +34,7 @@ pub record Walk : Type 0 where
 -- the text that was taken for a node, if any
 abbrev pub taken_at : List TakenText → Node → Option (List ℕ)
 taken_at [] n = None
-taken_at (t ∷ ts) n = if is_node t.node n then Some t.text else taken_at ts n
+taken_at (t ∷ ts) n = if is_same_node t.node n then Some t.text else taken_at ts n
 
 -- the digest of child j in the text of an inner node
 abbrev pub child_digest : List ℕ → ℕ → List ℕ
@@ -104,7 +104,7 @@ pub record Walked (held : List ℕ → List Version) (w : Walk) : Type 0 where
   pub rows_held : AllByRecursion (IsLeafHeld w.own held) w.taken
   pub texts : AllByRecursion (IsRightlyTaken w) w.taken
   pub asked : w.asked ≡ asked_by w.own w.root w.taken
-  pub answered : (n : Node) → has_node n w.asked ≡ true → (is_some (taken_at w.taken n) ≡ true) ⊎ (has_node n w.outstanding ≡ true)
+  pub answered : (n : Node) → contains_node n w.asked ≡ true → (is_some (taken_at w.taken n) ≡ true) ⊎ (contains_node n w.outstanding ≡ true)
   pub finished : w.state ≡ Finished → w.outstanding ≡ []
 
 -- a text that is compared: of a node of either tree, or taken

@@ -4,10 +4,10 @@ ghost use Rattle.row_bytes.specs.declared.row.Row.{Row};
 ghost use Rattle.version_set.specs.declared.version.Version.{Version};
 ghost use Rattle.snapshot.specs.RowMaps.{RowMap, IsRowMap};
 ghost use Rattle.sync_session.specs.declared.state.SessionState.TheVariants.{Finished};
-ghost use Rattle.sync_session.specs.TreeNodes.{Node, has_node, text_of};
+ghost use Rattle.sync_session.specs.TreeNodes.{Node, contains_node, text_of};
 ghost use Rattle.sync_session.specs.Walks.{TakenText, Walk, Walked, Held, IsLeafHeld, IsCanonical, AreSpelled, NoTwoShareADigest, IsPartners};
 ghost use Rattle.sync_session.specs.Steps.{started, after, failed, cancelled_by, IsDue, Grows};
-ghost use Rattle.sync_session.specs.Differing.{differ, IsOrderly, IsTraced, IsHonest, IsNearlyDone, IsInTurn, Ascends};
+ghost use Rattle.sync_session.specs.Differing.{differ, IsOrderly, IsTraced, IsHonest, IsNearlyDone, IsInTurn, AscendByPlace};
 
 /// After a finished session each version of the partner's rows is held or is below a held version. The partner's rows
 /// are any rows of the local format, ring bits and range whose root is the offered one. The law assumes that no two
@@ -48,13 +48,13 @@ pub fn a_walk_leaves_a_trace()
 /// order of depth and then of index. Two trees of one format differ at the same nodes, whichever of them is local.
 pub fn a_session_asks_where_the_trees_differ()
     ensures only { (w : Walk) (other : RowMap) → IsTraced w → IsPartners w other → IsHonest w other
-        → (n : Node) → has_node n w.asked ≡ true → has_node n (differ w.own other) ≡ true }
+        → (n : Node) → contains_node n w.asked ≡ true → contains_node n (differ w.own other) ≡ true }
     ensures all { (held : List ℕ → List Version) (w : Walk) (other : RowMap) → Walked held w → IsOrderly w
         → IsPartners w other → IsHonest w other → IsNearlyDone w
-        → (n : Node) → has_node n (differ w.own other) ≡ true → has_node n w.asked ≡ true }
+        → (n : Node) → contains_node n (differ w.own other) ≡ true → contains_node n w.asked ≡ true }
     ensures due { (held : List ℕ → List Version) (w : Walk) (other : RowMap) → Walked held w → IsOrderly w
-        → IsPartners w other → IsHonest w other → (n : Node) → has_node n w.outstanding ≡ true
+        → IsPartners w other → IsHonest w other → (n : Node) → contains_node n w.outstanding ≡ true
         → IsDue w (record { node = n; text = text_of other n }) × IsCanonical w.own n (text_of other n) }
-    ensures ordered { (w : Walk) → IsTraced w → IsInTurn w → Ascends w.asked }
+    ensures ordered { (w : Walk) → IsTraced w → IsInTurn w → AscendByPlace w.asked }
     ensures both_ways { (a b : RowMap) → a.format ≡ b.format → differ a b ≡ differ b a }
 {}

@@ -5,7 +5,7 @@ ghost use Rattle.vclock.specs.Answer.{Answers};
 ghost use Rattle.row_bytes.specs.declared.row.Row.{Row};
 ghost use Rattle.hash_tree.specs.Leaves.{AscendByKey};
 ghost use Rattle.hash_tree.specs.Nodes.{tree_depth};
-ghost use Rattle.sync_session.specs.TreeNodes.{node_of};
+ghost use Rattle.sync_session.specs.TreeNodes.{as_node};
 ghost use Rattle.sync_session.specs.Readings.{ReadsNews, FrontRow, FrontOwn, FrontRun};
 
 use crate::text_reader::{body_of, is_here};
@@ -47,7 +47,7 @@ pub(crate) fn leaf_news(
     text: &[u8],
 ) -> Result<News, Refusal>
     requires { node.depth ≡ tree_depth own.now.format }
-    ensures { ReadsNews own.now (node_of node) text.now result }
+    ensures { ReadsNews own.now (as_node node) text.now result }
 {
     let Some(body) = body_of(leaf_byte(own.format()), text) else {
         return Err(Refusal::NotCanonical);

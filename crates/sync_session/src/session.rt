@@ -3,7 +3,7 @@ ghost use Rattle.std.specs.Prelude.{◌≡◌, ◌<◌, ◌↔◌, ⊤, None, []
 ghost use Rattle.std.specs.Arc.{arc_value};
 ghost use Rattle.vclock.specs.Answer.{Answers};
 ghost use Rattle.hash_tree.specs.Nodes.{tree_depth};
-ghost use Rattle.sync_session.specs.TreeNodes.{node_of};
+ghost use Rattle.sync_session.specs.TreeNodes.{as_node};
 ghost use Rattle.sync_session.specs.Walks.{TakenText, asks, IsCanonical, IsInnerText};
 ghost use Rattle.sync_session.specs.Steps.{state_by, started, after, failed, cancelled_by, IsDue, Takes};
 ghost use Rattle.sync_session.specs.Readings.{Shows, Tells, Awaits};
@@ -55,7 +55,7 @@ pub struct Session {
 impl Model for Session {
     ghost use Rattle.std.specs.Prelude.{map};
     ghost use Rattle.std.specs.Arc.{arc_value};
-    ghost use Rattle.sync_session.specs.TreeNodes.{node_of};
+    ghost use Rattle.sync_session.specs.TreeNodes.{as_node};
     ghost use Rattle.sync_session.specs.Walks.{Walk};
 
     ghost Value = { Walk };
@@ -63,8 +63,8 @@ impl Model for Session {
     ghost view = { λ s. record {
       own = arc_value s.own;
       root = s.root;
-      asked = map node_of s.asked.items;
-      outstanding = map node_of s.outstanding.items;
+      asked = map as_node s.asked.items;
+      outstanding = map as_node s.outstanding.items;
       taken = s.taken.items;
       state = s.state;
     } };
@@ -113,14 +113,14 @@ impl Session {
 
     /// Returns the nodes that were asked and aren't answered, in the order in which they are to be answered.
     pub fn outstanding(&self) -> &[NodeAt]
-        ensures { map node_of result.now ≡ self.now.outstanding }
+        ensures { map as_node result.now ≡ self.now.outstanding }
     {
         &self.outstanding
     }
 
     /// Returns all nodes that were ever asked, in order.
     pub fn asked(&self) -> &[NodeAt]
-        ensures { map node_of result.now ≡ self.now.asked }
+        ensures { map as_node result.now ≡ self.now.asked }
     {
         &self.asked
     }
@@ -142,7 +142,7 @@ impl Session {
     /// Checks that this text is awaited for the node. Refused, in order: NotAsked (the node isn't outstanding),
     /// WrongDigest (the text's digest isn't the one expected at the node).
     fn expects(&self, node: NodeAt, text: &Hashed) -> Result<(), Refusal>
-        ensures { Awaits self.now (record { node = node_of node; text = text.now }) result }
+        ensures { Awaits self.now (record { node = as_node node; text = text.now }) result }
     {
         if !node_list::has(&self.outstanding, node) {
             return Err(Refusal::NotAsked);
@@ -167,7 +167,7 @@ impl Session {
     /// at the node), NotCanonical (no rows of the range give the node this text), NoMemory. Reading a leaf allocates,
     /// so at a leaf NoMemory may replace NotCanonical.
     pub fn rows_of(&self, alloc: Global, node: NodeAt, text: &Hashed) -> Result<RowList, Refusal>
-        ensures { Shows self.now (record { node = node_of node; text = text.now }) result }
+        ensures { Shows self.now (record { node = as_node node; text = text.now }) result }
     {
         self.expects(node, text)?;
         if node.depth == tree_depth(self.own.format()) {
@@ -185,7 +185,7 @@ impl Session {
     /// Refused, in order: NotAsked, WrongDigest, NotCanonical and NoMemory, as `rows_of` is. Memory is needed only for
     /// rows that the local snapshot lacks, and NoMemory may then replace NotCanonical.
     pub fn news_of(&self, alloc: Global, node: NodeAt, text: &Hashed) -> Result<News, Refusal>
-        ensures { Tells self.now (record { node = node_of node; text = text.now }) result }
+        ensures { Tells self.now (record { node = as_node node; text = text.now }) result }
     {
         self.expects(node, text)?;
         if self.is_inner(node, text) {
@@ -204,7 +204,7 @@ impl Session {
     /// Refused, in order: NotAsked, WrongDigest, NotCanonical and NoMemory, as `rows_of` is. After NotCanonical the
     /// session has failed and nothing is outstanding.
     pub fn take(&mut self, alloc: Global, node: NodeAt, text: Hashed) -> Result<Answered, Refusal>
-        ensures { Takes self.old (record { node = node_of node; text = text }) result self.new }
+        ensures { Takes self.old (record { node = as_node node; text = text }) result self.new }
     {
         match self.rows_of(alloc, node, &text) {
             Ok(rows) => {
@@ -228,11 +228,11 @@ impl Session {
     /// Takes the text of a leaf that `rows_of` or `news_of` has read, without reading it again. If nothing is
     /// outstanding afterwards, the session is finished. Refused: NoMemory.
     pub fn take_leaf(&mut self, node: NodeAt, text: Hashed) -> Result<(), Refusal>
-        requires due { IsDue self.old (record { node = node_of node; text = text }) }
+        requires due { IsDue self.old (record { node = as_node node; text = text }) }
         requires leaf { node.depth ≡ tree_depth self.old.own.format }
-        requires canonical { IsCanonical self.old.own (node_of node) text }
+        requires canonical { IsCanonical self.old.own (as_node node) text }
         ensures answers { Answers result None (λ _. ⊤) }
-        ensures ok { OnOk result (self.new ≡ after self.old (record { node = node_of node; text = text })) }
+        ensures ok { OnOk result (self.new ≡ after self.old (record { node = as_node node; text = text })) }
         ensures err { OnErr result (self.new ≡ self.old) }
     {
         self.record(node, text, &[])
@@ -240,9 +240,9 @@ impl Session {
 
     /// Records a text, and asks these nodes.
     fn record(&mut self, node: NodeAt, text: Hashed, new: &[NodeAt]) -> Result<(), Refusal>
-        requires { map node_of new.now ≡ asks self.old.own (record { node = node_of node; text = text }) }
+        requires { map as_node new.now ≡ asks self.old.own (record { node = as_node node; text = text }) }
         ensures answers { Answers result None (λ _. ⊤) }
-        ensures ok { OnOk result (self.new ≡ after self.old (record { node = node_of node; text = text })) }
+        ensures ok { OnOk result (self.new ≡ after self.old (record { node = as_node node; text = text })) }
         ensures err { OnErr result (self.new ≡ self.old) }
     {
         self.asked.reserve(new.len())?;
@@ -283,7 +283,7 @@ impl Session {
 
 /// Returns the state of a session that isn't ended: finished if nothing is outstanding, otherwise open.
 fn state_by(outstanding: &[NodeAt]) -> SessionState
-    ensures { result ≡ state_by (map node_of outstanding.now) }
+    ensures { result ≡ state_by (map as_node outstanding.now) }
 {
     if outstanding.is_empty() {
         SessionState::Finished

@@ -6,7 +6,7 @@ ghost use Rattle.key_ring.specs.Places.{range_at};
 ghost use Rattle.row_bytes.specs.declared.row.Row.{Row};
 ghost use Rattle.hash_tree.specs.Texts.{leaf_byte, inner_byte};
 ghost use Rattle.snapshot.specs.RowMaps.{leaf_in};
-ghost use Rattle.sync_session.specs.TreeNodes.{node_of};
+ghost use Rattle.sync_session.specs.TreeNodes.{as_node};
 ghost use Rattle.sync_session.specs.Walks.{IsInnerText};
 ghost use Rattle.sync_session.specs.Readings.{ReadsLeaf};
 
@@ -58,7 +58,7 @@ pub fn leaf_rows(
     node: NodeAt,
     text: &[u8],
 ) -> Result<RowList, Refusal>
-    ensures { ReadsLeaf own.now (node_of node) text.now result }
+    ensures { ReadsLeaf own.now (as_node node) text.now result }
 {
     let format = own.format();
     let Some(body) = body_of(leaf_byte(format), text) else {

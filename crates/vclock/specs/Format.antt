@@ -13,6 +13,6 @@ abbrev pub format_of : ℕ → Option Format
 format_of n = if n == 1 then Some One else if n == 2 then Some Two else None
 
 -- the number of a format
-abbrev pub number_of : Format → ℕ
-number_of One = 1
-number_of Two = 2
+abbrev pub format_number : Format → ℕ
+format_number One = 1
+format_number Two = 2

@@ -4,39 +4,39 @@ use Rattle.vclock.specs.declared.refusal.Refusal.{Refusal}
 use Rattle.vclock.specs.declared.refusal.Refusal.TheVariants.{BadClock, ClockFull, CounterFull, BadKey, BadValue, StaleContext, Crowded, JournalFull, OtherRange, Dirty, Stale, UnknownSession, NotAsked, WrongDigest, NotCanonical, OtherFormat, SessionsFull, NoSlot, ClockBack, UnknownHint, HintsFull, Gone, Behind, Unsettled, Stranger, LinkLost, BadRing, Down, BadLine, RowBroken, BadMessage, NoMemory}
 
 -- the number that scripts print
-abbrev pub number_of : Refusal → ℕ
-number_of BadClock = 1
-number_of ClockFull = 2
-number_of CounterFull = 3
-number_of BadKey = 4
-number_of BadValue = 5
-number_of (StaleContext held) = 6
-number_of Crowded = 7
-number_of JournalFull = 8
-number_of OtherRange = 9
-number_of Dirty = 10
-number_of Stale = 11
-number_of UnknownSession = 12
-number_of NotAsked = 13
-number_of WrongDigest = 14
-number_of NotCanonical = 15
-number_of OtherFormat = 16
-number_of SessionsFull = 17
-number_of NoSlot = 18
-number_of ClockBack = 19
-number_of UnknownHint = 20
-number_of HintsFull = 21
-number_of Gone = 22
-number_of (Behind seen held missing) = 23
-number_of (Unsettled seat part place) = 24
-number_of Stranger = 25
-number_of LinkLost = 26
-number_of BadRing = 27
-number_of Down = 28
-number_of BadLine = 29
-number_of (RowBroken offset) = 30
-number_of BadMessage = 31
-number_of NoMemory = 32
+abbrev pub cause_number : Refusal → ℕ
+cause_number BadClock = 1
+cause_number ClockFull = 2
+cause_number CounterFull = 3
+cause_number BadKey = 4
+cause_number BadValue = 5
+cause_number (StaleContext held) = 6
+cause_number Crowded = 7
+cause_number JournalFull = 8
+cause_number OtherRange = 9
+cause_number Dirty = 10
+cause_number Stale = 11
+cause_number UnknownSession = 12
+cause_number NotAsked = 13
+cause_number WrongDigest = 14
+cause_number NotCanonical = 15
+cause_number OtherFormat = 16
+cause_number SessionsFull = 17
+cause_number NoSlot = 18
+cause_number ClockBack = 19
+cause_number UnknownHint = 20
+cause_number HintsFull = 21
+cause_number Gone = 22
+cause_number (Behind seen held missing) = 23
+cause_number (Unsettled seat part place) = 24
+cause_number Stranger = 25
+cause_number LinkLost = 26
+cause_number BadRing = 27
+cause_number Down = 28
+cause_number BadLine = 29
+cause_number (RowBroken offset) = 30
+cause_number BadMessage = 31
+cause_number NoMemory = 32
 
 -- the name that scripts print
 abbrev pub name_of : Refusal → List ℕ

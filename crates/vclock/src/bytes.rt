@@ -24,12 +24,12 @@ const BLOCK_LEN: usize = 32;
 /// assert_eq!(rt; bytes.as_slice(), b"x".as_slice());
 /// ```
 pub struct Bytes {
-    kept: Kept,
+    kept: Storage,
 }
 
 /// The place of the bytes.
 #[derive(Drop)]
-enum Kept {
+enum Storage {
     /// Inline: the number of bytes, and the array that begins with them.
     Short(u8, [u8; SHORT_LEN]),
     /// In a block with several owners.
@@ -38,13 +38,13 @@ enum Kept {
 
 impl Model for Bytes {
     ghost use Rattle.std.specs.Prelude.{List, ℕ};
-    ghost use Rattle.vclock.specs.Bytes.{kept_bytes, IsKept};
+    ghost use Rattle.vclock.specs.Bytes.{kept_bytes, IsStored};
 
     ghost Value = { List ℕ };
 
     ghost view = { λ b. kept_bytes b.kept };
 
-    ghost invariant = { λ b. IsKept b.kept };
+    ghost invariant = { λ b. IsStored b.kept };
 }
 
 impl Bytes {
@@ -53,7 +53,7 @@ impl Bytes {
         ensures { result ≡ [] }
     {
         Bytes {
-            kept: Kept::Short(0, [0; SHORT_LEN]),
+            kept: Storage::Short(0, [0; SHORT_LEN]),
         }
     }
 
@@ -64,9 +64,9 @@ impl Bytes {
         let kept = if bytes.len() <= SHORT_LEN {
             let mut short = [0; SHORT_LEN];
             short[..bytes.len()].copy_from_slice(bytes);
-            Kept::Short(bytes.len() as u8, short)
+            Storage::Short(bytes.len() as u8, short)
         } else {
-            Kept::Shared(Arc::new(alloc, SmallVec::from_slice(alloc, bytes)?)?)
+            Storage::Shared(Arc::new(alloc, SmallVec::from_slice(alloc, bytes)?)?)
         };
         Ok(Bytes { kept })
     }
@@ -76,8 +76,8 @@ impl Bytes {
         ensures { Answers result None (λ copy. copy ≡ self.now) }
     {
         let kept = match &self.kept {
-            Kept::Short(len, bytes) => Kept::Short(*len, *bytes),
-            Kept::Shared(block) => Kept::Shared(Arc::try_clone(block)?),
+            Storage::Short(len, bytes) => Storage::Short(*len, *bytes),
+            Storage::Shared(block) => Storage::Shared(Arc::try_clone(block)?),
         };
         Ok(Bytes { kept })
     }
@@ -87,8 +87,8 @@ impl Bytes {
         ensures { result.now ≡ self.now }
     {
         match &self.kept {
-            Kept::Short(len, bytes) => &bytes[..*len as usize],
-            Kept::Shared(block) => block.as_slice(),
+            Storage::Short(len, bytes) => &bytes[..*len as usize],
+            Storage::Shared(block) => block.as_slice(),
         }
     }
 }

@@ -12,7 +12,7 @@ pub enum Format {
 
 impl Format {
     ghost use Rattle.std.specs.Prelude.{◌≡◌};
-    ghost use Rattle.vclock.specs.Format.{format_of, number_of, value_limit};
+    ghost use Rattle.vclock.specs.Format.{format_of, format_number, value_limit};
 
     /// Returns the format with this number, 1 or 2, as written in a ring's line and in an offer; `None` for other
     /// numbers.
@@ -28,7 +28,7 @@ impl Format {
 
     /// Returns the number of the format, 1 or 2.
     pub fn number(self) -> u8
-        ensures { result ≡ number_of self }
+        ensures { result ≡ format_number self }
     {
         match self {
             Format::One => 1,

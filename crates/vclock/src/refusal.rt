@@ -154,11 +154,11 @@ pub enum Refusal {
 }
 
 impl Refusal {
-    ghost use Rattle.vclock.specs.Refusal.{number_of, name_of};
+    ghost use Rattle.vclock.specs.Refusal.{cause_number, name_of};
 
     /// Returns the number that scripts print, 1 to 32.
     pub fn number(&self) -> u64
-        ensures { result ≡ number_of self.now }
+        ensures { result ≡ cause_number self.now }
     {
         match self {
             Refusal::BadClock => 1,

@@ -9,14 +9,14 @@ use Rattle.walk_messages.specs.declared.message.Message.{Message}
 use Rattle.walk_messages.specs.declared.message.Message.TheVariants as messages
 
 -- the depth of a node, and its index there
-abbrev pub node_text : NodeAt → List ℕ
-node_text node = node.depth ∷ to_be_bytes w16 node.index
+abbrev pub node_bytes : NodeAt → List ℕ
+node_bytes node = node.depth ∷ to_be_bytes w16 node.index
 
 -- the bytes of a message
 unfoldable pub message_text : Message → List ℕ
 message_text (messages.Offer o) = 1 ∷ to_be_bytes w32 o.offer ++ o.format ∷ o.range ∷ o.root
-message_text (messages.Ask a) = 2 ∷ to_be_bytes w32 a.offer ++ node_text a.node
-message_text (messages.Answer a) = 3 ∷ to_be_bytes w32 a.offer ++ node_text a.node ++ to_be_bytes w64 (length a.text) ++ a.text
+message_text (messages.Ask a) = 2 ∷ to_be_bytes w32 a.offer ++ node_bytes a.node
+message_text (messages.Answer a) = 3 ∷ to_be_bytes w32 a.offer ++ node_bytes a.node ++ to_be_bytes w64 (length a.text) ++ a.text
 
 -- a message whose offer number and digest have their widths; the format and the range of an offer are bytes by their
 -- types

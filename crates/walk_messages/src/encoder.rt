@@ -3,7 +3,7 @@ ghost use Rattle.std.specs.Prelude.{◌≡◌, ◌++◌, ◌≤◌, ◌^◌, ◌
 ghost use Rattle.std.specs.Int.{w32, w64, to_be_bytes};
 ghost use Rattle.vclock.specs.Answer.{Answers};
 ghost use Rattle.walk_messages.specs.declared.message.Message.TheVariants as messages;
-ghost use Rattle.walk_messages.specs.Messages.{node_text, message_text};
+ghost use Rattle.walk_messages.specs.Messages.{node_bytes, message_text};
 
 use crate::message::{Answer, Message, Offer};
 use hash_tree::{NodeAt, Text};
@@ -42,7 +42,7 @@ fn put_front(out: &mut Vec<u8>, kind: u8, offer: u32) -> Result<(), AllocError>
 
 /// Appends a node: its depth, and its index there.
 fn put_node(out: &mut Vec<u8>, node: NodeAt) -> Result<(), AllocError>
-    ensures { OnOk result (out.new.items ≡ out.old.items ++ node_text node) }
+    ensures { OnOk result (out.new.items ≡ out.old.items ++ node_bytes node) }
 {
     out.push(node.depth)?;
     out.extend_from_slice(&node.index.to_be_bytes())?;
@@ -51,7 +51,7 @@ fn put_node(out: &mut Vec<u8>, node: NodeAt) -> Result<(), AllocError>
 
 /// Appends an ask, or the bytes of an answer before the length of its text.
 fn put_head(out: &mut Vec<u8>, kind: u8, offer: u32, node: NodeAt) -> Result<(), AllocError>
-    ensures { OnOk result (out.new.items ≡ out.old.items ++ (kind ∷ to_be_bytes w32 offer ++ node_text node)) }
+    ensures { OnOk result (out.new.items ≡ out.old.items ++ (kind ∷ to_be_bytes w32 offer ++ node_bytes node)) }
 {
     put_front(out, kind, offer)?;
     put_node(out, node)

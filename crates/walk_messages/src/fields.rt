@@ -6,7 +6,7 @@ ghost use Rattle.walk_messages.specs.declared.message.Answer.{Answer};
 ghost use Rattle.walk_messages.specs.declared.message.Ask.{Ask};
 ghost use Rattle.walk_messages.specs.declared.message.Offer.{Offer};
 ghost use Rattle.walk_messages.specs.declared.message.Message.TheVariants as messages;
-ghost use Rattle.walk_messages.specs.Messages.{node_text, message_text, IsMessage};
+ghost use Rattle.walk_messages.specs.Messages.{node_bytes, message_text, IsMessage};
 
 use crate::message::{Ask, Offer};
 use hash_tree::{Digest, NodeAt};
@@ -21,7 +21,7 @@ fn offer_number_at(bytes: &[u8]) -> Option<(u32, &[u8])>
 
 /// Returns a node and the bytes after it, or `None` if the bytes don't begin with a node.
 fn node_at(bytes: &[u8]) -> Option<(NodeAt, &[u8])>
-    ensures { MatchOption result ((n : NodeAt) (rest : List ℕ) → bytes.now ≡ node_text n ++ rest → ⊥) (λ x. bytes.now ≡ node_text x.0 ++ x.1.now) }
+    ensures { MatchOption result ((n : NodeAt) (rest : List ℕ) → bytes.now ≡ node_bytes n ++ rest → ⊥) (λ x. bytes.now ≡ node_bytes x.0 ++ x.1.now) }
 {
     let ([depth, high, low], rest) = bytes.split_first_chunk::<3>()?;
     let node = NodeAt::new(*depth, u16::from_be_bytes([*high, *low]))?;
@@ -31,7 +31,7 @@ fn node_at(bytes: &[u8]) -> Option<(NodeAt, &[u8])>
 /// Returns the number of an offer and a node, with which an ask and an answer begin, and the bytes after them, or
 /// `None` if the bytes don't begin with these.
 fn head_at(bytes: &[u8]) -> Option<(Ask, &[u8])>
-    ensures { MatchOption result ((a : Ask) (rest : List ℕ) → bytes.now ≡ to_be_bytes w32 a.offer ++ node_text a.node ++ rest → ⊥) (λ x. bytes.now ≡ to_be_bytes w32 x.0.offer ++ node_text x.0.node ++ x.1.now) }
+    ensures { MatchOption result ((a : Ask) (rest : List ℕ) → bytes.now ≡ to_be_bytes w32 a.offer ++ node_bytes a.node ++ rest → ⊥) (λ x. bytes.now ≡ to_be_bytes w32 x.0.offer ++ node_bytes x.0.node ++ x.1.now) }
 {
     let (offer, rest) = offer_number_at(bytes)?;
     let (node, rest) = node_at(rest)?;

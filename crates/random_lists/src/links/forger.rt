@@ -1,5 +1,5 @@
 //! Partners whose digests are right and whose texts are not a node's.
-ghost use Rattle.ring_node.specs.Links.{IsCounted};
+ghost use Rattle.ring_node.specs.Links.{CountsLosses};
 
 use crate::random::Random;
 use hash_tree::{Digest, Text, hash, inner_text};
@@ -93,7 +93,7 @@ fn digest_of(alloc: Global, text: &[u8]) -> Result<Digest, Refusal> {
 
 /// Returns the outcome of a call over a forger's link.
 fn reached(bytes: Result<Vec<u8>, Refusal>) -> Reached
-    ensures { IsCounted 0 0 result }
+    ensures { CountsLosses 0 0 result }
 {
     match bytes {
         Ok(bytes) => Reached::Bytes(bytes),

@@ -3,7 +3,7 @@ ghost use Rattle.std.specs.Prelude.{ℕ, ◌≡◌, ◌+◌, ◌<◌, ◌≤◌,
 ghost use Rattle.std.specs.Vec.{vec_len, vec_capacity};
 ghost use Rattle.range_journal.specs.Log.{AreNumberedFrom};
 ghost use Rattle.hash_tree.specs.Nodes.{dirtied, tree_depth};
-ghost use Rattle.sync_session.specs.TreeNodes.{node_of};
+ghost use Rattle.sync_session.specs.TreeNodes.{as_node};
 ghost use Rattle.sync_session.specs.Steps.{failed, IsDue};
 ghost use Rattle.sync_session.specs.Walks.{TakenText, IsCanonical};
 ghost use Rattle.range_state.specs.Sessions.{walked_to, IsInnerRead, IsNewsRead, TakesAnswer};
@@ -36,7 +36,7 @@ impl RangeState {
         text: Hashed,
     ) -> Result<AnswerTaken, Refusal>
         ensures { TakesAnswer self.old seat id
-            (record { node = node_of node; text = text }) result self.new }
+            (record { node = as_node node; text = text }) result self.new }
     {
         let mut told = Vec::new(alloc);
         self.take_answer_beside(alloc, &mut told, seat, id, node, text)
@@ -53,7 +53,7 @@ impl RangeState {
         text: Hashed,
     ) -> Result<AnswerTaken, Refusal>
         ensures answers { TakesAnswer self.old seat id
-            (record { node = node_of node; text = text }) result self.new }
+            (record { node = as_node node; text = text }) result self.new }
         ensures same { told.new.items ≡ told.old.items }
         ensures room { IfOk result (λ taken. (told.new.items ≡ [])
             ⊎ (vec_len told.new + vec_len taken.receipts ≤ vec_capacity told.new)) }
@@ -86,9 +86,9 @@ impl RangeState {
         text: Hashed,
     ) -> Result<AnswerTaken, Refusal>
         requires { MatchOption (slice_get self.old.records id) ⊥
-            (λ r. IsInnerRead self.old r (record { node = node_of node; text = text })) }
+            (λ r. IsInnerRead self.old r (record { node = as_node node; text = text })) }
         ensures answers { (seat : ℕ) → TakesAnswer self.old seat id
-            (record { node = node_of node; text = text }) result self.new }
+            (record { node = as_node node; text = text }) result self.new }
         ensures none { IfOk result (λ taken. vec_len taken.receipts ≡ 0) }
     {
         let session = &mut self.records[id as usize].session;
@@ -113,9 +113,9 @@ impl RangeState {
         news: &News,
     ) -> Result<AnswerTaken, Refusal>
         requires { MatchOption (slice_get self.old.records id) ⊥
-            (λ r. IsNewsRead self.old r (record { node = node_of node; text = text }) news.now) }
+            (λ r. IsNewsRead self.old r (record { node = as_node node; text = text }) news.now) }
         ensures answers { TakesAnswer self.old seat id
-            (record { node = node_of node; text = text }) result self.new }
+            (record { node = as_node node; text = text }) result self.new }
         ensures same { told.new.items ≡ told.old.items }
         ensures room { IfOk result (λ taken. (told.new.items ≡ [])
             ⊎ (vec_len told.new + vec_len taken.receipts ≤ vec_capacity told.new)) }

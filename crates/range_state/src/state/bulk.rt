@@ -1,7 +1,7 @@
 //! Rehashing a whole tree.
 ghost use Rattle.std.specs.Prelude.{◌≡◌, ◌<◌, ⊤, ℕ, List, length, map, slice_index_or, false, IsTrue, IfOk, OnOk, OnErr, None};
 ghost use Rattle.vclock.specs.Answer.{Answers};
-ghost use Rattle.hash_tree.specs.Nodes.{are_clean, dirty_count, digest_at};
+ghost use Rattle.hash_tree.specs.Nodes.{are_clean, dirty_count, kept_digest};
 ghost use Rattle.hash_tree.specs.declared.node.NodeAt.{NodeAt};
 ghost use Rattle.range_state.specs.State.{is_current, place_of};
 ghost use Rattle.range_state.specs.Trees.{rehashed, IsSameRange};
@@ -52,7 +52,7 @@ impl RangeState {
         requires has { (i : ℕ) (node : NodeAt) → i < length nodes.now
             → place_of (slice_index_or nodes.now i node) < length self.old.marks }
         requires dirty { (i : ℕ) (node : NodeAt) → i < length nodes.now
-            → digest_at self.old.marks (place_of (slice_index_or nodes.now i node)) ≡ None }
+            → kept_digest self.old.marks (place_of (slice_index_or nodes.now i node)) ≡ None }
         ensures same { IsSameRange self.old self.new }
         ensures none { length nodes.now ≡ 0 → self.new ≡ self.old }
         ensures fewer { 0 < length nodes.now → dirty_count self.new.marks < dirty_count self.old.marks }

@@ -6,7 +6,7 @@ ghost use Rattle.vclock.specs.Answer.{Answers, AnswersOrNoMemory};
 ghost use Rattle.range_journal.specs.Journal.{held};
 ghost use Rattle.range_journal.specs.declared.journal.Source.TheVariants as sources;
 ghost use Rattle.row_bytes.specs.declared.row.Row.{Row};
-ghost use Rattle.sync_session.specs.Readings.{AreNews};
+ghost use Rattle.sync_session.specs.Readings.{AreOthers};
 ghost use Rattle.sync_session.specs.Walks.{Held};
 ghost use Rattle.range_state.specs.State.{leaf_in, leaf_count, place_fault};
 ghost use Rattle.range_state.specs.Sessions.{offers_in, offers_of, taken_in, crowded_in};
@@ -80,7 +80,7 @@ impl RangeState {
         requires few { length (offers_of news.now.rows.items) + news.now.known < 2 ^ 64 }
         ensures answers { (own rows : List Row)
             → Held own (held self.now.entries)
-            → AreNews own rows news.now.rows.items news.now.known
+            → AreOthers own rows news.now.rows.items news.now.known
             → AnswersOrNoMemory result (crowded_in self.now seat (offers_of rows))
             (λ batch. IsBatch self.now leaf batch
             × (self.now.entries ++ batch.entries.items ≡ (taken_in self.now seat (offers_of rows)).entries)

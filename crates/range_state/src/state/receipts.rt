@@ -4,7 +4,7 @@ ghost use Rattle.std.specs.Vec.{vec_len, vec_capacity};
 ghost use Rattle.vclock.specs.Outcome.{Does, DoesOrNoMemory};
 ghost use Rattle.version_set.specs.Version.{covered};
 ghost use Rattle.range_journal.specs.Journal.{held};
-ghost use Rattle.sync_session.specs.TreeNodes.{node_of};
+ghost use Rattle.sync_session.specs.TreeNodes.{as_node};
 ghost use Rattle.range_state.specs.State.{is_sent, ask_fault, entry_of, admit, accept, put};
 ghost use Rattle.range_state.specs.Fitting.{IsFitting};
 ghost use Rattle.range_state.specs.Told.{with_put, with_sent, CountsAnswer};
@@ -83,7 +83,7 @@ impl RangeState {
         node: NodeAt,
         text: Hashed,
     ) -> Result<AnswerCounted, Refusal>
-        ensures { CountsAnswer self.old seat id (record { node = node_of node; text = text }) result self.new receipts.old.items receipts.new.items }
+        ensures { CountsAnswer self.old seat id (record { node = as_node node; text = text }) result self.new receipts.old.items receipts.new.items }
     {
         let AnswerTaken {
             receipts: told,

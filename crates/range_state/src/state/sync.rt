@@ -2,7 +2,7 @@
 ghost use Rattle.std.specs.Prelude.{◌≡◌, ◌≢◌, ◌⊎◌, ◌+◌, ◌<◌, ◌≤◌, ⊤, None, length, slice_get, MatchOption, IfOk, IfErr, OnOk, OnErr, Err};
 ghost use Rattle.vclock.specs.Answer.{Answers, AnswersOrNoMemory, first_fault};
 ghost use Rattle.hash_tree.specs.Nodes.{tree_depth};
-ghost use Rattle.sync_session.specs.TreeNodes.{node_of, text_of};
+ghost use Rattle.sync_session.specs.TreeNodes.{as_node, text_of};
 ghost use Rattle.range_state.specs.State.{dirty_fault};
 ghost use Rattle.range_state.specs.Sessions.{standings, crowd_fault, TakesFor};
 ghost use Rattle.range_state.specs.Syncs.{IsOfRange, HasAskedAll, IsSyncedTo, IsPartWay};
@@ -76,7 +76,7 @@ impl RangeState {
         requires { node.depth ≤ tree_depth other.now.format }
         ensures { ((result ≡ Err Refusal.NoMemory) × (self.new ≡ self.old))
             ⊎ TakesFor self.old seat id (slice_get self.old.records id)
-            (record { node = node_of node; text = text_of other.now (node_of node) }) result self.new }
+            (record { node = as_node node; text = text_of other.now (as_node node) }) result self.new }
     {
         let text = other.hashed_answer(alloc, Ask { offer: 0, node })?;
         self.take_answer(alloc, seat, id, node, text)

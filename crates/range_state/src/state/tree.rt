@@ -3,8 +3,8 @@ ghost use Rattle.std.specs.Prelude.{◌≡◌, ◌+◌, ◌∷◌, [], None, IsT
 ghost use Rattle.sha2.specs.Sha256.{sha256};
 ghost use Rattle.vclock.specs.Answer.{Answers};
 ghost use Rattle.vclock.specs.Outcome.{DoesAtOnce};
-ghost use Rattle.hash_tree.specs.Nodes.{digest_at, is_ready, ready_from};
-ghost use Rattle.range_state.specs.State.{has_node, place_of, text_in, GivesJob, AreJobs, is_current, install, installed};
+ghost use Rattle.hash_tree.specs.Nodes.{kept_digest, is_ready, ready_from};
+ghost use Rattle.range_state.specs.State.{has_tree_node, place_of, text_in, GivesJob, AreJobs, is_current, install, installed};
 
 use crate::state::RangeState;
 use hash_tree::{Digest, Hashed, NodeAt, is_inner_text, tree_depth};
@@ -16,7 +16,7 @@ impl RangeState {
     /// The digest of a node, if it is clean: that of its text for the rows now. `None` if the node is dirty or the
     /// range's tree has no such node. Doesn't allocate.
     pub fn digest_at(&self, node: NodeAt) -> Option<Digest>
-        ensures digest { result ≡ digest_at self.now.marks (place_of node) }
+        ensures digest { result ≡ kept_digest self.now.marks (place_of node) }
         ensures right { IfSome result (λ digest. digest ≡ sha256 (text_in self.now node)) }
     {
         self.marks.get(node)
@@ -91,7 +91,7 @@ impl RangeState {
     /// Chooses a node for a job, if any: of several, the one at `skip`, counted round and round.
     fn choose(&self, skip: u64) -> Option<NodeAt>
         ensures { MatchOption result (ready_from self.now.marks 0 ≡ [])
-            (λ node. IsTrue (has_node self.now.config node) × IsTrue (is_ready self.now.marks (place_of node))) }
+            (λ node. IsTrue (has_tree_node self.now.config node) × IsTrue (is_ready self.now.marks (place_of node))) }
     {
         let mut chosen = self.next_ready(0)?;
         let round = self.marks.ready_count() as u64;
@@ -109,7 +109,7 @@ impl RangeState {
         ensures order { MatchOption result (ready_from self.now.marks from ≡ [])
             (λ node. ready_from self.now.marks from
             ≡ place_of node ∷ ready_from self.now.marks (place_of node + 1)) }
-        ensures has { IfSome result (λ node. IsTrue (has_node self.now.config node)) }
+        ensures has { IfSome result (λ node. IsTrue (has_tree_node self.now.config node)) }
         ensures ready { IfSome result (λ node. IsTrue (is_ready self.now.marks (place_of node))) }
     {
         self.marks.next_ready(from)
@@ -117,7 +117,7 @@ impl RangeState {
 
     /// Makes the job of a node whose children are clean.
     fn job_of(&self, alloc: Global, node: NodeAt) -> Result<Job, Refusal>
-        requires has { IsTrue (has_node self.now.config node) }
+        requires has { IsTrue (has_tree_node self.now.config node) }
         requires ready { IsTrue (is_ready self.now.marks (place_of node)) }
         ensures { Answers result None (λ job. job ≡ record { node = node; text = text_in self.now node }) }
     {

@@ -6,7 +6,7 @@ use Rattle.version_set.specs.declared.version.Version.{Version}
 use Rattle.version_set.specs.Version.{offer_fault}
 use Rattle.row_bytes.specs.declared.row.Row.{Row}
 use Rattle.hash_tree.specs.Leaves.{Bucket}
-use Rattle.hash_tree.specs.Chunks.{place_in, AreChunks, versions_at, offered_at}
+use Rattle.hash_tree.specs.Chunks.{place_in, AreChunks, row_versions, offered_at}
 use Rattle.hash_tree.proofs.ChunkPlaces.{rows_read, on_ok_map, either_way, offered-in_chunk, versions-in_chunk, chunks-offered}
 use Rattle.hash_tree.proofs.chunks.offer_at.Goals as goal
 
@@ -22,7 +22,7 @@ returns-clause-answers c =
     let chunks = c.args.chunks.now.items in
     let r = c.args.spot in
     let spot = c.requires.spot in
-    let versions = ap (λ (rs : List Row). versions_at rs r.at) (rows_read chunks r.chunk c.index_mut.result.now spot.chunk c.index_mut.ensures.value) ∙ versions-in_chunk chunks r.chunk r.at (place_in chunks r.chunk r.at) spot.chunk spot.within spot.before in
+    let versions = ap (λ (rs : List Row). row_versions rs r.at) (rows_read chunks r.chunk c.index_mut.result.now spot.chunk c.index_mut.ensures.value) ∙ versions-in_chunk chunks r.chunk r.at (place_in chunks r.chunk r.at) spot.chunk spot.within spot.before in
     subst (λ (S : List Version). Answers c.offer.result (offer_fault c.args.version S) (λ _. ⊤)) versions c.offer.ensures.answers
 
 pub returns-clause-ok : goal.returns-clause-ok

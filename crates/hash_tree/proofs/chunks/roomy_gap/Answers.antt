@@ -1,7 +1,7 @@
 use Rattle.std.proofs.Common.{◌≡◌, ◌≤◌, List, length, subst, sym, ap, ◌∙◌, arith}
 use Rattle.row_bytes.specs.declared.row.Row.{Row}
 use Rattle.hash_tree.specs.Leaves.{Bucket}
-use Rattle.hash_tree.specs.Chunks.{rows_of, place_in}
+use Rattle.hash_tree.specs.Chunks.{chunk_rows, place_in}
 use Rattle.hash_tree.proofs.KeyLaws.{all_get}
 use Rattle.hash_tree.proofs.ChunkPlaces.{rows_read, gap-behind}
 use Rattle.hash_tree.proofs.chunks.roomy_gap.Goals as goal
@@ -27,6 +27,6 @@ returns-clause-gap c =
     let spot = c.args.gap in
     let gap = c.requires.gap in
     let few : length c.index.result.now.rows ≤ 15 = subst (λ (x : Bucket). length x.rows ≤ 15) (sym c.index.ensures) (all_get (λ (x : Bucket). length x.rows ≤ 15) chunks spot.chunk c.index.result.now c.requires.each gap.chunk) in
-    let full : length (rows_of chunks spot.chunk) ≡ 15 =
+    let full : length (chunk_rows chunks spot.chunk) ≡ 15 =
     omega (arith, few, c.if-rows-lt-MOST_ROWS.false, ap (λ (rs : List Row). length rs) c.rows.ensures, ap (λ (rs : List Row). length rs) (rows_read chunks spot.chunk c.index.result.now gap.chunk c.index.ensures)) in
     gap-behind chunks c.split_at.new.chunks.items (place_in chunks spot.chunk spot.at) spot.chunk spot.at c.cut_for-cut.result gap c.in_ok-split_at.ensures.ok full c.if-gap-cut.false

@@ -1,6 +1,6 @@
 use Rattle.std.proofs.Common.{rules, ◌≡◌, ◌<◌, length, [], Some, None}
 use Rattle.std.specs.Io.KnownBytes.{Consumes, IsAtEnd}
-use Rattle.outage_script.specs.Moves.{place_of}
+use Rattle.outage_script.specs.Moves.{script_place}
 use Rattle.outage_script.proofs.RunLemmas.{progress_flushed, runs_cut, runs_stopped, runs_finished, holds_stopped, holds_finished, keeps_same, refilled}
 use Rattle.outage_script.proofs.run.drive.Goals as goal
 use Rattle.outage_script.proofs.run.drive.Goals.{in-Some, in-None}
@@ -9,7 +9,7 @@ pub returns-in-Ok-eq0-clause-runs : goal.returns-in-Ok-eq0-clause-runs
 returns-in-Ok-eq0-clause-runs g c =
     let remaining = g.R.Read.remaining in
     let contents = g.W.Write.contents in
-    let p = place_of c.loop-calls.session.number c.loop-calls.session.world c.loop-calls.session.line.items c.loop-calls.session.too_long in
+    let p = script_place c.loop-calls.script.number c.loop-calls.script.world c.loop-calls.script.line.items c.loop-calls.script.too_long in
     let none : c.in-Ok-eq0.field-0 ≡ 0 = search rules in
     let gave = c.in-Ok-eq0.ensures.bytes in
     let reads : Consumes (remaining c.loop-calls.reader) (remaining c.read.new.self) [] = rw none at gave.0 in
@@ -20,20 +20,20 @@ returns-in-Ok-eq0-clause-runs g c =
           let last = w.in-Some.ensures in
           rw (w.result-is, w.writer-is) (runs_finished (remaining c.args.reader.now) (remaining c.loop-calls.reader) (remaining c.read.new.self)
           (contents c.args.writer.now) (contents c.loop-calls.writer) (contents c.finish.new.writer) (contents w.flushed.new.writer)
-          p (place_of c.finish.new.self.number c.finish.new.self.world c.finish.new.self.line.items c.finish.new.self.too_long) last.0 (Some w.in-Some.end) w.flushed.result c.loop-calls.invariant.run reads at_end last.1 last.2 w.flushed.ensures.kept w.flushed.ensures.end)
+          p (script_place c.finish.new.self.number c.finish.new.self.world c.finish.new.self.line.items c.finish.new.self.too_long) last.0 (Some w.in-Some.end) w.flushed.result c.loop-calls.invariant.run reads at_end last.1 last.2 w.flushed.ensures.kept w.flushed.ensures.end)
       | in-None w ↦
           let last = w.in-None.ensures in
           rw (w.result-is, w.writer-is) (runs_finished (remaining c.args.reader.now) (remaining c.loop-calls.reader) (remaining c.read.new.self)
           (contents c.args.writer.now) (contents c.loop-calls.writer) (contents c.finish.new.writer) (contents w.flushed-in-None.new.writer)
-          p (place_of c.finish.new.self.number c.finish.new.self.world c.finish.new.self.line.items c.finish.new.self.too_long) last.0 None w.flushed-in-None.result c.loop-calls.invariant.run reads at_end last.1 last.2 w.flushed-in-None.ensures.kept w.flushed-in-None.ensures.end)
+          p (script_place c.finish.new.self.number c.finish.new.self.world c.finish.new.self.line.items c.finish.new.self.too_long) last.0 None w.flushed-in-None.result c.loop-calls.invariant.run reads at_end last.1 last.2 w.flushed-in-None.ensures.kept w.flushed-in-None.ensures.end)
     ]
 
 pub returns-in-Ok-eq0-clause-holds : goal.returns-in-Ok-eq0-clause-holds
 returns-in-Ok-eq0-clause-holds g c =
     let remaining = g.R.Read.remaining in
     let contents = g.W.Write.contents in
-    let p = place_of c.loop-calls.session.number c.loop-calls.session.world c.loop-calls.session.line.items c.loop-calls.session.too_long in
-    let q = place_of c.finish.new.self.number c.finish.new.self.world c.finish.new.self.line.items c.finish.new.self.too_long in
+    let p = script_place c.loop-calls.script.number c.loop-calls.script.world c.loop-calls.script.line.items c.loop-calls.script.too_long in
+    let q = script_place c.finish.new.self.number c.finish.new.self.world c.finish.new.self.line.items c.finish.new.self.too_long in
     let none : c.in-Ok-eq0.field-0 ≡ 0 = search rules in
     let gave = c.in-Ok-eq0.ensures.bytes in
     let reads : Consumes (remaining c.loop-calls.reader) (remaining c.read.new.self) [] = rw none at gave.0 in
@@ -64,8 +64,8 @@ returns-in-Some-feed-clause-runs g c =
     let same : length c.read.new.buf ≡ c.loop-calls.buffer.len = search rules in
     runs_stopped (remaining c.args.reader.now) (remaining c.loop-calls.reader) (remaining c.read.new.self)
     (contents c.args.writer.now) (contents c.loop-calls.writer) (contents c.feed.new.writer) (contents c.flushed-in-Some-feed.new.writer)
-    (place_of c.loop-calls.session.number c.loop-calls.session.world c.loop-calls.session.line.items c.loop-calls.session.too_long)
-    (place_of c.feed.new.self.number c.feed.new.self.world c.feed.new.self.line.items c.feed.new.self.too_long)
+    (script_place c.loop-calls.script.number c.loop-calls.script.world c.loop-calls.script.line.items c.loop-calls.script.too_long)
+    (script_place c.feed.new.self.number c.feed.new.self.world c.feed.new.self.line.items c.feed.new.self.too_long)
     _ c.in-Some-feed.end c.flushed-in-Some-feed.result c.loop-calls.invariant.run (rw (c.deref.ensures.value, refilled c.read.new.buf c.loop-calls.buffer.items c.loop-calls.buffer.len same) c.in-Ok.ensures.bytes.0) c.in-Some-feed.ensures.feeds c.flushed-in-Some-feed.ensures.kept c.flushed-in-Some-feed.ensures.end
 
 pub returns-in-Some-feed-clause-holds : goal.returns-in-Some-feed-clause-holds
@@ -75,8 +75,8 @@ returns-in-Some-feed-clause-holds g c =
     let same : length c.read.new.buf ≡ c.loop-calls.buffer.len = search rules in
     holds_stopped (remaining c.args.reader.now) (remaining c.loop-calls.reader) (remaining c.read.new.self)
     (contents c.args.writer.now) (contents c.loop-calls.writer) (contents c.feed.new.writer)
-    (place_of c.loop-calls.session.number c.loop-calls.session.world c.loop-calls.session.line.items c.loop-calls.session.too_long)
-    (place_of c.feed.new.self.number c.feed.new.self.world c.feed.new.self.line.items c.feed.new.self.too_long)
+    (script_place c.loop-calls.script.number c.loop-calls.script.world c.loop-calls.script.line.items c.loop-calls.script.too_long)
+    (script_place c.feed.new.self.number c.feed.new.self.world c.feed.new.self.line.items c.feed.new.self.too_long)
     _ c.in-Some-feed.end c.flushed-in-Some-feed.result c.loop-calls.invariant.run (rw (c.deref.ensures.value, refilled c.read.new.buf c.loop-calls.buffer.items c.loop-calls.buffer.len same) c.in-Ok.ensures.bytes.0) c.in-Some-feed.ensures.feeds c.flushed-in-Some-feed.ensures.end
 
 pub returns-then-is_err-clause-runs : goal.returns-then-is_err-clause-runs
@@ -88,8 +88,8 @@ returns-then-is_err-clause-runs g c =
     (contents c.args.writer.now) (contents c.flush.new.self) _
     (progress_flushed (remaining c.args.reader.now) (remaining c.loop-calls.reader) (remaining c.read.new.self)
     (contents c.args.writer.now) (contents c.loop-calls.writer) (contents c.feed.new.writer) (contents c.flush.new.self)
-    (place_of c.loop-calls.session.number c.loop-calls.session.world c.loop-calls.session.line.items c.loop-calls.session.too_long)
-    (place_of c.feed.new.self.number c.feed.new.self.world c.feed.new.self.line.items c.feed.new.self.too_long)
+    (script_place c.loop-calls.script.number c.loop-calls.script.world c.loop-calls.script.line.items c.loop-calls.script.too_long)
+    (script_place c.feed.new.self.number c.feed.new.self.world c.feed.new.self.line.items c.feed.new.self.too_long)
     _ c.loop-calls.invariant.run (rw (c.deref.ensures.value, refilled c.read.new.buf c.loop-calls.buffer.items c.loop-calls.buffer.len same) c.in-Ok.ensures.bytes.0) c.in_default.ensures.feeds c.flush.ensures.bytes)
     (keeps_same _)
 
@@ -103,8 +103,8 @@ loop-calls-preserved g c =
       number = search rules;
       run = progress_flushed (remaining c.args.reader.now) (remaining c.loop-calls.reader) (remaining c.read.new.self)
           (contents c.args.writer.now) (contents c.loop-calls.writer) (contents c.feed.new.writer) (contents c.flush.new.self)
-          (place_of c.loop-calls.session.number c.loop-calls.session.world c.loop-calls.session.line.items c.loop-calls.session.too_long)
-          (place_of c.feed.new.self.number c.feed.new.self.world c.feed.new.self.line.items c.feed.new.self.too_long)
+          (script_place c.loop-calls.script.number c.loop-calls.script.world c.loop-calls.script.line.items c.loop-calls.script.too_long)
+          (script_place c.feed.new.self.number c.feed.new.self.world c.feed.new.self.line.items c.feed.new.self.too_long)
           _ c.loop-calls.invariant.run (rw (c.deref.ensures.value, refilled c.read.new.buf c.loop-calls.buffer.items c.loop-calls.buffer.len same) c.in-Ok.ensures.bytes.0) c.in_default.ensures.feeds c.flush.ensures.bytes;
     }
 

@@ -1,7 +1,7 @@
 use Rattle.std.proofs.Common.{◌≡◌, drop}
-use Rattle.sync_session.specs.TreeNodes.{node_of}
+use Rattle.sync_session.specs.TreeNodes.{as_node}
 use Rattle.sync_session.specs.Walks.{taken_at}
 use Rattle.sync_session.proofs.node_list.taken_text.Given as goal
 
 abbrev pub invariant-loop-entry : goal.invariant-loop-entry
-invariant-loop-entry l = taken_at (drop l.entry-index l.taken) (node_of l.node) ≡ taken_at l.fn.taken (node_of l.node)
+invariant-loop-entry l = taken_at (drop l.entry-index l.taken) (as_node l.node) ≡ taken_at l.fn.taken (as_node l.node)

@@ -1,6 +1,6 @@
 use Rattle.std.proofs.Common.{◌≡◌, ℕ, ◌+◌, length, ap, subst, ◌∙◌}
 use Rattle.sync_session.specs.Walks.{TakenText}
-use Rattle.sync_session.specs.TreeNodes.{node_of}
+use Rattle.sync_session.specs.TreeNodes.{as_node}
 use Rattle.range_state.specs.declared.event.AnswerCounted.{AnswerCounted}
 use Rattle.caller_pass.specs.Locks.{Locked, IsToldOf}
 use Rattle.caller_pass.specs.Passes.{PassView, counted, seen_after}
@@ -13,7 +13,7 @@ use Rattle.caller_pass.proofs.locked_range.LockedRange.take_answer.Goals as goal
 pub invariant_of-self-2 : goal.invariant_of-self-2
 invariant_of-self-2 g c =
     let l : Locked = record { state = c.self.inside.state; book = c.self.inside.book } in
-    let t : TakenText = record { node = node_of c.args.node; text = c.args.text } in
+    let t : TakenText = record { node = as_node c.args.node; text = c.args.text } in
     let is = c.in_ok-taken.ensures in
     let new = c.take_answer_into-answered.new.self in
     let more = grown_by_text g.L.Ledger.parts l.state c.pass.inside.seat c.args.id t is.taken new c.pass.invariant.1.seated c.self.invariant.seated is.takes in
@@ -32,7 +32,7 @@ pub returns : goal.returns
 returns g c =
     let l : Locked = record { state = c.self.inside.state; book = c.self.inside.book } in
     let p : PassView = record { seat = c.pass.inside.seat; seen = c.pass.inside.seen; share = c.pass.inside.share.amount; receipts = c.pass.inside.receipts.items; readings = c.pass.inside.readings.items } in
-    let t : TakenText = record { node = node_of c.args.node; text = c.args.text } in
+    let t : TakenText = record { node = as_node c.args.node; text = c.args.text } in
     let is = c.in_ok-taken.ensures in
     let new = c.take_answer_into-answered.new.self in
     let es = is.taken.receipts.items in

@@ -2,7 +2,7 @@ use Rattle.std.proofs.Common.{◌≡◌, ◌<◌, ◌+◌, ◌++◌, ◌∙◌, 
 use Rattle.std.proofs.lemmas.List.Elements.{Contains-get_or, Contains-append_left, Contains-append_right}
 use Rattle.std.specs.List.{Contains}
 use Rattle.row_bytes.specs.declared.row.Row.{Row}
-use Rattle.hash_tree.specs.Chunks.{all_rows, rows_of}
+use Rattle.hash_tree.specs.Chunks.{all_rows, chunk_rows}
 use Rattle.hash_tree.specs.Leaves.{Bucket, AscendByKey, FindsRow, versions_in}
 use Rattle.hash_tree.proofs.ChunkPlaces.{rows_read, three_parts}
 use Rattle.hash_tree.proofs.KeySpotLaws.{IsChunkOf, chunk_ascends, versions_there}
@@ -31,8 +31,8 @@ returns-in-Ok-clause-found c =
     let back = all_rows (drop (i + 1) chunks) in
     let row : Row = record { key = k; versions = (get_or c.rows-in-Ok.result.now at d).versions } in
     let is : get_or c.rows.result.now at d ≡ row = λ j. record { key = place.key d j; versions = (get_or ((c.rows.ensures ∙ sym c.rows-in-Ok.ensures) j) at d).versions } in
-    let here : Contains (rows_of chunks i) row = subst (λ (rs : List Row). Contains rs row) rows (subst (Contains c.rows.result.now) is (Contains-get_or c.rows.result.now at d place.within)) in
-    let among : Contains (all_rows chunks) row = subst (λ (rs : List Row). Contains rs row) (sym (three_parts chunks i within)) (Contains-append_left (front ++ rows_of chunks i) back row (Contains-append_right front (rows_of chunks i) row here)) in
+    let here : Contains (chunk_rows chunks i) row = subst (λ (rs : List Row). Contains rs row) rows (subst (Contains c.rows.result.now) is (Contains-get_or c.rows.result.now at d place.within)) in
+    let among : Contains (all_rows chunks) row = subst (λ (rs : List Row). Contains rs row) (sym (three_parts chunks i within)) (Contains-append_left (front ++ chunk_rows chunks i) back row (Contains-append_right front (chunk_rows chunks i) row here)) in
     subst (λ (b : Bucket). Contains b.rows row) c.self.view_is among
 
 pub returns-in-Err-clause-found : goal.returns-in-Err-clause-found

@@ -7,7 +7,7 @@ use Rattle.std.specs.List.{list_any}
 use Rattle.std.specs.List.Sorted.{IsPartitionPoint}
 use Rattle.hint_store.specs.declared.hint.Kept.{Kept}
 use Rattle.hint_store.specs.declared.store.Waiting.{Waiting}
-use Rattle.hint_store.specs.Hints.{AreHints, AreNumberedFrom, is_answered, fate_of, confirmed, delivery_of, kept_at}
+use Rattle.hint_store.specs.Hints.{AreHints, HaveIdsFrom, is_answered, fate_of, confirmed, delivery_of, kept_at}
 use Rattle.hint_store.specs.Waits.{is_up_to, AreWaiting}
 use Rattle.hint_store.proofs.HintLaws.{get_or_same, IsFound, found_at, answered_fact, confirmed_at, confirm_ok, kept_answered}
 use Rattle.hint_store.proofs.WaitLaws.{IsItsEntry, its_entry, AreWaiting-confirm, AreHints-confirm}
@@ -71,4 +71,4 @@ returns-clause-fact c = answered_fact true c.args.self.now c.args.id c.args.deli
 pub returns-clause-kept : goal.returns-clause-kept
 returns-clause-kept c =
     ap (λ (hs : List Kept). option_and_then delivery_of (kept_at hs c.args.id)) (confirm_ok c.args.self.now _ c.args.id c.args.delivery (returns-clause-confirms c))
-    ∙ kept_answered c.args.self.now c.args.id c.args.delivery (subst (AreNumberedFrom 1) c.self.view_is c.self.invariant.0.numbered) (sym c.if-not-awaits.ensures)
+    ∙ kept_answered c.args.self.now c.args.id c.args.delivery (subst (HaveIdsFrom 1) c.self.view_is c.self.invariant.0.numbered) (sym c.if-not-awaits.ensures)

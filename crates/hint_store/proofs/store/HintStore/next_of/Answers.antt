@@ -2,7 +2,7 @@ use Rattle.std.proofs.Common.{◌≡◌, ap, sym, ◌∙◌, subst, None, Option
 use Rattle.std.specs.Prelude.{find}
 use Rattle.vclock.specs.Answer.{Answers}
 use Rattle.hint_store.specs.declared.hint.Hint.{Hint}
-use Rattle.hint_store.specs.Waits.{lesser}
+use Rattle.hint_store.specs.Waits.{earliest}
 use Rattle.hint_store.specs.Hints.{is_due}
 use Rattle.std.proofs.lemmas.List.{take_all}
 use Rattle.hint_store.proofs.HintLaws.{next_found, next_more, no_owners, ids}
@@ -14,7 +14,7 @@ loop-owner-init c = no_owners c.args.after c.args.self.now
 pub loop-owner-preserved : goal.loop-owner-preserved
 loop-owner-preserved c =
     let step = next_more c.args.owners.now c.loop-owner.owner-index 0 c.args.after c.args.self.now c.pending-valid.ensures.valid.numbered c.loop-owner-test.true in
-    c.lesser-least.ensures ∙ (ap (λ a. lesser a c.first_of.result) c.loop-owner.invariant ∙ (ap (lesser _) c.first_of.ensures ∙ sym step))
+    c.lesser-least.ensures ∙ (ap (λ a. earliest a c.first_of.result) c.loop-owner.invariant ∙ (ap (earliest _) c.first_of.ensures ∙ sym step))
 
 pub returns : goal.returns
 returns c =

@@ -4,7 +4,7 @@ use Rattle.std.proofs.lemmas.Result.{err_from_is_err_and}
 use Rattle.hint_store.proofs.HintLaws.{get_or_same}
 use Rattle.key_ring.specs.Places.{range_at}
 use Rattle.vclock.specs.Outcome.{gives}
-use Rattle.outage_cluster.specs.Acts.{ask_fault, gets_hint, put_into}
+use Rattle.outage_cluster.specs.Acts.{put_fault, gets_hint, put_into}
 use Rattle.outage_cluster.specs.Handoff.{carrier_of, hinted, owners_of}
 use Rattle.outage_commands.specs.Orders.{put_ask}
 use Rattle.outage_cluster.specs.State.{Replica, replicas_of, with_replicas}
@@ -33,7 +33,7 @@ returns-in_err-sent c =
     let same : items ≡ s.replicas = search rules in
     let down : c.deref.result.now ≡ s.down = search rules in
     let at : reps ≡ replicas_of s ask.key = here ∙ get_or_same items i reps [] inside ∙ ap (λ xs. get_or xs i []) same ∙ ap (λ j. get_or s.replicas j []) index in
-    let asked : ask_fault ask s ≡ None = c.in_ok-context.ensures.0 in
+    let asked : put_fault ask s ≡ None = c.in_ok-context.ensures.0 in
     let p = err_from_is_err_and c.from_residual-in_err-sent.result c.from_residual-in_err-sent.ensures.1 in
     rw (p.1, p.2) (elim c.in_err-sent.ensures.puts [
       | inl memory ↦ inl memory

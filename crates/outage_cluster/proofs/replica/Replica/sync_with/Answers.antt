@@ -5,7 +5,7 @@ use Rattle.std.specs.Prelude.{OnOk}
 use Rattle.range_state.specs.State as range
 use Rattle.range_state.specs.Sessions.{crowd_fault, standings}
 use Rattle.outage_cluster.specs.State.{Replica, range_in, replica_of}
-use Rattle.outage_cluster.specs.Syncs.{IsCounted, synced_with}
+use Rattle.outage_cluster.specs.Syncs.{IsReported, synced_with}
 use Rattle.outage_cluster.proofs.SyncLaws.{fresh_dirty, seen, sync_answers, sync_config, sync_ok}
 use Rattle.outage_cluster.proofs.replica.Replica.sync_with.Goals as goal
 
@@ -19,7 +19,7 @@ returns-in-Some-clause-answers c =
     let n = c.self.inside.node in
     let s = c.in-Some.state in
     let here = seen n c.self.inside.config c.self.inside.state s c.args.self.now c.self.view_is c.in-Some.is in
-    subst (λ (r : Replica). AnswersOrNoMemory c.sync_with.result (first_fault (crowd_fault r.sessions) (range.dirty_fault r.range)) (IsCounted r c.args.other.now)) here
+    subst (λ (r : Replica). AnswersOrNoMemory c.sync_with.result (first_fault (crowd_fault r.sessions) (range.dirty_fault r.range)) (IsReported r c.args.other.now)) here
     (sync_answers n s c.sync_with.new.self c.args.other.now (first_fault (crowd_fault (standings s.records)) (range.dirty_fault s)) c.sync_with.result c.sync_with.ensures.answers c.sync_with.ensures.ok)
 
 pub returns-in-Some-clause-ok : goal.returns-in-Some-clause-ok

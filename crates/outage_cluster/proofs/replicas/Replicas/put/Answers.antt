@@ -2,7 +2,7 @@ use Rattle.std.proofs.Common.{rules, ◌≡◌, inl, inr, refl, sym, ap, ◌∙�
 use Rattle.std.proofs.lemmas.Result.{err_from_is_err_and}
 use Rattle.vclock.specs.Outcome.{DoesOrNoMemory, gives}
 use Rattle.vclock.specs.declared.refusal.Refusal.TheVariants.{OtherRange}
-use Rattle.outage_cluster.specs.Acts.{after_copy, put_at, takes}
+use Rattle.outage_cluster.specs.Acts.{after_copy, put_by, takes}
 use Rattle.outage_cluster.specs.Homes.{AreOf, IsHome}
 use Rattle.outage_commands.specs.Orders.{put_ask}
 use Rattle.outage_cluster.specs.State.{Replica, at_home, in_replica, replica_at}
@@ -38,7 +38,7 @@ pub returns-in_default-clause-puts : goal.returns-in_default-clause-puts
 returns-in_default-clause-puts c =
     let ask = put_ask c.args.put in
     let none : replica_at ask.node c.args.self.now ≡ None = search rules in
-    inr (refl, put_uncopied c.args.down.now ask c.args.self.now OtherRange (nobody_home ask.node c.args.self.now (put_at ask) none))
+    inr (refl, put_uncopied c.args.down.now ask c.args.self.now OtherRange (nobody_home ask.node c.args.self.now (put_by ask) none))
 
 pub returns-in_err-receipt-clause-puts : goal.returns-in_err-receipt-clause-puts
 returns-in_err-receipt-clause-puts c =
@@ -52,11 +52,11 @@ returns-in_err-receipt-clause-puts c =
     let is : own ≡ get_or reps i own = search rules in
     let node : own.node ≡ ask.node = ap (λ (r : Replica). r.node) is ∙ here.node own in
     let asked = put_parts ask own.range own.node c.as_slice.result.now c.args.context.now c.payload-kind.result.0 c.payload-kind.result.1 node (search rules) (search rules) c.payload-kind.ensures.kind c.payload-kind.ensures.bytes in
-    let did = homed ask.node reps i own new (put_at ask) (Err e) here is (subst (λ o. DoesOrNoMemory (Err e) own new (in_replica own o)) asked c.in_err-receipt.ensures.puts) in
+    let did = homed ask.node reps i own new (put_by ask) (Err e) here is (subst (λ o. DoesOrNoMemory (Err e) own new (in_replica own o)) asked c.in_err-receipt.ensures.puts) in
     let p = err_from_is_err_and c.from_residual-in_err-receipt.result c.from_residual-in_err-receipt.ensures.1 in
     rw (p.1, p.2) (elim did.1 [
       | inl memory ↦ inl memory
-      | inr cause ↦ inr (did.0 ∙ c.self.view_is, put_uncopied c.args.down.now ask c.args.self.now e (ap (at_home ask.node (put_at ask)) (sym c.self.view_is) ∙ cause))
+      | inr cause ↦ inr (did.0 ∙ c.self.view_is, put_uncopied c.args.down.now ask c.args.self.now e (ap (at_home ask.node (put_by ask)) (sym c.self.view_is) ∙ cause))
     ])
 
 pub returns-clause-puts : goal.returns-clause-puts
@@ -71,9 +71,9 @@ returns-clause-puts c =
     let is : own ≡ get_or reps i own = search rules in
     let node : own.node ≡ ask.node = ap (λ (r : Replica). r.node) is ∙ here.node own in
     let asked = put_parts ask own.range own.node c.as_slice.result.now c.args.context.now c.payload-kind.result.0 c.payload-kind.result.1 node (search rules) (search rules) c.payload-kind.ensures.kind c.payload-kind.ensures.bytes in
-    let did = homed ask.node reps i own new (put_at ask) (Ok receipt) here is (subst (λ o. DoesOrNoMemory (Ok receipt) own new (in_replica own o)) asked c.in_ok-receipt.ensures.puts) in
+    let did = homed ask.node reps i own new (put_by ask) (Ok receipt) here is (subst (λ o. DoesOrNoMemory (Ok receipt) own new (in_replica own o)) asked c.in_ok-receipt.ensures.puts) in
     let mid = slice_set reps i new in
-    let made = put_copied c.args.down.now ask c.args.self.now mid receipt (ap (at_home ask.node (put_at ask)) (sym c.self.view_is) ∙ did) in
+    let made = put_copied c.args.down.now ask c.args.self.now mid receipt (ap (at_home ask.node (put_by ask)) (sym c.self.view_is) ∙ did) in
     let count : c.in_ok-copied.copied ≡ length (filter (takes c.args.down.now ask.node ask.lose receipt) mid) = search rules in
     let all : c.send_to.new.replicas ≡ map (after_copy c.args.down.now ask.node ask.lose receipt) mid = search rules in
     let many : c.self.inside.replicas.len ≡ length c.send_to.new.replicas = search rules in

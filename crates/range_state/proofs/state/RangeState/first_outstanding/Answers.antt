@@ -1,18 +1,18 @@
 use Rattle.std.proofs.Common.{rules, ◌≡◌, ◌<◌, List, [], ◌∷◌, Option, Some, None, length, map, get_or, refl, sym, ap, subst, ◌∙◌, arith, slice_get}
 use Rattle.std.specs.Prelude.{MatchOption}
 use Rattle.hash_tree.specs.declared.node.NodeAt.{NodeAt}
-use Rattle.sync_session.specs.TreeNodes.{Node, node_of}
+use Rattle.sync_session.specs.TreeNodes.{Node, as_node}
 use Rattle.range_state.specs.declared.«record».Record.{Record}
 use Rattle.range_state.specs.State.{State}
 use Rattle.range_state.specs.Syncs.{IsFirstOf}
 use Rattle.range_state.proofs.AnswerLaws.{got_record}
 use Rattle.range_state.proofs.state.RangeState.first_outstanding.Goals as goal
 
-first_of : (xs : List NodeAt) (x : NodeAt) → 0 < length xs → x ≡ get_or xs 0 x → (rest : List Node) × (map node_of xs ≡ node_of x ∷ rest)
+first_of : (xs : List NodeAt) (x : NodeAt) → 0 < length xs → x ≡ get_or xs 0 x → (rest : List Node) × (map as_node xs ≡ as_node x ∷ rest)
 first_of [] x some is = absurd (omega (arith, some))
-first_of (y ∷ ys) x some is = (map node_of ys, ap (λ (z : NodeAt). node_of z ∷ map node_of ys) (sym is))
+first_of (y ∷ ys) x some is = (map as_node ys, ap (λ (z : NodeAt). as_node z ∷ map as_node ys) (sym is))
 
-none_of : (xs : List NodeAt) → length xs ≡ 0 → map node_of xs ≡ []
+none_of : (xs : List NodeAt) → length xs ≡ 0 → map as_node xs ≡ []
 none_of [] none = refl
 none_of (x ∷ xs) none = absurd (omega (arith, none))
 

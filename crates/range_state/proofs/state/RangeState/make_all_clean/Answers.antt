@@ -1,6 +1,6 @@
 use Rattle.std.proofs.Common.{◌≡◌, ◌<◌, length, None, arith, sym, subst}
 use Rattle.hash_tree.specs.declared.node.NodeAt.{NodeAt}
-use Rattle.hash_tree.specs.Nodes.{digest_at}
+use Rattle.hash_tree.specs.Nodes.{kept_digest}
 use Rattle.range_state.specs.State.{place_of}
 use Rattle.range_state.proofs.BulkLaws.{cleaning_next}
 use Rattle.range_state.proofs.state.RangeState.make_all_clean.Goals as goal
@@ -13,5 +13,5 @@ loop-i-preserved c =
     let less : i < length c.args.nodes.now = omega arith in
     let back = sym c.index-nodes-i.is in
     let has = subst (λ (n : NodeAt). place_of n < length start.marks) back (c.requires.has i node less) in
-    let dirty = subst (λ (n : NodeAt). digest_at start.marks (place_of n) ≡ None) back (c.requires.dirty i node less) in
+    let dirty = subst (λ (n : NodeAt). kept_digest start.marks (place_of n) ≡ None) back (c.requires.dirty i node less) in
     cleaning_next start c.args.nodes.now c.args.hashed.now i c.loop-i.self c.make_clean.new.self node c.index-hashed-i.result c.loop-i.invariant has dirty c.make_clean.ensures

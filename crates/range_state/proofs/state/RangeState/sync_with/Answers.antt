@@ -4,7 +4,7 @@ use Rattle.vclock.specs.declared.refusal.Refusal.{Refusal}
 use Rattle.range_state.specs.Syncs.{IsPartWay}
 use Rattle.std.proofs.lemmas.List.{length-append}
 use Rattle.vclock.specs.declared.refusal.Refusal.TheVariants.{NoMemory}
-use Rattle.sync_session.specs.TreeNodes.{node_of, text_of}
+use Rattle.sync_session.specs.TreeNodes.{as_node, text_of}
 use Rattle.sync_session.specs.Differing.{differ}
 use Rattle.sync_session.proofs.DescentLaws.{entry}
 use Rattle.range_state.specs.State.{State, rows_now}
@@ -34,7 +34,7 @@ answer_from-requires c =
     let u = at.invariant.under in
     let is = true_walk s at.self c.args.seat at.known other u c.in-Some.ensures.valid c.requires c.offer.ensures.valid in
     let first = first_is s at.self c.args.seat at.known c.in_ok-id.id other u at.invariant.at (Some c.in-Some.node) c.in-Some.ensures.first in
-    shallow s at.self c.args.seat at.known other u (node_of c.in-Some.node) first.0 is first.1
+    shallow s at.self c.args.seat at.known other u (as_node c.in-Some.node) first.0 is first.1
 
 pub loop-node-smaller : goal.loop-node-smaller
 loop-node-smaller c =
@@ -42,7 +42,7 @@ loop-node-smaller c =
     let s = c.args.self.now in
     let other = c.args.other.now in
     let id = c.in_ok-id.id in
-    let n = node_of c.in-Some.node in
+    let n = as_node c.in-Some.node in
     let u = at.invariant.under in
     let is = true_walk s at.self c.args.seat at.known other u c.in-Some.ensures.valid c.requires c.offer.ensures.valid in
     let first = first_is s at.self c.args.seat at.known id other u at.invariant.at (Some c.in-Some.node) c.in-Some.ensures.first in
@@ -61,7 +61,7 @@ loop-node-preserved c =
     let s = c.args.self.now in
     let other = c.args.other.now in
     let id = c.in_ok-id.id in
-    let n = node_of c.in-Some.node in
+    let n = as_node c.in-Some.node in
     let u = at.invariant.under in
     let is = true_walk s at.self c.args.seat at.known other u c.in-Some.ensures.valid c.requires c.offer.ensures.valid in
     let first = first_is s at.self c.args.seat at.known id other u at.invariant.at (Some c.in-Some.node) c.in-Some.ensures.first in
@@ -83,7 +83,7 @@ synced-requires c =
     let s = c.args.self.now in
     let other = c.args.other.now in
     let id = c.in_ok-id.id in
-    let n = node_of c.in-Some.node in
+    let n = as_node c.in-Some.node in
     let u = at.invariant.under in
     let is = true_walk s at.self c.args.seat at.known other u c.in-Some.ensures.valid c.requires c.offer.ensures.valid in
     let first = first_is s at.self c.args.seat at.known id other u at.invariant.at (Some c.in-Some.node) c.in-Some.ensures.first in
@@ -104,7 +104,7 @@ returns-in-Err c =
     let s = c.args.self.now in
     let other = c.args.other.now in
     let id = c.in_ok-id.id in
-    let n = node_of c.in-Some.node in
+    let n = as_node c.in-Some.node in
     let u = at.invariant.under in
     let is = true_walk s at.self c.args.seat at.known other u c.in-Some.ensures.valid c.requires c.offer.ensures.valid in
     let first = first_is s at.self c.args.seat at.known id other u at.invariant.at (Some c.in-Some.node) c.in-Some.ensures.first in
@@ -161,7 +161,7 @@ returns-in_err-known-in-Ok-clause-late c =
     let s = c.args.self.now in
     let other = c.args.other.now in
     let id = c.in_ok-id.id in
-    let n = node_of c.in-Some.node in
+    let n = as_node c.in-Some.node in
     let u = at.invariant.under in
     let is = true_walk s at.self c.args.seat at.known other u c.in-Some.ensures.valid c.requires c.offer.ensures.valid in
     let first = first_is s at.self c.args.seat at.known id other u at.invariant.at (Some c.in-Some.node) c.in-Some.ensures.first in
@@ -180,7 +180,7 @@ returns-in-Err-NoMemory-clause-late c =
     let s = c.args.self.now in
     let other = c.args.other.now in
     let id = c.in_ok-id.id in
-    let n = node_of c.in-Some.node in
+    let n = as_node c.in-Some.node in
     let u = at.invariant.under in
     let is = true_walk s at.self c.args.seat at.known other u c.in-Some.ensures.valid c.requires c.offer.ensures.valid in
     let first = first_is s at.self c.args.seat at.known id other u at.invariant.at (Some c.in-Some.node) c.in-Some.ensures.first in

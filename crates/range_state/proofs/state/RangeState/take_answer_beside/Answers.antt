@@ -5,7 +5,7 @@ use Rattle.vclock.specs.declared.format.Format.{Format}
 use Rattle.vclock.specs.declared.refusal.Refusal.TheVariants.{NotCanonical}
 use Rattle.hash_tree.specs.Nodes.{tree_depth}
 use Rattle.sync_session.specs.Steps.{IsDue, failed}
-use Rattle.sync_session.specs.TreeNodes.{node_of}
+use Rattle.sync_session.specs.TreeNodes.{as_node}
 use Rattle.sync_session.specs.Walks.{TakenText, IsCanonical}
 use Rattle.range_state.specs.declared.«record».Record.{Record}
 use Rattle.range_state.specs.State.{State, IsRight}
@@ -17,7 +17,7 @@ pub take_leaf-requires : goal.take_leaf-requires
 take_leaf-requires c =
     let now = c.args.self.now in
     let r : Record = c.in-Some.record.now in
-    let t : TakenText = record { node = node_of c.args.node; text = c.args.text } in
+    let t : TakenText = record { node = as_node c.args.node; text = c.args.text } in
     let was = c.in-Some.ensures.lookup.1 ∙ ap (λ (rs : List Record). get_or rs c.args.id r) c.deref.ensures.value in
     let within : c.args.id < length c.self.inside.records.items = omega (arith, ltb-true _ _ (sym c.in-Some.ensures.lookup.0), ap length c.deref.ensures.value) in
     let here : slice_get now.records c.args.id ≡ Some r = ap (λ (u : State). slice_get u.records c.args.id) (sym c.self.view_is) ∙ got_record c.self.inside.records.items c.args.id r within was in
@@ -29,7 +29,7 @@ pub take_inner-requires : goal.take_inner-requires
 take_inner-requires c =
     let now = c.args.self.now in
     let r : Record = c.in-Some.record.now in
-    let t : TakenText = record { node = node_of c.args.node; text = c.args.text } in
+    let t : TakenText = record { node = as_node c.args.node; text = c.args.text } in
     let was = c.in-Some.ensures.lookup.1 ∙ ap (λ (rs : List Record). get_or rs c.args.id r) c.deref.ensures.value in
     let within : c.args.id < length c.self.inside.records.items = omega (arith, ltb-true _ _ (sym c.in-Some.ensures.lookup.0), ap length c.deref.ensures.value) in
     let here : slice_get now.records c.args.id ≡ Some r = ap (λ (u : State). slice_get u.records c.args.id) (sym c.self.view_is) ∙ got_record c.self.inside.records.items c.args.id r within was in
@@ -41,7 +41,7 @@ pub fail_session-requires : goal.fail_session-requires
 fail_session-requires c =
     let now = c.args.self.now in
     let r : Record = c.in-Some.record.now in
-    let t : TakenText = record { node = node_of c.args.node; text = c.args.text } in
+    let t : TakenText = record { node = as_node c.args.node; text = c.args.text } in
     let was = c.in-Some.ensures.lookup.1 ∙ ap (λ (rs : List Record). get_or rs c.args.id r) c.deref.ensures.value in
     let within : c.args.id < length c.self.inside.records.items = omega (arith, ltb-true _ _ (sym c.in-Some.ensures.lookup.0), ap length c.deref.ensures.value) in
     let here : slice_get now.records c.args.id ≡ Some r = ap (λ (u : State). slice_get u.records c.args.id) (sym c.self.view_is) ∙ got_record c.self.inside.records.items c.args.id r within was in
@@ -53,7 +53,7 @@ returns-in-Err-NotCanonical-clause-answers c =
     let now = c.args.self.now in
     let new = c.fail_session.new.self in
     let r : Record = c.in-Some.record.now in
-    let t : TakenText = record { node = node_of c.args.node; text = c.args.text } in
+    let t : TakenText = record { node = as_node c.args.node; text = c.args.text } in
     let was = c.in-Some.ensures.lookup.1 ∙ ap (λ (rs : List Record). get_or rs c.args.id r) c.deref.ensures.value in
     let within : c.args.id < length c.self.inside.records.items = omega (arith, ltb-true _ _ (sym c.in-Some.ensures.lookup.0), ap length c.deref.ensures.value) in
     let here : slice_get now.records c.args.id ≡ Some r = ap (λ (u : State). slice_get u.records c.args.id) (sym c.self.view_is) ∙ got_record c.self.inside.records.items c.args.id r within was in
@@ -65,7 +65,7 @@ pub returns-clause-answers : goal.returns-clause-answers
 returns-clause-answers c =
     let now = c.args.self.now in
     let r : Record = c.in-Some.record.now in
-    let t : TakenText = record { node = node_of c.args.node; text = c.args.text } in
+    let t : TakenText = record { node = as_node c.args.node; text = c.args.text } in
     let was = c.in-Some.ensures.lookup.1 ∙ ap (λ (rs : List Record). get_or rs c.args.id r) c.deref.ensures.value in
     let within : c.args.id < length c.self.inside.records.items = omega (arith, ltb-true _ _ (sym c.in-Some.ensures.lookup.0), ap length c.deref.ensures.value) in
     let here : slice_get now.records c.args.id ≡ Some r = ap (λ (u : State). slice_get u.records c.args.id) (sym c.self.view_is) ∙ got_record c.self.inside.records.items c.args.id r within was in

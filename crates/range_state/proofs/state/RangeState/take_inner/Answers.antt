@@ -2,7 +2,7 @@ use Rattle.std.proofs.Common.{◌<◌, length, refl, sym, subst, Ok, Err, slice_
 use Rattle.std.specs.Prelude.{MatchOption}
 use Rattle.std.proofs.lemmas.Result.{err_from_is_err_and}
 use Rattle.sync_session.specs.Walks.{TakenText, Walk}
-use Rattle.sync_session.specs.TreeNodes.{node_of}
+use Rattle.sync_session.specs.TreeNodes.{as_node}
 use Rattle.range_state.specs.declared.«record».Record.{Record}
 use Rattle.range_state.specs.declared.event.AnswerTaken.{AnswerTaken}
 use Rattle.range_state.specs.State.{State, IsRight}
@@ -15,7 +15,7 @@ pub invariant_of-self : goal.invariant_of-self
 invariant_of-self c =
     let s : State = record { config = c.self.inside.config; entries = c.self.inside.journal.entries; marks = c.self.inside.marks.digests; records = c.self.inside.records.items } in
     let r : Record = c.index_mut.result.now in
-    let t : TakenText = record { node = node_of c.args.node; text = c.args.text } in
+    let t : TakenText = record { node = as_node c.args.node; text = c.args.text } in
     let asked = subst (λ (u : State). MatchOption (slice_get u.records c.args.id) ⊥ (λ x. IsInnerRead u x t)) (sym c.self.view_is) c.requires in
     let within : c.args.id < length s.records = has_record s.records c.args.id (λ x. IsInnerRead s x t) asked in
     let read = the_record s.records c.args.id r (λ x. IsInnerRead s x t) within c.index_mut.ensures.value asked in
@@ -26,7 +26,7 @@ pub returns-in_err-take-clause-answers : goal.returns-in_err-take-clause-answers
 returns-in_err-take-clause-answers c = λ seat.
     let s : State = record { config = c.self.inside.config; entries = c.self.inside.journal.entries; marks = c.self.inside.marks.digests; records = c.self.inside.records.items } in
     let r : Record = c.index_mut.result.now in
-    let t : TakenText = record { node = node_of c.args.node; text = c.args.text } in
+    let t : TakenText = record { node = as_node c.args.node; text = c.args.text } in
     let e = c.in_err-take.field-0.0 in
     let p = err_from_is_err_and c.from_residual.result c.from_residual.ensures.1 in
     let asked = subst (λ (u : State). MatchOption (slice_get u.records c.args.id) ⊥ (λ x. IsInnerRead u x t)) (sym c.self.view_is) c.requires in
@@ -42,7 +42,7 @@ pub invariant_of-self-2 : goal.invariant_of-self-2
 invariant_of-self-2 c =
     let s : State = record { config = c.self.inside.config; entries = c.self.inside.journal.entries; marks = c.self.inside.marks.digests; records = c.self.inside.records.items } in
     let r : Record = c.index_mut.result.now in
-    let t : TakenText = record { node = node_of c.args.node; text = c.args.text } in
+    let t : TakenText = record { node = as_node c.args.node; text = c.args.text } in
     let asked = subst (λ (u : State). MatchOption (slice_get u.records c.args.id) ⊥ (λ x. IsInnerRead u x t)) (sym c.self.view_is) c.requires in
     let within : c.args.id < length s.records = has_record s.records c.args.id (λ x. IsInnerRead s x t) asked in
     let read = the_record s.records c.args.id r (λ x. IsInnerRead s x t) within c.index_mut.ensures.value asked in
@@ -53,7 +53,7 @@ pub returns-clause-answers : goal.returns-clause-answers
 returns-clause-answers c = λ seat.
     let s : State = record { config = c.self.inside.config; entries = c.self.inside.journal.entries; marks = c.self.inside.marks.digests; records = c.self.inside.records.items } in
     let r : Record = c.index_mut.result.now in
-    let t : TakenText = record { node = node_of c.args.node; text = c.args.text } in
+    let t : TakenText = record { node = as_node c.args.node; text = c.args.text } in
     let a : AnswerTaken = record { receipts = c.new.result; known = 0; state = c.state.result } in
     let asked = subst (λ (u : State). MatchOption (slice_get u.records c.args.id) ⊥ (λ x. IsInnerRead u x t)) (sym c.self.view_is) c.requires in
     let within : c.args.id < length s.records = has_record s.records c.args.id (λ x. IsInnerRead s x t) asked in

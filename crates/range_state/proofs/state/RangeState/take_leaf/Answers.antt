@@ -7,7 +7,7 @@ use Rattle.range_journal.proofs.JournalLaws.{Reserved, reserve_ok}
 use Rattle.range_journal.specs.Log.{Log, AreNumberedFrom}
 use Rattle.hash_tree.specs.Nodes.{Tree, dirtied}
 use Rattle.sync_session.specs.Walks.{TakenText}
-use Rattle.sync_session.specs.TreeNodes.{node_of}
+use Rattle.sync_session.specs.TreeNodes.{as_node}
 use Rattle.range_state.specs.declared.«record».Record.{Record}
 use Rattle.range_state.specs.declared.event.AnswerTaken.{AnswerTaken}
 use Rattle.range_state.specs.State.{State, IsRight, AreLeaves}
@@ -20,7 +20,7 @@ use Rattle.range_state.proofs.state.RangeState.take_leaf.Goals as goal
 pub prepare_beside-requires-clause-here : goal.prepare_beside-requires-clause-here
 prepare_beside-requires-clause-here c =
     let now = c.args.self.now in
-    let t : TakenText = record { node = node_of c.args.node; text = c.args.text } in
+    let t : TakenText = record { node = as_node c.args.node; text = c.args.text } in
     let ok = subst IsRight c.self.view_is c.self.invariant.0 in
     let seen = news_read now c.args.id t c.args.news.now ok c.requires in
     news_all (IsRowFor now.config c.args.node.index) seen.own seen.rows c.args.news.now.rows.items c.args.news.now.known (rows_ready now c.args.id t seen.rows ok seen.read).0 seen.parted
@@ -28,7 +28,7 @@ prepare_beside-requires-clause-here c =
 pub prepare_beside-requires-clause-few : goal.prepare_beside-requires-clause-few
 prepare_beside-requires-clause-few c =
     let now = c.args.self.now in
-    let t : TakenText = record { node = node_of c.args.node; text = c.args.text } in
+    let t : TakenText = record { node = as_node c.args.node; text = c.args.text } in
     let ok = subst IsRight c.self.view_is c.self.invariant.0 in
     let seen = news_read now c.args.id t c.args.news.now ok c.requires in
     let short = (rows_ready now c.args.id t seen.rows ok seen.read).1 in
@@ -37,7 +37,7 @@ prepare_beside-requires-clause-few c =
 
 pub returns-in_err-batch-clause-answers : goal.returns-in_err-batch-clause-answers
 returns-in_err-batch-clause-answers c =
-    let t : TakenText = record { node = node_of c.args.node; text = c.args.text } in
+    let t : TakenText = record { node = as_node c.args.node; text = c.args.text } in
     let seen = news_read c.args.self.now c.args.id t c.args.news.now (subst IsRight c.self.view_is c.self.invariant.0) c.requires in
     let p = err_from_is_err_and c.from_residual.result c.from_residual.ensures.1 in
     let told = not_prepared c.args.self.now c.args.seat c.args.id t seen.rows c.in_err-batch.field-0.0 (subst IsRight c.self.view_is c.self.invariant.0) seen.read (c.in_err-batch.ensures.answers seen.own seen.rows seen.held seen.parted) in
@@ -48,7 +48,7 @@ returns-in_err-reserve-clause-answers c =
     let s : State = record { config = c.self.inside.config; entries = c.self.inside.journal.entries; marks = c.self.inside.marks.digests; records = c.self.inside.records.items } in
     let now = c.args.self.now in
     let b = c.in_ok-batch.batch in
-    let t : TakenText = record { node = node_of c.args.node; text = c.args.text } in
+    let t : TakenText = record { node = as_node c.args.node; text = c.args.text } in
     let seen = news_read c.args.self.now c.args.id t c.args.news.now (subst IsRight c.self.view_is c.self.invariant.0) c.requires in
     let p = err_from_is_err_and c.from_residual-in_err-reserve.result c.from_residual-in_err-reserve.ensures.1 in
     let ready = (c.in_ok-batch.ensures.answers seen.own seen.rows seen.held seen.parted).1 in
@@ -62,7 +62,7 @@ returns-in_err-reserve-clause-answers c =
 
 pub index_mut-requires : goal.index_mut-requires
 index_mut-requires c =
-    let t : TakenText = record { node = node_of c.args.node; text = c.args.text } in
+    let t : TakenText = record { node = as_node c.args.node; text = c.args.text } in
     let seen = news_read c.args.self.now c.args.id t c.args.news.now (subst IsRight c.self.view_is c.self.invariant.0) c.requires in
     let within = has_record c.args.self.now.records c.args.id (λ x. IsLeafRead c.args.self.now x t seen.rows) seen.read in
     omega (arith, within, ap (λ (u : State). length u.records) c.self.view_is, c.self.inside.records.ok)
@@ -71,7 +71,7 @@ pub take_leaf-requires-clause-due : goal.take_leaf-requires-clause-due
 take_leaf-requires-clause-due c =
     let s = c.args.self.now in
     let r : Record = c.index_mut.result.now in
-    let t : TakenText = record { node = node_of c.args.node; text = c.args.text } in
+    let t : TakenText = record { node = as_node c.args.node; text = c.args.text } in
     let seen = news_read c.args.self.now c.args.id t c.args.news.now (subst IsRight c.self.view_is c.self.invariant.0) c.requires in
     let read = λ (x : Record). IsLeafRead s x t seen.rows in
     let was : r ≡ get_or s.records c.args.id r = c.index_mut.ensures.value ∙ ap (λ (u : State). get_or u.records c.args.id r) c.self.view_is in
@@ -81,7 +81,7 @@ pub take_leaf-requires-clause-leaf : goal.take_leaf-requires-clause-leaf
 take_leaf-requires-clause-leaf c =
     let s = c.args.self.now in
     let r : Record = c.index_mut.result.now in
-    let t : TakenText = record { node = node_of c.args.node; text = c.args.text } in
+    let t : TakenText = record { node = as_node c.args.node; text = c.args.text } in
     let seen = news_read c.args.self.now c.args.id t c.args.news.now (subst IsRight c.self.view_is c.self.invariant.0) c.requires in
     let read = λ (x : Record). IsLeafRead s x t seen.rows in
     let within = has_record s.records c.args.id read seen.read in
@@ -92,7 +92,7 @@ pub take_leaf-requires-clause-canonical : goal.take_leaf-requires-clause-canonic
 take_leaf-requires-clause-canonical c =
     let s = c.args.self.now in
     let r : Record = c.index_mut.result.now in
-    let t : TakenText = record { node = node_of c.args.node; text = c.args.text } in
+    let t : TakenText = record { node = as_node c.args.node; text = c.args.text } in
     let seen = news_read c.args.self.now c.args.id t c.args.news.now (subst IsRight c.self.view_is c.self.invariant.0) c.requires in
     let read = λ (x : Record). IsLeafRead s x t seen.rows in
     let within = has_record s.records c.args.id read seen.read in
@@ -117,7 +117,7 @@ returns-in_err-take_leaf-clause-answers c =
     let s : State = record { config = c.self.inside.config; entries = c.self.inside.journal.entries; marks = c.self.inside.marks.digests; records = c.self.inside.records.items } in
     let now = c.args.self.now in
     let r : Record = c.index_mut.result.now in
-    let t : TakenText = record { node = node_of c.args.node; text = c.args.text } in
+    let t : TakenText = record { node = as_node c.args.node; text = c.args.text } in
     let seen = news_read c.args.self.now c.args.id t c.args.news.now (subst IsRight c.self.view_is c.self.invariant.0) c.requires in
     let e = c.in_err-take_leaf.field-0.0 in
     let p = err_from_is_err_and c.from_residual-in_err-take_leaf.result c.from_residual-in_err-take_leaf.ensures.1 in
@@ -131,32 +131,32 @@ returns-in_err-take_leaf-clause-answers c =
 
 pub append_all-requires-clause-numbered : goal.append_all-requires-clause-numbered
 append_all-requires-clause-numbered c =
-    let t : TakenText = record { node = node_of c.args.node; text = c.args.text } in
+    let t : TakenText = record { node = as_node c.args.node; text = c.args.text } in
     let seen = news_read c.args.self.now c.args.id t c.args.news.now (subst IsRight c.self.view_is c.self.invariant.0) c.requires in
     let log = (reserve_ok c.self.inside.journal _ _ c.in_ok-reserve.ensures.reserves).is in
     let same : c.reserve.new.self.entries ≡ c.args.self.now.entries = ap (λ (l : Log). l.entries) log ∙ ap (λ (u : State). u.entries) c.self.view_is in
     subst (λ (es : List Entry). AreNumberedFrom (length es) c.in_ok-batch.batch.entries.items) (sym same) (c.in_ok-batch.ensures.answers seen.own seen.rows seen.held seen.parted).1.0.numbered
 
 -- the rows that were read
-seen_in : (c : goal.After-append_all) → NewsRead c.args.self.now c.args.id (record { node = node_of c.args.node; text = c.args.text }) c.args.news.now
-seen_in c = news_read c.args.self.now c.args.id (record { node = node_of c.args.node; text = c.args.text }) c.args.news.now (subst IsRight c.self.view_is c.self.invariant.0) c.requires
+seen_in : (c : goal.After-append_all) → NewsRead c.args.self.now c.args.id (record { node = as_node c.args.node; text = c.args.text }) c.args.news.now
+seen_in c = news_read c.args.self.now c.args.id (record { node = as_node c.args.node; text = c.args.text }) c.args.news.now (subst IsRight c.self.view_is c.self.invariant.0) c.requires
 
 -- the record, which is at its place
 is_there : (c : goal.After-append_all) → (c.args.id < length c.args.self.now.records) × (c.index_mut.result.now ≡ get_or c.args.self.now.records c.args.id c.index_mut.result.now)
 is_there c =
     let now = c.args.self.now in
     let r : Record = c.index_mut.result.now in
-    let t : TakenText = record { node = node_of c.args.node; text = c.args.text } in
+    let t : TakenText = record { node = as_node c.args.node; text = c.args.text } in
     let seen = seen_in c in
     (has_record now.records c.args.id (λ x. IsLeafRead now x t seen.rows) seen.read, c.index_mut.ensures.value ∙ ap (λ (u : State). get_or u.records c.args.id r) c.self.view_is)
 
 -- what was prepared is accepted
-is_accepted : (c : goal.After-append_all) → IsAccepted c.args.self.now c.args.seat c.args.id c.index_mut.result.now (record { node = node_of c.args.node; text = c.args.text }) (seen_in c).rows c.in_ok-batch.batch c.append_all.new.journal.entries c.mark_news.new.marks.digests c.take_leaf.new.self
+is_accepted : (c : goal.After-append_all) → IsAccepted c.args.self.now c.args.seat c.args.id c.index_mut.result.now (record { node = as_node c.args.node; text = c.args.text }) (seen_in c).rows c.in_ok-batch.batch c.append_all.new.journal.entries c.mark_news.new.marks.digests c.take_leaf.new.self
 is_accepted c =
     let now = c.args.self.now in
     let r : Record = c.index_mut.result.now in
     let b = c.in_ok-batch.batch in
-    let t : TakenText = record { node = node_of c.args.node; text = c.args.text } in
+    let t : TakenText = record { node = as_node c.args.node; text = c.args.text } in
     let seen = seen_in c in
     let log = (reserve_ok c.self.inside.journal _ _ c.in_ok-reserve.ensures.reserves).is in
     let es : c.append_all.new.journal.entries ≡ now.entries ++ b.entries.items = c.append_all.ensures.entries ∙ (λ i. (log i).entries ++ b.entries.items) ∙ ap (λ (u : State). u.entries ++ b.entries.items) c.self.view_is in
@@ -182,7 +182,7 @@ invariant_of-self-2 c =
     let now = c.args.self.now in
     let r : Record = c.index_mut.result.now in
     let b = c.in_ok-batch.batch in
-    let t : TakenText = record { node = node_of c.args.node; text = c.args.text } in
+    let t : TakenText = record { node = as_node c.args.node; text = c.args.text } in
     let seen = seen_in c in
     let is = is_accepted c in
     let ok = subst IsRight c.self.view_is c.self.invariant.0 in
@@ -202,7 +202,7 @@ returns-clause-answers c =
     let now = c.args.self.now in
     let r : Record = c.index_mut.result.now in
     let b = c.in_ok-batch.batch in
-    let t : TakenText = record { node = node_of c.args.node; text = c.args.text } in
+    let t : TakenText = record { node = as_node c.args.node; text = c.args.text } in
     let seen = seen_in c in
     let ok = subst IsRight c.self.view_is c.self.invariant.0 in
     let a : AnswerTaken = record { receipts = b.receipts; known = b.known; state = c.state-state.result } in

@@ -4,7 +4,7 @@ ghost use Rattle.std.specs.List.{list_all};
 ghost use Rattle.std.specs.Io.KnownBytes.{Appends};
 ghost use Rattle.outage_script.specs.Ends.{Explains};
 ghost use Rattle.outage_script.specs.Lines.{is_inside, is_space};
-ghost use Rattle.outage_script.specs.Moves.{Ends, Feeds, Finishes, Holds, place_of, to_come};
+ghost use Rattle.outage_script.specs.Moves.{Ends, Feeds, Finishes, Holds, script_place, to_come};
 ghost use Rattle.outage_script.specs.Script.{step, IsTurn, bad_line};
 ghost use Rattle.outage_cluster.specs.State.{start};
 
@@ -13,7 +13,7 @@ use crate::answer::answer_line;
 use crate::write::write_whole;
 use json::Scratch;
 use memchr::memchr;
-use outage_cluster::{Answer, AtEnd, World};
+use outage_cluster::{AtEnd, CommandAnswer, World};
 use outage_commands::{LineFault, command_in, fault_of};
 use std::alloc::{AllocError, Global};
 use std::io::Write;
@@ -25,7 +25,7 @@ const LINE_LIMIT: usize = 1_048_576;
 
 /// A run in progress: the world, the line that isn't complete yet, the memory for reading a line, the line's number,
 /// and true if the run ended since the line is too long.
-pub(crate) struct Session<L: Ledger> {
+pub(crate) struct ScriptRun<L: Ledger> {
     world: World<L>,
     line: Vec<u8>,
     scratch: Scratch,
@@ -35,14 +35,14 @@ pub(crate) struct Session<L: Ledger> {
     ghost inside: { IsTrue (list_all is_inside line.items) },
 }
 
-impl<L: Ledger> Session<L> {
+impl<L: Ledger> ScriptRun<L> {
     /// Makes a run that has read nothing.
-    pub(crate) fn new(blank: Blank, alloc: Global) -> Result<Session<L>, AllocError>
+    pub(crate) fn new(blank: Blank, alloc: Global) -> Result<ScriptRun<L>, AllocError>
         requires ledger { (blank.name ≡ L.name) × (blank.parts ≡ L.parts) × (blank.parts ≡ 1024) }
-        ensures { IfOk result (λ session.
-            place_of session.number session.world session.line.items session.too_long ≡ place_of 1 start [] false) }
+        ensures { IfOk result (λ script.
+            script_place script.number script.world script.line.items script.too_long ≡ script_place 1 start [] false) }
     {
-        Ok(Session {
+        Ok(ScriptRun {
             world: World::start(blank, alloc)?,
             line: Vec::new(alloc),
             scratch: Scratch::new(alloc),
@@ -53,7 +53,7 @@ impl<L: Ledger> Session<L> {
 
     /// Ends the run: takes all slots back, and frees the memory of the replicas or leaves it.
     pub(crate) fn close(self, at_end: AtEnd) {
-        let Session {
+        let ScriptRun {
             world,
             line: _line,
             scratch: _scratch,
@@ -66,7 +66,7 @@ impl<L: Ledger> Session<L> {
     /// Explains why the line that ended the run isn't a command, if the run ended so and there is memory for it.
     pub(crate) fn fault(&self, alloc: Global, end: ScriptEnd) -> Option<LineFault>
         ensures { (input : Option (List ℕ))
-            → Holds end (place_of self.now.number self.now.world self.now.line.items self.now.too_long) input
+            → Holds end (script_place self.now.number self.now.world self.now.line.items self.now.too_long) input
             → Explains end result input }
     {
         let ScriptEnd::BadLine(_) = end else {
@@ -88,8 +88,8 @@ impl<L: Ledger> Session<L> {
     ) -> Option<ScriptEnd>
         requires { self.old.number + length piece.now < 2 ^ 64 }
         ensures number { self.new.number ≤ self.old.number + length piece.now }
-        ensures feeds { Feeds (place_of self.old.number self.old.world self.old.line.items self.old.too_long)
-            piece.now (place_of self.new.number self.new.world self.new.line.items self.new.too_long) result
+        ensures feeds { Feeds (script_place self.old.number self.old.world self.old.line.items self.old.too_long)
+            piece.now (script_place self.new.number self.new.world self.new.line.items self.new.too_long) result
             (W.contents writer.old) (W.contents writer.new) }
     {
         let mut rest = piece;
@@ -111,8 +111,8 @@ impl<L: Ledger> Session<L> {
     ) -> Option<ScriptEnd>
         requires { self.old.number + 1 < 2 ^ 64 }
         ensures { (some : List ℕ) × Appends (W.contents writer.old) (W.contents writer.new) some
-            × Finishes result (place_of self.new.number self.new.world self.new.line.items self.new.too_long)
-            (to_come (place_of self.old.number self.old.world self.old.line.items self.old.too_long) []) some }
+            × Finishes result (script_place self.new.number self.new.world self.new.line.items self.new.too_long)
+            (to_come (script_place self.old.number self.old.world self.old.line.items self.old.too_long) []) some }
     {
         if self.line.is_empty() {
             return None;
@@ -131,9 +131,9 @@ impl<L: Ledger> Session<L> {
         requires number { self.old.number + 1 < 2 ^ 64 }
         requires inside { IsTrue (list_all is_inside bytes.now) }
         ensures number { self.new.number ≤ self.old.number + 1 }
-        ensures feeds { Feeds (place_of self.old.number self.old.world self.old.line.items self.old.too_long)
+        ensures feeds { Feeds (script_place self.old.number self.old.world self.old.line.items self.old.too_long)
             (bytes.now ++ 10 ∷ [])
-            (place_of self.new.number self.new.world self.new.line.items self.new.too_long) result
+            (script_place self.new.number self.new.world self.new.line.items self.new.too_long) result
             (W.contents writer.old) (W.contents writer.new) }
     {
         if let Some(end) = self.take_part(alloc, bytes, writer) {
@@ -151,8 +151,8 @@ impl<L: Ledger> Session<L> {
     ) -> Option<ScriptEnd>
         requires { IsTrue (list_all is_inside bytes.now) }
         ensures number { self.new.number ≡ self.old.number }
-        ensures feeds { Feeds (place_of self.old.number self.old.world self.old.line.items self.old.too_long)
-            bytes.now (place_of self.new.number self.new.world self.new.line.items self.new.too_long) result
+        ensures feeds { Feeds (script_place self.old.number self.old.world self.old.line.items self.old.too_long)
+            bytes.now (script_place self.new.number self.new.world self.new.line.items self.new.too_long) result
             (W.contents writer.old) (W.contents writer.new) }
     {
         if bytes.len() > LINE_LIMIT - self.line.len() {
@@ -174,8 +174,8 @@ impl<L: Ledger> Session<L> {
     ) -> Option<ScriptEnd>
         requires { self.old.number + 1 < 2 ^ 64 }
         ensures number { self.new.number ≤ self.old.number + 1 }
-        ensures feeds { Feeds (place_of self.old.number self.old.world self.old.line.items self.old.too_long)
-            (10 ∷ []) (place_of self.new.number self.new.world self.new.line.items self.new.too_long) result
+        ensures feeds { Feeds (script_place self.old.number self.old.world self.old.line.items self.old.too_long)
+            (10 ∷ []) (script_place self.new.number self.new.world self.new.line.items self.new.too_long) result
             (W.contents writer.old) (W.contents writer.new) }
         ensures cleared { IfNone result (self.new.line.items ≡ []) }
     {
@@ -224,7 +224,7 @@ fn refuse<W: Write>(alloc: Global, number: u64, writer: &mut W) -> ScriptEnd
 fn bad_line(alloc: Global, number: u64) -> Result<Vec<u8>, AllocError>
     ensures { IfOk result (λ text. text.items ≡ bad_line number) }
 {
-    answer_line(alloc, &Answer::BadLine(number))
+    answer_line(alloc, &CommandAnswer::BadLine(number))
 }
 
 /// Returns the text that answers a line, or `None` if the line is bad, and changes the world.
