@@ -18,7 +18,7 @@ ghost use Rattle.range_state.specs.Records.{IsOver};
 ghost use Rattle.range_state.specs.Rows.{rows_of};
 ghost use Rattle.range_state.specs.Unions.{union_of, offered_all};
 ghost use Rattle.version_set.specs.declared.version.Version.{Version};
-ghost use Rattle.version_set.specs.Version.{maximal, AscendByPlace as AscendsByText};
+ghost use Rattle.version_set.specs.Version.{maximal, Ascends};
 ghost use Rattle.range_state.specs.State.{State, IsRight, IsFromPartner, rows_now, dirty_fault};
 ghost use Rattle.range_state.specs.Syncs.{IsOfRange, synced};
 
@@ -87,7 +87,7 @@ pub fn sessions_ask_where_the_trees_differ()
 /// Offering the members of one set to another, one by one, makes the maximal versions of both, and the union is equal
 /// with the two sets exchanged.
 pub fn offers_make_the_union()
-    ensures each { (S T : List Version) → AscendsByText S → maximal S ≡ S → offered_all S T ≡ union_of S T }
+    ensures each { (S T : List Version) → Ascends S → maximal S ≡ S → offered_all S T ≡ union_of S T }
     ensures sides { (S T : List Version) → union_of S T ≡ union_of T S }
 {}
 
