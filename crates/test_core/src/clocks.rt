@@ -1,4 +1,7 @@
 //! Clocks, bytes, keys and refusals.
+use crate::calls::clock;
+use crate::checks::expect;
+use crate::refusals::expect_refused;
 use std::alloc::{AllocError, Global};
 use std::test::Fail;
 use vclock::{Bytes, Clock, ClockOrder, Clocks, PassPart, Refusal, check_key};
@@ -17,62 +20,73 @@ fn last_node() -> u64 {
     u64::from(u16::MAX)
 }
 
+/// Asserts the pairs of a clock.
+fn expect_pairs(clock: &Clock, pairs: &[(u16, u64)]) -> Result<(), Fail> {
+    expect(clock.pairs() == pairs, "a clock has its pairs in order")
+}
+
 #[test]
 fn clocks_are_ordered_by_their_counters(rt: HostRuntime) -> Result<(), Fail> {
     let alloc = rt.alloc();
-    let clock = Clock::from_pairs(alloc, &[(2, 1), (1, 3)])?;
-    assert_eq!(rt; clock.pairs(), [(1, 3), (2, 1)].as_slice());
-    assert_eq!(rt; clock.compare(&clock.try_clone()?), ClockOrder::Equal);
-    let apart = Clock::from_pairs(alloc, &[(3, 1)])?;
-    assert_eq!(rt; apart.compare(&clock), ClockOrder::Apart);
-    Ok(())
+    let one = clock(alloc, &[(2, 1), (1, 3)])?;
+    expect_pairs(&one, &[(1, 3), (2, 1)])?;
+    let same = one.compare(&one.try_clone()?) == ClockOrder::Equal;
+    expect(same, "a clone is equal")?;
+    let apart = clock(alloc, &[(3, 1)])?.compare(&one) == ClockOrder::Apart;
+    expect(apart, "clocks of other nodes are apart")
 }
 
 #[test]
 fn a_raised_clock_is_after_the_other(rt: HostRuntime) -> Result<(), Fail> {
     let alloc = rt.alloc();
-    let clock = Clock::from_pairs(alloc, &[(2, 1), (1, 3)])?;
-    let raised = clock.raise(alloc, 2)?;
-    assert_eq!(rt; raised.pairs(), [(1, 3), (2, 2)].as_slice());
-    assert_eq!(rt; clock.compare(&raised), ClockOrder::Before);
-    assert_eq!(rt; raised.compare(&clock), ClockOrder::After);
-    Ok(())
+    let old = clock(alloc, &[(2, 1), (1, 3)])?;
+    let raised = old.raise(alloc, 2)?;
+    expect_pairs(&raised, &[(1, 3), (2, 2)])?;
+    expect(
+        old.compare(&raised) == ClockOrder::Before && raised.compare(&old) == ClockOrder::After,
+        "the old clock is before the raised one",
+    )
 }
 
 #[test]
 fn a_merged_clock_has_seen_what_either_has(rt: HostRuntime) -> Result<(), Fail> {
     let alloc = rt.alloc();
-    let one = Clock::from_pairs(alloc, &[(1, 3), (2, 1)])?;
-    let other = Clock::from_pairs(alloc, &[(1, 1), (3, 1)])?;
-    let merged = one.merge(alloc, &other)?;
-    assert_eq!(rt; merged.pairs(), [(1, 3), (2, 1), (3, 1)].as_slice());
-    Ok(())
+    let one = clock(alloc, &[(1, 3), (2, 1)])?;
+    let other = clock(alloc, &[(1, 1), (3, 1)])?;
+    expect_pairs(&one.merge(alloc, &other)?, &[(1, 3), (2, 1), (3, 1)])
 }
 
 #[test]
-fn pairs_of_no_clock_are_refused(rt: HostRuntime) {
+fn pairs_of_no_clock_are_refused(rt: HostRuntime) -> Result<(), Fail> {
     for pairs in [
         [(1, 0)].as_slice(),
         [(0, 1)].as_slice(),
         [(65_536, 1)].as_slice(),
         [(1, 1), (1, 2)].as_slice(),
     ] {
-        let answer = Clock::from_pairs(rt.alloc(), pairs);
-        assert!(rt; matches!(&answer, Err(Refusal::BadClock)), "{pairs:?}");
+        expect_refused(clock(rt.alloc(), pairs), Refusal::BadClock, "no clock")?;
     }
+    Ok(())
 }
 
 #[test]
 fn clocks_and_counters_have_limits(rt: HostRuntime) -> Result<(), Fail> {
     let alloc = rt.alloc();
     let mut pairs = pairs_of(alloc, 2, 33)?;
-    let full = Clock::from_pairs(alloc, &pairs)?;
-    assert!(rt; matches!(&full.raise(alloc, 1), Err(Refusal::ClockFull)));
+    let full = clock(alloc, &pairs)?;
+    expect_refused(
+        full.raise(alloc, 1),
+        Refusal::ClockFull,
+        "33 pairs by a raise",
+    )?;
     pairs.push((34, 1))?;
-    assert!(rt; matches!(&Clock::from_pairs(alloc, &pairs), Err(Refusal::ClockFull)));
-    let last = Clock::from_pairs(alloc, &[(1, u64::MAX)])?;
-    assert!(rt; matches!(&last.raise(alloc, 1), Err(Refusal::CounterFull)));
-    Ok(())
+    expect_refused(clock(alloc, &pairs), Refusal::ClockFull, "33 pairs")?;
+    let last = clock(alloc, &[(1, u64::MAX)])?;
+    expect_refused(
+        last.raise(alloc, 1),
+        Refusal::CounterFull,
+        "the last counter",
+    )
 }
 
 #[test]
@@ -80,36 +94,46 @@ fn many_pairs_are_looked_at_once(rt: HostRuntime) -> Result<(), Fail> {
     let alloc = rt.alloc();
     let last = last_node();
     let mut pairs = pairs_of(alloc, 1, last)?;
-    assert!(rt; matches!(&Clock::from_pairs(alloc, &pairs), Err(Refusal::ClockFull)));
+    expect_refused(clock(alloc, &pairs), Refusal::ClockFull, "all nodes")?;
     pairs.push((last, 2))?;
-    assert!(rt; matches!(&Clock::from_pairs(alloc, &pairs), Err(Refusal::BadClock)));
-    Ok(())
+    expect_refused(clock(alloc, &pairs), Refusal::BadClock, "a node twice")
 }
 
 #[test]
 fn bytes_are_kept(rt: HostRuntime) -> Result<(), Fail> {
-    let alloc = rt.alloc();
-    let bytes = Bytes::copy_of(alloc, &[0x78])?;
-    assert_eq!(rt; bytes.as_slice(), b"x".as_slice());
-    assert_eq!(rt; bytes.try_clone()?.as_slice(), b"x".as_slice());
-    Ok(())
+    let bytes = Bytes::copy_of(rt.alloc(), &[0x78])?;
+    let clone = bytes.try_clone()?;
+    expect(
+        bytes.as_slice() == b"x".as_slice() && clone.as_slice() == b"x".as_slice(),
+        "bytes and their clone are those handed in",
+    )
 }
 
-/// Returns the refusal of a key of this length, or `None` if it is accepted.
-fn fault_of_key(alloc: Global, length: usize) -> Result<Option<Refusal>, AllocError> {
-    Ok(check_key(&vec![in alloc; 0x61; length]?).err())
+/// Returns the result of the test of a key of this length.
+fn checked_key(alloc: Global, length: usize) -> Result<(), Refusal> {
+    check_key(&vec![in alloc; 0x61; length]?)
 }
 
 #[test]
 fn a_key_has_1_to_255_bytes(rt: HostRuntime) -> Result<(), Fail> {
     let alloc = rt.alloc();
     for length in [1, 255] {
-        assert!(rt; fault_of_key(alloc, length)?.is_none());
+        checked_key(alloc, length)?;
     }
     for length in [0, 256] {
-        assert!(rt; matches!(fault_of_key(alloc, length)?, Some(Refusal::BadKey)));
+        expect_refused(checked_key(alloc, length), Refusal::BadKey, "a bad length")?;
     }
     Ok(())
+}
+
+/// Asserts the number and the name of a refusal, and that it is shown as its name.
+fn expect_shown(alloc: Global, refusal: &Refusal, number: u64, name: &str) -> Result<(), Fail> {
+    expect(
+        refusal.number() == number && refusal.name() == name,
+        "a refusal has its number and name",
+    )?;
+    let shown = format!(in alloc; "{refusal}")?;
+    expect(shown.as_str() == name, "a refusal is shown as its name")
 }
 
 #[test]
@@ -125,7 +149,7 @@ fn refusals_have_numbers_and_names(rt: HostRuntime) -> Result<(), Fail> {
         part: PassPart::Reading,
         place: 0,
     };
-    let table = [
+    for (refusal, number, name) in &[
         (Refusal::BadClock, 1, "BadClock"),
         (Refusal::ClockFull, 2, "ClockFull"),
         (Refusal::CounterFull, 3, "CounterFull"),
@@ -158,12 +182,8 @@ fn refusals_have_numbers_and_names(rt: HostRuntime) -> Result<(), Fail> {
         (Refusal::RowBroken(0), 30, "RowBroken"),
         (Refusal::BadMessage, 31, "BadMessage"),
         (Refusal::NoMemory, 32, "NoMemory"),
-    ];
-    for (refusal, number, name) in &table {
-        assert_eq!(rt; refusal.number(), *number, "at {name}");
-        let text = format!(in alloc; "{} {refusal}", refusal.name())?;
-        let expected = format!(in alloc; "{name} {name}")?;
-        assert_eq!(rt; text.as_str(), expected.as_str());
+    ] {
+        expect_shown(alloc, refusal, *number, name)?;
     }
     Ok(())
 }

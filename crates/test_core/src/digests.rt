@@ -1,6 +1,6 @@
 //! The vectors of RFC 1321, A.5: MD5 of four of its messages.
+use crate::checks::expect;
 use md5::{Digest, Md5};
-use std::process::Abort;
 use std::test::Fail;
 
 #[test]
@@ -16,7 +16,7 @@ fn md5_gives_the_digests_of_its_standard(rt: HostRuntime) -> Result<(), Fail> {
         ),
     ] {
         let spelled = hex::encode(alloc, Md5::digest(message.as_bytes()).as_slice())?;
-        assert_eq!(rt; spelled.as_str(), digits);
+        expect(spelled.as_str() == digits, "a message has its digest")?;
     }
     Ok(())
 }

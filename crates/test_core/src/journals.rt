@@ -1,4 +1,6 @@
 //! Journals.
+use crate::checks::expect;
+use crate::refusals::expect_refused;
 use crate::versions::version;
 use range_journal::{Journal, Source, held_in};
 use std::alloc::Global;
@@ -23,46 +25,58 @@ fn append_reserved(alloc: Global, journal: &mut Journal, count: u64) -> Result<u
     Ok(journal.append_reserved(7, Source::Partner, key, copy))
 }
 
-#[test]
-fn a_journal_keeps_its_limit(rt: HostRuntime) -> Result<(), Fail> {
-    let alloc = rt.alloc();
-    let mut journal = Journal::new(alloc, 2);
-    assert_eq!(rt; append(alloc, &mut journal, 1)?, 0);
+/// Asserts that a journal takes two entries and no more, and what the second one has.
+fn expect_two(alloc: Global, journal: &mut Journal) -> Result<(), Fail> {
+    expect(append(alloc, journal, 1)? == 0, "the first entry is 0")?;
     journal.reserve(1)?;
-    assert_eq!(rt; append_reserved(alloc, &mut journal, 1)?, 1);
-    let third = append(alloc, &mut journal, 3);
-    assert!(rt; matches!(&third, Err(Refusal::JournalFull)));
-    assert!(rt; matches!(&journal.reserve(1), Err(Refusal::JournalFull)));
+    expect(
+        append_reserved(alloc, journal, 1)? == 1,
+        "the next entry is 1",
+    )?;
+    expect_refused(
+        append(alloc, journal, 3),
+        Refusal::JournalFull,
+        "a third entry",
+    )?;
+    expect_refused(journal.reserve(1), Refusal::JournalFull, "room for it")?;
     journal.reserve(0)?;
-    assert_eq!(rt; journal.len(), 2);
-    Ok(())
+    let entry = journal.get(1).ok_or("no entry 1")?;
+    expect(
+        entry.number == 1 && entry.seat == 7 && entry.source == Source::Partner,
+        "an entry has its number, seat and source",
+    )?;
+    expect(
+        entry.key.as_slice() == b"a".as_slice(),
+        "an entry has its key",
+    )?;
+    expect(
+        journal.len() == 2 && journal.get(2).is_none(),
+        "there are two entries",
+    )
 }
 
 #[test]
-fn an_entry_keeps_what_was_appended(rt: HostRuntime) -> Result<(), Fail> {
+fn a_journal_keeps_its_limit(rt: HostRuntime) -> Result<(), Fail> {
     let alloc = rt.alloc();
-    let mut journal = Journal::new(alloc, 1);
-    journal.reserve(1)?;
-    append_reserved(alloc, &mut journal, 1)?;
-    let entry = journal.get(0).ok_or("no entry 0")?;
-    assert_eq!(rt;
-        (entry.number, entry.seat, entry.source),
-        (0, 7, Source::Partner)
-    );
-    assert_eq!(rt; entry.key.as_slice(), b"a".as_slice());
-    assert!(rt; journal.get(1).is_none());
-    Ok(())
+    expect_two(alloc, &mut Journal::new(alloc, 2))
+}
+
+/// Asserts that the later of two versions of a key is held, and none of another key.
+fn expect_held(alloc: Global, journal: &mut Journal) -> Result<(), Fail> {
+    append(alloc, journal, 1)?;
+    append(alloc, journal, 2)?;
+    let later = version(alloc, (1, 2), Kind::Live, b"x")?;
+    let held = held_in(alloc, journal.entries(), b"a")?;
+    expect(
+        held.len() == 1 && held.covers(&later),
+        "the later version is held",
+    )?;
+    let other = held_in(alloc, journal.entries(), b"b")?;
+    expect(other.is_empty(), "no version of another key is held")
 }
 
 #[test]
 fn held_versions_are_the_latest(rt: HostRuntime) -> Result<(), Fail> {
     let alloc = rt.alloc();
-    let mut journal = Journal::new(alloc, 2);
-    append(alloc, &mut journal, 1)?;
-    append(alloc, &mut journal, 2)?;
-    let held = held_in(alloc, journal.entries(), b"a")?;
-    assert_eq!(rt; held.len(), 1);
-    assert!(rt; held.covers(&version(alloc, (1, 2), Kind::Live, b"x")?));
-    assert!(rt; held_in(alloc, journal.entries(), b"b")?.is_empty());
-    Ok(())
+    expect_held(alloc, &mut Journal::new(alloc, 2))
 }

@@ -1,4 +1,5 @@
 //! Leaves with more rows than a chunk holds. Another program made the digest from the definition.
+use crate::checks::expect;
 use crate::versions::version;
 use hash_tree::{SharedLeaf, Text, hash};
 use std::alloc::Global;
@@ -21,23 +22,38 @@ fn offer(alloc: Global, leaf: &mut SharedLeaf, key: &[u8]) -> Result<(), Fail> {
     Ok(())
 }
 
-#[test]
-fn a_leaf_of_many_rows_keeps_their_text(rt: HostRuntime) -> Result<(), Fail> {
-    let alloc = rt.alloc();
-    let mut leaf = SharedLeaf::empty(Format::One);
+/// Asserts that a leaf has this text, and its digest.
+fn expect_text(alloc: Global, leaf: &SharedLeaf, text: Vec<u8>) -> Result<(), Fail> {
+    expect(
+        leaf.text_len() == text.len() as u128 && leaf.is_text(text.as_slice()),
+        "a leaf has its text",
+    )?;
+    expect(
+        !leaf.is_text(&[0]),
+        "a leaf with rows has another text than one without",
+    )?;
+    let spelled = hex::encode(alloc, hash(Text::from(text)).digest().as_slice())?;
+    expect(spelled.as_str() == DIGEST, "the text has its digest")
+}
+
+/// Asserts that a leaf has 300 rows once they were offered, and their text.
+fn expect_rows(alloc: Global, leaf: &mut SharedLeaf) -> Result<(), Fail> {
     for number in 0..300u16 {
-        offer(alloc, &mut leaf, &(number * 77 % 300).to_be_bytes())?;
+        offer(alloc, leaf, &(number * 77 % 300).to_be_bytes())?;
     }
     for number in 0..300u16 {
-        assert!(rt; leaf.find(&number.to_be_bytes()).is_some());
+        expect(leaf.find(&number.to_be_bytes()).is_some(), "a key is found")?;
     }
-    assert!(rt; leaf.find(&300u16.to_be_bytes()).is_none());
+    expect(
+        leaf.find(&300u16.to_be_bytes()).is_none(),
+        "no other key is found",
+    )?;
     let mut text = Vec::new(alloc);
     leaf.put_text(&mut text)?;
-    assert_eq!(rt; leaf.text_len(), text.len() as u128);
-    assert!(rt; leaf.is_text(text.as_slice()));
-    assert!(rt; !leaf.is_text(&[0]));
-    let spelled = hex::encode(alloc, hash(Text::from(text)).digest().as_slice())?;
-    assert_eq!(rt; spelled.as_str(), DIGEST);
-    Ok(())
+    expect_text(alloc, leaf, text)
+}
+
+#[test]
+fn a_leaf_of_many_rows_keeps_their_text(rt: HostRuntime) -> Result<(), Fail> {
+    expect_rows(rt.alloc(), &mut SharedLeaf::empty(Format::One))
 }

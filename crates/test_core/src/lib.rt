@@ -1,6 +1,8 @@
 //! Tests of the calls of clocks, rows, trees, messages, ranges and sessions: worked examples and vectors.
 #![tactic(auto)]
 
+#[cfg(test)]
+mod calls;
 pub mod checks;
 #[cfg(test)]
 mod clocks;

@@ -1,7 +1,7 @@
 //! A row at all its limits: a key of 255 bytes, and 64 versions with clocks of 32 pairs and the longest values.
-use row_bytes::{a_held_set_is_a_row, read_row, write_row};
+use crate::calls::{read, write};
+use crate::checks::expect;
 use std::alloc::Global;
-use std::process::Abort;
 use std::test::Fail;
 use vclock::{Format, Refusal};
 
@@ -40,30 +40,30 @@ fn put_pair(text: &mut Vec<u8>, node: u16) -> Result<(), Refusal> {
     Ok(())
 }
 
-/// Reads the text, writes it again, and clones the set.
-fn expect_row(
-    rt: &impl Abort,
-    alloc: Global,
-    format: Format,
-    value: u32,
-    length: usize,
-) -> Result<(), Refusal> {
-    let text = longest_text(alloc, format, value)?;
-    assert_eq!(rt; text.len(), length);
-    let (row, rest) = read_row(alloc, format, &text)?;
-    assert!(rt; rest.is_empty());
+/// Asserts that a text has this length and is that of a row of 64 versions, which is cloned and written back as it.
+fn expect_row(alloc: Global, format: Format, text: &[u8], length: usize) -> Result<(), Fail> {
+    let (row, rest) = read(alloc, format, text)?;
+    expect(
+        text.len() == length && rest.is_empty(),
+        "the row has the whole text",
+    )?;
     let copy = row.versions.try_clone(alloc)?;
-    assert_eq!(rt; (row.versions.len(), copy.len()), (64, 64));
-    a_held_set_is_a_row();
-    let written = write_row(alloc, format, &row)?;
-    assert!(rt; written.as_slice() == text.as_slice());
-    Ok(())
+    expect(
+        row.versions.len() == 64 && copy.len() == 64,
+        "the row and its clone have 64 versions",
+    )?;
+    let written = write(alloc, format, &row)?;
+    expect(written.as_slice() == text, "the row is written as its text")
 }
 
 #[test]
 fn a_row_has_its_limits(rt: HostRuntime) -> Result<(), Fail> {
     let alloc = rt.alloc();
-    expect_row(&rt, alloc, Format::One, 4_096, 283_203)?;
-    expect_row(&rt, alloc, Format::Two, 65_536, 4_215_427)?;
+    for (format, value, length) in [
+        (Format::One, 4_096, 283_203),
+        (Format::Two, 65_536, 4_215_427),
+    ] {
+        expect_row(alloc, format, &longest_text(alloc, format, value)?, length)?;
+    }
     Ok(())
 }

@@ -1,40 +1,55 @@
 //! Messages of a session, written and read, byte by byte.
-
-use hash_tree::{NodeAt, Text};
+use crate::calls::node_at;
+use crate::checks::expect;
+use crate::refusals::expect_refused;
+use hash_tree::Text;
 use std::alloc::Global;
-use std::process::Abort;
 use std::test::Fail;
 use vclock::Refusal;
 use walk_messages::{Answer, Ask, Message, Offer, decode, encode};
 
+/// The bytes of an ask for leaf 12 of a tree of format 1.
+const ASK: &[u8] = b"\x02\x00\x00\x00\x01\x02\x00\x0c";
+
+/// The bytes of an answer with the text of leaf 0 without rows.
+const ANSWER: &[u8] = b"\x03\x00\x00\x00\x01\x02\x00\x00\x00\x00\x00\x00\x00\x00\x00\x01\x00";
+
+/// Reads a message.
+fn read(alloc: Global, bytes: &[u8]) -> Result<Message, Refusal> {
+    decode(alloc, bytes)
+}
+
+/// Returns true if a message has these bytes.
+fn has_bytes(alloc: Global, message: &Message, bytes: &[u8]) -> Result<bool, Refusal> {
+    Ok(encode(alloc, message)?.as_slice() == bytes)
+}
+
 /// Asserts that a message has these bytes, and that the message read from them has these bytes too.
-fn expect_bytes(
-    rt: &impl Abort,
-    alloc: Global,
-    message: &Message,
-    bytes: &[u8],
-) -> Result<(), Refusal> {
-    assert_eq!(rt; encode(alloc, message)?.as_slice(), bytes);
-    let read = decode(alloc, bytes)?;
-    assert_eq!(rt; encode(alloc, &read)?.as_slice(), bytes);
-    Ok(())
+fn expect_bytes(alloc: Global, message: &Message, bytes: &[u8]) -> Result<(), Fail> {
+    expect(has_bytes(alloc, message, bytes)?, "a message has its bytes")?;
+    let read = read(alloc, bytes)?;
+    expect(has_bytes(alloc, &read, bytes)?, "it is read from its bytes")
 }
 
 /// Asserts that these bytes are not a message's.
-fn expect_none(rt: &impl Abort, alloc: Global, bytes: &[u8]) {
-    let answer = decode(alloc, bytes);
-    assert!(rt; matches!(&answer, Err(Refusal::BadMessage)));
+fn expect_none(alloc: Global, bytes: &[u8]) -> Result<(), Fail> {
+    expect_refused(
+        read(alloc, bytes),
+        Refusal::BadMessage,
+        "no message is read",
+    )
 }
 
 #[test]
 fn an_ask_has_eight_bytes(rt: HostRuntime) -> Result<(), Fail> {
     let alloc = rt.alloc();
-    let node = NodeAt::new(2, 12).ok_or("no such node")?;
-    let ask = Message::Ask(Ask { offer: 1, node });
-    expect_bytes(&rt, alloc, &ask, b"\x02\x00\x00\x00\x01\x02\x00\x0c")?;
-    let read = decode(alloc, b"\x02\x00\x00\x00\x01\x02\x00\x0c")?;
-    assert!(rt; matches!(&read, Message::Ask(ask) if ask.offer == 1 && ask.node == node));
-    Ok(())
+    let node = node_at(2, 12)?;
+    expect_bytes(alloc, &Message::Ask(Ask { offer: 1, node }), ASK)?;
+    let read = read(alloc, ASK)?;
+    expect(
+        matches!(&read, Message::Ask(ask) if ask.offer == 1 && ask.node == node),
+        "the ask is for leaf 12",
+    )
 }
 
 #[test]
@@ -42,12 +57,10 @@ fn an_answer_carries_its_text(rt: HostRuntime) -> Result<(), Fail> {
     let alloc = rt.alloc();
     let answer = Message::Answer(Answer {
         offer: 1,
-        node: NodeAt::new(2, 0).ok_or("no such node")?,
+        node: node_at(2, 0)?,
         text: Text::copy_of(alloc, b"\x00")?,
     });
-    let bytes = b"\x03\x00\x00\x00\x01\x02\x00\x00\x00\x00\x00\x00\x00\x00\x00\x01\x00";
-    expect_bytes(&rt, alloc, &answer, bytes)?;
-    Ok(())
+    expect_bytes(alloc, &answer, ANSWER)
 }
 
 #[test]
@@ -61,54 +74,48 @@ fn an_offer_carries_its_root(rt: HostRuntime) -> Result<(), Fail> {
     });
     let mut bytes = Vec::from_slice(alloc, b"\x01\x00\x00\x01\x02\x02\xff")?;
     bytes.extend_from_slice(&[7; 32])?;
-    expect_bytes(&rt, alloc, &offer, &bytes)?;
+    expect_bytes(alloc, &offer, &bytes)
+}
+
+#[test]
+fn other_bytes_are_no_message(rt: HostRuntime) -> Result<(), Fail> {
+    for bytes in [
+        // A fourth kind of message.
+        b"\x04\x00\x00\x00\x01\x02\x00\x0c".as_slice(),
+        // Nodes that no tree has.
+        b"\x02\x00\x00\x00\x01\x02\x01\x00".as_slice(),
+        b"\x02\x00\x00\x00\x01\x03\x10\x00".as_slice(),
+        b"\x02\x00\x00\x00\x01\x04\x00\x00".as_slice(),
+        // A length of 2^64-1.
+        b"\x03\x00\x00\x00\x01\x02\x00\x00\xff\xff\xff\xff\xff\xff\xff\xff\x00".as_slice(),
+    ] {
+        expect_none(rt.alloc(), bytes)?;
+    }
     Ok(())
 }
 
 #[test]
-fn there_is_no_fourth_kind_of_message(rt: HostRuntime) {
-    let bytes = b"\x04\x00\x00\x00\x01\x02\x00\x0c";
-    expect_none(&rt, rt.alloc(), bytes);
+fn a_message_names_the_last_node_of_format_2(rt: HostRuntime) -> Result<(), Fail> {
+    let last = read(rt.alloc(), b"\x02\x00\x00\x00\x01\x03\x0f\xff")?;
+    expect(
+        matches!(&last, Message::Ask(_)),
+        "the ask is for leaf 4,095",
+    )
 }
-
-#[test]
-fn a_message_names_a_node_of_some_tree(rt: HostRuntime) {
-    let alloc = rt.alloc();
-    expect_none(&rt, alloc, b"\x02\x00\x00\x00\x01\x02\x01\x00");
-    expect_none(&rt, alloc, b"\x02\x00\x00\x00\x01\x03\x10\x00");
-    expect_none(&rt, alloc, b"\x02\x00\x00\x00\x01\x04\x00\x00");
-    let last = decode(alloc, b"\x02\x00\x00\x00\x01\x03\x0f\xff");
-    assert!(rt; matches!(&last, Ok(Message::Ask(_))));
-}
-
-#[test]
-fn a_false_length_is_that_of_no_message(rt: HostRuntime) {
-    let bytes = b"\x03\x00\x00\x00\x01\x02\x00\x00\xff\xff\xff\xff\xff\xff\xff\xff\x00";
-    expect_none(&rt, rt.alloc(), bytes);
-}
-
-/// The bytes of an ask for the twelfth leaf of a tree of format 1.
-const ASK: &[u8] = b"\x02\x00\x00\x00\x01\x02\x00\x0c";
-
-/// The bytes of an answer with a text of one byte.
-const ANSWER: &[u8] = b"\x03\x00\x00\x00\x01\x02\x00\x00\x00\x00\x00\x00\x00\x00\x00\x01\x00";
 
 /// Asserts that the bytes are not a message's if some at their end are missing, or if a byte is added.
-fn expect_whole(rt: &impl Abort, alloc: Global, bytes: &[u8]) -> Result<(), Refusal> {
-    assert!(rt; decode(alloc, bytes).is_ok());
+fn expect_whole(alloc: Global, bytes: &[u8]) -> Result<(), Fail> {
     for length in 0..bytes.len() {
-        expect_none(rt, alloc, &bytes[..length]);
+        expect_none(alloc, &bytes[..length])?;
     }
     let mut longer = Vec::from_slice(alloc, bytes)?;
     longer.push(0)?;
-    expect_none(rt, alloc, &longer);
-    Ok(())
+    expect_none(alloc, &longer)
 }
 
 #[test]
 fn no_message_is_cut_off_or_goes_on(rt: HostRuntime) -> Result<(), Fail> {
     let alloc = rt.alloc();
-    expect_whole(&rt, alloc, ASK)?;
-    expect_whole(&rt, alloc, ANSWER)?;
-    Ok(())
+    expect_whole(alloc, ASK)?;
+    expect_whole(alloc, ANSWER)
 }

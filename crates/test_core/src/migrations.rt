@@ -1,51 +1,42 @@
 //! A range that is migrated to format 2.
-use crate::refusals::is_refused;
-use hash_tree::NodeAt;
-use range_state::{Event, RangeConfig, RangeState, Reply};
+use crate::calls::{
+    count_held, migrate, new_range, next_job, node_at, offer, open_session, put_a, rehash,
+    run_events,
+};
+use crate::checks::expect;
+use crate::refusals::expect_refused;
+use range_state::{Event, RangeState, Reply};
 use rehash::run_job;
 use std::alloc::Global;
-use std::process::Abort;
 use std::test::Fail;
 use std::thread::Threads;
 use sync_session::SessionState;
-use vclock::{Bytes, Clock, Format, Refusal};
-use version_set::Kind;
-use walk_messages::Offer;
+use vclock::{Format, Refusal};
 
 /// Returns a range of format 1 that holds a value of `a`.
 fn range(alloc: Global) -> Result<RangeState, Fail> {
-    let config = RangeConfig::new(1, 0, 0, 1_000).ok_or("no such range")?;
-    let mut state = RangeState::new(alloc, config)?;
-    let context = Clock::from_pairs(alloc, &[])?;
-    let value = Bytes::copy_of(alloc, b"x")?;
-    state.put(alloc, 0, 1, b"a", &context, Kind::Live, value)?;
+    let mut state = new_range(alloc, 1, 1_000)?;
+    put_a(alloc, &mut state, &[])?;
     Ok(state)
 }
 
-/// Returns an offer of format 1 with a root that no range of it has.
-fn offer() -> Offer {
-    Offer {
-        offer: 1,
-        format: 1,
-        range: 0,
-        root: [7; 32],
-    }
-}
-
-/// Migrates a range with a value of `a` to format 2, and asserts that each node is to be hashed.
+/// Asserts that a migrated range is of format 2, has its rows, and hashes each node.
 fn expect_format_2(
-    rt: &(impl Abort + Threads + Sync),
+    rt: &(impl Threads + Sync),
     alloc: Global,
     state: &mut RangeState,
 ) -> Result<(), Fail> {
-    state.rehash(rt, alloc)?;
-    state.migrate(alloc)?;
-    assert!(rt; matches!(state.config().format(), Format::Two));
-    assert_eq!(rt; (state.journal().len(), state.versions(b"a").len()), (1, 1));
-    let leaf = NodeAt::new(3, 204).ok_or("no such node")?;
-    assert!(rt; state.digest_at(leaf).is_none());
-    assert_eq!(rt; state.rehash(rt, alloc)?, 4_369);
-    Ok(())
+    rehash(rt, alloc, state)?;
+    migrate(alloc, state)?;
+    let is_two = state.config().format() == Format::Two;
+    expect(is_two, "the range is of format 2")?;
+    expect(
+        state.journal().len() == 1 && count_held(state, b"a") == 1,
+        "the version is held",
+    )?;
+    let leaf = node_at(3, 204)?;
+    expect(state.digest_at(leaf).is_none(), "leaf 204 is dirty")?;
+    expect(rehash(rt, alloc, state)? == 4_369, "4,369 nodes are hashed")
 }
 
 #[test]
@@ -55,34 +46,41 @@ fn the_rows_lie_in_the_leaves_of_format_2(rt: HostRuntime) -> Result<(), Fail> {
 }
 
 /// Asserts that a job's digest is late if its range is migrated meanwhile.
-fn expect_late(rt: &impl Abort, alloc: Global, state: &mut RangeState) -> Result<(), Fail> {
-    let job = state.take_job(alloc, 0)?.ok_or("no job")?;
+fn expect_late(alloc: Global, state: &mut RangeState) -> Result<(), Fail> {
+    let job = next_job(alloc, state)?;
     let node = job.node();
-    state.migrate(alloc)?;
-    assert!(rt; is_refused(state.install(node, &run_job(job)), Refusal::Stale));
-    Ok(())
+    let hashed = run_job(job);
+    migrate(alloc, state)?;
+    let late = state.install(node, &hashed);
+    expect_refused(late, Refusal::Stale, "the job is stale")
 }
 
 #[test]
 fn a_job_that_was_taken_before_is_stale(rt: HostRuntime) -> Result<(), Fail> {
     let alloc = rt.alloc();
-    expect_late(&rt, alloc, &mut range(alloc)?)
+    expect_late(alloc, &mut range(alloc)?)
 }
 
 /// Asserts that a migration cancels a session that is open, and that an offer of format 1 is refused then.
 fn expect_cancelled(
-    rt: &(impl Abort + Threads + Sync),
+    rt: &(impl Threads + Sync),
     alloc: Global,
     state: &mut RangeState,
 ) -> Result<(), Fail> {
-    state.rehash(rt, alloc)?;
-    let id = state.open_session(alloc, 2, offer())?;
-    state.migrate(alloc)?;
+    let other = offer([7; 32]);
+    rehash(rt, alloc, state)?;
+    let id = open_session(alloc, state, other)?;
+    migrate(alloc, state)?;
     let record = state.records().first().ok_or("no record")?;
-    assert_eq!(rt; record.session().state(), SessionState::Cancelled);
-    assert!(rt; state.outstanding(id)?.is_none());
-    assert!(rt; is_refused(state.open_session(alloc, 2, offer()), Refusal::OtherFormat));
-    Ok(())
+    let is_cancelled = record.session().state() == SessionState::Cancelled;
+    expect(is_cancelled, "the session is cancelled")?;
+    expect(state.outstanding(id)?.is_none(), "nothing is outstanding")?;
+    let refused = open_session(alloc, state, other);
+    expect_refused(
+        refused,
+        Refusal::OtherFormat,
+        "an offer of format 1 is refused",
+    )
 }
 
 #[test]
@@ -92,25 +90,26 @@ fn open_sessions_are_cancelled(rt: HostRuntime) -> Result<(), Fail> {
 }
 
 /// Asserts that a migration is an event that is done.
-fn expect_migrated(rt: &impl Abort, alloc: Global, state: &mut RangeState) -> Result<(), Fail> {
+fn expect_migrated(alloc: Global, state: &mut RangeState) -> Result<(), Fail> {
     let mut events = Vec::with_capacity(alloc, 1)?;
     events.push(Event::Migrate)?;
-    let replies = state.run_events(alloc, events)?;
-    assert!(rt; matches!(replies.first(), Some(Reply::Migrate(Ok(())))));
-    Ok(())
+    let replies = run_events(alloc, state, events)?;
+    expect(
+        matches!(replies.first(), Some(Reply::Migrate(Ok(())))),
+        "a migration is an event",
+    )
 }
 
 /// Asserts that another migration of a migrated range leaves no node to be hashed.
 fn expect_unchanged(
-    rt: &(impl Abort + Threads + Sync),
+    rt: &(impl Threads + Sync),
     alloc: Global,
     state: &mut RangeState,
 ) -> Result<(), Fail> {
-    state.migrate(alloc)?;
-    state.rehash(rt, alloc)?;
-    expect_migrated(rt, alloc, state)?;
-    assert_eq!(rt; state.rehash(rt, alloc)?, 0);
-    Ok(())
+    migrate(alloc, state)?;
+    rehash(rt, alloc, state)?;
+    expect_migrated(alloc, state)?;
+    expect(rehash(rt, alloc, state)? == 0, "no node is hashed again")
 }
 
 #[test]

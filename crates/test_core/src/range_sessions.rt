@@ -1,313 +1,271 @@
 //! Sessions of ranges with their partners.
-use crate::refusals::is_refused;
+use crate::calls::{
+    abc, clean_range, count_held, hashed_at, new_range, node_at, offer, open_session, put,
+    range_of_a, rehash, root_of, snapshot, snapshot_of_a, take_answer, text_at,
+};
+use crate::checks::expect;
+use crate::refusals::expect_refused;
 use hash_tree::{Digest, Hashed, NodeAt, Text, hash};
-use range_state::{AnswerTaken, RangeConfig, RangeState};
+use range_state::{AnswerTaken, RangeState, Record};
 use snapshot::Snapshot;
 use std::alloc::Global;
-use std::process::Abort;
 use std::test::Fail;
 use std::thread::Threads;
 use sync_session::SessionState;
-use vclock::{Bytes, Clock, Refusal};
-use version_set::Kind;
-use walk_messages::{Ask, Offer};
+use vclock::Refusal;
+use walk_messages::Offer;
 
-/// Returns a range without rows.
-fn new_range(alloc: Global, format: u64) -> Result<RangeState, Fail> {
-    let config = RangeConfig::new(format, 0, 0, 1_000).ok_or("no such range")?;
-    Ok(RangeState::new(alloc, config)?)
-}
-
-/// Returns a range of format 1 without rows, or with the row of `a`, whose nodes are all clean.
-fn range(rt: &(impl Threads + Sync), alloc: Global, has_a: bool) -> Result<RangeState, Fail> {
-    let config = RangeConfig::new(1, 0, 0, 1_000).ok_or("no such range")?;
-    let mut state = RangeState::new(alloc, config)?;
-    if has_a {
-        let context = Clock::from_pairs(alloc, &[])?;
-        let value = Bytes::copy_of(alloc, b"x")?;
-        state.put(alloc, 0, 1, b"a", &context, Kind::Live, value)?;
-    }
-    state.rehash(rt, alloc)?;
-    Ok(state)
-}
-
-/// Returns an offer of format 1 and range 0.
-fn offer(root: Digest) -> Offer {
-    Offer {
-        offer: 1,
-        format: 1,
-        range: 0,
-        root,
-    }
-}
-
-/// Returns the text `abc`, which no node can have.
-fn abc(alloc: Global) -> Result<Hashed, Refusal> {
-    Ok(hash(Text::copy_of(alloc, b"abc")?))
+/// Returns the record of a session, by its number.
+fn record(state: &RangeState, id: usize) -> Result<&Record, Fail> {
+    Ok(state.records().get(id).ok_or("no record")?)
 }
 
 /// Returns the state of a session, by its number.
 fn state_of(state: &RangeState, id: usize) -> Result<SessionState, Fail> {
-    let record = state.records().get(id).ok_or("no record")?;
-    Ok(record.session().state())
+    Ok(record(state, id)?.session().state())
 }
 
 /// Returns the first node that the first session awaits.
 fn first(state: &RangeState) -> Result<NodeAt, Fail> {
-    let record = state.records().get(0).ok_or("no record")?;
-    let node = record.session().outstanding().first();
+    let node = record(state, 0)?.session().outstanding().first();
     Ok(*node.ok_or("nothing is outstanding")?)
-}
-
-/// Returns a partner's text of a node.
-fn text_of(alloc: Global, partner: &Snapshot, node: NodeAt) -> Result<Hashed, Refusal> {
-    let text = partner.answer(alloc, Ask { offer: 1, node })?;
-    Ok(hash(Text::from(text)))
 }
 
 /// Returns the partner's text of the root with its last byte changed.
 fn forged_root(alloc: Global, partner: &Snapshot) -> Result<Hashed, Fail> {
-    let node = NodeAt::new(0, 0).ok_or("no root")?;
-    let mut text = partner.answer(alloc, Ask { offer: 1, node })?;
+    let mut text = text_at(alloc, partner, node_at(0, 0)?)?;
     let last = text.pop().ok_or("no text")?;
     text.push(!last)?;
     Ok(hash(Text::from(text)))
 }
 
-/// Answers the first node that the first session awaits with the true text, at seat 5.
+/// Answers the first node that the first session awaits with the true text.
 fn answer_first(
     alloc: Global,
     state: &mut RangeState,
     partner: &Snapshot,
 ) -> Result<AnswerTaken, Fail> {
     let node = first(state)?;
-    let text = text_of(alloc, partner, node)?;
-    Ok(state.take_answer(alloc, 5, 0, node, text)?)
+    let text = hashed_at(alloc, partner, node)?;
+    Ok(take_answer(alloc, state, 0, node, text)?)
 }
 
 /// Answers the first node that the first session awaits with the true text. Asserts the number of accepted versions,
 /// that none is known, and the state of the session.
 fn expect_answer(
-    rt: &impl Abort,
     alloc: Global,
     state: &mut RangeState,
     partner: &Snapshot,
     count: usize,
-    stands: SessionState,
+    session: SessionState,
 ) -> Result<(), Fail> {
     let taken = answer_first(alloc, state, partner)?;
-    assert_eq!(rt; (taken.receipts.len(), taken.known), (count, 0));
-    assert_eq!(rt; taken.state, stands);
-    Ok(())
-}
-
-/// Returns the digest of the root of a range whose nodes are all clean.
-fn root_of(alloc: Global, state: &RangeState) -> Result<Digest, Fail> {
-    Ok(state.snapshot(alloc)?.root())
+    expect(
+        taken.receipts.len() == count && taken.known == 0,
+        "an answer brings its versions",
+    )?;
+    expect(taken.state == session, "the session is in its state")
 }
 
 /// Opens a number of sessions of a range without any, and asserts that they are numbered from 0.
 fn expect_numbers(
-    rt: &impl Abort,
     alloc: Global,
     state: &mut RangeState,
     root: Digest,
     count: u64,
 ) -> Result<(), Fail> {
-    for id in 0..count {
-        assert_eq!(rt; state.open_session(alloc, 7, offer(root))?, id);
+    for number in 0..count {
+        let id = open_session(alloc, state, offer(root))?;
+        expect(id == number, "sessions are numbered from 0")?;
     }
     Ok(())
 }
 
 /// Asserts the refusal of an offer.
 fn expect_not_opened(
-    rt: &impl Abort,
     alloc: Global,
     state: &mut RangeState,
     offer: Offer,
     refusal: Refusal,
-) {
-    assert!(rt; is_refused(state.open_session(alloc, 7, offer), refusal));
+) -> Result<(), Fail> {
+    let opened = open_session(alloc, state, offer);
+    expect_refused(opened, refusal, "an offer is refused")
 }
 
 /// Asserts that a range opens 64 sessions, and another one once the first is cancelled.
-fn expect_64_open(
-    rt: &impl Abort,
-    alloc: Global,
-    state: &mut RangeState,
-    root: Digest,
-) -> Result<(), Fail> {
-    expect_numbers(rt, alloc, state, root, 64)?;
-    expect_not_opened(rt, alloc, state, offer(root), Refusal::SessionsFull);
+fn expect_64_open(alloc: Global, state: &mut RangeState) -> Result<(), Fail> {
+    let root = abc(alloc)?.digest();
+    expect_numbers(alloc, state, root, 64)?;
+    expect_not_opened(alloc, state, offer(root), Refusal::SessionsFull)?;
     state.cancel_session(0)?;
-    assert_eq!(rt; state_of(state, 0)?, SessionState::Cancelled);
-    assert_eq!(rt; state.open_session(alloc, 7, offer(root))?, 64);
-    assert_eq!(rt; state.records().len(), 65);
-    Ok(())
+    let is_cancelled = state_of(state, 0)? == SessionState::Cancelled;
+    expect(is_cancelled, "session 0 is cancelled")?;
+    let id = open_session(alloc, state, offer(root))?;
+    expect(
+        id == 64 && state.records().len() == 65,
+        "session 64 is opened",
+    )
 }
 
 #[test]
 fn a_range_has_64_open_sessions_at_the_most(rt: HostRuntime) -> Result<(), Fail> {
     let alloc = rt.alloc();
-    let root = abc(alloc)?.digest();
-    expect_64_open(&rt, alloc, &mut range(&rt, alloc, false)?, root)
+    expect_64_open(alloc, &mut clean_range(&rt, alloc)?)
 }
 
 /// Asserts that a range keeps 1,024 sessions that have nothing to ask, and no more.
-fn expect_1024_kept(rt: &impl Abort, alloc: Global, state: &mut RangeState) -> Result<(), Fail> {
+fn expect_1024_kept(alloc: Global, state: &mut RangeState) -> Result<(), Fail> {
     let root = root_of(alloc, state)?;
-    expect_numbers(rt, alloc, state, root, 1_024)?;
-    assert_eq!(rt; state_of(state, 1_023)?, SessionState::Finished);
-    expect_not_opened(rt, alloc, state, offer(root), Refusal::SessionsFull);
-    Ok(())
+    expect_numbers(alloc, state, root, 1_024)?;
+    let session = record(state, 1_023)?.session();
+    expect(
+        session.state() == SessionState::Finished && session.asked().is_empty(),
+        "equal roots ask nothing",
+    )?;
+    expect_not_opened(alloc, state, offer(root), Refusal::SessionsFull)
 }
 
 #[test]
 fn a_range_keeps_1024_records_at_the_most(rt: HostRuntime) -> Result<(), Fail> {
     let alloc = rt.alloc();
-    expect_1024_kept(&rt, alloc, &mut range(&rt, alloc, false)?)
+    expect_1024_kept(alloc, &mut clean_range(&rt, alloc)?)
 }
 
 /// Asserts that an offer of another format is refused, and one of another range.
-fn expect_own_offers(rt: &impl Abort, alloc: Global, state: &mut RangeState, good: Offer) {
+fn expect_own_offers(alloc: Global, state: &mut RangeState, good: Offer) -> Result<(), Fail> {
     let other_format = Offer {
         format: 2,
         range: 1,
         ..good
     };
-    expect_not_opened(rt, alloc, state, other_format, Refusal::OtherFormat);
+    expect_not_opened(alloc, state, other_format, Refusal::OtherFormat)?;
     let other_range = Offer { range: 1, ..good };
-    expect_not_opened(rt, alloc, state, other_range, Refusal::OtherRange);
-    assert!(rt; state.records().is_empty());
+    expect_not_opened(alloc, state, other_range, Refusal::OtherRange)?;
+    expect(state.records().is_empty(), "no session is opened")
 }
 
 #[test]
 fn an_offer_is_of_the_ranges_format_and_range(rt: HostRuntime) -> Result<(), Fail> {
     let alloc = rt.alloc();
-    let good = offer(abc(alloc)?.digest());
-    expect_own_offers(&rt, alloc, &mut range(&rt, alloc, false)?, good);
-    expect_not_opened(
-        &rt,
-        alloc,
-        &mut new_range(alloc, 2)?,
-        good,
-        Refusal::OtherFormat,
-    );
-    Ok(())
+    let good = offer([7; 32]);
+    expect_own_offers(alloc, &mut clean_range(&rt, alloc)?, good)?;
+    let mut two = new_range(alloc, 2, 1_000)?;
+    expect_not_opened(alloc, &mut two, good, Refusal::OtherFormat)
 }
 
 #[test]
 fn a_session_is_opened_on_a_clean_tree(rt: HostRuntime) -> Result<(), Fail> {
     let alloc = rt.alloc();
-    let offer = offer(abc(alloc)?.digest());
-    let mut state = new_range(alloc, 1)?;
-    expect_not_opened(&rt, alloc, &mut state, offer, Refusal::Dirty);
-    Ok(())
+    let mut state = new_range(alloc, 1, 1_000)?;
+    expect_not_opened(alloc, &mut state, offer([7; 32]), Refusal::Dirty)
+}
+
+/// Asserts the refusal of a partner's text of the root for a session.
+fn expect_not_taken(
+    alloc: Global,
+    state: &mut RangeState,
+    id: u64,
+    text: Hashed,
+    refusal: Refusal,
+) -> Result<(), Fail> {
+    let taken = take_answer(alloc, state, id, node_at(0, 0)?, text);
+    expect_refused(taken, refusal, "a text is refused")
+}
+
+/// Asserts that the first session awaits this node first.
+fn expect_first(state: &RangeState, depth: u8, index: u16) -> Result<(), Fail> {
+    let node = first(state)?;
+    expect(
+        node.depth == depth && node.index == index,
+        "the node is awaited",
+    )
 }
 
 /// Asserts that the first session takes the partner's root once, after a forged one, and that there is no second
 /// session.
-fn expect_once(
-    rt: &impl Abort,
+fn expect_once(alloc: Global, state: &mut RangeState, partner: &Snapshot) -> Result<(), Fail> {
+    let root = node_at(0, 0)?;
+    expect_not_taken(
+        alloc,
+        state,
+        0,
+        forged_root(alloc, partner)?,
+        Refusal::WrongDigest,
+    )?;
+    expect_first(state, 0, 0)?;
+    expect_answer(alloc, state, partner, 0, SessionState::Open)?;
+    expect_first(state, 1, 0)?;
+    let again = hashed_at(alloc, partner, root)?;
+    expect_not_taken(alloc, state, 0, again, Refusal::NotAsked)?;
+    let again = hashed_at(alloc, partner, root)?;
+    expect_not_taken(alloc, state, 1, again, Refusal::UnknownSession)
+}
+
+/// Asserts that two more answers end a range's first session, and that the range then has the partner's version of `a`.
+fn expect_version(alloc: Global, state: &mut RangeState, partner: &Snapshot) -> Result<(), Fail> {
+    expect_answer(alloc, state, partner, 0, SessionState::Open)?;
+    expect_answer(alloc, state, partner, 1, SessionState::Finished)?;
+    expect(
+        count_held(state, b"a") == 1,
+        "the partner's version is held",
+    )
+}
+
+/// Asserts that a session takes true texts alone, and ends with the partner's version and its root.
+fn expect_true_texts(
+    rt: &(impl Threads + Sync),
     alloc: Global,
     state: &mut RangeState,
     partner: &Snapshot,
 ) -> Result<(), Fail> {
-    state.open_session(alloc, 7, offer(partner.root()))?;
-    let root = first(state)?;
-    let forged = forged_root(alloc, partner)?;
-    let answer = state.take_answer(alloc, 5, 0, root, forged);
-    assert!(rt; is_refused(answer, Refusal::WrongDigest));
-    expect_answer(rt, alloc, state, partner, 0, SessionState::Open)?;
-    let child = first(state)?;
-    assert_eq!(rt; (child.depth, child.index), (1, 0));
-    let again = text_of(alloc, partner, root)?;
-    let answer = state.take_answer(alloc, 5, 0, root, again);
-    assert!(rt; is_refused(answer, Refusal::NotAsked));
-    let again = text_of(alloc, partner, root)?;
-    let answer = state.take_answer(alloc, 5, 1, root, again);
-    assert!(rt; is_refused(answer, Refusal::UnknownSession));
-    Ok(())
+    let id = open_session(alloc, state, offer(partner.root()))?;
+    expect(id == 0, "the first session is 0")?;
+    expect_once(alloc, state, partner)?;
+    expect_version(alloc, state, partner)?;
+    rehash(rt, alloc, state)?;
+    let root = root_of(alloc, state)?;
+    expect(root == partner.root(), "the roots are equal")
 }
 
 #[test]
-fn a_text_is_taken_once_and_only_if_it_is_true(rt: HostRuntime) -> Result<(), Fail> {
+fn a_session_takes_true_texts_once_up_to_the_partners_version(rt: HostRuntime) -> Result<(), Fail> {
     let alloc = rt.alloc();
-    let partner = range(&rt, alloc, true)?.snapshot(alloc)?;
-    expect_once(&rt, alloc, &mut range(&rt, alloc, false)?, &partner)
+    let partner = snapshot_of_a(&rt, alloc)?;
+    expect_true_texts(&rt, alloc, &mut clean_range(&rt, alloc)?, &partner)
 }
 
 /// Asserts that the text `abc` of its root fails the first session, which then no longer asks for the root.
-fn expect_failure(rt: &impl Abort, alloc: Global, state: &mut RangeState) -> Result<(), Fail> {
-    state.open_session(alloc, 7, offer(abc(alloc)?.digest()))?;
-    let root = first(state)?;
-    let answer = state.take_answer(alloc, 5, 0, root, abc(alloc)?);
-    assert!(rt; is_refused(answer, Refusal::NotCanonical));
-    assert_eq!(rt; state_of(state, 0)?, SessionState::Failed);
-    let answer = state.take_answer(alloc, 5, 0, root, abc(alloc)?);
-    assert!(rt; is_refused(answer, Refusal::NotAsked));
-    Ok(())
+fn expect_failure(alloc: Global, state: &mut RangeState) -> Result<(), Fail> {
+    open_session(alloc, state, offer(abc(alloc)?.digest()))?;
+    expect_not_taken(alloc, state, 0, abc(alloc)?, Refusal::NotCanonical)?;
+    let session = record(state, 0)?.session();
+    expect(
+        session.state() == SessionState::Failed && session.outstanding().is_empty(),
+        "the session has failed",
+    )?;
+    expect_not_taken(alloc, state, 0, abc(alloc)?, Refusal::NotAsked)
 }
 
 #[test]
 fn a_text_of_no_node_fails_the_session(rt: HostRuntime) -> Result<(), Fail> {
     let alloc = rt.alloc();
-    expect_failure(&rt, alloc, &mut range(&rt, alloc, false)?)
-}
-
-/// Asserts that the third answer ends a range's first session, and that the range then has the partner's version of `a`
-/// and its root.
-fn expect_version(
-    rt: &(impl Abort + Threads + Sync),
-    alloc: Global,
-    state: &mut RangeState,
-    partner: &Snapshot,
-) -> Result<(), Fail> {
-    assert_eq!(rt; state.open_session(alloc, 7, offer(partner.root()))?, 0);
-    expect_answer(rt, alloc, state, partner, 0, SessionState::Open)?;
-    expect_answer(rt, alloc, state, partner, 0, SessionState::Open)?;
-    expect_answer(rt, alloc, state, partner, 1, SessionState::Finished)?;
-    assert_eq!(rt; state.versions(b"a").len(), 1);
-    expect_root(rt, alloc, state, partner.root())
-}
-
-/// Asserts the root of a range once it is hashed again.
-fn expect_root(
-    rt: &(impl Abort + Threads + Sync),
-    alloc: Global,
-    state: &mut RangeState,
-    root: Digest,
-) -> Result<(), Fail> {
-    state.rehash(rt, alloc)?;
-    assert_eq!(rt; root_of(alloc, state)?, root);
-    Ok(())
-}
-
-#[test]
-fn a_session_ends_with_the_partners_version(rt: HostRuntime) -> Result<(), Fail> {
-    let alloc = rt.alloc();
-    let partner = range(&rt, alloc, true)?.snapshot(alloc)?;
-    expect_version(&rt, alloc, &mut range(&rt, alloc, false)?, &partner)
-}
-
-/// Puts `abc`, which is in leaf 144, at node 2.
-fn put_abc(alloc: Global, state: &mut RangeState) -> Result<(), Refusal> {
-    let context = Clock::from_pairs(alloc, &[])?;
-    let value = Bytes::copy_of(alloc, b"y")?;
-    state.put(alloc, 0, 2, b"abc", &context, Kind::Live, value)?;
-    Ok(())
+    expect_failure(alloc, &mut clean_range(&rt, alloc)?)
 }
 
 /// Asserts that the first session asked exactly these nodes, in order, and is finished.
-fn expect_asked(rt: &impl Abort, state: &RangeState, nodes: &[(u8, u16)]) -> Result<(), Fail> {
-    let record = state.records().get(0).ok_or("no record")?;
-    let asked = record.session().asked();
-    assert_eq!(rt; asked.len(), nodes.len());
-    for (one, &other) in asked.iter().zip(nodes) {
-        assert_eq!(rt; (one.depth, one.index), other);
+fn expect_asked(state: &RangeState, nodes: &[(u8, u16)]) -> Result<(), Fail> {
+    let session = record(state, 0)?.session();
+    let asked = session.asked();
+    expect(
+        asked.len() == nodes.len() && session.state() == SessionState::Finished,
+        "the session is finished after these nodes",
+    )?;
+    for (one, &(depth, index)) in asked.iter().zip(nodes) {
+        expect(
+            one.depth == depth && one.index == index,
+            "a node is asked in order",
+        )?;
     }
-    assert_eq!(rt; record.session().state(), SessionState::Finished);
     Ok(())
 }
 
@@ -318,7 +276,7 @@ fn walk(
     partner: &Snapshot,
     answers: usize,
 ) -> Result<(), Fail> {
-    state.open_session(alloc, 7, offer(partner.root()))?;
+    open_session(alloc, state, offer(partner.root()))?;
     for _ in 0..answers {
         answer_first(alloc, state, partner)?;
     }
@@ -327,33 +285,33 @@ fn walk(
 
 /// Asserts that a session of a range without rows asks a partner exactly these nodes, in order, and is finished then.
 fn expect_walk(
-    rt: &(impl Abort + Threads + Sync),
+    rt: &(impl Threads + Sync),
     alloc: Global,
     partner: &Snapshot,
     nodes: &[(u8, u16)],
 ) -> Result<(), Fail> {
-    let mut state = range(rt, alloc, false)?;
+    let mut state = clean_range(rt, alloc)?;
     walk(alloc, &mut state, partner, nodes.len())?;
-    expect_asked(rt, &state, nodes)
+    expect_asked(&state, nodes)
 }
 
-/// Asserts the nodes that a partner with the row of `a` is asked: those above it, and with the row of `abc` those above
-/// both.
+/// Asserts the nodes that a partner with the row of `a` is asked: those above it, and with the row of `abc`, which is
+/// in leaf 144, those above both.
 fn expect_walks(
-    rt: &(impl Abort + Threads + Sync),
+    rt: &(impl Threads + Sync),
     alloc: Global,
     partner: &mut RangeState,
 ) -> Result<(), Fail> {
     let nodes = [(0, 0), (1, 0), (2, 12)];
-    expect_walk(rt, alloc, &*partner.snapshot(alloc)?, &nodes)?;
-    put_abc(alloc, partner)?;
-    partner.rehash(rt, alloc)?;
+    expect_walk(rt, alloc, &*snapshot(alloc, partner)?, &nodes)?;
+    put(alloc, partner, 2, &[], b"abc", b"y")?;
+    rehash(rt, alloc, partner)?;
     let nodes = [(0, 0), (1, 0), (1, 9), (2, 12), (2, 144)];
-    expect_walk(rt, alloc, &*partner.snapshot(alloc)?, &nodes)
+    expect_walk(rt, alloc, &*snapshot(alloc, partner)?, &nodes)
 }
 
 #[test]
 fn a_session_asks_the_nodes_that_differ(rt: HostRuntime) -> Result<(), Fail> {
     let alloc = rt.alloc();
-    expect_walks(&rt, alloc, &mut range(&rt, alloc, true)?)
+    expect_walks(&rt, alloc, &mut range_of_a(&rt, alloc)?)
 }

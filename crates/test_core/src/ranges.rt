@@ -1,31 +1,26 @@
 //! Range states.
 ghost use Rattle.std.specs.Prelude.{◌<◌};
 
-use crate::refusals::is_refused;
+use crate::calls::{accept, count_held, new_range, put_a};
+use crate::checks::expect;
+use crate::refusals::expect_refused;
 use crate::versions::{members, version};
 use range_journal::Source;
-use range_state::{AcceptEvent, Accepted, Event, PutEvent, RangeConfig, RangeState, Reply};
+use range_state::{RangeConfig, RangeState};
 use std::alloc::Global;
-use std::process::Abort;
 use std::test::Fail;
-use vclock::{Bytes, Clock, Format, Refusal};
+use vclock::{Format, Refusal};
 use version_set::Kind;
 
-/// Returns a range of a ring with one range.
-fn range(alloc: Global, format: u64, limit: u64) -> Result<RangeState, Fail> {
-    let config = RangeConfig::new(format, 0, 0, limit).ok_or("no such range")?;
-    Ok(RangeState::new(alloc, config)?)
-}
-
 #[test]
-fn a_range_has_a_format_a_place_and_a_limit(rt: HostRuntime) -> Result<(), Fail> {
+fn a_range_has_a_format_a_place_and_a_limit(_rt: HostRuntime) -> Result<(), Fail> {
     let config = RangeConfig::new(2, 8, 255, 1_000_000).ok_or("no such range")?;
-    assert_eq!(rt; config.format(), Format::Two);
-    assert_eq!(rt;
-        (config.bits(), config.range(), config.limit()),
-        (8, 255, 1_000_000)
-    );
-    assert!(rt; RangeConfig::new(1, 0, 0, 1).is_some());
+    expect(
+        config.format() == Format::Two && config.bits() == 8 && config.range() == 255,
+        "a range has its format and place",
+    )?;
+    expect(config.limit() == 1_000_000, "a range has its limit")?;
+    expect(RangeConfig::new(1, 0, 0, 1).is_some(), "the least range")?;
     for (format, bits, range, limit) in [
         (1, 0, 1, 1),
         (0, 0, 0, 1),
@@ -36,78 +31,55 @@ fn a_range_has_a_format_a_place_and_a_limit(rt: HostRuntime) -> Result<(), Fail>
         (1, 0, 0, 1_000_001),
         (1, 18_446_744_073_709_551_615, 0, 1),
     ] {
-        assert!(rt; RangeConfig::new(format, bits, range, limit).is_none());
+        let config = RangeConfig::new(format, bits, range, limit);
+        expect(config.is_none(), "no range is beyond the limits")?;
     }
     Ok(())
 }
 
-/// Accepts a copy of `a` that node 2 has counted once, and returns its number, or `None` if it is known.
-fn accept_a(alloc: Global, state: &mut RangeState, value: &[u8]) -> Result<Option<u64>, Refusal> {
+/// Asserts the versions of `a` that a range holds, each on a line.
+fn expect_held(alloc: Global, state: &RangeState, versions: &str) -> Result<(), Fail> {
+    let held = members(alloc, &state.get(alloc, b"a")?)?;
+    expect(held.as_str() == versions, "a range holds its versions")
+}
+
+/// Asserts that a value that is put is held.
+fn expect_put(alloc: Global, state: &mut RangeState) -> Result<(), Fail> {
+    expect_held(alloc, state, "")?;
+    expect(put_a(alloc, state, &[])? == 0, "the put is entry 0")?;
+    expect_held(alloc, state, "[(1, 1)] Live [120]\n")
+}
+
+#[test]
+fn a_value_is_put_and_read(rt: HostRuntime) -> Result<(), Fail> {
+    let alloc = rt.alloc();
+    expect_put(alloc, &mut new_range(alloc, 1, 10)?)
+}
+
+/// Accepts a copy of `a` that node 2 has counted once, and asserts its number, or that it is known.
+fn expect_accepted(
+    alloc: Global,
+    state: &mut RangeState,
+    value: &[u8],
+    number: Option<u64>,
+) -> Result<(), Fail> {
     let copy = version(alloc, (2, 1), Kind::Live, value)?;
-    match state.accept(alloc, 0, Source::Copy, b"a", copy)? {
-        Accepted::Taken(receipt) => Ok(Some(receipt.number)),
-        Accepted::Known => Ok(None),
-    }
+    let accepted = accept(alloc, state, b"a", copy)?;
+    expect(accepted == number, "a copy is the next entry or known")
 }
 
 /// Asserts that two values of `a` with one clock are accepted, that the first is known then, and that both are held.
-fn expect_both(rt: &impl Abort, alloc: Global, state: &mut RangeState) -> Result<(), Fail> {
-    assert_eq!(rt; accept_a(alloc, state, b"q")?, Some(0));
-    assert_eq!(rt; accept_a(alloc, state, b"p")?, Some(1));
-    assert_eq!(rt; accept_a(alloc, state, b"q")?, None);
-    let both = "[(2, 1)] Live [112]\n[(2, 1)] Live [113]\n";
-    let held = state.get(alloc, b"a")?;
-    assert_eq!(rt; members(alloc, &held)?.as_str(), both);
-    Ok(())
+fn expect_both(alloc: Global, state: &mut RangeState) -> Result<(), Fail> {
+    expect_accepted(alloc, state, b"q", Some(0))?;
+    expect_accepted(alloc, state, b"p", Some(1))?;
+    expect_accepted(alloc, state, b"q", None)?;
+    expect_held(alloc, state, "[(2, 1)] Live [112]\n[(2, 1)] Live [113]\n")
 }
 
 #[test]
 fn versions_with_equal_clocks_are_both_kept(rt: HostRuntime) -> Result<(), Fail> {
     let alloc = rt.alloc();
-    expect_both(&rt, alloc, &mut range(alloc, 1, 10)?)
-}
-
-/// Returns the event of a put of `a` at node 1.
-fn put_of_a(alloc: Global) -> Result<Event, Refusal> {
-    Ok(Event::Put(PutEvent {
-        seat: 0,
-        at: 1,
-        key: Bytes::copy_of(alloc, b"a")?,
-        context: Clock::from_pairs(alloc, &[])?,
-        kind: Kind::Live,
-        value: Bytes::copy_of(alloc, b"x")?,
-    }))
-}
-
-/// Returns the event of a hint without a key.
-fn hint_without_a_key(alloc: Global) -> Result<Event, Refusal> {
-    Ok(Event::Accept(AcceptEvent {
-        seat: 0,
-        source: Source::Hint,
-        key: Bytes::copy_of(alloc, b"")?,
-        version: version(alloc, (2, 1), Kind::Live, b"y")?,
-    }))
-}
-
-/// Returns the events of a put, of a version that is refused, and of a get.
-fn three_events(alloc: Global) -> Result<Vec<Event>, Refusal> {
-    let mut events = Vec::with_capacity(alloc, 3)?;
-    events.push(put_of_a(alloc)?)?;
-    events.push(hint_without_a_key(alloc)?)?;
-    events.push(Event::Get(Bytes::copy_of(alloc, b"a")?))?;
-    Ok(events)
-}
-
-#[test]
-fn events_are_answered_in_order(rt: HostRuntime) -> Result<(), Fail> {
-    let alloc = rt.alloc();
-    let mut state = range(alloc, 1, 10)?;
-    let replies = state.run_events(alloc, three_events(alloc)?)?;
-    assert!(rt; matches!(replies.get(0), Some(Reply::Put(Ok(receipt))) if receipt.number == 0));
-    assert!(rt; matches!(replies.get(1), Some(Reply::Accept(Err(Refusal::BadKey)))));
-    assert!(rt; matches!(replies.get(2), Some(Reply::Get(Ok(set))) if set.len() == 1));
-    assert!(rt; replies.get(3).is_none());
-    Ok(())
+    expect_both(alloc, &mut new_range(alloc, 1, 10)?)
 }
 
 /// Returns true if a leaf has a row of `a`. Each format has at least 256 leaves.
@@ -120,45 +92,34 @@ fn has_a(state: &RangeState, leaf: u16) -> bool
     }
 }
 
-/// Accepts a copy of a key at seat 3.
-fn accept_key(alloc: Global, state: &mut RangeState, key: &[u8]) -> Result<Accepted, Refusal> {
-    let copy = version(alloc, (1, 1), Kind::Live, b"x")?;
-    state.accept(alloc, 3, Source::Copy, key, copy)
+/// Accepts a copy of a key, and returns the number of its entry.
+fn accept_key(alloc: Global, state: &mut RangeState, key: &[u8]) -> Result<Option<u64>, Refusal> {
+    accept(alloc, state, key, version(alloc, (1, 1), Kind::Live, b"x")?)
 }
 
-/// Asserts that `a` has one version, in this leaf and not in leaf 0, and that `b` is not held.
-fn expect_a_in(rt: &impl Abort, state: &RangeState, leaf: u16)
+/// Asserts that `a` is in this leaf and not in leaf 0 once it is accepted, and that `b`, for which the journal has no
+/// room, is not held.
+fn expect_a_in(alloc: Global, state: &mut RangeState, leaf: u16) -> Result<(), Fail>
     requires { leaf < 256 }
 {
-    assert!(rt; has_a(state, leaf));
-    assert!(rt; !has_a(state, 0));
-    assert_eq!(rt; state.versions(b"a").len(), 1);
-    assert_eq!(rt; state.versions(b"b").len(), 0);
+    accept_key(alloc, state, b"a")?;
+    expect(has_a(state, leaf) && !has_a(state, 0), "`a` is in its leaf")?;
+    let other = accept_key(alloc, state, b"b");
+    expect_refused(other, Refusal::JournalFull, "the journal is full")?;
+    expect(
+        count_held(state, b"a") == 1 && count_held(state, b"b") == 0,
+        "`a` alone is held",
+    )?;
+    let entry = state.journal().get(0).ok_or("no entry 0")?;
+    expect(
+        entry.seat == 3 && entry.source == Source::Copy,
+        "the entry has its seat and source",
+    )
 }
 
 #[test]
 fn rows_lie_in_the_leaf_of_their_key(rt: HostRuntime) -> Result<(), Fail> {
     let alloc = rt.alloc();
-    for (format, leaf) in [(1, 12), (2, 204)] {
-        let mut state = range(alloc, format, 1)?;
-        accept_key(alloc, &mut state, b"a")?;
-        assert!(rt; leaf < 256);
-        expect_a_in(&rt, &state, leaf);
-    }
-    Ok(())
-}
-
-/// Asserts that a range whose journal has room for one entry takes one key, and no other one.
-fn expect_full(rt: &impl Abort, alloc: Global, state: &mut RangeState) -> Result<(), Fail> {
-    accept_key(alloc, state, b"a")?;
-    let entry = state.journal().get(0).ok_or("no entry 0")?;
-    assert_eq!(rt; (entry.seat, entry.source), (3, Source::Copy));
-    assert!(rt; is_refused(accept_key(alloc, state, b"b"), Refusal::JournalFull));
-    Ok(())
-}
-
-#[test]
-fn a_journal_is_full_at_its_limit(rt: HostRuntime) -> Result<(), Fail> {
-    let alloc = rt.alloc();
-    expect_full(&rt, alloc, &mut range(alloc, 1, 1)?)
+    expect_a_in(alloc, &mut new_range(alloc, 1, 1)?, 12)?;
+    expect_a_in(alloc, &mut new_range(alloc, 2, 1)?, 204)
 }

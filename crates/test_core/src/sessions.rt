@@ -1,187 +1,112 @@
-//! Sessions: the comparison of two trees, and the partner's answers.
+//! Sessions by themselves: the comparison of two trees, and the partner's answers.
+use crate::calls::{abc, clean_range, hashed_at, node_at, snapshot, snapshot_of_a};
 use crate::checks::expect;
-use crate::refusals::is_refused;
-use hash_tree::{Digest, Hashed, NodeAt, Text, hash};
-use range_state::{RangeConfig, RangeState};
+use crate::refusals::expect_refused;
+use hash_tree::{Digest, Hashed, NodeAt};
 use snapshot::Snapshot;
 use std::alloc::Global;
-use std::process::Abort;
-use std::sync::Arc;
 use std::test::Fail;
 use std::thread::Threads;
 use sync_session::{Answered, Session, SessionState};
-use vclock::{Bytes, Clock, Refusal};
-use version_set::Kind;
-use walk_messages::Ask;
-
-/// Puts a value under `a`, which is in leaf 12.
-fn put(alloc: Global, state: &mut RangeState) -> Result<(), Refusal> {
-    let context = Clock::from_pairs(alloc, &[])?;
-    let value = Bytes::copy_of(alloc, b"x")?;
-    state.put(alloc, 0, 1, b"a", &context, Kind::Live, value)?;
-    Ok(())
-}
-
-/// Returns the snapshot of a range without rows, or with the row of `a`.
-fn snapshot(
-    rt: &(impl Threads + Sync),
-    alloc: Global,
-    has_a: bool,
-) -> Result<Arc<Snapshot, Global>, Fail> {
-    let config = RangeConfig::new(1, 0, 0, 1_000).ok_or("no such range")?;
-    let mut state = RangeState::new(alloc, config)?;
-    if has_a {
-        put(alloc, &mut state)?;
-    }
-    state.rehash(rt, alloc)?;
-    Ok(state.snapshot(alloc)?)
-}
+use vclock::Refusal;
 
 /// Returns a session of a range without rows, with a partner of this root.
-fn session(rt: &(impl Threads + Sync), alloc: Global, root: Digest) -> Result<Session, Fail> {
-    let own = snapshot(rt, alloc, false)?;
+fn start(rt: &(impl Threads + Sync), alloc: Global, root: Digest) -> Result<Session, Fail> {
+    let own = snapshot(alloc, &clean_range(rt, alloc)?)?;
     Ok(Session::start(alloc, own, root)?)
 }
 
-/// Returns the first node that is outstanding.
-fn first(session: &Session) -> Result<NodeAt, Fail> {
-    Ok(
-        *session
-            .outstanding()
-            .first()
-            .ok_or("nothing is outstanding")?,
-    )
-}
-
-/// Returns a partner's text of a node.
-fn text_of(alloc: Global, partner: &Snapshot, node: NodeAt) -> Result<Hashed, Refusal> {
-    let text = partner.answer(alloc, Ask { offer: 1, node })?;
-    Ok(hash(Text::from(text)))
-}
-
-/// Answers the first outstanding node with the true text, and returns the number of rows, or `None` for a node with
-/// children.
-fn answer_first(
+/// Takes a text, and returns its number of rows, or `None` for a node with children.
+fn take(
     alloc: Global,
     session: &mut Session,
-    partner: &Snapshot,
-) -> Result<Option<usize>, Fail> {
-    let node = first(session)?;
-    match session.take(alloc, node, text_of(alloc, partner, node)?)? {
+    node: NodeAt,
+    text: Hashed,
+) -> Result<Option<usize>, Refusal> {
+    match session.take(alloc, node, text)? {
         Answered::Inner => Ok(None),
         Answered::Leaf(rows) => Ok(Some(rows.len())),
     }
 }
 
-/// Asserts that the partner's text of the first outstanding node gives that number of rows, each of them new.
-fn expect_news(
-    alloc: Global,
-    session: &Session,
-    partner: &Snapshot,
-    rows: usize,
-) -> Result<(), Fail> {
-    let node = first(session)?;
-    let text = text_of(alloc, partner, node)?;
-    expect(
-        session.rows_of(alloc, node, &text)?.len() == rows,
-        "the rows",
-    )?;
-    let news = session.news_of(alloc, node, &text)?;
-    expect(news.rows.len() == rows && news.known == 0, "the news")
-}
-
-/// Asserts that the third answer ends a session, and brings a row.
-fn expect_row(
-    rt: &impl Abort,
+/// Answers the first outstanding node with the partner's text. Asserts the number of its rows, or `None` for a node
+/// with children, and that each row is new.
+fn expect_taken(
     alloc: Global,
     session: &mut Session,
     partner: &Snapshot,
+    rows: Option<usize>,
 ) -> Result<(), Fail> {
-    assert_eq!(rt; answer_first(alloc, session, partner)?, None);
-    assert_eq!(rt; answer_first(alloc, session, partner)?, None);
-    expect_news(alloc, session, partner, 1)?;
-    assert_eq!(rt; answer_first(alloc, session, partner)?, Some(1));
-    assert_eq!(rt; session.state(), SessionState::Finished);
-    assert_eq!(rt; session.asked().len(), 3);
-    assert_eq!(rt; session.taken().len(), 3);
-    Ok(())
+    let outstanding = session.outstanding().first();
+    let node = *outstanding.ok_or("nothing is outstanding")?;
+    let text = hashed_at(alloc, partner, node)?;
+    let found = session.rows_of(alloc, node, &text)?;
+    let news = session.news_of(alloc, node, &text)?;
+    let count = rows.unwrap_or(0);
+    expect(
+        found.len() == count && news.rows.len() == count && news.known == 0,
+        "a text has its rows, and all are new",
+    )?;
+    let taken = take(alloc, session, node, text)?;
+    expect(taken == rows, "a session takes the rows of a text")
+}
+
+/// Asserts that a session takes true texts once, and ends with the partner's row.
+fn expect_row(alloc: Global, session: &mut Session, partner: &Snapshot) -> Result<(), Fail> {
+    let root = node_at(0, 0)?;
+    let false_text = take(alloc, session, root, abc(alloc)?);
+    expect_refused(false_text, Refusal::WrongDigest, "a false text is refused")?;
+    expect_taken(alloc, session, partner, None)?;
+    let again = take(alloc, session, root, hashed_at(alloc, partner, root)?);
+    expect_refused(again, Refusal::NotAsked, "a text is taken once")?;
+    expect_taken(alloc, session, partner, None)?;
+    expect_taken(alloc, session, partner, Some(1))?;
+    expect(
+        session.state() == SessionState::Finished
+            && session.asked().len() == 3
+            && session.taken().len() == 3,
+        "the session is finished",
+    )
 }
 
 #[test]
 fn a_session_ends_with_the_partners_rows(rt: HostRuntime) -> Result<(), Fail> {
     let alloc = rt.alloc();
-    let partner = snapshot(&rt, alloc, true)?;
-    let mut session = session(&rt, alloc, partner.root())?;
-    expect_news(alloc, &session, &partner, 0)?;
-    expect_row(&rt, alloc, &mut session, &partner)
+    let partner = snapshot_of_a(&rt, alloc)?;
+    expect_row(alloc, &mut start(&rt, alloc, partner.root())?, &partner)
 }
 
-#[test]
-fn equal_roots_ask_nothing(rt: HostRuntime) -> Result<(), Fail> {
-    let alloc = rt.alloc();
-    let root = snapshot(&rt, alloc, false)?.root();
-    let session = session(&rt, alloc, root)?;
-    assert_eq!(rt; session.state(), SessionState::Finished);
-    assert!(rt; session.asked().is_empty());
-    Ok(())
-}
-
-#[test]
-fn a_cancelled_session_asks_nothing_more(rt: HostRuntime) -> Result<(), Fail> {
-    let alloc = rt.alloc();
-    let root = snapshot(&rt, alloc, true)?.root();
-    let mut session = session(&rt, alloc, root)?;
+/// Asserts that the text `abc` of the root fails a session, and that a session that failed isn't cancelled.
+fn expect_failure(alloc: Global, session: &mut Session) -> Result<(), Fail> {
+    let answer = take(alloc, session, node_at(0, 0)?, abc(alloc)?);
+    expect_refused(
+        answer,
+        Refusal::NotCanonical,
+        "a text of no node is refused",
+    )?;
     session.cancel();
-    assert_eq!(rt; session.state(), SessionState::Cancelled);
-    assert!(rt; session.outstanding().is_empty());
-    Ok(())
-}
-
-/// Returns the text `abc`, which no node can have.
-fn abc(alloc: Global) -> Result<Hashed, Refusal> {
-    Ok(hash(Text::copy_of(alloc, b"abc")?))
-}
-
-/// Asserts that a session takes the root's true text once, after a false one.
-fn expect_once(
-    rt: &impl Abort,
-    alloc: Global,
-    session: &mut Session,
-    partner: &Snapshot,
-) -> Result<(), Fail> {
-    let root = first(session)?;
-    assert!(rt; is_refused(session.take(alloc, root, abc(alloc)?), Refusal::WrongDigest));
-    answer_first(alloc, session, partner)?;
-    let again = text_of(alloc, partner, root)?;
-    assert!(rt; is_refused(session.take(alloc, root, again), Refusal::NotAsked));
-    Ok(())
-}
-
-#[test]
-fn a_session_takes_a_true_text_once(rt: HostRuntime) -> Result<(), Fail> {
-    let alloc = rt.alloc();
-    let partner = snapshot(&rt, alloc, true)?;
-    let mut session = session(&rt, alloc, partner.root())?;
-    expect_once(&rt, alloc, &mut session, &partner)
-}
-
-/// Asserts that the text `abc` of the root fails a session, which then no longer asks for the root.
-fn expect_failure(rt: &impl Abort, alloc: Global, session: &mut Session) -> Result<(), Fail> {
-    let root = first(session)?;
-    assert!(rt;
-        is_refused(
-            session.take(alloc, root, abc(alloc)?),
-            Refusal::NotCanonical
-        )
-    );
-    assert_eq!(rt; session.state(), SessionState::Failed);
-    assert!(rt; is_refused(session.take(alloc, root, abc(alloc)?), Refusal::NotAsked));
-    Ok(())
+    expect(
+        session.state() == SessionState::Failed && session.outstanding().is_empty(),
+        "the session has failed",
+    )
 }
 
 #[test]
 fn a_session_fails_by_a_text_of_no_node(rt: HostRuntime) -> Result<(), Fail> {
     let alloc = rt.alloc();
-    let mut session = session(&rt, alloc, abc(alloc)?.digest())?;
-    expect_failure(&rt, alloc, &mut session)
+    expect_failure(alloc, &mut start(&rt, alloc, abc(alloc)?.digest())?)
+}
+
+/// Cancels a session that is open, and asserts that it asks nothing more.
+fn expect_cancelled(session: &mut Session) -> Result<(), Fail> {
+    session.cancel();
+    expect(
+        session.state() == SessionState::Cancelled && session.outstanding().is_empty(),
+        "a cancelled session asks nothing",
+    )
+}
+
+#[test]
+fn a_cancelled_session_asks_nothing_more(rt: HostRuntime) -> Result<(), Fail> {
+    expect_cancelled(&mut start(&rt, rt.alloc(), [7; 32])?)
 }

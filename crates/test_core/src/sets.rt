@@ -1,72 +1,96 @@
 //! Versions and sets of them.
+use crate::calls::offer_version;
+use crate::checks::expect;
+use crate::refusals::expect_refused;
 use crate::versions::{members, version};
 use std::alloc::Global;
-use std::process::Abort;
 use std::test::Fail;
 use vclock::{Format, Refusal};
 use version_set::{Kind, Offered, VersionSet};
 
-/// Offers a version that node 1 has counted this number of times, and asserts the answer and the members then.
+/// Offers a version that node 1 has counted this number of times. Asserts whether it is added, and the members then of
+/// the set and of its clone.
 fn expect_offered(
-    rt: &impl Abort,
     alloc: Global,
     set: &mut VersionSet,
     (counter, value): (u64, &[u8]),
     answer: Offered,
     text: &str,
 ) -> Result<(), Fail> {
-    let offered = set.offer(version(alloc, (1, counter), Kind::Live, value)?)?;
-    assert_eq!(rt; offered, answer);
-    assert_eq!(rt; members(alloc, set)?.as_str(), text);
-    assert_eq!(rt; members(alloc, &set.try_clone(alloc)?)?.as_str(), text);
-    Ok(())
+    let offered = offer_version(set, version(alloc, (1, counter), Kind::Live, value)?)?;
+    expect(offered == answer, "a version is added or known")?;
+    let held = members(alloc, set)?;
+    expect(held.as_str() == text, "a set has its members")?;
+    let clone = members(alloc, &set.try_clone(alloc)?)?;
+    expect(clone.as_str() == text, "a clone has the same members")
+}
+
+/// Asserts that later versions take the place of earlier ones, and that versions with equal clocks are both kept.
+fn expect_latest(alloc: Global, set: &mut VersionSet) -> Result<(), Fail> {
+    expect(set.is_empty(), "a new set is empty")?;
+    let (first, later) = ("[(1, 1)] Live [120]\n", "[(1, 2)] Live [121]\n");
+    let both = "[(1, 2)] Live [97]\n[(1, 2)] Live [121]\n";
+    expect_offered(alloc, set, (1, b"x"), Offered::Added, first)?;
+    expect_offered(alloc, set, (2, b"y"), Offered::Added, later)?;
+    expect_offered(alloc, set, (1, b"x"), Offered::Known, later)?;
+    expect_offered(alloc, set, (2, b"a"), Offered::Added, both)?;
+    expect(set.len() == 2, "a set has two members")
 }
 
 #[test]
 fn later_versions_take_the_place_of_earlier_ones(rt: HostRuntime) -> Result<(), Fail> {
-    let (alloc, added) = (rt.alloc(), Offered::Added);
-    let mut set = VersionSet::empty(alloc);
-    assert!(rt; set.is_empty());
-    let (first, later) = ("[(1, 1)] Live [120]\n", "[(1, 2)] Live [121]\n");
-    let both = "[(1, 2)] Live [97]\n[(1, 2)] Live [121]\n";
-    expect_offered(&rt, alloc, &mut set, (1, b"x"), added, first)?;
-    expect_offered(&rt, alloc, &mut set, (2, b"y"), added, later)?;
-    expect_offered(&rt, alloc, &mut set, (1, b"x"), Offered::Known, later)?;
-    expect_offered(&rt, alloc, &mut set, (2, b"a"), added, both)?;
-    assert_eq!(rt; set.len(), 2);
-    Ok(())
+    let alloc = rt.alloc();
+    expect_latest(alloc, &mut VersionSet::empty(alloc))
+}
+
+#[test]
+fn a_clone_of_a_version_is_the_same(rt: HostRuntime) -> Result<(), Fail> {
+    let one = version(rt.alloc(), (1, 1), Kind::Live, b"x")?;
+    let clone = one.try_clone()?;
+    expect(one.same(&clone), "a clone has the same clock and value")
+}
+
+/// Asserts that a tombstone and a value of one clock are both kept.
+fn expect_both(alloc: Global, set: &mut VersionSet) -> Result<(), Fail> {
+    offer_version(set, version(alloc, (1, 1), Kind::Tombstone, b"")?)?;
+    offer_version(set, version(alloc, (1, 1), Kind::Live, b"x")?)?;
+    let both = "[(1, 1)] Live [120]\n[(1, 1)] Tombstone []\n";
+    let held = members(alloc, set)?;
+    expect(held.as_str() == both, "a tombstone and a value are kept")
 }
 
 #[test]
 fn a_tombstone_stands_beside_a_value_of_its_clock(rt: HostRuntime) -> Result<(), Fail> {
     let alloc = rt.alloc();
-    let mut set = VersionSet::empty(alloc);
-    set.offer(version(alloc, (1, 1), Kind::Tombstone, b"")?)?;
-    set.offer(version(alloc, (1, 1), Kind::Live, b"x")?)?;
-    assert_eq!(rt;
-        members(alloc, &set)?.as_str(),
-        "[(1, 1)] Live [120]\n[(1, 1)] Tombstone []\n"
-    );
-    Ok(())
+    expect_both(alloc, &mut VersionSet::empty(alloc))
+}
+
+/// Asserts that a set takes 64 members and no more, and a version that takes the place of one.
+fn expect_64(alloc: Global, set: &mut VersionSet) -> Result<(), Fail> {
+    for node in 100..164 {
+        offer_version(set, version(alloc, (node, 1), Kind::Live, b"x")?)?;
+    }
+    expect(set.len() == 64, "a set has 64 members")?;
+    let one_more = offer_version(set, version(alloc, (164, 1), Kind::Live, b"x")?);
+    expect_refused(one_more, Refusal::Crowded, "a set takes no more")?;
+    let later = version(alloc, (100, 2), Kind::Live, b"y")?;
+    expect(!set.crowds(&later), "a later version has room")?;
+    offer_version(set, later.try_clone()?)?;
+    expect(
+        set.len() == 64 && set.covers(&later),
+        "it takes the place of an earlier one",
+    )
 }
 
 #[test]
 fn a_set_has_at_most_64_members(rt: HostRuntime) -> Result<(), Fail> {
     let alloc = rt.alloc();
-    let mut set = VersionSet::empty(alloc);
-    for node in 100..164 {
-        set.offer(version(alloc, (node, 1), Kind::Live, b"x")?)?;
-    }
-    assert_eq!(rt; set.len(), 64);
-    let one_more = version(alloc, (164, 1), Kind::Live, b"x")?;
-    assert!(rt; matches!(&set.offer(one_more), Err(Refusal::Crowded)));
-    assert_eq!(rt; set.len(), 64);
-    let later = version(alloc, (100, 2), Kind::Live, b"y")?;
-    assert!(rt; !set.crowds(&later));
-    set.offer(later)?;
-    assert_eq!(rt; set.len(), 64);
-    assert!(rt; set.covers(&version(alloc, (100, 2), Kind::Live, b"y")?));
-    Ok(())
+    expect_64(alloc, &mut VersionSet::empty(alloc))
+}
+
+/// Returns the result of the test of a value of this length.
+fn checked_value(alloc: Global, kind: Kind, format: Format, length: usize) -> Result<(), Refusal> {
+    kind.check_value(format, &vec![in alloc; 0; length]?)
 }
 
 #[test]
@@ -77,7 +101,7 @@ fn values_fit_their_format(rt: HostRuntime) -> Result<(), Fail> {
         (Kind::Live, Format::Two, 65_536),
         (Kind::Tombstone, Format::Two, 0),
     ] {
-        kind.check_value(format, &vec![in alloc; 0; length]?)?;
+        checked_value(alloc, kind, format, length)?;
     }
     for (kind, format, length) in [
         (Kind::Live, Format::One, 4_097),
@@ -85,11 +109,8 @@ fn values_fit_their_format(rt: HostRuntime) -> Result<(), Fail> {
         (Kind::Tombstone, Format::One, 0),
         (Kind::Tombstone, Format::Two, 1),
     ] {
-        let answer = kind.check_value(format, &vec![in alloc; 0; length]?);
-        assert!(rt;
-            matches!(&answer, Err(Refusal::BadValue)),
-            "{kind:?} of {length}"
-        );
+        let checked = checked_value(alloc, kind, format, length);
+        expect_refused(checked, Refusal::BadValue, "a value doesn't fit")?;
     }
     Ok(())
 }

@@ -1,15 +1,17 @@
 //! Trees: node texts, marks, jobs and rehashes. Another program made the digests from the definition.
-use crate::refusals::is_refused;
+use crate::calls::{
+    abc, accept, install, new_range, next_job, node_at, put_a, rehash, take_job, take_jobs,
+};
+use crate::checks::expect;
+use crate::refusals::expect_refused;
 use crate::versions::version;
 use hash_tree::{Digest, Hashed, Marks, NodeAt, Text, hash, inner_text, is_inner_text, leaf_text};
-use range_journal::Source;
-use range_state::{Event, InstallEvent, RangeConfig, RangeState, Reply};
+use range_state::RangeState;
 use rehash::{Job, hash_all, run_job};
 use std::alloc::Global;
-use std::process::Abort;
 use std::test::Fail;
 use std::thread::Threads;
-use vclock::{Bytes, Clock, Format, Refusal};
+use vclock::{Format, Refusal};
 use version_set::Kind;
 
 /// The digest of the empty leaf in format 1: the SHA-256 of the byte 0.
@@ -24,201 +26,189 @@ fn is_spelled(alloc: Global, digest: Digest, digits: &str) -> Result<bool, Fail>
     Ok(spelled.as_str() == digits)
 }
 
-/// Returns a range of a ring with one range.
-fn range(alloc: Global, format: u64) -> Result<RangeState, Fail> {
-    let config = RangeConfig::new(format, 0, 0, 1_000).ok_or("no such range")?;
-    Ok(RangeState::new(alloc, config)?)
-}
-
-/// Puts a value under `a` at node 1.
-fn put(alloc: Global, state: &mut RangeState, context: &[(u64, u64)]) -> Result<(), Fail> {
-    let context = Clock::from_pairs(alloc, context)?;
-    let value = Bytes::copy_of(alloc, b"x")?;
-    state.put(alloc, 0, 1, b"a", &context, Kind::Live, value)?;
-    Ok(())
-}
-
 #[test]
 fn a_text_has_its_digest(rt: HostRuntime) -> Result<(), Fail> {
     let alloc = rt.alloc();
-    let hashed = hash(Text::copy_of(alloc, b"abc")?);
-    assert_eq!(rt; hashed.text(), b"abc".as_slice());
-    assert!(rt; is_spelled(alloc, hashed.digest(), ABC)?);
-    Ok(())
+    let hashed = abc(alloc)?;
+    expect(hashed.text() == b"abc".as_slice(), "a text is kept")?;
+    expect(
+        is_spelled(alloc, hashed.digest(), ABC)?,
+        "a text has its digest",
+    )
+}
+
+/// Asserts that a text is that of a node above 16 nodes with this digest, in format 1.
+fn expect_inner(text: &[u8], digest: Digest) -> Result<(), Fail> {
+    expect(
+        text.len() == 513 && text.starts_with(&[1, 0x6e, 0x34]),
+        "an inner text begins with a child's digest",
+    )?;
+    expect(
+        is_inner_text(Format::One, text, &[digest; 16])
+            && !is_inner_text(Format::Two, text, &[digest; 16]),
+        "an inner text is of its format",
+    )
 }
 
 #[test]
 fn nodes_have_texts(rt: HostRuntime) -> Result<(), Fail> {
     let alloc = rt.alloc();
     let leaf = leaf_text(alloc, Format::One, &[])?;
-    assert_eq!(rt; leaf.as_slice(), [0].as_slice());
+    expect(
+        leaf.as_slice() == [0].as_slice(),
+        "a leaf without rows is 00",
+    )?;
     let digest = hash(Text::from(leaf)).digest();
-    assert!(rt; is_spelled(alloc, digest, EMPTY_LEAF)?);
+    expect(is_spelled(alloc, digest, EMPTY_LEAF)?, "it has its digest")?;
     let inner = inner_text(alloc, Format::One, &[digest; 16])?;
-    assert_eq!(rt; inner.len(), 513);
-    assert_eq!(rt; &inner[..3], [1, 0x6e, 0x34].as_slice());
-    assert!(rt; is_inner_text(Format::One, inner.as_slice(), &[digest; 16]));
-    assert!(rt; !is_inner_text(Format::Two, inner.as_slice(), &[digest; 16]));
-    Ok(())
+    expect_inner(&inner, digest)
 }
 
 #[test]
 fn a_new_tree_is_dirty(rt: HostRuntime) -> Result<(), Fail> {
-    let alloc = rt.alloc();
     for (format, nodes) in [(Format::One, 273), (Format::Two, 4_369)] {
-        let marks = Marks::new(alloc, format)?;
-        assert_eq!(rt; marks.dirty_count(), nodes);
-        let root = NodeAt::new(0, 0).ok_or("no root")?;
-        assert!(rt; marks.get(root).is_none());
+        let marks = Marks::new(rt.alloc(), format)?;
+        expect(
+            marks.dirty_count() == nodes && marks.get(node_at(0, 0)?).is_none(),
+            "no node has a digest",
+        )?;
     }
     for (depth, index) in [(0, 1), (1, 16), (2, 256), (3, 4_096), (4, 0)] {
-        assert!(rt; NodeAt::new(depth, index).is_none());
+        expect(NodeAt::new(depth, index).is_none(), "no tree has the node")?;
     }
     Ok(())
 }
 
 /// Takes a job, and asserts its node.
-fn job_at(
-    rt: &impl Abort,
-    alloc: Global,
-    state: &RangeState,
-    depth: u8,
-    index: u16,
-) -> Result<Job, Fail> {
-    let job = state.take_job(alloc, 0)?.ok_or("no job")?;
+fn job_at(alloc: Global, state: &RangeState, depth: u8, index: u16) -> Result<Job, Fail> {
+    let job = next_job(alloc, state)?;
     let node = job.node();
-    assert_eq!(rt; (node.depth, node.index), (depth, index));
+    expect(
+        node.depth == depth && node.index == index,
+        "the job is of the node",
+    )?;
     Ok(job)
 }
 
 /// Takes the next job, asserts its node, and installs its digest.
-fn install_next(
-    rt: &impl Abort,
-    alloc: Global,
-    state: &mut RangeState,
-    depth: u8,
-    index: u16,
-) -> Result<(), Fail> {
-    let job = job_at(rt, alloc, state, depth, index)?;
-    let node = job.node();
-    Ok(state.install(node, &run_job(job))?)
+fn install_next(alloc: Global, state: &mut RangeState, depth: u8, index: u16) -> Result<(), Fail> {
+    let job = job_at(alloc, state, depth, index)?;
+    Ok(install(state, job)?)
 }
 
 /// Puts two values under `a`, and asserts that the digest of its leaf with the first alone is late.
-fn expect_late(rt: &impl Abort, alloc: Global, state: &mut RangeState) -> Result<(), Fail> {
-    put(alloc, state, &[])?;
-    let job = job_at(rt, alloc, state, 2, 12)?;
-    let node = job.node();
-    put(alloc, state, &[(1, 1)])?;
-    assert!(rt; is_refused(state.install(node, &run_job(job)), Refusal::Stale));
-    Ok(())
+fn expect_late(alloc: Global, state: &mut RangeState) -> Result<(), Fail> {
+    put_a(alloc, state, &[])?;
+    let job = job_at(alloc, state, 2, 12)?;
+    put_a(alloc, state, &[(1, 1)])?;
+    expect_refused(install(state, job), Refusal::Stale, "the digest is late")
 }
 
 /// Asserts that the leaf of `a` and the nodes above it are hashed and installed, from the leaf up, and no other node.
-fn expect_path(rt: &impl Abort, alloc: Global, state: &mut RangeState) -> Result<(), Fail> {
+fn expect_path(alloc: Global, state: &mut RangeState) -> Result<(), Fail> {
     for (depth, index) in [(2, 12), (1, 0), (0, 0)] {
-        install_next(rt, alloc, state, depth, index)?;
+        install_next(alloc, state, depth, index)?;
     }
-    assert!(rt; state.take_job(alloc, 0)?.is_none());
-    Ok(())
+    expect(take_job(alloc, state)?.is_none(), "all nodes are clean")
+}
+
+/// Hashes a new range, and asserts that a late digest isn't installed, and that those of the nodes' new texts are.
+fn expect_rehash(
+    rt: &(impl Threads + Sync),
+    alloc: Global,
+    state: &mut RangeState,
+) -> Result<(), Fail> {
+    expect(rehash(rt, alloc, state)? == 273, "all nodes are hashed")?;
+    let deeper = state.digest_at(node_at(3, 0)?);
+    expect(deeper.is_none(), "the tree has no deeper node")?;
+    expect_late(alloc, state)?;
+    expect_path(alloc, state)
 }
 
 #[test]
 fn a_late_digest_is_not_installed(rt: HostRuntime) -> Result<(), Fail> {
     let alloc = rt.alloc();
-    let mut state = range(alloc, 1)?;
-    assert_eq!(rt; state.rehash(&rt, alloc)?, 273);
-    expect_late(&rt, alloc, &mut state)?;
-    expect_path(&rt, alloc, &mut state)
+    expect_rehash(&rt, alloc, &mut new_range(alloc, 1, 1_000)?)
+}
+
+/// Asserts that two workers take different jobs.
+fn expect_different(alloc: Global, state: &RangeState) -> Result<(), Fail> {
+    let first = state.take_job(alloc, 0)?.ok_or("no job")?;
+    let second = state.take_job(alloc, 1)?.ok_or("no job")?;
+    expect(first.node() != second.node(), "the jobs are different")
 }
 
 #[test]
 fn workers_take_different_jobs(rt: HostRuntime) -> Result<(), Fail> {
     let alloc = rt.alloc();
-    let state = range(alloc, 2)?;
-    let first = state.take_job(alloc, 0)?.ok_or("no job")?;
-    let second = state.take_job(alloc, 1)?.ok_or("no job")?;
-    assert!(rt; first.node() != second.node());
-    Ok(())
+    expect_different(alloc, &new_range(alloc, 2, 1_000)?)
 }
 
-/// Returns the number of jobs of a new range that are taken, if this number is asked for.
-fn count_taken(alloc: Global, format: u64, most: usize) -> Result<usize, Fail> {
-    let state = range(alloc, format)?;
-    Ok(state.take_jobs(alloc, most)?.len())
+/// Asserts the number of jobs of a range that are taken, if a number is asked for.
+fn expect_count(alloc: Global, state: &RangeState, most: usize, count: usize) -> Result<(), Fail> {
+    let jobs = take_jobs(alloc, state, most)?;
+    expect(jobs.len() == count, "as many jobs are taken as there are")
 }
 
 #[test]
 fn as_many_jobs_are_taken_as_there_are(rt: HostRuntime) -> Result<(), Fail> {
     let alloc = rt.alloc();
-    assert_eq!(rt; count_taken(alloc, 1, 300)?, 256);
-    assert_eq!(rt; count_taken(alloc, 2, 5_000)?, 4_096);
-    assert_eq!(rt; count_taken(alloc, 2, 5)?, 5);
-    assert_eq!(rt; count_taken(alloc, 2, 0)?, 0);
+    let one = new_range(alloc, 1, 1_000)?;
+    expect_count(alloc, &one, 300, 256)?;
+    expect_count(alloc, &one, 5, 5)?;
+    let two = new_range(alloc, 2, 1_000)?;
+    expect_count(alloc, &two, 5_000, 4_096)?;
+    expect_count(alloc, &two, 0, 0)
+}
+
+/// Accepts three rows.
+fn accept_three(alloc: Global, state: &mut RangeState) -> Result<(), Refusal> {
+    for (node, key) in [(1, b"a"), (2, b"b"), (3, b"c")] {
+        let copy = version(alloc, (node, 1), Kind::Live, b"x")?;
+        accept(alloc, state, key, copy)?;
+    }
     Ok(())
 }
 
-/// Returns a range with three rows.
-fn three_rows(alloc: Global) -> Result<RangeState, Fail> {
-    let mut state = range(alloc, 2)?;
-    for (node, key) in [(1, b"a"), (2, b"b"), (3, b"c")] {
-        let copy = version(alloc, (node, 1), Kind::Live, b"x")?;
-        state.accept(alloc, 0, Source::Copy, key, copy)?;
-    }
-    Ok(state)
-}
-
 /// Asserts that each hashed text is that of its job run alone.
-fn expect_run(rt: &impl Abort, hashed: &[Hashed], jobs: Vec<Job>) {
+fn expect_run(hashed: &[Hashed], jobs: Vec<Job>) -> Result<(), Fail> {
     for (one, job) in hashed.iter().zip(jobs) {
         let other = run_job(job);
-        assert_eq!(rt; one.text(), other.text());
-        assert_eq!(rt; one.digest(), other.digest());
+        expect(
+            one.text() == other.text() && one.digest() == other.digest(),
+            "a job has its text and digest",
+        )?;
     }
+    Ok(())
 }
 
 /// Asserts that this number of jobs of a range are hashed in order.
 fn expect_hashed(
-    rt: &(impl Abort + Threads + Sync),
+    rt: &(impl Threads + Sync),
     alloc: Global,
     state: &RangeState,
     count: usize,
 ) -> Result<(), Fail> {
-    let hashed = hash_all(rt, alloc, state.take_jobs(alloc, count)?)?;
-    assert_eq!(rt; hashed.len(), count);
-    expect_run(rt, &hashed, state.take_jobs(alloc, count)?);
+    let hashed = hash_all(rt, alloc, take_jobs(alloc, state, count)?)?;
+    expect(hashed.len() == count, "each job is hashed")?;
+    expect_run(&hashed, take_jobs(alloc, state, count)?)
+}
+
+/// Asserts that jobs of a range with three rows are hashed in order.
+fn expect_all_hashed(
+    rt: &(impl Threads + Sync),
+    alloc: Global,
+    state: &mut RangeState,
+) -> Result<(), Fail> {
+    accept_three(alloc, state)?;
+    for count in [0, 1, 3, 4_000] {
+        expect_hashed(rt, alloc, state, count)?;
+    }
     Ok(())
 }
 
 #[test]
 fn many_jobs_are_hashed_in_order(rt: HostRuntime) -> Result<(), Fail> {
     let alloc = rt.alloc();
-    let state = three_rows(alloc)?;
-    for count in [0, 1, 3, 4_000] {
-        expect_hashed(&rt, alloc, &state, count)?;
-    }
-    Ok(())
-}
-
-/// Returns the events of a job, and of a text that is not the root's.
-fn two_events(alloc: Global) -> Result<Vec<Event>, Fail> {
-    let node = NodeAt::new(0, 0).ok_or("no root")?;
-    let hashed = hash(Text::copy_of(alloc, b"abc")?);
-    let mut events = Vec::with_capacity(alloc, 2)?;
-    events.push(Event::TakeJob(0))?;
-    events.push(Event::Install(InstallEvent { node, hashed }))?;
-    Ok(events)
-}
-
-#[test]
-fn jobs_and_installs_are_events(rt: HostRuntime) -> Result<(), Fail> {
-    let alloc = rt.alloc();
-    let mut state = range(alloc, 1)?;
-    put(alloc, &mut state, &[])?;
-    let replies = state.run_events(alloc, two_events(alloc)?)?;
-    assert!(rt;
-        matches!(replies.get(0), Some(Reply::TakeJob(Ok(Some(job)))) if job.node().depth == 2)
-    );
-    assert!(rt; matches!(replies.get(1), Some(Reply::Install(Err(Refusal::Stale)))));
-    Ok(())
+    expect_all_hashed(&rt, alloc, &mut new_range(alloc, 2, 1_000)?)
 }

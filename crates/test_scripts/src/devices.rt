@@ -6,7 +6,6 @@ use outage_script::{ScriptEnd, run_script};
 use std::fmt::Write as _;
 use std::io;
 use std::io::{Read, Write};
-use std::process::Abort;
 use std::test::Fail;
 use std::thread::Threads;
 
@@ -110,11 +109,11 @@ fn calls_before(before: u64, kind: Fault, fault: Fault) -> Calls {
 /// the right output and end. The others end as a device's fault does, and their output is a prefix of the right one.
 /// Returns the number of those runs. Reads and writes have at most `size` bytes.
 fn count_faults(
-    rt: &(impl AllocGlobal + Abort + Threads + Sync),
+    rt: &(impl AllocGlobal + Threads + Sync),
     (input, output, end): (&str, &str, ScriptEnd),
     fault: Fault,
     size: usize,
-) -> u64 {
+) -> Result<u64, Fail> {
     for before in 0..10_000 {
         let mut reader = Source {
             rest: input.as_bytes(),
@@ -130,17 +129,46 @@ fn count_faults(
         };
         let ended = run_script(rt, rt.alloc(), &mut reader, &mut writer);
         if !(reader.reads.failed && writer.has_failed()) {
-            assert_eq!(rt; ended, end);
-            assert!(rt; writer.bytes.as_slice() == output.as_bytes());
-            return before;
+            expect(
+                ended == end && writer.bytes.as_slice() == output.as_bytes(),
+                "a run without a fault has the whole output",
+            )?;
+            return Ok(before);
         }
-        assert_eq!(rt; ended, ScriptEnd::Device, "{fault:?} after {before}");
-        assert!(rt;
-            output.as_bytes().starts_with(&writer.bytes),
-            "{fault:?} after {before}"
-        );
+        expect(
+            ended == ScriptEnd::Device && output.as_bytes().starts_with(&writer.bytes),
+            "a run with a fault has a prefix of the output",
+        )?;
     }
-    0
+    Err("each run has a fault".into())
+}
+
+/// Fails the test with these words unless the condition holds.
+fn expect(holds: bool, what: &'static str) -> Result<(), Fail> {
+    if holds { Ok(()) } else { Err(Fail::from(what)) }
+}
+
+/// The numbers of runs with a fault.
+#[derive(Clone, Copy)]
+struct Counts {
+    reads: u64,
+    writes: u64,
+    nothings: u64,
+    flushes: u64,
+}
+
+/// Runs the script with each call of a device failing in turn. Reads and writes have at most `size` bytes.
+fn count_all(
+    rt: &(impl AllocGlobal + Threads + Sync),
+    script: (&str, &str, ScriptEnd),
+    size: usize,
+) -> Result<Counts, Fail> {
+    Ok(Counts {
+        reads: count_faults(rt, script, Fault::Read, size)?,
+        writes: count_faults(rt, script, Fault::Write, size)?,
+        nothings: count_faults(rt, script, Fault::Nothing, size)?,
+        flushes: count_faults(rt, script, Fault::Flush, size)?,
+    })
 }
 
 /// A script with an update that is refused.
@@ -167,17 +195,23 @@ const BAD_LINE_ANSWERS: &str = r#"{"clock":[[1,1]],"copied":0,"hinted":0,"number
 "#;
 
 #[test]
-fn each_fault_of_a_device_ends_the_script(rt: HostRuntime) {
+fn each_fault_of_a_device_ends_the_script(rt: HostRuntime) -> Result<(), Fail> {
     for script in [
         (UPDATES, UPDATE_ANSWERS, ScriptEnd::Done),
         (BAD_LINE, BAD_LINE_ANSWERS, ScriptEnd::BadLine(3)),
     ] {
         let bytes = script.1.len() as u64;
-        assert!(rt; count_faults(&rt, script, Fault::Read, 1) > 70);
-        assert_eq!(rt; count_faults(&rt, script, Fault::Write, 1), bytes);
-        assert_eq!(rt; count_faults(&rt, script, Fault::Nothing, 1), bytes);
-        assert!(rt; count_faults(&rt, script, Fault::Flush, 1) > 70);
+        let counts = count_all(&rt, script, 1)?;
+        expect(
+            counts.reads > 70 && counts.flushes > 70,
+            "each read and each flush fails",
+        )?;
+        expect(
+            counts.writes == bytes && counts.nothings == bytes,
+            "each write fails, and each takes nothing",
+        )?;
     }
+    Ok(())
 }
 
 /// The maximum length of a read and of a write in a script of many lines, in bytes.
@@ -186,7 +220,7 @@ const SIZE: usize = 64;
 /// Runs the script of these lines with each call of a device failing in turn, and then with one byte a call. The run
 /// without a fault flushes after each read, and writes each answer at least once.
 fn expect_faults(
-    rt: &(impl AllocGlobal + Abort + Threads + Sync),
+    rt: &(impl AllocGlobal + Threads + Sync),
     lines: &[(&str, &str)],
 ) -> Result<(), Fail> {
     let mut input = String::new(rt.alloc());
@@ -198,19 +232,23 @@ fn expect_faults(
     let script = (input.as_str(), output.as_str(), ScriptEnd::Done);
     let reads = (input.len().div_ceil(SIZE) as u64).saturating_add(1);
     let answers = lines.len() as u64;
-    assert_eq!(rt; count_faults(rt, script, Fault::Read, SIZE), reads);
-    assert!(rt; count_faults(rt, script, Fault::Write, SIZE) >= answers);
-    assert!(rt; count_faults(rt, script, Fault::Nothing, SIZE) >= answers);
-    assert_eq!(rt; count_faults(rt, script, Fault::Flush, SIZE), reads);
-    expect_whole(rt, script);
-    Ok(())
+    let counts = count_all(rt, script, SIZE)?;
+    expect(
+        counts.reads == reads && counts.flushes == reads,
+        "each read and each flush fails",
+    )?;
+    expect(
+        counts.writes >= answers && counts.nothings >= answers,
+        "each write fails, and each takes nothing",
+    )?;
+    expect_whole(rt, script)
 }
 
 /// Runs the script with one byte a call and no fault.
 fn expect_whole(
-    rt: &(impl AllocGlobal + Abort + Threads + Sync),
+    rt: &(impl AllocGlobal + Threads + Sync),
     (input, output, end): (&str, &str, ScriptEnd),
-) {
+) -> Result<(), Fail> {
     let mut reader = Source {
         rest: input.as_bytes(),
         size: 1,
@@ -223,8 +261,11 @@ fn expect_whole(
         nothings: no_fault(),
         flushes: no_fault(),
     };
-    assert_eq!(rt; run_script(rt, rt.alloc(), &mut reader, &mut writer), end);
-    assert!(rt; writer.bytes.as_slice() == output.as_bytes());
+    let ended = run_script(rt, rt.alloc(), &mut reader, &mut writer);
+    expect(
+        ended == end && writer.bytes.as_slice() == output.as_bytes(),
+        "a run without a fault has the whole output",
+    )
 }
 
 /// Returns calls of which none fails.

@@ -2,7 +2,6 @@
 use outage_script::{ScriptEnd, run_bytes};
 use std::alloc::{AllocError, Global};
 use std::fmt::Write;
-use std::process::Abort;
 use std::str;
 use std::test::Fail;
 use std::thread::Threads;
@@ -21,20 +20,23 @@ const BAD_FIRST: &str = "{\"cause\":\"BadLine\",\"line\":1,\"refused\":29}\n";
 
 /// Runs a script, and asserts its output and its end.
 pub(crate) fn expect(
-    rt: &(impl AllocGlobal + Abort + Threads + Sync),
+    rt: &(impl AllocGlobal + Threads + Sync),
     input: &[u8],
     output: &str,
     end: ScriptEnd,
 ) -> Result<(), Fail> {
     let (ended, written) = run_bytes(rt, rt.alloc(), input);
-    assert_eq!(rt; str::from_utf8(&written)?, output);
-    assert_eq!(rt; ended, end, "after {output}");
+    let written = str::from_utf8(&written)?;
+    if ended != end || written != output {
+        let differs = format_args!("{ended:?} after {written}, not {end:?} after {output}");
+        return Err(Fail::new(differs));
+    }
     Ok(())
 }
 
 /// Runs the script of these lines, and asserts their answers.
 pub(crate) fn expect_answers(
-    rt: &(impl AllocGlobal + Abort + Threads + Sync),
+    rt: &(impl AllocGlobal + Threads + Sync),
     lines: &[(&str, &str)],
 ) -> Result<(), Fail> {
     let mut input = String::new(rt.alloc());

@@ -1,0 +1,240 @@
+//! The libraries' calls as tests make them. None of these functions has an `ensures`, so a test that calls them carries
+//! no facts about their results, and is proved fast.
+ghost use Rattle.std.specs.Prelude.{◌≤◌};
+
+use hash_tree::{Digest, Hashed, NodeAt, Text, hash};
+use range_journal::Source;
+use range_state::{Accepted, AnswerTaken, Event, RangeConfig, RangeState, Reply};
+use rehash::{Job, run_job};
+use row_bytes::{Row, RowList, a_held_set_is_a_row, read_row, read_rows, write_row};
+use snapshot::Snapshot;
+use std::alloc::Global;
+use std::sync::Arc;
+use std::test::Fail;
+use std::thread::Threads;
+use vclock::{Bytes, Clock, Format, Refusal};
+use version_set::{Kind, Offered, Version, VersionSet};
+use walk_messages::{Ask, Offer};
+
+/// Returns the clock of these pairs.
+pub(crate) fn clock(alloc: Global, pairs: &[(u64, u64)]) -> Result<Clock, Refusal> {
+    Clock::from_pairs(alloc, pairs)
+}
+
+/// Offers a version to a set.
+pub(crate) fn offer_version(set: &mut VersionSet, version: Version) -> Result<Offered, Refusal> {
+    set.offer(version)
+}
+
+/// Reads a row, and returns it with what follows.
+pub(crate) fn read(alloc: Global, format: Format, text: &[u8]) -> Result<(Row, &[u8]), Refusal> {
+    read_row(alloc, format, text)
+}
+
+/// Reads rows up to the end of a text.
+pub(crate) fn read_all(alloc: Global, format: Format, text: &[u8]) -> Result<RowList, Refusal> {
+    read_rows(alloc, format, text)
+}
+
+/// Returns the text of a row.
+pub(crate) fn write(alloc: Global, format: Format, row: &Row) -> Result<Vec<u8>, Refusal> {
+    a_held_set_is_a_row();
+    write_row(alloc, format, row)
+}
+
+/// Returns a node of some tree.
+pub(crate) fn node_at(depth: u8, index: u16) -> Result<NodeAt, Fail> {
+    Ok(NodeAt::new(depth, index).ok_or("no such node")?)
+}
+
+/// Returns a text with its digest.
+pub(crate) fn hashed(alloc: Global, text: &[u8]) -> Result<Hashed, Refusal> {
+    Ok(hash(Text::copy_of(alloc, text)?))
+}
+
+/// Returns the text `abc`, which no node can have, with its digest.
+pub(crate) fn abc(alloc: Global) -> Result<Hashed, Refusal> {
+    hashed(alloc, b"abc")
+}
+
+/// Returns a range without rows, of a ring with one range. Its journal takes this number of entries.
+pub(crate) fn new_range(alloc: Global, format: u64, limit: u64) -> Result<RangeState, Fail> {
+    let config = RangeConfig::new(format, 0, 0, limit).ok_or("no such range")?;
+    Ok(RangeState::new(alloc, config)?)
+}
+
+/// Returns a range of format 1 without rows, whose nodes are all clean.
+pub(crate) fn clean_range(rt: &(impl Threads + Sync), alloc: Global) -> Result<RangeState, Fail> {
+    let mut state = new_range(alloc, 1, 1_000)?;
+    rehash(rt, alloc, &mut state)?;
+    Ok(state)
+}
+
+/// Returns a range of format 1 that holds `a`, whose nodes are all clean.
+pub(crate) fn range_of_a(rt: &(impl Threads + Sync), alloc: Global) -> Result<RangeState, Fail> {
+    let mut state = new_range(alloc, 1, 1_000)?;
+    put_a(alloc, &mut state, &[])?;
+    rehash(rt, alloc, &mut state)?;
+    Ok(state)
+}
+
+/// Returns the snapshot of a range of format 1 that holds `a`.
+pub(crate) fn snapshot_of_a(
+    rt: &(impl Threads + Sync),
+    alloc: Global,
+) -> Result<Arc<Snapshot, Global>, Fail> {
+    Ok(snapshot(alloc, &range_of_a(rt, alloc)?)?)
+}
+
+/// Puts a value at a node, 1 to 65,535, with a context, and returns the number of the entry.
+pub(crate) fn put(
+    alloc: Global,
+    state: &mut RangeState,
+    at: u16,
+    context: &[(u64, u64)],
+    key: &[u8],
+    value: &[u8],
+) -> Result<u64, Refusal>
+    requires { 1 ≤ at }
+{
+    let context = clock(alloc, context)?;
+    let value = Bytes::copy_of(alloc, value)?;
+    let receipt = state.put(alloc, 0, at, key, &context, Kind::Live, value)?;
+    Ok(receipt.number)
+}
+
+/// Puts `x` under `a` at node 1, with a context. `a` is in leaf 12 of format 1.
+pub(crate) fn put_a(
+    alloc: Global,
+    state: &mut RangeState,
+    context: &[(u64, u64)],
+) -> Result<u64, Refusal> {
+    put(alloc, state, 1, context, b"a", b"x")
+}
+
+/// Accepts a copy at seat 3, and returns the number of its entry, or `None` if it is known.
+pub(crate) fn accept(
+    alloc: Global,
+    state: &mut RangeState,
+    key: &[u8],
+    copy: Version,
+) -> Result<Option<u64>, Refusal> {
+    match state.accept(alloc, 3, Source::Copy, key, copy)? {
+        Accepted::Taken(receipt) => Ok(Some(receipt.number)),
+        Accepted::Known => Ok(None),
+    }
+}
+
+/// Returns the number of versions that a range holds of a key.
+pub(crate) fn count_held(state: &RangeState, key: &[u8]) -> usize {
+    state.versions(key).len()
+}
+
+/// Hashes all dirty nodes, and returns their number.
+pub(crate) fn rehash(
+    rt: &(impl Threads + Sync),
+    alloc: Global,
+    state: &mut RangeState,
+) -> Result<u64, Refusal> {
+    state.rehash(rt, alloc)
+}
+
+/// Returns the next job of a range, or `None` if all nodes are clean.
+pub(crate) fn take_job(alloc: Global, state: &RangeState) -> Result<Option<Job>, Refusal> {
+    state.take_job(alloc, 0)
+}
+
+/// Returns the next job of a range that isn't clean.
+pub(crate) fn next_job(alloc: Global, state: &RangeState) -> Result<Job, Fail> {
+    Ok(take_job(alloc, state)?.ok_or("no job")?)
+}
+
+/// Returns this number of jobs, or all if there are fewer.
+pub(crate) fn take_jobs(
+    alloc: Global,
+    state: &RangeState,
+    most: usize,
+) -> Result<Vec<Job>, Refusal> {
+    state.take_jobs(alloc, most)
+}
+
+/// Hashes a job, and installs its digest.
+pub(crate) fn install(state: &mut RangeState, job: Job) -> Result<(), Refusal> {
+    let node = job.node();
+    state.install(node, &run_job(job))
+}
+
+/// Migrates a range to format 2.
+pub(crate) fn migrate(alloc: Global, state: &mut RangeState) -> Result<(), Refusal> {
+    state.migrate(alloc)
+}
+
+/// Returns the snapshot of a range whose nodes are all clean.
+pub(crate) fn snapshot(
+    alloc: Global,
+    state: &RangeState,
+) -> Result<Arc<Snapshot, Global>, Refusal> {
+    state.snapshot(alloc)
+}
+
+/// Returns the digest of the root of a range whose nodes are all clean.
+pub(crate) fn root_of(alloc: Global, state: &RangeState) -> Result<Digest, Refusal> {
+    Ok(snapshot(alloc, state)?.root())
+}
+
+/// Returns the text of a node.
+pub(crate) fn text_at(
+    alloc: Global,
+    snapshot: &Snapshot,
+    node: NodeAt,
+) -> Result<Vec<u8>, Refusal> {
+    snapshot.answer(alloc, Ask { offer: 1, node })
+}
+
+/// Returns the text of a node with its digest.
+pub(crate) fn hashed_at(
+    alloc: Global,
+    snapshot: &Snapshot,
+    node: NodeAt,
+) -> Result<Hashed, Refusal> {
+    Ok(hash(Text::from(text_at(alloc, snapshot, node)?)))
+}
+
+/// Returns an offer of format 1 and range 0.
+pub(crate) fn offer(root: Digest) -> Offer {
+    Offer {
+        offer: 1,
+        format: 1,
+        range: 0,
+        root,
+    }
+}
+
+/// Opens a session with partner 7, and returns its number.
+pub(crate) fn open_session(
+    alloc: Global,
+    state: &mut RangeState,
+    offer: Offer,
+) -> Result<u64, Refusal> {
+    state.open_session(alloc, 7, offer)
+}
+
+/// Answers a node of a session at seat 5.
+pub(crate) fn take_answer(
+    alloc: Global,
+    state: &mut RangeState,
+    id: u64,
+    node: NodeAt,
+    text: Hashed,
+) -> Result<AnswerTaken, Refusal> {
+    state.take_answer(alloc, 5, id, node, text)
+}
+
+/// Runs events, and returns their replies.
+pub(crate) fn run_events(
+    alloc: Global,
+    state: &mut RangeState,
+    events: Vec<Event>,
+) -> Result<Vec<Reply>, Refusal> {
+    state.run_events(alloc, events)
+}
