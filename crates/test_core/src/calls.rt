@@ -36,10 +36,16 @@ pub(crate) fn read_all(alloc: Global, format: Format, text: &[u8]) -> Result<Row
     read_rows(alloc, format, text)
 }
 
-/// Returns the text of a row.
-pub(crate) fn write(alloc: Global, format: Format, row: &Row) -> Result<Vec<u8>, Refusal> {
+/// Reads a row from a text and writes it again. Returns the row and the text written.
+pub(crate) fn read_and_write(
+    alloc: Global,
+    format: Format,
+    text: &[u8],
+) -> Result<(Row, Vec<u8>), Refusal> {
+    let (row, _) = read_row(alloc, format, text)?;
     a_held_set_is_a_row();
-    write_row(alloc, format, row)
+    let written = write_row(alloc, format, &row)?;
+    Ok((row, written))
 }
 
 /// Returns a node of some tree.

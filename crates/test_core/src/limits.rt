@@ -1,5 +1,5 @@
 //! A row at all its limits: a key of 255 bytes, and 64 versions with clocks of 32 pairs and the longest values.
-use crate::calls::{read, write};
+use crate::calls::read_and_write;
 use crate::checks::expect;
 use std::alloc::Global;
 use std::test::Fail;
@@ -42,18 +42,16 @@ fn put_pair(text: &mut Vec<u8>, node: u16) -> Result<(), Refusal> {
 
 /// Asserts that a text has this length and is that of a row of 64 versions, which is cloned and written back as it.
 fn expect_row(alloc: Global, format: Format, text: &[u8], length: usize) -> Result<(), Fail> {
-    let (row, rest) = read(alloc, format, text)?;
+    let (row, written) = read_and_write(alloc, format, text)?;
     expect(
-        text.len() == length && rest.is_empty(),
-        "the row has the whole text",
+        text.len() == length && written.as_slice() == text,
+        "the row is written as its text",
     )?;
     let copy = row.versions.try_clone(alloc)?;
     expect(
         row.versions.len() == 64 && copy.len() == 64,
         "the row and its clone have 64 versions",
-    )?;
-    let written = write(alloc, format, &row)?;
-    expect(written.as_slice() == text, "the row is written as its text")
+    )
 }
 
 #[test]

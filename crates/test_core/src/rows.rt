@@ -1,5 +1,5 @@
 //! Row texts, written and read, byte by byte.
-use crate::calls::{read, read_all, write};
+use crate::calls::{read, read_all, read_and_write};
 use crate::checks::expect;
 use std::alloc::Global;
 use std::test::Fail;
@@ -24,9 +24,8 @@ const TOMBSTONE: &[u8] =
 /// Asserts that a text is that of one row with this number of versions, with nothing after it, and that the row is
 /// written back as this text.
 fn expect_row(alloc: Global, format: Format, text: &[u8], versions: usize) -> Result<(), Fail> {
-    let (row, _) = read(alloc, format, text)?;
+    let (row, written) = read_and_write(alloc, format, text)?;
     expect(row.versions.len() == versions, "a row has its versions")?;
-    let written = write(alloc, format, &row)?;
     expect(written.as_slice() == text, "a row is written as its text")?;
     let rows = read_all(alloc, format, text)?;
     expect(rows.len() == 1, "a row's text is one row")

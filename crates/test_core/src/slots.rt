@@ -41,7 +41,8 @@ fn expect_one_lent<L: Ledger>(controller: &mut Controller<L>) -> Result<(), Fail
     expect_slots(controller, 8, 0, 8)
 }
 
-fn lower_target<L: Ledger>(alloc: Global, blank: Blank) -> Result<(), Fail>
+/// Asserts that a new controller has all slots free, and again after its target was lowered and it was reset.
+fn expect_reset<L: Ledger>(blank: Blank, alloc: Global) -> Result<(), Fail>
     requires ledger { (blank.name ≡ L.name) × (blank.parts ≡ L.parts) × (blank.parts ≡ 1024) }
 {
     let mut controller = Controller::<L>::new(blank, alloc, 1, 8, 50_000)?;
@@ -55,5 +56,5 @@ fn lower_target<L: Ledger>(alloc: Global, blank: Blank) -> Result<(), Fail>
 
 #[test]
 fn a_reset_restores_the_target(rt: HostRuntime) -> Result<(), Fail> {
-    lower_target::<Brand>(rt.alloc(), Blank::new(1024))
+    expect_reset::<Brand>(Blank::new(1024), rt.alloc())
 }

@@ -1,4 +1,4 @@
 use Rattle.test_core.proofs.slots.a_reset_restores_the_target.Given as goal
 
-abbrev pub ghosts-lower_target : goal.ghosts-lower_target
-ghosts-lower_target g a = record { name = a.blank.name; parts = a.blank.parts }
+abbrev pub ghosts-expect_reset : goal.ghosts-expect_reset
+ghosts-expect_reset a = record { name = a.blank.name; parts = a.blank.parts }

@@ -6,7 +6,7 @@ use Rattle.test_core.proofs.EmptySnapshot.{empty_snapshot}
 use Rattle.test_core.proofs.snapshots.a_snapshot_is_made_of_leaves_and_digests.Goals as goal
 
 pub new-requires : goal.new-requires
-new-requires g c =
+new-requires c =
     let above = λ (child : List ℕ). inner_text One (replicate 16 (sha256 child)) in
     let inner = c.in_ok-inner.ensures ∙ ap above c.deref.ensures.value in
     let root = c.in_ok-root.ensures ∙ ap above c.deref-2.ensures.value in
