@@ -141,8 +141,8 @@ fn expect_six(replies: &[Reply]) -> Result<(), Fail> {
         "the first session is 0",
     )?;
     for (place, count) in [(1, 0), (2, 0), (3, 1)] {
-        let came = brought(replies.get(place));
-        expect(came == Some(count), "an answer brings its versions")?;
+        let versions = brought(replies.get(place));
+        expect(versions == Some(count), "an answer brings its versions")?;
     }
     expect(
         matches!(replies.get(4), Some(Reply::CancelSession(Ok(())))),
