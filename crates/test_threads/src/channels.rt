@@ -1,7 +1,9 @@
 //! Links over channels.
 ghost use Rattle.std.specs.Prelude.{◌≡◌};
 
-use crate::partners::{Synced, pool_of, sync_over};
+use crate::nodes::{Node, TURNS, all_keys};
+use crate::outcomes::{Outcome, finished};
+use crate::partners::{Row, pool_of};
 use ring_node::{ChannelLink, ChannelServer, Link, OfferPool, Reached, channel_link};
 use std::alloc::Global;
 use std::marker::Brand;
@@ -10,55 +12,61 @@ use std::sync::ledger::{Blank, Ledger};
 use std::test::Fail;
 use std::thread;
 use std::thread::Threads;
-use sync_session::SessionState;
+use test_core::checks::expect;
 
 /// Syncs over a channel, and stops its server.
-fn sync_and_stop<L: Ledger, C: Ledger, R: Threads + Wait + Sync>(
+fn sync_and_stop<L: Ledger, C: Ledger, R: Wait>(
     rt: &R,
     alloc: Global,
-    blanks: (Blank, Blank),
+    node: &mut Node<L, C>,
     link: ChannelLink,
-) -> Result<Synced, Fail>
-    requires range { (blanks.0.name ≡ L.name) × (blanks.0.parts ≡ L.parts) × (blanks.0.parts ≡ 1) }
-    requires slots { (blanks.1.name ≡ C.name) × (blanks.1.parts ≡ C.parts) × (blanks.1.parts ≡ 1024) }
-{
+    outcome: Outcome<'_>,
+) -> Result<(), Fail> {
     let mut link = link;
-    let synced = sync_over::<L, C, ChannelLink, R>(rt, alloc, blanks, None, &mut link, 600);
+    let synced = outcome.expect_sync(rt, alloc, node, &mut link, TURNS);
     link.stop(rt);
     synced
 }
 
-/// Runs a server, and a sync over its link, in two threads.
-fn serve_and_sync<L: Ledger + Send + Sync, C: Ledger + Send + Sync, R: Threads + Wait + Sync>(
+/// Runs a server for a partner that has `a`, and a sync over its link, in two threads.
+fn sync_served<L: Ledger + Send + Sync, C: Ledger + Send + Sync, R: Threads + Wait + Sync>(
     rt: &R,
     alloc: Global,
-    blanks: (Blank, Blank),
-) -> Result<Synced, Fail>
-    requires range { (blanks.0.name ≡ L.name) × (blanks.0.parts ≡ L.parts) × (blanks.0.parts ≡ 1) }
-    requires slots { (blanks.1.name ≡ C.name) × (blanks.1.parts ≡ C.parts) × (blanks.1.parts ≡ 1024) }
-{
-    let pool = pool_of(rt, alloc, &[b"a".as_slice()])?;
+    node: &mut Node<L, C>,
+    outcome: Outcome<'_>,
+) -> Result<(), Fail> {
+    let pool = pool_of(rt, alloc, &[Row::new(b"a", 1)])?;
     let (link, server) = channel_link(alloc)?;
     let served = &server;
     let (synced, ()) = thread::join(
         rt,
-        ||
-            requires range { (blanks.0.name ≡ L.name) × (blanks.0.parts ≡ L.parts) × (blanks.0.parts ≡ 1) }
-            requires slots { (blanks.1.name ≡ C.name) × (blanks.1.parts ≡ C.parts) × (blanks.1.parts ≡ 1024) }
-        { sync_and_stop::<L, C, R>(rt, alloc, blanks, link) },
+        || sync_and_stop(rt, alloc, node, link, outcome),
         || served.run(rt, &pool),
     );
     synced
 }
 
+/// Runs such a sync up to the close of its range.
+fn serve_and_sync<L: Ledger + Send + Sync, C: Ledger + Send + Sync, R: Threads + Wait + Sync>(
+    rt: &R,
+    alloc: Global,
+    blank: Blank,
+    slots: Blank,
+) -> Result<(), Fail>
+    requires range { (blank.name ≡ L.name) × (blank.parts ≡ L.parts) × (blank.parts ≡ 1) }
+    requires slots { (slots.name ≡ C.name) × (slots.parts ≡ C.parts) × (slots.parts ≡ 1024) }
+{
+    let mut node = Node::<L, C>::open(alloc, blank, slots, 1, all_keys(1_000)?)?;
+    let outcome = Outcome::reported(finished(3, 1), 1);
+    sync_served(rt, alloc, &mut node, outcome)?;
+    let state = node.close(alloc)?;
+    outcome.expect_state(alloc, &state)
+}
+
 #[test]
 fn a_channel_serves_until_it_is_stopped(rt: HostRuntime) -> Result<(), Fail> {
-    let blanks = (Blank::new(1), Blank::new(1024));
-    let synced = serve_and_sync::<Brand, Brand, HostRuntime>(&rt, rt.alloc(), blanks)?;
-    let report = synced.report?;
-    assert_eq!(rt; (report.state, report.asked), (SessionState::Finished, 3));
-    assert_eq!(rt; (report.accepted, report.bad, synced.failures), (1, 0, 0));
-    Ok(())
+    let (blank, slots) = (Blank::new(1), Blank::new(1_024));
+    serve_and_sync::<Brand, Brand, HostRuntime>(&rt, rt.alloc(), blank, slots)
 }
 
 #[test]
@@ -79,10 +87,11 @@ fn a_link_without_its_server_fails(rt: HostRuntime) -> Result<(), Fail> {
     let alloc = rt.alloc();
     let (mut link, server) = channel_link(alloc)?;
     drop(server);
-    assert!(rt; matches!(link.offer(&rt), Reached::Lost));
-    assert!(rt; matches!(link.ask(&rt, b"no ask"), Reached::Lost));
-    assert_eq!(rt; link.failures(), 2);
-    Ok(())
+    let is_lost = matches!(link.offer(&rt), Reached::Lost);
+    expect(is_lost, "the offer is lost")?;
+    let is_lost = matches!(link.ask(&rt, b"no ask"), Reached::Lost);
+    expect(is_lost, "the answer is lost")?;
+    expect(link.failures() == 2, "both failures are counted")
 }
 
 #[test]
@@ -92,8 +101,7 @@ fn a_server_refuses_what_is_no_ask(rt: HostRuntime) -> Result<(), Fail> {
     let (link, server) = channel_link(alloc)?;
     let (served, pool) = (&server, &pool);
     let (failures, ()) = thread::join(&rt, || ask_badly(&rt, link), || served.run(&rt, pool));
-    assert_eq!(rt; failures, 1);
-    Ok(())
+    expect(failures == 1, "only the lost call is counted")
 }
 
 /// Asks with bytes that are not an ask, and for an offer that doesn't exist. Returns the number of failures of the

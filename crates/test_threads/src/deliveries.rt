@@ -1,103 +1,17 @@
 //! Deliveries of hints.
-ghost use Rattle.std.specs.Prelude.{◌≡◌};
 
-use crate::fixtures::{counted, last_pass, open_range, open_slots, value};
 use crate::nodes::Node;
-use range_state::RangeConfig;
-use ring_node::{DeliverReport, SharedHints, deliver};
+use crate::runs::{NodeTest, run_node};
+use ring_node::DeliverReport;
 use std::alloc::Global;
-use std::marker::Brand;
 use std::sync::Wait;
-use std::sync::ledger::{Blank, Ledger};
+use std::sync::ledger::Ledger;
 use std::test::Fail;
+use std::thread::Threads;
 use test_core::checks::expect;
 use test_core::versions::version;
-use vclock::{Bytes, Refusal};
+use vclock::Refusal;
 use version_set::Kind;
-
-/// The outcome of a delivery of one hint.
-#[derive(Drop)]
-struct Delivered {
-    report: Result<DeliverReport, Refusal>,
-    told: usize,
-    pending: bool,
-}
-
-/// Delivers one hint to its owner. The range is at node 1; its journal takes one entry, and may already have it.
-fn deliver_one<L: Ledger, C: Ledger, R: Wait>(
-    rt: &R,
-    alloc: Global,
-    blank: Blank,
-    slots: Blank,
-    owner: u16,
-    full: bool,
-) -> Result<Delivered, Fail>
-    requires range { (blank.name ≡ L.name) × (blank.parts ≡ L.parts) × (blank.parts ≡ 1) }
-    requires slots { (slots.name ≡ C.name) × (slots.parts ≡ C.parts) × (slots.parts ≡ 1024) }
-{
-    let (range, mut passes) = open_range::<L>(alloc, blank, 1, 1)?;
-    let mut pass = last_pass(&mut passes)?;
-    if full {
-        let (context, x) = (counted(alloc, 0)?, value(alloc)?);
-        range.put(rt, alloc, &mut pass, b"b", &context, Kind::Live, x)?;
-    }
-    let before = pass.receipts().len();
-    let hints = SharedHints::new(alloc);
-    let hint = version(alloc, (2, 1), Kind::Live, b"x")?;
-    hints.keep(rt, owner, Bytes::copy_of(alloc, b"a")?, hint)?;
-    let slots = open_slots::<C>(alloc, slots)?;
-    let slot = slots.lend(rt)?;
-    let report = deliver(rt, alloc, &slot, &hints, &range, &mut pass, owner, 5);
-    slots.give_back(rt, slot);
-    Ok(Delivered {
-        report,
-        told: pass.receipts().len().saturating_sub(before),
-        pending: hints.next(rt, alloc, owner, 0)?.is_some(),
-    })
-}
-
-#[test]
-fn a_hint_is_delivered_to_its_owner(rt: HostRuntime) -> Result<(), Fail> {
-    let (range, slots) = (Blank::new(1), Blank::new(1024));
-    let one = deliver_one::<Brand, Brand, HostRuntime>(&rt, rt.alloc(), range, slots, 1, false)?;
-    let (delivered, known, kept) = (1, 0, 0);
-    assert_eq!(rt;
-        one.report?,
-        DeliverReport {
-            delivered,
-            known,
-            kept
-        }
-    );
-    assert_eq!(rt; (one.told, one.pending), (1, false));
-    Ok(())
-}
-
-#[test]
-fn a_hint_that_its_owner_refuses_is_kept(rt: HostRuntime) -> Result<(), Fail> {
-    let (range, slots) = (Blank::new(1), Blank::new(1024));
-    let one = deliver_one::<Brand, Brand, HostRuntime>(&rt, rt.alloc(), range, slots, 1, true)?;
-    let (delivered, known, kept) = (0, 0, 1);
-    assert_eq!(rt;
-        one.report?,
-        DeliverReport {
-            delivered,
-            known,
-            kept
-        }
-    );
-    assert_eq!(rt; (one.told, one.pending), (0, true));
-    Ok(())
-}
-
-#[test]
-fn a_hint_of_another_node_is_a_strangers(rt: HostRuntime) -> Result<(), Fail> {
-    let (range, slots) = (Blank::new(1), Blank::new(1024));
-    let one = deliver_one::<Brand, Brand, HostRuntime>(&rt, rt.alloc(), range, slots, 2, false)?;
-    assert!(rt; matches!(&one.report, Err(Refusal::Stranger)));
-    assert_eq!(rt; (one.told, one.pending), (0, true));
-    Ok(())
-}
 
 /// Keeps the hint of a version of that key, which has a value unless it is a tombstone.
 fn keep<L: Ledger, C: Ledger, R: Wait>(
@@ -116,6 +30,103 @@ fn keep<L: Ledger, C: Ledger, R: Wait>(
     node.keep(rt, alloc, owner, key, version(alloc, (2, 1), kind, value)?)
 }
 
+/// Expects that a delivery reports these counts.
+fn expect_report(report: DeliverReport, delivered: u64, known: u64, kept: u64) -> Result<(), Fail> {
+    expect(
+        report.delivered == delivered && report.known == known && report.kept == kept,
+        "the report has the expected counts",
+    )
+}
+
+/// A delivery of one hint of `a` at node 1, whose journal takes one entry.
+#[derive(Clone, Copy)]
+struct OneHint {
+    /// The owner of the hint.
+    owner: u16,
+    /// True if the journal has its entry before.
+    full: bool,
+    /// The counts of the report, or `None` if the owner is refused as a stranger.
+    counts: Option<(u64, u64, u64)>,
+    /// The number of receipts of the delivery.
+    told: usize,
+    /// The first pending hint of the owner afterwards.
+    pending: Option<u32>,
+}
+
+impl OneHint {
+    /// Expects the result of the delivery.
+    fn expect_result(&self, ended: &Result<DeliverReport, Refusal>) -> Result<(), Fail> {
+        match (ended, self.counts) {
+            (Ok(report), Some((delivered, known, kept))) => {
+                expect_report(*report, delivered, known, kept)
+            }
+            (Err(Refusal::Stranger), None) => Ok(()),
+            _ => Err(Fail::from("the delivery has another result")),
+        }
+    }
+}
+
+impl NodeTest for OneHint {
+    fn run<L: Ledger, C: Ledger, R: Threads + Wait + Sync>(
+        &self,
+        rt: &R,
+        alloc: Global,
+        node: &mut Node<L, C>,
+    ) -> Result<(), Fail> {
+        if self.full {
+            node.replica.put(rt, alloc, b"b", 0)?;
+        }
+        let before = node.receipts();
+        keep(rt, alloc, node, self.owner, b"a", Kind::Live)?;
+        let ended = node.deliver(rt, alloc, self.owner);
+        self.expect_result(&ended)?;
+        expect(
+            node.receipts() == before.saturating_add(self.told),
+            "the pass gets a receipt if the owner takes the hint",
+        )?;
+        expect(
+            node.pending(rt, alloc, self.owner, 0)? == self.pending,
+            "the hint is pending unless the owner takes it",
+        )
+    }
+}
+
+#[test]
+fn a_hint_is_delivered_to_its_owner(rt: HostRuntime) -> Result<(), Fail> {
+    let test = OneHint {
+        owner: 1,
+        full: false,
+        counts: Some((1, 0, 0)),
+        told: 1,
+        pending: None,
+    };
+    run_node(&rt, rt.alloc(), 1, &test)
+}
+
+#[test]
+fn a_hint_that_its_owner_refuses_is_kept(rt: HostRuntime) -> Result<(), Fail> {
+    let test = OneHint {
+        owner: 1,
+        full: true,
+        counts: Some((0, 0, 1)),
+        told: 0,
+        pending: Some(1),
+    };
+    run_node(&rt, rt.alloc(), 1, &test)
+}
+
+#[test]
+fn a_hint_of_another_node_is_a_strangers(rt: HostRuntime) -> Result<(), Fail> {
+    let test = OneHint {
+        owner: 2,
+        full: false,
+        counts: None,
+        told: 0,
+        pending: Some(1),
+    };
+    run_node(&rt, rt.alloc(), 1, &test)
+}
+
 /// Keeps four hints of node 1 and one of node 2. Of the first four, the owner takes one, knows one, refuses one, since
 /// format 1 has no tombstones, and takes one.
 fn keep_five<L: Ledger, C: Ledger, R: Wait>(
@@ -123,7 +134,8 @@ fn keep_five<L: Ledger, C: Ledger, R: Wait>(
     alloc: Global,
     node: &mut Node<L, C>,
 ) -> Result<(), Refusal> {
-    node.copy(rt, alloc, b"b", version(alloc, (2, 1), Kind::Live, b"x")?)?;
+    let known = version(alloc, (2, 1), Kind::Live, b"x")?;
+    node.replica.copy(rt, alloc, b"b", known)?;
     keep(rt, alloc, node, 1, b"a", Kind::Live)?;
     keep(rt, alloc, node, 1, b"b", Kind::Live)?;
     keep(rt, alloc, node, 1, b"c", Kind::Tombstone)?;
@@ -152,45 +164,29 @@ fn expect_pending<L: Ledger, C: Ledger, R: Wait>(
     )
 }
 
-/// Expects that a delivery reports these counts.
-fn expect_report(report: DeliverReport, delivered: u64, known: u64, kept: u64) -> Result<(), Fail> {
-    let are_counted = report.delivered == delivered && report.known == known;
-    expect(are_counted && report.kept == kept, "the report")
-}
+/// A delivery of four of five hints, and then of the one that is left.
+struct FiveHints;
 
-/// Delivers four of five hints, and then the one that is left.
-fn expect_five<L: Ledger, C: Ledger, R: Wait>(
-    rt: &R,
-    alloc: Global,
-    node: &mut Node<L, C>,
-) -> Result<(), Fail> {
-    keep_five(rt, alloc, node)?;
-    expect_report(node.deliver(rt, alloc, 1)?, 2, 1, 1)?;
-    expect(
-        node.receipts() == 3,
-        "a receipt of the copy and of each hint taken",
-    )?;
-    expect_pending(rt, alloc, node)?;
-    expect_report(node.deliver(rt, alloc, 1)?, 0, 0, 1)?;
-    expect_pending(rt, alloc, node)
-}
-
-fn deliver_five<L: Ledger, C: Ledger, R: Wait>(
-    rt: &R,
-    alloc: Global,
-    blank: Blank,
-    slots: Blank,
-) -> Result<(), Fail>
-    requires range { (blank.name ≡ L.name) × (blank.parts ≡ L.parts) × (blank.parts ≡ 1) }
-    requires slots { (slots.name ≡ C.name) × (slots.parts ≡ C.parts) × (slots.parts ≡ 1024) }
-{
-    let config = RangeConfig::new(1, 0, 0, 1_000).ok_or("no such range")?;
-    let mut node = Node::<L, C>::open(alloc, blank, slots, config)?;
-    expect_five(rt, alloc, &mut node)
+impl NodeTest for FiveHints {
+    fn run<L: Ledger, C: Ledger, R: Threads + Wait + Sync>(
+        &self,
+        rt: &R,
+        alloc: Global,
+        node: &mut Node<L, C>,
+    ) -> Result<(), Fail> {
+        keep_five(rt, alloc, node)?;
+        expect_report(node.deliver(rt, alloc, 1)?, 2, 1, 1)?;
+        expect(
+            node.receipts() == 3,
+            "a receipt of the copy and of each hint taken",
+        )?;
+        expect_pending(rt, alloc, node)?;
+        expect_report(node.deliver(rt, alloc, 1)?, 0, 0, 1)?;
+        expect_pending(rt, alloc, node)
+    }
 }
 
 #[test]
 fn each_hint_of_an_owner_is_delivered(rt: HostRuntime) -> Result<(), Fail> {
-    let (range, slots) = (Blank::new(1), Blank::new(1024));
-    deliver_five::<Brand, Brand, HostRuntime>(&rt, rt.alloc(), range, slots)
+    run_node(&rt, rt.alloc(), 1_000, &FiveHints)
 }

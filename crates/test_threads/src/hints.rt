@@ -1,19 +1,18 @@
 //! Shared hints.
+
+use crate::nodes::Node;
+use crate::runs::{NodeTest, run_node};
 use hint_store::Delivery;
 use ring_node::SharedHints;
 use std::alloc::Global;
-use std::process::Abort;
 use std::sync::Wait;
+use std::sync::ledger::Ledger;
 use std::test::Fail;
+use std::thread::Threads;
+use test_core::checks::expect;
 use test_core::versions::version;
 use vclock::{Bytes, Refusal};
 use version_set::Kind;
-
-/// Keeps for node 2 the version of `a` that node 1 has counted once.
-fn keep<R: Wait>(rt: &R, alloc: Global, hints: &SharedHints) -> Result<u32, Refusal> {
-    let key = Bytes::copy_of(alloc, b"a")?;
-    hints.keep(rt, 2, key, version(alloc, (1, 1), Kind::Live, b"x")?)
-}
 
 /// Returns true if node 2's answer that it journaled the version that node 1 has counted this number of times confirms
 /// the first hint.
@@ -36,28 +35,44 @@ fn is_confirmed<R: Wait>(
     }
 }
 
-/// Returns the id of the hint that is found for an owner.
-fn next_id<R: Wait>(
-    rt: &R,
-    alloc: Global,
-    hints: &SharedHints,
-    owner: u16,
-    after: u32,
-) -> Result<Option<u32>, Refusal> {
-    Ok(hints.next(rt, alloc, owner, after)?.map(|hint| hint.id))
+/// A hint for node 2 of the version of `a` that node 1 has counted once, up to its confirmation.
+struct OneHint;
+
+impl NodeTest for OneHint {
+    fn run<L: Ledger, C: Ledger, R: Threads + Wait + Sync>(
+        &self,
+        rt: &R,
+        alloc: Global,
+        node: &mut Node<L, C>,
+    ) -> Result<(), Fail> {
+        let hint = version(alloc, (1, 1), Kind::Live, b"x")?;
+        let id = node.keep(rt, alloc, 2, b"a", hint)?;
+        let found = node.pending(rt, alloc, 2, 0)?;
+        expect(id == 1 && found == Some(1), "the first hint is pending")?;
+        let later = node.pending(rt, alloc, 2, 1)?;
+        let others = node.pending(rt, alloc, 3, 0)?;
+        expect(
+            later.is_none() && others.is_none(),
+            "no other hint is pending",
+        )?;
+        expect(
+            !is_confirmed(rt, alloc, &node.hints, 2)?,
+            "another version doesn't confirm it",
+        )?;
+        expect(
+            is_confirmed(rt, alloc, &node.hints, 1)?,
+            "its version confirms it",
+        )?;
+        expect(
+            !is_confirmed(rt, alloc, &node.hints, 1)?,
+            "it isn't confirmed twice",
+        )?;
+        let found = node.pending(rt, alloc, 2, 0)?;
+        expect(found.is_none(), "a confirmed hint isn't pending")
+    }
 }
 
 #[test]
 fn a_shared_hint_is_confirmed_once(rt: HostRuntime) -> Result<(), Fail> {
-    let alloc = rt.alloc();
-    let hints = SharedHints::new(alloc);
-    assert_eq!(rt; keep(&rt, alloc, &hints)?, 1);
-    assert_eq!(rt; next_id(&rt, alloc, &hints, 2, 0)?, Some(1));
-    assert_eq!(rt; next_id(&rt, alloc, &hints, 2, 1)?, None);
-    assert_eq!(rt; next_id(&rt, alloc, &hints, 3, 0)?, None);
-    assert!(rt; !is_confirmed(&rt, alloc, &hints, 2)?);
-    assert!(rt; is_confirmed(&rt, alloc, &hints, 1)?);
-    assert!(rt; !is_confirmed(&rt, alloc, &hints, 1)?);
-    assert_eq!(rt; next_id(&rt, alloc, &hints, 2, 0)?, None);
-    Ok(())
+    run_node(&rt, rt.alloc(), 1, &OneHint)
 }

@@ -2,22 +2,22 @@
 ghost use Rattle.std.specs.Prelude.{◌≡◌};
 
 use crate::barrier::Barrier;
-use crate::fixtures::{counted, open_range, open_slots, value};
-use crate::partners::{close, pool_of, rehash, sync};
-use crate::syncs::finished;
+use crate::calls::{migrate, put, sync};
+use crate::nodes::{Node, Replica, TURNS, all_keys};
+use crate::outcomes::finished;
+use crate::partners::{Row, pool_of};
 use caller_pass::Pass;
 use ring_node::{Link, MemoryLink, Reached, SharedController, SharedRange, Step, SyncReport};
 use std::alloc::Global;
 use std::marker::Brand;
-use std::process::Abort;
 use std::sync::Wait;
 use std::sync::ledger::{Blank, Ledger};
 use std::test::Fail;
 use std::thread;
 use std::thread::Threads;
 use sync_session::SessionState;
+use test_core::checks::expect;
 use vclock::Refusal;
-use version_set::Kind;
 
 /// A link that is held at a barrier before each ask.
 #[derive(Drop)]
@@ -53,7 +53,7 @@ fn sync_held<L: Ledger, C: Ledger, R: Wait>(
     pass: &mut Pass<L>,
 ) -> Result<SyncReport, Refusal> {
     let mut link = held;
-    sync(rt, alloc, range, slots, pass, &mut link, 600)
+    sync(rt, alloc, range, slots, pass, &mut link, TURNS)
 }
 
 /// A call that is made on a range while a sync is held.
@@ -75,13 +75,9 @@ impl Deed {
         pass: &mut Pass<L>,
     ) -> Result<Option<u64>, Refusal> {
         match self {
-            Deed::Put => {
-                let (context, x) = (counted(alloc, 0)?, value(alloc)?);
-                let receipt = range.put(rt, alloc, pass, b"b", &context, Kind::Live, x)?;
-                Ok(Some(receipt.number))
-            }
+            Deed::Put => Ok(Some(put(rt, alloc, range, pass, b"b", 0)?)),
             Deed::Migrate => {
-                range.migrate(rt, alloc)?;
+                migrate(rt, alloc, range)?;
                 Ok(None)
             }
         }
@@ -103,27 +99,33 @@ fn do_beside<L: Ledger, R: Wait>(
     done
 }
 
-/// The outcome of a sync that was held at its asks until a call was made.
-#[derive(Drop)]
-struct Passed {
-    report: Result<SyncReport, Refusal>,
-    done: Result<Option<u64>, Refusal>,
-    gave_up: bool,
+/// A sync with a partner that has `a`, held at its asks until a call is made on the range, which is clean and has no
+/// rows. The sync has the last of two passes.
+#[derive(Clone, Copy)]
+struct Interrupted {
+    /// The call.
+    deed: Deed,
+    /// The number of its entry, if it has one.
+    done: Option<u64>,
+    /// The report of the sync.
+    report: SyncReport,
+    /// The number of entries afterwards.
+    entries: u64,
 }
 
-/// Syncs a clean range with a partner that has `a`, while a call is made on the range. The sync has the last of two
-/// passes.
-fn hold_a_sync<L: Ledger + Send + Sync, C: Ledger + Send + Sync, R: Threads + Wait + Sync>(
+/// Syncs a clean replica, with the call at the first ask.
+fn sync_beside<L: Ledger + Send + Sync, C: Ledger + Send + Sync, R: Threads + Wait + Sync>(
     rt: &R,
     alloc: Global,
-    range: &SharedRange<L>,
+    replica: &mut Replica<L>,
     slots: &SharedController<C>,
-    deed: Deed,
-    passes: &mut Vec<Pass<L>>,
-) -> Result<Passed, Fail> {
+    test: Interrupted,
+) -> Result<(), Fail> {
+    let Replica { range, passes, .. } = replica;
+    let range: &SharedRange<L> = range;
     let (second, others) = passes.split_last_mut().ok_or("no pass")?;
     let first = others.first_mut().ok_or("one pass")?;
-    let pool = pool_of(rt, alloc, &[b"a".as_slice()])?;
+    let pool = pool_of(rt, alloc, &[Row::new(b"a", 1)])?;
     let barrier = Barrier::new(Step::Taken);
     let held = Held {
         link: MemoryLink::new(alloc, &pool),
@@ -132,77 +134,57 @@ fn hold_a_sync<L: Ledger + Send + Sync, C: Ledger + Send + Sync, R: Threads + Wa
     let (report, done) = thread::join(
         rt,
         || sync_held(rt, alloc, range, slots, held, second),
-        || do_beside(rt, alloc, range, &barrier, deed, first),
+        || do_beside(rt, alloc, range, &barrier, test.deed, first),
     );
-    Ok(Passed {
-        report,
-        done,
-        gave_up: barrier.gave_up(),
-    })
+    expect(!barrier.gave_up(), "the sync is held until the call ends")?;
+    expect(done? == test.done, "the call has the expected entry")?;
+    expect(report? == test.report, "the report is the expected one")
 }
 
-/// Returns the outcome of such a sync of a range without rows, and the number of entries that the range had when it was
-/// closed.
-fn do_at_a_sync<L: Ledger + Send + Sync, C: Ledger + Send + Sync, R: Threads + Wait + Sync>(
+/// Runs such a sync up to the close of its range.
+fn interrupt<L: Ledger + Send + Sync, C: Ledger + Send + Sync, R: Threads + Wait + Sync>(
     rt: &R,
     alloc: Global,
     blank: Blank,
     slots: Blank,
-    deed: Deed,
-) -> Result<(Passed, u64), Fail>
+    test: Interrupted,
+) -> Result<(), Fail>
     requires range { (blank.name ≡ L.name) × (blank.parts ≡ L.parts) × (blank.parts ≡ 2) }
     requires slots { (slots.name ≡ C.name) × (slots.parts ≡ C.parts) × (slots.parts ≡ 1024) }
 {
-    let slots = open_slots::<C>(alloc, slots)?;
-    let (range, mut passes) = open_range::<L>(alloc, blank, 2, 10)?;
-    rehash(rt, alloc, &range, &slots)?;
-    let passed = hold_a_sync(rt, alloc, &range, &slots, deed, &mut passes)?;
-    let state = close(alloc, range, passes)?;
-    Ok((passed, state.journal().len()))
-}
-
-/// Asserts that a thread was held until the call was made, and asserts the call's result and the sync's report.
-fn expect_passed(
-    rt: &impl Abort,
-    passed: Passed,
-    done: Option<u64>,
-    report: SyncReport,
-) -> Result<(), Fail> {
-    assert!(rt; !passed.gave_up);
-    assert_eq!(rt; passed.done?, done);
-    assert_eq!(rt; passed.report?, report);
-    Ok(())
+    let mut node = Node::<L, C>::open(alloc, blank, slots, 2, all_keys(10)?)?;
+    node.rehash(rt, alloc)?;
+    sync_beside(rt, alloc, &mut node.replica, &node.slots, test)?;
+    expect(
+        node.count(alloc)? == test.entries,
+        "the number of entries is the expected one",
+    )
 }
 
 #[test]
 fn a_write_passes_a_sync(rt: HostRuntime) -> Result<(), Fail> {
-    let (range, slots) = (Blank::new(2), Blank::new(1024));
-    let (passed, entries) = do_at_a_sync::<Brand, Brand, HostRuntime>(
-        &rt,
-        rt.alloc(),
-        range,
-        slots,
-        Deed::Put,
-    )?;
-    assert_eq!(rt; entries, 2);
-    expect_passed(&rt, passed, Some(0), finished(3, 1))
+    let test = Interrupted {
+        deed: Deed::Put,
+        done: Some(0),
+        report: finished(3, 1),
+        entries: 2,
+    };
+    let (blank, slots) = (Blank::new(2), Blank::new(1_024));
+    interrupt::<Brand, Brand, HostRuntime>(&rt, rt.alloc(), blank, slots, test)
 }
 
 #[test]
 fn a_sync_ends_when_its_range_is_migrated(rt: HostRuntime) -> Result<(), Fail> {
-    let (range, slots) = (Blank::new(2), Blank::new(1024));
-    let (passed, entries) = do_at_a_sync::<Brand, Brand, HostRuntime>(
-        &rt,
-        rt.alloc(),
-        range,
-        slots,
-        Deed::Migrate,
-    )?;
-    assert_eq!(rt; entries, 0);
-    let ended = SyncReport {
-        state: SessionState::Cancelled,
-        bad: 1,
-        ..finished(1, 0)
+    let test = Interrupted {
+        deed: Deed::Migrate,
+        done: None,
+        report: SyncReport {
+            state: SessionState::Cancelled,
+            bad: 1,
+            ..finished(1, 0)
+        },
+        entries: 0,
     };
-    expect_passed(&rt, passed, None, ended)
+    let (blank, slots) = (Blank::new(2), Blank::new(1_024));
+    interrupt::<Brand, Brand, HostRuntime>(&rt, rt.alloc(), blank, slots, test)
 }

@@ -7,11 +7,11 @@ mod answers;
 #[cfg(test)]
 mod barrier;
 #[cfg(test)]
+mod calls;
+#[cfg(test)]
 mod channels;
 #[cfg(test)]
 mod deliveries;
-#[cfg(test)]
-mod fixtures;
 #[cfg(test)]
 mod hints;
 #[cfg(test)]
@@ -24,6 +24,8 @@ mod locked;
 mod migrations;
 #[cfg(test)]
 mod nodes;
+#[cfg(test)]
+mod outcomes;
 #[cfg(test)]
 mod overtakes;
 #[cfg(test)]
@@ -38,6 +40,8 @@ mod ranges;
 mod rehashes;
 #[cfg(test)]
 mod relay;
+#[cfg(test)]
+mod runs;
 #[cfg(test)]
 mod slots;
 #[cfg(test)]

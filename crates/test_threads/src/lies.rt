@@ -1,50 +1,69 @@
 //! Sync workers whose links lie or fail.
-ghost use Rattle.std.specs.Prelude.{◌≡◌};
 
-use crate::partners::{Synced, expect_asked, expect_counts, expect_report, pool_of, sync_over};
+use crate::nodes::{Node, TURNS};
+use crate::outcomes::{Outcome, finished, report};
+use crate::partners::{Row, pool_of};
+use crate::runs::{NodeTest, run_node};
 use hash_tree::{NodeAt, Text, hash};
-use ring_node::{Deed, Link, MemoryLink, Reached, ScriptedLink, SyncReport};
+use range_state::RangeState;
+use ring_node::{Deed, Link, MemoryLink, Reached, ScriptedLink};
 use std::alloc::Global;
-use std::marker::Brand;
-use std::process::Abort;
 use std::sync::Wait;
-use std::sync::ledger::{Blank, Ledger};
+use std::sync::ledger::Ledger;
 use std::test::Fail;
 use std::thread::Threads;
 use sync_session::SessionState;
-use test_core::checks::expect;
 use vclock::Refusal;
 use walk_messages::{Answer, Message, Offer, decode, encode};
 
-/// Syncs an empty range with a partner that has these keys, over a link that does the deeds, in at most this number of
-/// turns.
-fn sync_by<L: Ledger, C: Ledger, R: Threads + Wait + Sync>(
-    rt: &R,
-    alloc: Global,
-    blanks: (Blank, Blank),
-    keys: &[&[u8]],
-    deeds: &[Deed],
+/// A sync of a range without rows with a partner that has these rows, over a link that does the deeds.
+#[derive(Clone, Copy)]
+struct Scripted<'a> {
+    /// The rows.
+    rows: &'a [Row<'a>],
+    /// The deeds.
+    deeds: &'a [Deed],
+    /// The maximum number of turns.
     turns: u64,
-) -> Result<Synced, Fail>
-    requires range { (blanks.0.name ≡ L.name) × (blanks.0.parts ≡ L.parts) × (blanks.0.parts ≡ 1) }
-    requires slots { (blanks.1.name ≡ C.name) × (blanks.1.parts ≡ C.parts) × (blanks.1.parts ≡ 1024) }
-{
-    let deeds = Vec::from_slice(alloc, deeds)?;
-    let pool = pool_of(rt, alloc, keys)?;
-    let mut link = ScriptedLink::new(alloc, MemoryLink::new(alloc, &pool), deeds);
-    sync_over::<L, C, ScriptedLink<MemoryLink>, R>(rt, alloc, blanks, None, &mut link, turns)
+    /// The expected outcome.
+    outcome: Outcome<'a>,
 }
 
-/// Returns the report of the first session of a range, if it knew no version.
-fn report(state: SessionState, asked: u64, accepted: u64, bad: u64) -> SyncReport {
-    SyncReport {
-        id: 0,
-        state,
-        asked,
-        accepted,
-        known: 0,
-        bad,
+impl<'a> NodeTest for Scripted<'a> {
+    fn run<L: Ledger, C: Ledger, R: Threads + Wait + Sync>(
+        &self,
+        rt: &R,
+        alloc: Global,
+        node: &mut Node<L, C>,
+    ) -> Result<(), Fail> {
+        let deeds = Vec::from_slice(alloc, self.deeds)?;
+        let pool = pool_of(rt, alloc, self.rows)?;
+        let mut link = ScriptedLink::new(alloc, MemoryLink::new(alloc, &pool), deeds);
+        self.outcome
+            .expect_sync(rt, alloc, node, &mut link, self.turns)
     }
+
+    fn check(&self, alloc: Global, state: &RangeState) -> Result<(), Fail> {
+        self.outcome.expect_state(alloc, state)
+    }
+}
+
+/// Syncs a range without rows with such a partner, over such a link.
+fn sync_by<R: Threads + Wait + Sync>(
+    rt: &R,
+    alloc: Global,
+    rows: &[Row<'_>],
+    deeds: &[Deed],
+    turns: u64,
+    outcome: Outcome<'_>,
+) -> Result<(), Fail> {
+    let test = Scripted {
+        rows,
+        deeds,
+        turns,
+        outcome,
+    };
+    run_node(rt, alloc, 1_000, &test)
 }
 
 /// A true offer, then four bad answers among the true ones to three asks. The first answer has 529 bytes.
@@ -61,12 +80,8 @@ const LIES: [Deed; 8] = [
 
 #[test]
 fn lies_are_counted_and_asked_again(rt: HostRuntime) -> Result<(), Fail> {
-    let alloc = rt.alloc();
-    let blanks = (Blank::new(1), Blank::new(1024));
-    let keys = [b"a".as_slice()];
-    let synced = sync_by::<Brand, Brand, HostRuntime>(&rt, alloc, blanks, &keys, &LIES, 7)?;
-    expect_counts(&rt, &synced, 0, 1);
-    expect_report(&rt, synced, report(SessionState::Finished, 3, 1, 4))
+    let outcome = Outcome::reported(report(SessionState::Finished, 3, 1, 4), 1);
+    sync_by(&rt, rt.alloc(), &[Row::new(b"a", 1)], &LIES, 7, outcome)
 }
 
 /// A true offer, then a forged answer, which comes twice, among true ones to three asks.
@@ -81,97 +96,65 @@ const REPEATED: [Deed; 6] = [
 
 #[test]
 fn a_repeated_lie_is_a_bad_answer(rt: HostRuntime) -> Result<(), Fail> {
-    let alloc = rt.alloc();
-    let blanks = (Blank::new(1), Blank::new(1024));
-    let keys = [b"a".as_slice()];
-    let synced = sync_by::<Brand, Brand, HostRuntime>(&rt, alloc, blanks, &keys, &REPEATED, 5)?;
-    expect(
-        synced.report? == report(SessionState::Finished, 3, 1, 2),
-        "the report",
-    )
+    let outcome = Outcome::reported(report(SessionState::Finished, 3, 1, 2), 1);
+    sync_by(&rt, rt.alloc(), &[Row::new(b"a", 1)], &REPEATED, 5, outcome)
 }
 
 #[test]
 fn a_session_is_cancelled_when_its_turns_are_used(rt: HostRuntime) -> Result<(), Fail> {
-    let alloc = rt.alloc();
-    let blanks = (Blank::new(1), Blank::new(1024));
-    let keys = [b"a".as_slice()];
-    let synced = sync_by::<Brand, Brand, HostRuntime>(&rt, alloc, blanks, &keys, &LIES, 6)?;
-    assert_eq!(rt;
-        synced.sessions.as_slice(),
-        [SessionState::Cancelled].as_slice()
-    );
-    expect_counts(&rt, &synced, 0, 0);
-    expect_report(&rt, synced, report(SessionState::Cancelled, 3, 0, 4))
+    let outcome = Outcome::reported(report(SessionState::Cancelled, 3, 0, 4), 0);
+    sync_by(&rt, rt.alloc(), &[Row::new(b"a", 1)], &LIES, 6, outcome)
 }
 
 #[test]
 fn the_node_of_the_answer_is_taken(rt: HostRuntime) -> Result<(), Fail> {
-    let alloc = rt.alloc();
-    let blanks = (Blank::new(1), Blank::new(1024));
-    let keys = [b"a".as_slice(), b"abc".as_slice()];
     let other = NodeAt::new(1, 9).ok_or("no such node")?;
+    let rows = [Row::new(b"a", 1), Row::new(b"abc", 1)];
     let deeds = [Deed::Pass, Deed::Pass, Deed::Node(other)];
-    let synced = sync_by::<Brand, Brand, HostRuntime>(&rt, alloc, blanks, &keys, &deeds, 5)?;
-    let asked = [(0, 0), (1, 0), (1, 9), (2, 144), (2, 12)];
-    expect_asked(&rt, alloc, &synced, &asked)?;
-    expect_report(&rt, synced, report(SessionState::Finished, 5, 2, 0))
+    let outcome = Outcome {
+        asked: Some(&[(0, 0), (1, 0), (1, 9), (2, 144), (2, 12)]),
+        ..Outcome::reported(finished(5, 2), 2)
+    };
+    sync_by(&rt, rt.alloc(), &rows, &deeds, 5, outcome)
 }
 
-/// Runs a sync of three asks, in which the call of this number, counted from 1, has a deed done.
-fn sync_until<L: Ledger, C: Ledger, R: Threads + Wait + Sync>(
+/// Runs four syncs, in which the deed is done in the first to the fourth call. Expects this refusal, this number of
+/// failures of the link, no entry, and a cancelled session unless the call is the first.
+fn end_each<R: Threads + Wait + Sync>(
     rt: &R,
     alloc: Global,
-    blanks: (Blank, Blank),
-    call: u64,
     deed: Deed,
-) -> Result<Synced, Fail>
-    requires range { (blanks.0.name ≡ L.name) × (blanks.0.parts ≡ L.parts) × (blanks.0.parts ≡ 1) }
-    requires slots { (blanks.1.name ≡ C.name) × (blanks.1.parts ≡ C.parts) × (blanks.1.parts ≡ 1024) }
-{
-    let mut deeds = Vec::new(alloc);
-    for _ in 1..call {
-        deeds.push(Deed::Pass)?;
+    refusal: u64,
+    failures: u64,
+) -> Result<(), Fail> {
+    let deeds = [Deed::Pass, Deed::Pass, Deed::Pass, deed];
+    for passed in 0..4_usize {
+        let session = if passed == 0 {
+            None
+        } else {
+            Some(SessionState::Cancelled)
+        };
+        let outcome = Outcome::refused(refusal, failures, session);
+        sync_by(
+            rt,
+            alloc,
+            &[Row::new(b"a", 1)],
+            &deeds[3 - passed..],
+            TURNS,
+            outcome,
+        )?;
     }
-    deeds.push(deed)?;
-    sync_by::<L, C, R>(rt, alloc, blanks, &[b"a".as_slice()], &deeds, 600)
-}
-
-/// Asserts the number of the link's failures after a call that ends a sync, and that there is no entry. There is a
-/// cancelled session unless the call was the first.
-fn expect_end(rt: &impl Abort, synced: &Synced, call: u64, failures: u64) {
-    let cancelled = [SessionState::Cancelled];
-    let sessions = if call == 1 {
-        [].as_slice()
-    } else {
-        cancelled.as_slice()
-    };
-    assert_eq!(rt; synced.sessions.as_slice(), sessions);
-    expect_counts(rt, synced, failures, 0);
+    Ok(())
 }
 
 #[test]
 fn a_lost_call_ends_the_sync(rt: HostRuntime) -> Result<(), Fail> {
-    let alloc = rt.alloc();
-    for call in 1..5 {
-        let blanks = (Blank::new(1), Blank::new(1024));
-        let synced = sync_until::<Brand, Brand, HostRuntime>(&rt, alloc, blanks, call, Deed::Lost)?;
-        assert!(rt; matches!(&synced.report, Err(Refusal::LinkLost)));
-        expect_end(&rt, &synced, call, 1);
-    }
-    Ok(())
+    end_each(&rt, rt.alloc(), Deed::Lost, Refusal::LinkLost.number(), 1)
 }
 
 #[test]
 fn a_call_that_is_gone_ends_the_sync(rt: HostRuntime) -> Result<(), Fail> {
-    let alloc = rt.alloc();
-    for call in 1..5 {
-        let blanks = (Blank::new(1), Blank::new(1024));
-        let synced = sync_until::<Brand, Brand, HostRuntime>(&rt, alloc, blanks, call, Deed::Gone)?;
-        assert!(rt; matches!(&synced.report, Err(Refusal::Gone)));
-        expect_end(&rt, &synced, call, 0);
-    }
-    Ok(())
+    end_each(&rt, rt.alloc(), Deed::Gone, Refusal::Gone.number(), 0)
 }
 
 /// A link to a partner whose text of each node is `abc`, the root's too.
@@ -233,16 +216,30 @@ impl Link for Forger {
     }
 }
 
+/// A sync with such a partner, with this outcome.
+#[derive(Clone, Copy)]
+struct Forged<'a>(Outcome<'a>);
+
+impl<'a> NodeTest for Forged<'a> {
+    fn run<L: Ledger, C: Ledger, R: Threads + Wait + Sync>(
+        &self,
+        rt: &R,
+        alloc: Global,
+        node: &mut Node<L, C>,
+    ) -> Result<(), Fail> {
+        let mut link = Forger { alloc };
+        self.0.expect_sync(rt, alloc, node, &mut link, TURNS)
+    }
+
+    fn check(&self, alloc: Global, state: &RangeState) -> Result<(), Fail> {
+        self.0.expect_state(alloc, state)
+    }
+}
+
 #[test]
 fn a_text_of_no_node_fails_the_session(rt: HostRuntime) -> Result<(), Fail> {
-    let alloc = rt.alloc();
-    let mut link = Forger { alloc };
-    let blanks = (Blank::new(1), Blank::new(1024));
-    let synced = sync_over::<Brand, Brand, Forger, HostRuntime>(
-        &rt, alloc, blanks, None, &mut link, 600,
-    )?;
-    assert_eq!(rt; synced.entries, 0);
-    expect_report(&rt, synced, report(SessionState::Failed, 1, 0, 0))
+    let test = Forged(Outcome::reported(report(SessionState::Failed, 1, 0, 0), 0));
+    run_node(&rt, rt.alloc(), 1_000, &test)
 }
 
 /// The length of a flood, in bytes.
@@ -295,20 +292,33 @@ impl<K: Link> Link for Flood<K> {
     }
 }
 
+/// A sync of three turns with such a partner, with this outcome.
+#[derive(Clone, Copy)]
+struct Flooded<'a>(Outcome<'a>);
+
+impl<'a> NodeTest for Flooded<'a> {
+    fn run<L: Ledger, C: Ledger, R: Threads + Wait + Sync>(
+        &self,
+        rt: &R,
+        alloc: Global,
+        node: &mut Node<L, C>,
+    ) -> Result<(), Fail> {
+        let pool = pool_of(rt, alloc, &[Row::new(b"a", 1)])?;
+        let mut link = Flood {
+            alloc,
+            link: MemoryLink::new(alloc, &pool),
+            asks: 0,
+        };
+        self.0.expect_sync(rt, alloc, node, &mut link, 3)
+    }
+
+    fn check(&self, alloc: Global, state: &RangeState) -> Result<(), Fail> {
+        self.0.expect_state(alloc, state)
+    }
+}
+
 #[test]
 fn floods_are_bad_answers(rt: HostRuntime) -> Result<(), Fail> {
-    let alloc = rt.alloc();
-    let pool = pool_of(&rt, alloc, &[b"a".as_slice()])?;
-    let link = MemoryLink::new(alloc, &pool);
-    let mut flood = Flood {
-        alloc,
-        link,
-        asks: 0,
-    };
-    let blanks = (Blank::new(1), Blank::new(1024));
-    let synced = sync_over::<Brand, Brand, Flood<MemoryLink>, HostRuntime>(
-        &rt, alloc, blanks, None, &mut flood, 3,
-    )?;
-    expect_counts(&rt, &synced, 0, 0);
-    expect_report(&rt, synced, report(SessionState::Cancelled, 1, 0, 3))
+    let test = Flooded(Outcome::reported(report(SessionState::Cancelled, 1, 0, 3), 0));
+    run_node(&rt, rt.alloc(), 1_000, &test)
 }

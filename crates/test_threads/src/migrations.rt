@@ -1,8 +1,8 @@
 //! Two nodes that write, rehash and sync in threads, and migrate to format 2 halfway.
 ghost use Rattle.std.specs.Prelude.{◌≡◌};
 
-use crate::fixtures::{open_range, open_slots};
-use crate::partners;
+use crate::calls::{migrate, publish, put, rehash, snapshot, sync};
+use crate::nodes::{Pair, Replica};
 use caller_pass::Pass;
 use ring_node::{MemoryLink, OfferPool, OpenGate, SharedController, SharedRange};
 use std::alloc::Global;
@@ -12,8 +12,8 @@ use std::sync::ledger::{Blank, Ledger};
 use std::test::Fail;
 use std::thread;
 use std::thread::Threads;
-use vclock::{Bytes, Clock, Format, Refusal};
-use version_set::Kind;
+use test_core::checks::expect;
+use vclock::{Format, Refusal};
 
 /// The number of puts of each node.
 const PUTS: u64 = 100;
@@ -24,23 +24,16 @@ const ROUNDS: u64 = 10;
 /// More turns than a tree of format 2 has nodes.
 const TURNS: u64 = 5_000;
 
-/// A node: its replica of the range, and its offers.
+/// A node as its threads share it: its range and its offers, those of its partner, and the slots of both.
 #[derive(Drop)]
-struct Node<L: Ledger> {
-    range: SharedRange<L>,
-    pool: OfferPool,
+struct Site<'a, L: Ledger, C: Ledger> {
+    range: &'a SharedRange<L>,
+    offers: &'a OfferPool,
+    partner: &'a OfferPool,
+    slots: &'a SharedController<C>,
 }
 
-impl<L: Ledger> Node<L> {
-    /// Opens a node whose range is empty, with the passes of its writer and of its sync worker.
-    fn open(alloc: Global, blank: Blank) -> Result<(Node<L>, Vec<Pass<L>>), Fail>
-        requires { (blank.name ≡ L.name) × (blank.parts ≡ L.parts) × (blank.parts ≡ 2) }
-    {
-        let (range, passes) = open_range::<L>(alloc, blank, 2, 1_000)?;
-        let pool = OfferPool::new(alloc);
-        Ok((Node { range, pool }, passes))
-    }
-
+impl<'a, L: Ledger, C: Ledger> Site<'a, L, C> {
     /// Puts keys, and migrates the range after half of them.
     fn write<R: Wait>(
         &self,
@@ -49,67 +42,35 @@ impl<L: Ledger> Node<L> {
         name: &str,
         pass: &mut Pass<L>,
     ) -> Result<(), Refusal> {
-        let context = Clock::from_pairs(alloc, &[])?;
         for number in 0..PUTS {
             if number == PUTS / 2 {
-                self.range.migrate(rt, alloc)?;
+                migrate(rt, alloc, self.range)?;
             }
             let key = format!(in alloc; "{name}-{number}")?;
-            let value = Bytes::copy_of(alloc, b"x")?;
-            self.range.put(rt, alloc, pass, key.as_bytes(), &context, Kind::Live, value)?;
+            put(rt, alloc, self.range, pass, key.as_bytes(), 0)?;
         }
         Ok(())
     }
 
     /// Rehashes the tree, and publishes a snapshot of it. Refused as these calls are.
-    fn publish<C: Ledger, R: Wait>(
-        &self,
-        rt: &R,
-        alloc: Global,
-        slots: &SharedController<C>,
-    ) -> Result<(), Refusal> {
-        let slot = slots.lend(rt)?;
-        let report = self
-            .range
-            .rehash_worker(rt, alloc, &slot, &OpenGate, 0, TURNS);
-        slots.give_back(rt, slot);
-        report?;
-        let snapshot = self.range.snapshot(rt, alloc)?;
-        self.pool.publish(rt, snapshot)?;
+    fn publish<R: Wait>(&self, rt: &R, alloc: Global) -> Result<(), Refusal> {
+        rehash(rt, alloc, self.range, self.slots, &OpenGate, TURNS)?;
+        publish(rt, self.offers, snapshot(rt, alloc, self.range)?)?;
         Ok(())
     }
 
-    /// Takes the versions under the newest offer of a pool. Refused as these calls are.
-    fn sync<C: Ledger, R: Wait>(
-        &self,
-        rt: &R,
-        alloc: Global,
-        slots: &SharedController<C>,
-        partner: &OfferPool,
-        pass: &mut Pass<L>,
-    ) -> Result<(), Refusal> {
-        let mut link = MemoryLink::new(alloc, partner);
-        let slot = slots.lend(rt)?;
-        let report = self
-            .range
-            .sync_worker(rt, alloc, &slot, &mut link, pass, 9, TURNS);
-        slots.give_back(rt, slot);
-        report?;
+    /// Takes the versions under the partner's newest offer. Refused as a sync worker is.
+    fn sync<R: Wait>(&self, rt: &R, alloc: Global, pass: &mut Pass<L>) -> Result<(), Refusal> {
+        let mut link = MemoryLink::new(alloc, self.partner);
+        sync(rt, alloc, self.range, self.slots, pass, &mut link, TURNS)?;
         Ok(())
     }
 
     /// Runs rounds of both, while others write.
-    fn tend<C: Ledger, R: Wait>(
-        &self,
-        rt: &R,
-        alloc: Global,
-        slots: &SharedController<C>,
-        partner: &OfferPool,
-        pass: &mut Pass<L>,
-    ) -> Result<(), Refusal> {
+    fn tend<R: Wait>(&self, rt: &R, alloc: Global, pass: &mut Pass<L>) -> Result<(), Refusal> {
         for _ in 0..ROUNDS {
-            pass_over(self.publish(rt, alloc, slots))?;
-            pass_over(self.sync(rt, alloc, slots, partner, pass))?;
+            pass_over(self.publish(rt, alloc))?;
+            pass_over(self.sync(rt, alloc, pass))?;
         }
         Ok(())
     }
@@ -124,135 +85,114 @@ fn pass_over(round: Result<(), Refusal>) -> Result<(), Refusal> {
 }
 
 /// Writes at a node, and tends its tree meanwhile. The sync worker has the last of its two passes.
-fn run_node<L: Ledger + Send + Sync, C: Ledger + Send + Sync, R: Threads + Wait + Sync>(
+fn run_site<L: Ledger + Send + Sync, C: Ledger + Send + Sync, R: Threads + Wait + Sync>(
     rt: &R,
     alloc: Global,
     name: &str,
-    node: &Node<L>,
-    partner: &OfferPool,
-    slots: &SharedController<C>,
+    site: &Site<'_, L, C>,
     passes: &mut Vec<Pass<L>>,
 ) -> Result<(), Refusal> {
     let (syncer, others) = passes.split_last_mut().ok_or(Refusal::Stranger)?;
     let writer = others.first_mut().ok_or(Refusal::Stranger)?;
     let (written, tended) = thread::join(
         rt,
-        || node.write(rt, alloc, name, writer),
-        || node.tend(rt, alloc, slots, partner, syncer),
+        || site.write(rt, alloc, name, writer),
+        || site.tend(rt, alloc, syncer),
     );
     written?;
     tended
-}
-
-/// Writes at two nodes, and tends their trees meanwhile. Each node has its passes.
-fn run_both<L, M, C, R>(
-    rt: &R,
-    alloc: Global,
-    one: (&Node<L>, &mut Vec<Pass<L>>),
-    two: (&Node<M>, &mut Vec<Pass<M>>),
-    slots: &SharedController<C>,
-) -> Result<(), Refusal>
-where
-    L: Ledger + Send + Sync,
-    M: Ledger + Send + Sync,
-    C: Ledger + Send + Sync,
-    R: Threads + Wait + Sync,
-{
-    let (node, passes) = one;
-    let (other, other_passes) = two;
-    let (pool, other_pool) = (&node.pool, &other.pool);
-    let (ran, other_ran) = thread::join(
-        rt,
-        || run_node(rt, alloc, "one", node, other_pool, slots, passes),
-        || run_node(rt, alloc, "two", other, pool, slots, other_passes),
-    );
-    ran?;
-    other_ran
-}
-
-/// Rehashes the trees of two nodes that are no longer written to, and publishes a snapshot of each.
-fn publish_both<L: Ledger, M: Ledger, C: Ledger, R: Wait>(
-    rt: &R,
-    alloc: Global,
-    one: &Node<L>,
-    two: &Node<M>,
-    slots: &SharedController<C>,
-) -> Result<(), Refusal> {
-    one.publish(rt, alloc, slots)?;
-    two.publish(rt, alloc, slots)
 }
 
 /// Syncs two nodes that are no longer written to. Returns true if their roots are equal then.
 fn bring_together<L: Ledger, M: Ledger, C: Ledger, R: Wait>(
     rt: &R,
     alloc: Global,
-    one: (&Node<L>, &mut Vec<Pass<L>>),
-    two: (&Node<M>, &mut Vec<Pass<M>>),
-    slots: &SharedController<C>,
+    one: (&Site<'_, L, C>, &mut Vec<Pass<L>>),
+    two: (&Site<'_, M, C>, &mut Vec<Pass<M>>),
 ) -> Result<bool, Refusal> {
-    let ((node, passes), (other, other_passes)) = (one, two);
+    let ((site, passes), (other, other_passes)) = (one, two);
     let syncer = passes.last_mut().ok_or(Refusal::Stranger)?;
     let other_syncer = other_passes.last_mut().ok_or(Refusal::Stranger)?;
-    publish_both(rt, alloc, node, other, slots)?;
-    node.sync(rt, alloc, slots, &other.pool, syncer)?;
-    other.sync(rt, alloc, slots, &node.pool, other_syncer)?;
-    publish_both(rt, alloc, node, other, slots)?;
-    let root = node.range.snapshot(rt, alloc)?.root();
-    Ok(root == other.range.snapshot(rt, alloc)?.root())
+    site.publish(rt, alloc)?;
+    other.publish(rt, alloc)?;
+    site.sync(rt, alloc, syncer)?;
+    other.sync(rt, alloc, other_syncer)?;
+    site.publish(rt, alloc)?;
+    other.publish(rt, alloc)?;
+    let root = snapshot(rt, alloc, site.range)?.root();
+    Ok(root == snapshot(rt, alloc, other.range)?.root())
 }
 
-/// Closes a node's range, and returns its format and the number of entries in its journal.
-fn close<L: Ledger>(
-    alloc: Global,
-    node: Node<L>,
-    passes: Vec<Pass<L>>,
-) -> Result<(Format, u64), Fail> {
-    let state = partners::close(alloc, node.range, passes)?;
-    Ok((state.config().format(), state.journal().len()))
-}
-
-/// The end of a storm: true if the roots are equal, and the format and the number of entries of each node.
-#[derive(Drop)]
-struct Ended {
-    equal: bool,
-    one: (Format, u64),
-    two: (Format, u64),
-}
-
-fn storm<L, M, C, R>(
-    rt: &R,
-    alloc: Global,
-    first: Blank,
-    second: Blank,
-    slots: Blank,
-) -> Result<Ended, Fail>
-where
+/// Writes at two nodes in threads, and syncs them. Expects that their roots are equal then.
+fn run_both<
     L: Ledger + Send + Sync,
     M: Ledger + Send + Sync,
     C: Ledger + Send + Sync,
     R: Threads + Wait + Sync,
+>(
+    rt: &R,
+    alloc: Global,
+    one: &mut Replica<L>,
+    two: &mut Replica<M>,
+    slots: &SharedController<C>,
+) -> Result<(), Fail> {
+    let Replica {
+        range,
+        passes,
+        offers,
+    } = one;
+    let (range, offers): (&SharedRange<L>, &OfferPool) = (range, offers);
+    let Replica {
+        range: other_range,
+        passes: other_passes,
+        offers: other_offers,
+    } = two;
+    let (other_range, other_offers): (&SharedRange<M>, &OfferPool) = (other_range, other_offers);
+    let site = Site {
+        range,
+        offers,
+        partner: other_offers,
+        slots,
+    };
+    let other = Site {
+        range: other_range,
+        offers: other_offers,
+        partner: offers,
+        slots,
+    };
+    let (ran, other_ran) = thread::join(
+        rt,
+        || run_site(rt, alloc, "one", &site, passes),
+        || run_site(rt, alloc, "two", &other, other_passes),
+    );
+    ran?;
+    other_ran?;
+    let is_equal = bring_together(rt, alloc, (&site, passes), (&other, other_passes))?;
+    expect(is_equal, "both nodes have the same root")
+}
+
+/// Runs a storm of puts, rehashes and syncs, with a migration of each node halfway, up to the close of both ranges.
+fn storm<
+    L: Ledger + Send + Sync,
+    M: Ledger + Send + Sync,
+    C: Ledger + Send + Sync,
+    R: Threads + Wait + Sync,
+>(rt: &R, alloc: Global, first: Blank, second: Blank, slots: Blank) -> Result<(), Fail>
     requires first { (first.name ≡ L.name) × (first.parts ≡ L.parts) × (first.parts ≡ 2) }
     requires second { (second.name ≡ M.name) × (second.parts ≡ M.parts) × (second.parts ≡ 2) }
     requires slots { (slots.name ≡ C.name) × (slots.parts ≡ C.parts) × (slots.parts ≡ 1024) }
 {
-    let slots = open_slots::<C>(alloc, slots)?;
-    let (one, mut passes) = Node::<L>::open(alloc, first)?;
-    let (two, mut others) = Node::<M>::open(alloc, second)?;
-    run_both(rt, alloc, (&one, &mut passes), (&two, &mut others), &slots)?;
-    let equal = bring_together(rt, alloc, (&one, &mut passes), (&two, &mut others), &slots)?;
-    Ok(Ended {
-        equal,
-        one: close(alloc, one, passes)?,
-        two: close(alloc, two, others)?,
-    })
+    let mut pair = Pair::<L, M, C>::open(alloc, first, second, slots)?;
+    run_both(rt, alloc, &mut pair.one, &mut pair.two, &pair.slots)?;
+    for (format, entries) in pair.close(alloc)? {
+        expect(format == Format::Two, "each node has format 2")?;
+        expect(entries == 2 * PUTS, "each node has an entry of each put")?;
+    }
+    Ok(())
 }
 
 #[test]
 fn a_storm_that_is_migrated_half_way_settles(rt: HostRuntime) -> Result<(), Fail> {
     let (first, second, slots) = (Blank::new(2), Blank::new(2), Blank::new(1_024));
-    let ended = storm::<Brand, Brand, Brand, HostRuntime>(&rt, rt.alloc(), first, second, slots)?;
-    assert!(rt; ended.equal);
-    assert_eq!(rt; ended.one, (Format::Two, 2 * PUTS));
-    assert_eq!(rt; ended.two, (Format::Two, 2 * PUTS));
-    Ok(())
+    storm::<Brand, Brand, Brand, HostRuntime>(&rt, rt.alloc(), first, second, slots)
 }

@@ -1,12 +1,12 @@
 //! Whole rehashes and syncs, with a put answered at each of their points.
 ghost use Rattle.std.specs.Prelude.{◌≡◌};
 
-use crate::fixtures::{counted, open_range, open_slots, value};
-use crate::partners::{close, pool_of, rehash, sync};
+use crate::calls::{put, rehash, snapshot, sync};
+use crate::nodes::{Node, Replica, TURNS, all_keys};
+use crate::outcomes::finished;
+use crate::partners::{Row, pool_of};
 use crate::relay::Relay;
-use crate::syncs::finished;
 use caller_pass::Pass;
-use range_state::Receipt;
 use ring_node::{
     Link, MemoryLink, Reached, RehashReport, SharedController, SharedRange, SyncReport,
 };
@@ -19,7 +19,6 @@ use std::thread;
 use std::thread::Threads;
 use test_core::checks::expect;
 use vclock::Refusal;
-use version_set::Kind;
 
 /// A bound on points, over those of any worker here.
 const MOST_POINTS: u64 = 10_000;
@@ -28,22 +27,10 @@ const MOST_POINTS: u64 = 10_000;
 const ENTRIES: u64 = 100;
 
 /// Enough turns for a rehash that so many puts disturb.
-const TURNS: u64 = 900;
+const REHASH_TURNS: u64 = 900;
 
-/// Puts a key with an empty context.
-fn put<L: Ledger, R: Wait>(
-    rt: &R,
-    alloc: Global,
-    range: &SharedRange<L>,
-    pass: &mut Pass<L>,
-    key: &[u8],
-) -> Result<Receipt, Refusal> {
-    let (context, x) = (counted(alloc, 0)?, value(alloc)?);
-    range.put(rt, alloc, pass, key, &context, Kind::Live, x)
-}
-
-/// Puts `d` at the first point, and a new key at each later one, and takes a snapshot. Both may be refused, and are answered
-/// all the same. Neither may change a session.
+/// Puts `d` at the first point, and a new key at each later one, and takes a snapshot. Both may be refused, and are
+/// answered all the same. Neither may change a session.
 fn call_at<L: Ledger, R: Wait>(
     rt: &R,
     alloc: Global,
@@ -57,8 +44,8 @@ fn call_at<L: Ledger, R: Wait>(
     } else {
         name.as_slice()
     };
-    let _ = put(rt, alloc, range, pass, key);
-    let _ = range.snapshot(rt, alloc);
+    let _ = put(rt, alloc, range, pass, key, 0);
+    let _ = snapshot(rt, alloc, range);
 }
 
 /// Makes these calls at each point of a worker, and returns how many points it had.
@@ -89,30 +76,9 @@ fn rehash_held<L: Ledger, C: Ledger, R: Wait>(
     slots: &SharedController<C>,
     relay: &Relay,
 ) -> Result<RehashReport, Refusal> {
-    let slot = slots.lend(rt)?;
-    let report = range.rehash_worker(rt, alloc, &slot, relay, 0, TURNS);
-    slots.give_back(rt, slot);
+    let report = rehash(rt, alloc, range, slots, relay, REHASH_TURNS);
     relay.end();
     report
-}
-
-/// Rehashes a range with a put at each step. Returns the report and the number of points.
-fn rehash_with_puts<L: Ledger + Send + Sync, C: Ledger + Send + Sync, R: Threads + Wait + Sync>(
-    rt: &R,
-    alloc: Global,
-    range: &SharedRange<L>,
-    slots: &SharedController<C>,
-    passes: &mut Vec<Pass<L>>,
-) -> Result<(RehashReport, u64), Fail> {
-    let pass = passes.first_mut().ok_or("no pass")?;
-    let relay = Relay::new();
-    let (report, points) = thread::join(
-        rt,
-        || rehash_held(rt, alloc, range, slots, &relay),
-        || call_at_each(rt, alloc, range, pass, &relay),
-    );
-    expect(!relay.gave_up(), "a put is answered at each step")?;
-    Ok((report?, points))
 }
 
 /// Expects that a rehash hashed the whole tree, each node between two points.
@@ -126,6 +92,27 @@ fn expect_rehashed(report: RehashReport, points: u64) -> Result<(), Fail> {
     )
 }
 
+/// Rehashes a replica with a put at each step.
+fn rehash_with_puts<L: Ledger + Send + Sync, C: Ledger + Send + Sync, R: Threads + Wait + Sync>(
+    rt: &R,
+    alloc: Global,
+    replica: &mut Replica<L>,
+    slots: &SharedController<C>,
+) -> Result<(), Fail> {
+    let Replica { range, passes, .. } = replica;
+    let range: &SharedRange<L> = range;
+    let pass = passes.first_mut().ok_or("no pass")?;
+    let relay = Relay::new();
+    let (report, points) = thread::join(
+        rt,
+        || rehash_held(rt, alloc, range, slots, &relay),
+        || call_at_each(rt, alloc, range, pass, &relay),
+    );
+    expect(!relay.gave_up(), "a put is answered at each step")?;
+    expect_rehashed(report?, points)
+}
+
+/// Rehashes a node with puts up to the close of its range.
 fn rehash_all<L: Ledger + Send + Sync, C: Ledger + Send + Sync, R: Threads + Wait + Sync>(
     rt: &R,
     alloc: Global,
@@ -135,21 +122,18 @@ fn rehash_all<L: Ledger + Send + Sync, C: Ledger + Send + Sync, R: Threads + Wai
     requires range { (blank.name ≡ L.name) × (blank.parts ≡ L.parts) × (blank.parts ≡ 1) }
     requires slots { (slots.name ≡ C.name) × (slots.parts ≡ C.parts) × (slots.parts ≡ 1024) }
 {
-    let slots = open_slots::<C>(alloc, slots)?;
-    let (range, mut passes) = open_range::<L>(alloc, blank, 1, ENTRIES)?;
-    let (report, points) = rehash_with_puts(rt, alloc, &range, &slots, &mut passes)?;
-    let state = close(alloc, range, passes)?;
+    let mut node = Node::<L, C>::open(alloc, blank, slots, 1, all_keys(ENTRIES)?)?;
+    rehash_with_puts(rt, alloc, &mut node.replica, &node.slots)?;
     expect(
-        state.journal().len() == ENTRIES,
+        node.count(alloc)? == ENTRIES,
         "puts are accepted until the journal is full",
-    )?;
-    expect_rehashed(report, points)
+    )
 }
 
 #[test]
 fn a_write_passes_a_whole_rehash(rt: HostRuntime) -> Result<(), Fail> {
-    let (range, slots) = (Blank::new(1), Blank::new(1024));
-    rehash_all::<Brand, Brand, HostRuntime>(&rt, rt.alloc(), range, slots)
+    let (blank, slots) = (Blank::new(1), Blank::new(1_024));
+    rehash_all::<Brand, Brand, HostRuntime>(&rt, rt.alloc(), blank, slots)
 }
 
 /// A link that is held before its offer and before each ask.
@@ -188,31 +172,30 @@ fn sync_held<L: Ledger, C: Ledger, R: Wait>(
     relay: &Relay,
 ) -> Result<SyncReport, Refusal> {
     let mut link = held;
-    let report = sync(rt, alloc, range, slots, pass, &mut link, 600);
+    let report = sync(rt, alloc, range, slots, pass, &mut link, TURNS);
     relay.end();
     report
 }
 
-/// Syncs a range with a put at the offer and at each ask. Returns the report and the number of points. The partner has `d` as
-/// the range does, and `a`, `b` and `c` in three more leaves. The sync has the last of two passes.
+/// Syncs a replica with a put at the offer and at each ask. The partner has `d` as the replica does, and `a`, `b` and
+/// `c` in three more leaves. The sync has the last of two passes.
 fn sync_with_puts<L: Ledger + Send + Sync, C: Ledger + Send + Sync, R: Threads + Wait + Sync>(
     rt: &R,
     alloc: Global,
-    range: &SharedRange<L>,
+    replica: &mut Replica<L>,
     slots: &SharedController<C>,
-    passes: &mut Vec<Pass<L>>,
-) -> Result<(SyncReport, u64), Fail> {
+) -> Result<(), Fail> {
+    let Replica { range, passes, .. } = replica;
+    let range: &SharedRange<L> = range;
     let (second, others) = passes.split_last_mut().ok_or("no pass")?;
     let first = others.first_mut().ok_or("one pass")?;
-    put(rt, alloc, range, first, b"d")?;
-    rehash(rt, alloc, range, slots)?;
-    let keys = [
-        b"a".as_slice(),
-        b"b".as_slice(),
-        b"c".as_slice(),
-        b"d".as_slice(),
+    let rows = [
+        Row::new(b"a", 1),
+        Row::new(b"b", 1),
+        Row::new(b"c", 1),
+        Row::new(b"d", 1),
     ];
-    let pool = pool_of(rt, alloc, &keys)?;
+    let pool = pool_of(rt, alloc, &rows)?;
     let relay = Relay::new();
     let held = Held {
         link: MemoryLink::new(alloc, &pool),
@@ -224,9 +207,11 @@ fn sync_with_puts<L: Ledger + Send + Sync, C: Ledger + Send + Sync, R: Threads +
         || call_at_each(rt, alloc, range, first, &relay),
     );
     expect(!relay.gave_up(), "a put is answered at each call")?;
-    Ok((report?, points))
+    expect(points == 8, "an offer and seven asks")?;
+    expect(report? == finished(7, 3), "three versions are accepted")
 }
 
+/// Syncs a node with puts up to the close of its range.
 fn sync_all<L: Ledger + Send + Sync, C: Ledger + Send + Sync, R: Threads + Wait + Sync>(
     rt: &R,
     alloc: Global,
@@ -236,18 +221,18 @@ fn sync_all<L: Ledger + Send + Sync, C: Ledger + Send + Sync, R: Threads + Wait 
     requires range { (blank.name ≡ L.name) × (blank.parts ≡ L.parts) × (blank.parts ≡ 2) }
     requires slots { (slots.name ≡ C.name) × (slots.parts ≡ C.parts) × (slots.parts ≡ 1024) }
 {
-    let slots = open_slots::<C>(alloc, slots)?;
-    let (range, mut passes) = open_range::<L>(alloc, blank, 2, 1_000)?;
-    let (report, points) = sync_with_puts(rt, alloc, &range, &slots, &mut passes)?;
-    let state = close(alloc, range, passes)?;
-    expect(points == 8, "an offer and seven asks")?;
-    expect(report == finished(7, 3), "the report")?;
-    // (`d`, seven puts, and three rows of the partner)
-    expect(state.journal().len() == 11, "the entries")
+    let mut node = Node::<L, C>::open(alloc, blank, slots, 2, all_keys(1_000)?)?;
+    node.replica.put(rt, alloc, b"d", 0)?;
+    node.rehash(rt, alloc)?;
+    sync_with_puts(rt, alloc, &mut node.replica, &node.slots)?;
+    expect(
+        node.count(alloc)? == 11,
+        "entries of `d`, of seven puts and of three rows of the partner",
+    )
 }
 
 #[test]
 fn a_write_passes_a_whole_sync(rt: HostRuntime) -> Result<(), Fail> {
-    let (range, slots) = (Blank::new(2), Blank::new(1024));
-    sync_all::<Brand, Brand, HostRuntime>(&rt, rt.alloc(), range, slots)
+    let (blank, slots) = (Blank::new(2), Blank::new(1_024));
+    sync_all::<Brand, Brand, HostRuntime>(&rt, rt.alloc(), blank, slots)
 }

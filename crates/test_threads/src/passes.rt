@@ -1,52 +1,50 @@
 //! Passes, from their opening to the close of their range.
-ghost use Rattle.std.specs.Prelude.{◌≡◌};
+ghost use Rattle.std.specs.Prelude.{◌≡◌, IsTrue};
+ghost use Rattle.range_state.specs.State.{is_sent};
 
-use crate::locked::range;
+use crate::locked::Locked;
 use caller_pass::{Book, LockedRange, Pass, Unclosed, open_passes};
 use range_journal::Source;
 use range_state::Accepted;
 use std::alloc::Global;
 use std::marker::Brand;
-use std::process::Abort;
 use std::sync::ledger::{Blank, Ledger};
 use std::test::Fail;
 use std::thread::Threads;
+use test_core::checks::expect;
 use test_core::versions::version;
 use vclock::{Bytes, Clock, Refusal};
 use version_set::Kind;
 
-/// Asserts that a book absorbs its two passes, whose seats are 0 and 1.
-fn expect_absorbed<L: Ledger>(
-    rt: &impl Abort,
-    book: &mut Book<L>,
-    passes: &mut Vec<Pass<L>>,
-) -> Result<(), Fail> {
+/// Expects that a book absorbs its two passes, whose seats are 0 and 1.
+fn expect_absorbed<L: Ledger>(book: &mut Book<L>, passes: &mut Vec<Pass<L>>) -> Result<(), Fail> {
     let one = passes.pop().ok_or("no pass")?;
     let zero = passes.pop().ok_or("one pass")?;
-    assert!(rt; passes.is_empty());
-    assert_eq!(rt; (zero.seat(), one.seat()), (0, 1));
+    expect(
+        passes.is_empty() && zero.seat() == 0 && one.seat() == 1,
+        "each seat has a pass",
+    )?;
     book.absorb(zero).ok().ok_or("no room")?;
     book.absorb(one).ok().ok_or("no room")?;
-    assert_eq!(rt; book.seats(), 2);
-    Ok(())
+    expect(book.seats() == 2, "the book has two seats")
 }
 
 /// Opens two passes, and absorbs both.
-fn absorb_two<L: Ledger>(rt: &impl Abort, alloc: Global, blank: Blank) -> Result<(), Fail>
+fn absorb_two<L: Ledger>(alloc: Global, blank: Blank) -> Result<(), Fail>
     requires name { blank.name ≡ L.name }
     requires parts { (blank.parts ≡ L.parts) × (L.parts ≡ 2) }
 {
     let (mut book, mut passes) = open_passes::<L>(blank, alloc, 2)?;
-    expect_absorbed(rt, &mut book, &mut passes)
+    expect_absorbed(&mut book, &mut passes)
 }
 
 #[test]
 fn a_book_absorbs_its_passes(rt: HostRuntime) -> Result<(), Fail> {
-    absorb_two::<Brand>(&rt, rt.alloc(), Blank::new(2))
+    absorb_two::<Brand>(rt.alloc(), Blank::new(2))
 }
 
 /// Opens two passes, takes both back, and settles.
-fn settle_two<L: Ledger>(rt: &impl Abort, alloc: Global, blank: Blank) -> Result<(), Fail>
+fn settle_two<L: Ledger>(alloc: Global, blank: Blank) -> Result<(), Fail>
     requires name { blank.name ≡ L.name }
     requires parts { (blank.parts ≡ L.parts) × (L.parts ≡ 2) }
 {
@@ -60,16 +58,15 @@ fn settle_two<L: Ledger>(rt: &impl Abort, alloc: Global, blank: Blank) -> Result
         return Err(Fail::from("no room"));
     };
     book.settle();
-    assert_eq!(rt; book.seats(), 2);
-    Ok(())
+    expect(book.seats() == 2, "the book has two seats")
 }
 
 #[test]
 fn a_book_settles(rt: HostRuntime) -> Result<(), Fail> {
-    settle_two::<Brand>(&rt, rt.alloc(), Blank::new(2))
+    settle_two::<Brand>(rt.alloc(), Blank::new(2))
 }
 
-/// Puts `x` under `a` at node 1, with an empty context.
+/// Puts `x` under `a` at node 1, with an empty context. Returns the number of the entry.
 fn put<L: Ledger>(
     alloc: Global,
     range: &mut LockedRange<L>,
@@ -83,97 +80,105 @@ fn put<L: Ledger>(
 
 /// Puts a value at seat 1 and reads it.
 fn write<L: Ledger>(
-    rt: &impl Abort,
     alloc: Global,
     range: &mut LockedRange<L>,
     one: &mut Pass<L>,
 ) -> Result<(), Fail> {
-    assert_eq!(rt; put(alloc, range, one)?, 0);
+    expect(put(alloc, range, one)? == 0, "the put has the first entry")?;
     let held = range.get(alloc, one, b"a")?;
-    assert_eq!(rt; held.len(), 1);
-    assert_eq!(rt;
-        (one.seen(), one.receipts().len(), one.readings().len()),
-        (1, 1, 1)
-    );
-    Ok(())
+    expect(held.len() == 1, "one version is held")?;
+    expect(
+        one.seen() == 1 && one.receipts().len() == 1 && one.readings().len() == 1,
+        "the pass has a receipt and a reading",
+    )
+}
+
+/// Accepts a version of `a` at a seat, and returns whether it was new.
+fn accept<L: Ledger>(
+    alloc: Global,
+    range: &mut LockedRange<L>,
+    pass: &mut Pass<L>,
+    source: Source,
+    pair: (u64, u64),
+    value: &[u8],
+) -> Result<bool, Refusal>
+    requires { IsTrue (is_sent source) }
+{
+    let version = version(alloc, pair, Kind::Live, value)?;
+    match range.accept(alloc, pass, source, b"a", version)? {
+        Accepted::Taken(_) => Ok(true),
+        Accepted::Known => Ok(false),
+    }
 }
 
 /// Accepts at seat 0 a copy of seat 1's version, which is known, and another version, which is new.
 fn copy<L: Ledger>(
-    rt: &impl Abort,
     alloc: Global,
     range: &mut LockedRange<L>,
     zero: &mut Pass<L>,
 ) -> Result<(), Fail> {
-    let same = version(alloc, (1, 1), Kind::Live, b"x")?;
-    let known = range.accept(alloc, zero, Source::Copy, b"a", same)?;
-    assert!(rt; matches!(&known, Accepted::Known));
-    assert_eq!(rt; (zero.seen(), zero.receipts().len()), (0, 0));
-    let other = version(alloc, (2, 1), Kind::Live, b"y")?;
-    let taken = range.accept(alloc, zero, Source::Hint, b"a", other)?;
-    assert!(rt; matches!(&taken, Accepted::Taken(_)));
-    assert_eq!(rt; (zero.seen(), zero.receipts().len()), (2, 1));
-    Ok(())
-}
-
-/// Closes a range with its pass of seat 1 alone. Asserts that this is refused, and hands both back.
-fn close_with_one<L: Ledger>(
-    rt: &impl Abort,
-    alloc: Global,
-    range: LockedRange<L>,
-    one: Pass<L>,
-) -> Result<(LockedRange<L>, Vec<Pass<L>>), Fail> {
-    let mut passes = Vec::new(alloc);
-    passes.push(one)?;
-    let unclosed = range.close(alloc, passes).err().ok_or("closed")?;
-    assert!(rt; matches!(&unclosed.refusal, Refusal::Stranger));
-    let Unclosed {
-        range,
-        passes,
-        refusal: _,
-    } = unclosed;
-    assert_eq!(rt; passes.len(), 1);
-    Ok((range, passes))
-}
-
-/// Closes a range of two entries with both of its passes.
-fn close_with_both<L: Ledger>(
-    rt: &impl Abort,
-    alloc: Global,
-    range: LockedRange<L>,
-    passes: Vec<Pass<L>>,
-) -> Result<(), Fail> {
-    let closed = range.close(alloc, passes).ok().ok_or("not closed")?;
-    assert_eq!(rt; (closed.state.journal().len(), closed.passes.len()), (2, 2));
-    Ok(())
+    let is_new = accept(alloc, range, zero, Source::Copy, (1, 1), b"x")?;
+    expect(!is_new, "the copy is known")?;
+    expect(
+        zero.seen() == 0 && zero.receipts().is_empty(),
+        "a known copy has no receipt",
+    )?;
+    let is_new = accept(alloc, range, zero, Source::Hint, (2, 1), b"y")?;
+    expect(is_new, "the hint is new")?;
+    expect(
+        zero.seen() == 2 && zero.receipts().len() == 1,
+        "the hint has a receipt",
+    )
 }
 
 /// Writes at seat 1, and accepts versions at seat 0.
-fn tell<L: Ledger>(
-    rt: &impl Abort,
-    alloc: Global,
-    range: &mut LockedRange<L>,
-    one: &mut Pass<L>,
-    zero: &mut Pass<L>,
-) -> Result<(), Fail> {
-    write(rt, alloc, range, one)?;
-    copy(rt, alloc, range, zero)
+fn tell<L: Ledger>(alloc: Global, locked: &mut Locked<L>) -> Result<(), Fail> {
+    let Locked { range, one, zero } = locked;
+    write(alloc, range, one)?;
+    copy(alloc, range, zero)
+}
+
+/// Expects that a range isn't closed with its pass of seat 1 alone, and returns it with both passes.
+fn close_with_one<L: Ledger>(alloc: Global, locked: Locked<L>) -> Result<Locked<L>, Fail> {
+    let (range, one, zero) = locked.into_parts();
+    let mut passes = Vec::new(alloc);
+    passes.push(one)?;
+    let Unclosed {
+        range,
+        mut passes,
+        refusal,
+    } = range.close(alloc, passes).err().ok_or("closed")?;
+    let is_stranger = matches!(&refusal, Refusal::Stranger);
+    let one = passes.pop().ok_or("no pass")?;
+    expect(
+        is_stranger && passes.is_empty(),
+        "it is refused as Stranger, with the pass",
+    )?;
+    Ok(Locked { range, one, zero })
+}
+
+/// Closes a range of two entries with both of its passes.
+fn close_with_both<L: Ledger>(alloc: Global, locked: Locked<L>) -> Result<(), Fail> {
+    let (range, one, zero) = locked.into_parts();
+    let mut passes = Vec::new(alloc);
+    passes.push(one)?;
+    passes.push(zero)?;
+    let closed = range.close(alloc, passes).ok().ok_or("not closed")?;
+    expect(
+        closed.state.journal().len() == 2 && closed.passes.len() == 2,
+        "two entries and both passes are returned",
+    )
 }
 
 /// Opens a range with two passes, and calls it with both up to the close.
-fn tell_two<L: Ledger>(
-    rt: &(impl Abort + Threads + Sync),
-    alloc: Global,
-    blank: Blank,
-) -> Result<(), Fail>
+fn tell_two<L: Ledger>(rt: &(impl Threads + Sync), alloc: Global, blank: Blank) -> Result<(), Fail>
     requires name { blank.name ≡ L.name }
     requires parts { (blank.parts ≡ L.parts) × (L.parts ≡ 2) }
 {
-    let (mut range, mut one, mut zero) = range::<L>(rt, alloc, blank)?;
-    tell(rt, alloc, &mut range, &mut one, &mut zero)?;
-    let (range, mut passes) = close_with_one(rt, alloc, range, one)?;
-    passes.push(zero)?;
-    close_with_both(rt, alloc, range, passes)
+    let mut locked = Locked::<L>::open(rt, alloc, blank)?;
+    tell(alloc, &mut locked)?;
+    let locked = close_with_one(alloc, locked)?;
+    close_with_both(alloc, locked)
 }
 
 #[test]

@@ -1,87 +1,107 @@
 //! Pools of offers.
 
+use crate::calls::publish;
+use crate::nodes::Node;
 use crate::partners::snapshot_of;
+use crate::runs::{NodeTest, run_node};
 use hash_tree::NodeAt;
 use ring_node::OfferPool;
 use snapshot::Snapshot;
 use std::alloc::Global;
-use std::process::Abort;
+use std::sync::ledger::Ledger;
 use std::sync::{Arc, Wait};
 use std::test::Fail;
+use std::thread::Threads;
+use test_core::checks::expect;
 use test_core::refusals::is_refused;
 use vclock::Refusal;
 use walk_messages::Ask;
 
-/// Returns the text that a pool serves for the first leaf of an offer.
-fn leaf_of<R: Wait>(
+/// Returns the text that a pool serves for an ask.
+fn text_of<R: Wait>(rt: &R, alloc: Global, pool: &OfferPool, ask: Ask) -> Result<Vec<u8>, Refusal> {
+    let answer = pool.serve(rt, alloc, ask)?;
+    Ok(Vec::from_slice(alloc, answer.text.as_slice())?)
+}
+
+/// Expects that a pool serves the first leaf of an offer, which has no rows.
+fn expect_leaf<R: Wait>(rt: &R, alloc: Global, pool: &OfferPool, offer: u32) -> Result<(), Fail> {
+    let node = NodeAt::new(2, 0).ok_or("no such node")?;
+    let text = text_of(rt, alloc, pool, Ask { offer, node })?;
+    expect(
+        text.as_slice() == b"\x00".as_slice(),
+        "the leaf has no rows",
+    )
+}
+
+/// Expects that a pool refuses to serve the first node of an offer at this depth.
+fn expect_refused<R: Wait>(
     rt: &R,
     alloc: Global,
     pool: &OfferPool,
     offer: u32,
-) -> Result<Vec<u8>, Refusal> {
-    let node = NodeAt::new(2, 0).ok_or(Refusal::BadMessage)?;
-    let answer = pool.serve(rt, alloc, Ask { offer, node })?;
-    Ok(Vec::from_slice(alloc, answer.text.as_slice())?)
+    depth: u8,
+    refusal: Refusal,
+) -> Result<(), Fail> {
+    let node = NodeAt::new(depth, 0).ok_or("no such node")?;
+    let text = text_of(rt, alloc, pool, Ask { offer, node });
+    expect(is_refused(text, refusal), "the ask is refused")
 }
 
-/// Asserts that a pool serves its first offer, and no other one.
-fn expect_first<R: Abort + Wait>(
+/// Expects that a pool serves its first offer, down to its leaves, and no other one.
+fn expect_first<R: Wait>(
     rt: &R,
     alloc: Global,
-    pool: &OfferPool,
-    snapshot: Arc<Snapshot, Global>,
-) -> Result<(), Fail> {
-    let offer = pool.publish(rt, snapshot)?;
-    assert_eq!(rt; (offer.offer, offer.format, offer.range), (1, 1, 0));
-    assert_eq!(rt; leaf_of(rt, alloc, pool, 1)?.as_slice(), b"\x00".as_slice());
-    assert!(rt; is_refused(leaf_of(rt, alloc, pool, 9), Refusal::Gone));
-    Ok(())
-}
-
-/// Asserts that a pool serves no node below the leaves of its first offer's tree.
-fn expect_no_deeper<R: Abort + Wait>(rt: &R, alloc: Global, pool: &OfferPool) -> Result<(), Fail> {
-    let node = NodeAt::new(3, 0).ok_or("no such node")?;
-    let refused = pool.serve(rt, alloc, Ask { offer: 1, node });
-    assert!(rt; is_refused(refused, Refusal::BadMessage));
-    Ok(())
-}
-
-/// Publishes a snapshot this number of times.
-fn publish<R: Wait>(
-    rt: &R,
     pool: &OfferPool,
     snapshot: &Arc<Snapshot, Global>,
-    count: u64,
-) -> Result<(), Refusal> {
-    for _ in 0..count {
-        pool.publish(rt, Arc::try_clone(snapshot)?)?;
-    }
-    Ok(())
+) -> Result<(), Fail> {
+    expect(pool.latest(rt).is_none(), "there is no offer yet")?;
+    let offer = publish(rt, pool, Arc::try_clone(snapshot)?)?;
+    expect(
+        offer.offer == 1 && offer.format == 1 && offer.range == 0,
+        "the first offer is of the range",
+    )?;
+    expect_leaf(rt, alloc, pool, 1)?;
+    expect_refused(rt, alloc, pool, 9, 2, Refusal::Gone)?;
+    expect_refused(rt, alloc, pool, 1, 3, Refusal::BadMessage)
 }
 
-/// Asserts that a pool of 16 offers drops the first when another one is published.
-fn expect_dropped<R: Abort + Wait>(
+/// Expects that a pool of 16 offers drops the first when another one is published.
+fn expect_dropped<R: Wait>(
     rt: &R,
     alloc: Global,
     pool: &OfferPool,
-    snapshot: Arc<Snapshot, Global>,
+    snapshot: &Arc<Snapshot, Global>,
 ) -> Result<(), Fail> {
-    assert_eq!(rt; pool.publish(rt, snapshot)?.offer, 17);
-    assert!(rt; is_refused(leaf_of(rt, alloc, pool, 1), Refusal::Gone));
-    assert_eq!(rt; leaf_of(rt, alloc, pool, 2)?.len(), 1);
-    assert!(rt; matches!(pool.latest(rt), Some(newest) if newest.offer == 17));
-    Ok(())
+    for _ in 0..15 {
+        publish(rt, pool, Arc::try_clone(snapshot)?)?;
+    }
+    expect_leaf(rt, alloc, pool, 1)?;
+    let offer = publish(rt, pool, Arc::try_clone(snapshot)?)?;
+    expect(offer.offer == 17, "offers are numbered in order")?;
+    expect_refused(rt, alloc, pool, 1, 2, Refusal::Gone)?;
+    expect_leaf(rt, alloc, pool, 2)?;
+    let newest = pool.latest(rt).ok_or("no offer")?;
+    expect(newest.offer == 17, "the newest offer is the last one")
+}
+
+/// Seventeen offers of one pool.
+struct Seventeen;
+
+impl NodeTest for Seventeen {
+    fn run<L: Ledger, C: Ledger, R: Threads + Wait + Sync>(
+        &self,
+        rt: &R,
+        alloc: Global,
+        node: &mut Node<L, C>,
+    ) -> Result<(), Fail> {
+        let snapshot = snapshot_of(rt, alloc, &[])?;
+        let pool = &node.replica.offers;
+        expect_first(rt, alloc, pool, &snapshot)?;
+        expect_dropped(rt, alloc, pool, &snapshot)
+    }
 }
 
 #[test]
 fn the_seventeenth_offer_drops_the_first(rt: HostRuntime) -> Result<(), Fail> {
-    let alloc = rt.alloc();
-    let snapshot = snapshot_of(&rt, alloc, &[], (1, 1), b"x")?;
-    let pool = OfferPool::new(alloc);
-    assert!(rt; pool.latest(&rt).is_none());
-    expect_first(&rt, alloc, &pool, Arc::try_clone(&snapshot)?)?;
-    expect_no_deeper(&rt, alloc, &pool)?;
-    publish(&rt, &pool, &snapshot, 15)?;
-    assert_eq!(rt; leaf_of(&rt, alloc, &pool, 1)?.len(), 1);
-    expect_dropped(&rt, alloc, &pool, snapshot)
+    run_node(&rt, rt.alloc(), 1, &Seventeen)
 }

@@ -1,20 +1,47 @@
 //! Calls of a shared range, in one thread.
 ghost use Rattle.std.specs.Prelude.{◌≡◌};
 
-use crate::fixtures::{counted, last_pass, open_range, value};
+use crate::calls::{copy, get, put};
+use crate::nodes::{Replica, all_keys};
 use caller_pass::Pass;
-use range_journal::Source;
-use range_state::Accepted;
 use ring_node::{NotClosed, SharedRange};
 use std::alloc::Global;
 use std::marker::Brand;
-use std::process::Abort;
 use std::sync::Wait;
 use std::sync::ledger::{Blank, Ledger};
 use std::test::Fail;
+use test_core::checks::expect;
 use test_core::versions::{members, version};
 use vclock::Refusal;
 use version_set::Kind;
+
+/// Puts and reads `a` at the first seat.
+fn write<L: Ledger, R: Wait>(
+    rt: &R,
+    alloc: Global,
+    range: &SharedRange<L>,
+    first: &mut Pass<L>,
+) -> Result<(), Fail> {
+    expect(
+        put(rt, alloc, range, first, b"a", 0)? == 0,
+        "the put has the first entry",
+    )?;
+    let versions = get(rt, alloc, range, first, b"a")?;
+    let held = members(alloc, &versions)?;
+    expect(
+        held.as_str() == "[(1, 1)] Live [120]\n",
+        "the version is held",
+    )?;
+    expect(
+        first.receipts().len() == 1 && first.readings().len() == 1,
+        "the pass has a receipt and a reading",
+    )?;
+    let receipt = first.receipts().first().ok_or("no receipt")?;
+    expect(
+        receipt.number == 0 && receipt.seat == 0,
+        "the receipt is of the first entry and seat",
+    )
+}
 
 /// Accepts a copy of `a`, and returns its number, or `None` if it is known.
 fn copy_of_a<L: Ledger, R: Wait>(
@@ -24,41 +51,34 @@ fn copy_of_a<L: Ledger, R: Wait>(
     pass: &mut Pass<L>,
     pair: (u64, u64),
 ) -> Result<Option<u64>, Refusal> {
-    let copy = version(alloc, pair, Kind::Live, b"x")?;
-    match range.copy(rt, alloc, pass, Source::Copy, b"a", copy)? {
-        Accepted::Taken(receipt) => Ok(Some(receipt.number)),
-        Accepted::Known => Ok(None),
-    }
+    let version = version(alloc, pair, Kind::Live, b"x")?;
+    copy(rt, alloc, range, pass, b"a", version)
 }
 
-/// Returns the held versions of `a`, each on a line.
-fn held_of_a<L: Ledger, R: Wait>(
+/// Writes at the first seat, and accepts a known version and a new one at the second.
+fn write_and_copy<L: Ledger, R: Wait>(
     rt: &R,
     alloc: Global,
-    range: &SharedRange<L>,
-    pass: &mut Pass<L>,
-) -> Result<String, Fail> {
-    match range.get(rt, alloc, pass, b"a") {
-        Ok(versions) => members(alloc, &versions),
-        Err(unread) => Err(Fail::from(unread.into_refusal())),
-    }
+    replica: &mut Replica<L>,
+) -> Result<(), Fail> {
+    let Replica { range, passes, .. } = replica;
+    let (second, others) = passes.split_last_mut().ok_or("no pass")?;
+    let first = others.first_mut().ok_or("one pass")?;
+    write(rt, alloc, range, first)?;
+    expect(
+        copy_of_a(rt, alloc, range, second, (1, 1))?.is_none(),
+        "the put's version is known",
+    )?;
+    expect(
+        copy_of_a(rt, alloc, range, second, (9, 1))? == Some(1),
+        "another version has the second entry",
+    )
 }
 
-fn two_passes<L: Ledger, R: Abort + Wait>(rt: &R, alloc: Global, blank: Blank) -> Result<(), Fail>
-    requires ledger { (blank.name ≡ L.name) × (blank.parts ≡ L.parts) × (blank.parts ≡ 2) }
-{
-    let (range, mut passes) = open_range::<L>(alloc, blank, 2, 10)?;
-    let mut second = last_pass(&mut passes)?;
-    let mut first = last_pass(&mut passes)?;
-    let (context, x) = (counted(alloc, 0)?, value(alloc)?);
-    let receipt = range.put(rt, alloc, &mut first, b"a", &context, Kind::Live, x)?;
-    assert_eq!(rt; (receipt.number, receipt.seat), (0, 0));
-    let held = held_of_a(rt, alloc, &range, &mut first)?;
-    assert_eq!(rt; held.as_str(), "[(1, 1)] Live [120]\n");
-    assert_eq!(rt; (first.receipts().len(), first.readings().len()), (1, 1));
-    assert_eq!(rt; copy_of_a(rt, alloc, &range, &mut second, (1, 1))?, None);
-    assert_eq!(rt; copy_of_a(rt, alloc, &range, &mut second, (9, 1))?, Some(1));
-    passes.push(first)?;
+/// Expects that a range isn't closed without the pass of its second seat, and returns it with that pass.
+fn close_with_one<L: Ledger>(alloc: Global, replica: Replica<L>) -> Result<Replica<L>, Fail> {
+    let (range, mut passes, offers) = replica.into_parts();
+    let second = passes.pop().ok_or("no pass")?;
     let Err(refused) = range.close(alloc, passes) else {
         return Err(Fail::from("closed without a pass"));
     };
@@ -67,17 +87,32 @@ fn two_passes<L: Ledger, R: Abort + Wait>(rt: &R, alloc: Global, blank: Blank) -
         mut passes,
         refusal,
     } = refused;
-    assert!(rt; matches!(&refusal, Refusal::Stranger));
-    assert_eq!(rt; passes.len(), 1);
+    let is_stranger = matches!(&refusal, Refusal::Stranger);
+    expect(
+        is_stranger && passes.len() == 1,
+        "it is refused as Stranger, with the pass",
+    )?;
     passes.push(second)?;
-    match range.close(alloc, passes) {
-        Ok(closed) => assert_eq!(rt; closed.state.journal().len(), 2),
-        Err(refused) => return Err(Fail::from(refused.refusal)),
-    }
-    Ok(())
+    Ok(Replica {
+        range,
+        passes,
+        offers,
+    })
+}
+
+/// Calls a range of two seats up to its close.
+fn close_at_last<L: Ledger, R: Wait>(rt: &R, alloc: Global, blank: Blank) -> Result<(), Fail>
+    requires ledger { (blank.name ≡ L.name) × (blank.parts ≡ L.parts) × (blank.parts ≡ 2) }
+{
+    let config = all_keys(10)?;
+    let mut replica = Replica::<L>::open(alloc, blank, 2, config)?;
+    write_and_copy(rt, alloc, &mut replica)?;
+    let replica = close_with_one(alloc, replica)?;
+    let state = replica.close(alloc)?;
+    expect(state.journal().len() == 2, "both passes close two entries")
 }
 
 #[test]
 fn a_range_closes_with_all_passes(rt: HostRuntime) -> Result<(), Fail> {
-    two_passes::<Brand, HostRuntime>(&rt, rt.alloc(), Blank::new(2))
+    close_at_last::<Brand, HostRuntime>(&rt, rt.alloc(), Blank::new(2))
 }

@@ -7,8 +7,8 @@ use std::thread;
 /// How often a thread looks whether it may go on.
 const MOST_LOOKS: u64 = 10_000_000;
 
-/// A hold on a worker at each of its points, until another thread has answered it there. As a gate it holds a worker at each
-/// step.
+/// A hold on a worker at each of its points, until another thread has answered it there. As a gate it holds a worker at
+/// each step.
 #[derive(Drop)]
 pub struct Relay {
     arrived: AtomicU64,

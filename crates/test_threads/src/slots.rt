@@ -1,37 +1,40 @@
 //! A shared controller of slots.
-ghost use Rattle.std.specs.Prelude.{◌≡◌};
 
-use admission::{Controller, Slot};
+use crate::calls::lend;
+use crate::nodes::Node;
+use crate::runs::{NodeTest, run_node};
+use admission::Slot;
 use ring_node::{Counts, SharedController};
 use std::alloc::Global;
-use std::marker::Brand;
-use std::process::Abort;
 use std::sync::Wait;
-use std::sync::ledger::{Blank, Ledger};
+use std::sync::ledger::Ledger;
 use std::test::Fail;
+use std::thread::Threads;
+use test_core::checks::expect;
+use test_core::refusals::is_refused;
 use vclock::Refusal;
 
 /// Borrows a slot.
-fn borrow_one<L: Ledger, R: Wait>(
+fn borrow_one<C: Ledger, R: Wait>(
     rt: &R,
-    slots: &SharedController<L>,
-    lent: &mut Vec<Slot<L>>,
+    slots: &SharedController<C>,
+    lent: &mut Vec<Slot<C>>,
 ) -> Result<(), Refusal> {
     lent.reserve(1)?;
-    let slot = slots.lend(rt)?;
+    let slot = lend(rt, slots)?;
     lent.push_reserved(slot);
     Ok(())
 }
 
 /// Gives back the slot that was borrowed last.
-fn give_one<L: Ledger, R: Wait>(rt: &R, slots: &SharedController<L>, lent: &mut Vec<Slot<L>>) {
+fn give_one<C: Ledger, R: Wait>(rt: &R, slots: &SharedController<C>, lent: &mut Vec<Slot<C>>) {
     if let Some(slot) = lent.pop() {
         slots.give_back(rt, slot);
     }
 }
 
 /// Gives all slots back.
-fn give_all<L: Ledger, R: Wait>(rt: &R, slots: &SharedController<L>, lent: Vec<Slot<L>>) {
+fn give_all<C: Ledger, R: Wait>(rt: &R, slots: &SharedController<C>, lent: Vec<Slot<C>>) {
     let mut lent = lent;
     while let Some(slot) = lent.pop() {
         slots.give_back(rt, slot);
@@ -39,63 +42,101 @@ fn give_all<L: Ledger, R: Wait>(rt: &R, slots: &SharedController<L>, lent: Vec<S
     lent.destroy_empty();
 }
 
-fn eight_slots<L: Ledger, R: Abort + Wait>(rt: &R, alloc: Global, blank: Blank) -> Result<(), Fail>
-    requires ledger { (blank.name ≡ L.name) × (blank.parts ≡ L.parts) × (blank.parts ≡ 1024) }
-{
-    let slots = SharedController::new(Controller::<L>::new(blank, alloc, 1, 8, 50_000)?);
-    let mut lent = Vec::new(alloc);
-    for i in 0..8_u32 {
-        assert!(rt; borrow_one(rt, &slots, &mut lent).is_ok());
-        assert_eq!(rt;
-            slots.counts(rt),
-            Counts {
-                lent: i + 1,
-                free: 7 - i,
-                allowance: 8
-            }
-        );
+/// Expects these numbers of lent and of free slots, of eight.
+fn expect_counts<C: Ledger, R: Wait>(
+    rt: &R,
+    slots: &SharedController<C>,
+    lent: u32,
+    free: u32,
+) -> Result<(), Fail> {
+    let counts = Counts {
+        lent,
+        free,
+        allowance: 8,
+    };
+    expect(slots.counts(rt) == counts, "each slot is lent or free")
+}
+
+/// Expects that eight slots are lent and a ninth isn't, and that one which was given back is lent again.
+fn expect_eight<C: Ledger, R: Wait>(
+    rt: &R,
+    slots: &SharedController<C>,
+    lent: &mut Vec<Slot<C>>,
+) -> Result<(), Fail> {
+    for (count, free) in [
+        (1, 7),
+        (2, 6),
+        (3, 5),
+        (4, 4),
+        (5, 3),
+        (6, 2),
+        (7, 1),
+        (8, 0),
+    ] {
+        borrow_one(rt, slots, lent)?;
+        expect_counts(rt, slots, count, free)?;
     }
-    let ninth = borrow_one(rt, &slots, &mut lent);
-    assert!(rt; matches!(&ninth, Err(Refusal::NoSlot)));
-    give_one(rt, &slots, &mut lent);
-    assert_eq!(rt;
-        slots.counts(rt),
-        Counts {
-            lent: 7,
-            free: 1,
-            allowance: 8
-        }
-    );
-    assert!(rt; borrow_one(rt, &slots, &mut lent).is_ok());
-    give_all(rt, &slots, lent);
-    assert_eq!(rt;
-        slots.counts(rt),
-        Counts {
-            lent: 0,
-            free: 8,
-            allowance: 8
-        }
-    );
-    Ok(())
+    let ninth = borrow_one(rt, slots, lent);
+    expect(is_refused(ninth, Refusal::NoSlot), "there is no ninth slot")?;
+    give_one(rt, slots, lent);
+    expect_counts(rt, slots, 7, 1)?;
+    borrow_one(rt, slots, lent)?;
+    expect_counts(rt, slots, 8, 0)
+}
+
+/// Loans of more slots than there are.
+struct NineLoans;
+
+impl NodeTest for NineLoans {
+    fn run<L: Ledger, C: Ledger, R: Threads + Wait + Sync>(
+        &self,
+        rt: &R,
+        alloc: Global,
+        node: &mut Node<L, C>,
+    ) -> Result<(), Fail> {
+        let mut lent = Vec::new(alloc);
+        let expected = expect_eight(rt, &node.slots, &mut lent);
+        give_all(rt, &node.slots, lent);
+        expected?;
+        expect_counts(rt, &node.slots, 0, 8)
+    }
 }
 
 #[test]
 fn a_ninth_slot_is_refused(rt: HostRuntime) -> Result<(), Fail> {
-    eight_slots::<Brand, HostRuntime>(&rt, rt.alloc(), Blank::new(1024))
+    run_node(&rt, rt.alloc(), 1, &NineLoans)
 }
 
-fn one_sample<L: Ledger, R: Abort + Wait>(rt: &R, alloc: Global, blank: Blank) -> Result<(), Fail>
-    requires ledger { (blank.name ≡ L.name) × (blank.parts ≡ L.parts) × (blank.parts ≡ 1024) }
-{
-    let slots = SharedController::new(Controller::<L>::new(blank, alloc, 1, 8, 50_000)?);
-    assert!(rt; matches!(&slots.sample(rt, 5, 1000), Ok(1)));
-    assert!(rt; matches!(&slots.adjust(rt, 5), Ok(Some(1000))));
-    assert!(rt; matches!(&slots.sample(rt, 4, 1000), Err(Refusal::ClockBack)));
-    assert!(rt; matches!(&slots.adjust(rt, 4), Err(Refusal::ClockBack)));
-    Ok(())
+/// A sample, and calls before its moment.
+struct OneSample;
+
+impl NodeTest for OneSample {
+    fn run<L: Ledger, C: Ledger, R: Threads + Wait + Sync>(
+        &self,
+        rt: &R,
+        _alloc: Global,
+        node: &mut Node<L, C>,
+    ) -> Result<(), Fail> {
+        let slots = &node.slots;
+        expect(slots.sample(rt, 5, 1_000)? == 1, "one sample is kept")?;
+        expect(
+            slots.adjust(rt, 5)? == Some(1_000),
+            "its latency is the percentile",
+        )?;
+        let refused = slots.sample(rt, 4, 1_000);
+        expect(
+            is_refused(refused, Refusal::ClockBack),
+            "an earlier sample is refused",
+        )?;
+        let refused = slots.adjust(rt, 4);
+        expect(
+            is_refused(refused, Refusal::ClockBack),
+            "an earlier adjustment is refused",
+        )
+    }
 }
 
 #[test]
 fn a_sample_sets_the_moment(rt: HostRuntime) -> Result<(), Fail> {
-    one_sample::<Brand, HostRuntime>(&rt, rt.alloc(), Blank::new(1024))
+    run_node(&rt, rt.alloc(), 1, &OneSample)
 }

@@ -1,11 +1,15 @@
 //! Storms, and gates that make their threads meet.
+ghost use Rattle.std.specs.Prelude.{◌≤◌};
 
 use ring_node::{Gate, OpenGate, Step};
+use std::alloc::Global;
 use std::sync::Wait;
 use std::sync::atomic::{AtomicU64, Ordering};
 use std::test::Fail;
 use std::thread;
-use storm::{Tallies, run_storm};
+use std::thread::Threads;
+use storm::{MOST_PUTS, Tallies, run_storm};
+use test_core::checks::expect;
 
 /// The maximum number of times that a thread checks if it may go on.
 const MOST_LOOKS: u64 = 10_000_000;
@@ -16,11 +20,27 @@ const EARLY_PUTS: u64 = 1_000;
 /// The number of rounds of a rehash worker.
 const ROUNDS: u64 = 100;
 
+/// Runs a storm of this number of puts at each node, and expects that it settles.
+fn expect_settled<R: Threads + Wait + Sync, G: Gate + Sync>(
+    rt: &R,
+    alloc: Global,
+    puts: u64,
+    gate: &G,
+    tallies: &Tallies,
+) -> Result<(), Fail>
+    requires { puts ≤ MOST_PUTS }
+{
+    let end = run_storm(rt, alloc, puts, gate, tallies)?;
+    expect(end.puts == 2 * puts, "each put is counted")?;
+    expect(
+        end.equal && end.settled,
+        "both nodes agree, and their passes with them",
+    )
+}
+
 #[test]
 fn a_storm_of_two_puts_settles(rt: HostRuntime) -> Result<(), Fail> {
-    let end = run_storm(&rt, rt.alloc(), 1, &OpenGate, &Tallies::new())?;
-    assert_eq!(rt; (end.puts, end.equal, end.settled), (2, true, true));
-    Ok(())
+    expect_settled(&rt, rt.alloc(), 1, &OpenGate, &Tallies::new())
 }
 
 /// A gate that holds each rehash worker with a job until some put has passed, and each writer after its first put until
@@ -68,10 +88,11 @@ fn a_storm_overlaps(rt: HostRuntime) -> Result<(), Fail> {
         jobs: AtomicU64::new(0),
         gave_up: AtomicU64::new(0),
     };
-    let end = run_storm(&rt, rt.alloc(), 100, &gate, &Tallies::new())?;
-    assert_eq!(rt; (end.puts, end.equal, end.settled), (200, true, true));
-    assert_eq!(rt; gate.gave_up.load(Ordering::SeqCst), 0);
-    Ok(())
+    expect_settled(&rt, rt.alloc(), 100, &gate, &Tallies::new())?;
+    expect(
+        gate.gave_up.load(Ordering::SeqCst) == 0,
+        "no thread waits in vain",
+    )
 }
 
 /// A gate that makes each rehash worker meet a late digest, and each sync worker finish a session, while both writers
@@ -171,13 +192,15 @@ fn each_node_syncs_while_writers_write(rt: HostRuntime) -> Result<(), Fail> {
         held: AtomicU64::new(0),
         gave_up: AtomicU64::new(0),
     };
-    let end = run_storm(&rt, rt.alloc(), 10_000, &gate, &tallies)?;
-    assert_eq!(rt; (end.puts, end.equal, end.settled), (20_000, true, true));
-    assert_eq!(rt; gate.gave_up.load(Ordering::SeqCst), 0);
+    expect_settled(&rt, rt.alloc(), 10_000, &gate, &tallies)?;
+    expect(
+        gate.gave_up.load(Ordering::SeqCst) == 0,
+        "no thread waits in vain",
+    )?;
     for tally in [tallies.one.look(&rt), tallies.two.look(&rt)] {
-        assert!(rt; tally.stale >= 1);
-        assert!(rt; tally.syncs >= 1);
-        assert_eq!(rt; tally.puts, 10_000);
+        expect(tally.stale >= 1, "a digest is too late")?;
+        expect(tally.syncs >= 1, "a session is finished")?;
+        expect(tally.puts == 10_000, "each put is counted")?;
     }
     Ok(())
 }

@@ -1,67 +1,149 @@
 //! Sync workers whose partners answer with true texts.
-ghost use Rattle.std.specs.Prelude.{◌≡◌};
 
-use crate::nodes::Node;
-use crate::partners::{
-    expect_asked, expect_counts, expect_held, expect_report, pool_in, pool_of, snapshot_of,
-    sync_over,
-};
-use range_state::RangeConfig;
+use crate::calls::publish;
+use crate::nodes::{Node, TURNS, all_keys};
+use crate::outcomes::{Outcome, finished};
+use crate::partners::{Row, pool_in, pool_of, snapshot_of};
+use crate::runs::{NodeTest, run_in, run_node};
+use range_state::{RangeConfig, RangeState};
 use ring_node::{Link, MemoryLink, OfferPool, Reached, SyncReport};
 use snapshot::Snapshot;
 use std::alloc::Global;
-use std::marker::Brand;
-use std::sync::ledger::{Blank, Ledger};
+use std::sync::ledger::Ledger;
 use std::sync::{Arc, Wait};
 use std::test::Fail;
 use std::thread::Threads;
 use sync_session::SessionState;
-use test_core::checks::expect;
-use test_core::versions::version;
 use vclock::Refusal;
-use version_set::Kind;
 
-/// Returns the report of the first session of a range, if it knew no version and met no lie.
-pub(crate) fn finished(asked: u64, accepted: u64) -> SyncReport {
-    SyncReport {
-        id: 0,
-        state: SessionState::Finished,
-        asked,
-        accepted,
-        known: 0,
-        bad: 0,
+/// A sync with a partner that answers with true texts.
+#[derive(Clone, Copy)]
+struct Truthful<'a> {
+    /// The rows that the node has before.
+    known: &'a [Row<'a>],
+    /// The configuration of the partner's range.
+    config: RangeConfig,
+    /// The rows of the partner.
+    offered: &'a [Row<'a>],
+    /// The expected outcome.
+    outcome: Outcome<'a>,
+}
+
+impl<'a> NodeTest for Truthful<'a> {
+    fn run<L: Ledger, C: Ledger, R: Threads + Wait + Sync>(
+        &self,
+        rt: &R,
+        alloc: Global,
+        node: &mut Node<L, C>,
+    ) -> Result<(), Fail> {
+        for row in self.known {
+            let version = row.version(alloc)?;
+            node.replica.copy(rt, alloc, row.key, version)?;
+        }
+        let pool = pool_in(rt, alloc, self.config, self.offered)?;
+        let mut link = MemoryLink::new(alloc, &pool);
+        self.outcome.expect_sync(rt, alloc, node, &mut link, TURNS)
     }
+
+    fn check(&self, alloc: Global, state: &RangeState) -> Result<(), Fail> {
+        self.outcome.expect_state(alloc, state)
+    }
+}
+
+/// Syncs a node with such a partner. The node's range has this configuration.
+fn sync_in<R: Threads + Wait + Sync>(
+    rt: &R,
+    alloc: Global,
+    own: RangeConfig,
+    known: &[Row<'_>],
+    config: RangeConfig,
+    offered: &[Row<'_>],
+    outcome: Outcome<'_>,
+) -> Result<(), Fail> {
+    let test = Truthful {
+        known,
+        config,
+        offered,
+        outcome,
+    };
+    run_in(rt, alloc, own, &test)
+}
+
+/// Syncs a node that knows rows with a partner that offers rows. Their ranges have all keys.
+fn sync_rows<R: Threads + Wait + Sync>(
+    rt: &R,
+    alloc: Global,
+    known: &[Row<'_>],
+    offered: &[Row<'_>],
+    outcome: Outcome<'_>,
+) -> Result<(), Fail> {
+    let config = all_keys(1_000)?;
+    sync_in(rt, alloc, config, known, config, offered, outcome)
 }
 
 #[test]
 fn a_sync_takes_what_is_missing(rt: HostRuntime) -> Result<(), Fail> {
-    let alloc = rt.alloc();
-    let pool = pool_of(&rt, alloc, &[b"a".as_slice()])?;
-    let mut link = MemoryLink::new(alloc, &pool);
-    let blanks = (Blank::new(1), Blank::new(1024));
-    let synced = sync_over::<Brand, Brand, MemoryLink, HostRuntime>(
-        &rt, alloc, blanks, None, &mut link, 600,
-    )?;
-    expect_asked(&rt, alloc, &synced, &[(0, 0), (1, 0), (2, 12)])?;
-    expect_counts(&rt, &synced, 0, 1);
-    expect_held(&rt, &synced, "[(1, 1)] Live [120]\n");
-    expect_report(&rt, synced, finished(3, 1))
+    let outcome = Outcome {
+        asked: Some(&[(0, 0), (1, 0), (2, 12)]),
+        held: Some("[(1, 1)] Live [120]\n"),
+        ..Outcome::reported(finished(3, 1), 1)
+    };
+    sync_rows(&rt, rt.alloc(), &[], &[Row::new(b"a", 1)], outcome)
+}
+
+/// Returns the row of `a` with this value, in whose clock node 2 has counted once.
+fn valued(value: &[u8]) -> Row<'_> {
+    Row {
+        value,
+        ..Row::new(b"a", 2)
+    }
 }
 
 #[test]
 fn two_values_with_equal_clocks_are_held(rt: HostRuntime) -> Result<(), Fail> {
-    let alloc = rt.alloc();
-    let pool = OfferPool::new(alloc);
-    let other = snapshot_of(&rt, alloc, &[b"a".as_slice()], (2, 1), b"q")?;
-    pool.publish(&rt, other)?;
-    let mut link = MemoryLink::new(alloc, &pool);
-    let blanks = (Blank::new(1), Blank::new(1024));
-    let own = Some(b"p".as_slice());
-    let synced = sync_over::<Brand, Brand, MemoryLink, HostRuntime>(
-        &rt, alloc, blanks, own, &mut link, 600,
-    )?;
-    expect_held(&rt, &synced, "[(2, 1)] Live [112]\n[(2, 1)] Live [113]\n");
-    expect_report(&rt, synced, finished(3, 1))
+    let outcome = Outcome {
+        held: Some("[(2, 1)] Live [112]\n[(2, 1)] Live [113]\n"),
+        ..Outcome::reported(finished(3, 1), 2)
+    };
+    sync_rows(&rt, rt.alloc(), &[valued(b"p")], &[valued(b"q")], outcome)
+}
+
+#[test]
+fn the_known_versions_of_all_answers_are_counted(rt: HostRuntime) -> Result<(), Fail> {
+    let report = SyncReport {
+        known: 2,
+        ..finished(5, 2)
+    };
+    let (a, b) = (Row::new(b"a", 1), Row::new(b"b", 1));
+    let offered = [a, Row::new(b"a", 2), b, Row::new(b"b", 2)];
+    sync_rows(
+        &rt,
+        rt.alloc(),
+        &[a, b],
+        &offered,
+        Outcome::reported(report, 4),
+    )
+}
+
+/// Returns the configuration of one of two ranges.
+fn half(number: u64) -> Result<RangeConfig, Fail> {
+    Ok(RangeConfig::new(1, 1, number, 1_000).ok_or("no such range")?)
+}
+
+#[test]
+fn an_offer_of_another_range_is_refused(rt: HostRuntime) -> Result<(), Fail> {
+    let synced = Outcome::reported(finished(3, 1), 1);
+    let refused = Outcome::refused(Refusal::OtherRange.number(), 0, None);
+    // `a` is in the first range, and `b` in the second.
+    for (offered, key) in [(0, b"a".as_slice()), (1, b"b".as_slice())] {
+        for number in [0, 1] {
+            let outcome = if number == offered { synced } else { refused };
+            let (own, config) = (half(number)?, half(offered)?);
+            let rows = [Row::new(key, 1)];
+            sync_in(&rt, rt.alloc(), own, &[], config, &rows, outcome)?;
+        }
+    }
+    Ok(())
 }
 
 /// A link whose partner publishes 16 more snapshots before it answers the second ask.
@@ -77,7 +159,7 @@ impl<'a, K: Link> Dropping<'a, K> {
     /// Publishes the snapshot 16 times.
     fn publish<R: Wait>(&self, rt: &R) -> Result<(), Refusal> {
         for _ in 0..16 {
-            self.pool.publish(rt, Arc::try_clone(&self.snapshot)?)?;
+            publish(rt, self.pool, Arc::try_clone(&self.snapshot)?)?;
         }
         Ok(())
     }
@@ -103,135 +185,35 @@ impl<'a, K: Link> Link for Dropping<'a, K> {
     }
 }
 
-#[test]
-fn a_dropped_offer_is_gone(rt: HostRuntime) -> Result<(), Fail> {
-    let alloc = rt.alloc();
-    let pool = pool_of(&rt, alloc, &[b"a".as_slice()])?;
-    let mut link = Dropping {
-        link: MemoryLink::new(alloc, &pool),
-        pool: &pool,
-        snapshot: snapshot_of(&rt, alloc, &[], (1, 1), b"x")?,
-        asks: 0,
-    };
-    let blanks = (Blank::new(1), Blank::new(1024));
-    let synced = sync_over::<Brand, Brand, Dropping<MemoryLink>, HostRuntime>(
-        &rt, alloc, blanks, None, &mut link, 600,
-    )?;
-    assert!(rt; matches!(&synced.report, Err(Refusal::Gone)));
-    assert_eq!(rt;
-        synced.sessions.as_slice(),
-        [SessionState::Cancelled].as_slice()
-    );
-    expect_counts(&rt, &synced, 0, 0);
-    Ok(())
-}
+/// A sync whose offer is dropped before the second answer, with this outcome.
+#[derive(Clone, Copy)]
+struct DroppedOffer<'a>(Outcome<'a>);
 
-/// Has a node take in a version of that clock for each key, and makes all its nodes clean.
-fn fill<L: Ledger, C: Ledger, R: Wait>(
-    rt: &R,
-    alloc: Global,
-    node: &mut Node<L, C>,
-    keys: &[&[u8]],
-    pair: (u64, u64),
-) -> Result<(), Refusal> {
-    for key in keys {
-        let version = version(alloc, pair, Kind::Live, b"x")?;
-        node.copy(rt, alloc, key, version)?;
+impl<'a> NodeTest for DroppedOffer<'a> {
+    fn run<L: Ledger, C: Ledger, R: Threads + Wait + Sync>(
+        &self,
+        rt: &R,
+        alloc: Global,
+        node: &mut Node<L, C>,
+    ) -> Result<(), Fail> {
+        let pool = pool_of(rt, alloc, &[Row::new(b"a", 1)])?;
+        let mut link = Dropping {
+            link: MemoryLink::new(alloc, &pool),
+            pool: &pool,
+            snapshot: snapshot_of(rt, alloc, &[])?,
+            asks: 0,
+        };
+        self.0.expect_sync(rt, alloc, node, &mut link, TURNS)
     }
-    node.rehash(rt, alloc)
-}
 
-/// Syncs with a partner that has two versions of `a` and two of `b`, one of them known.
-fn sync_known<L: Ledger, C: Ledger, R: Threads + Wait + Sync>(
-    rt: &R,
-    alloc: Global,
-    node: &mut Node<L, C>,
-    config: RangeConfig,
-) -> Result<SyncReport, Fail> {
-    let (a, b) = (b"a".as_slice(), b"b".as_slice());
-    fill(rt, alloc, node, &[a, b], (1, 1))?;
-    let versions = [(a, (1, 1)), (a, (2, 1)), (b, (1, 1)), (b, (2, 1))];
-    let pool = pool_in(rt, alloc, config, &versions)?;
-    let mut link = MemoryLink::new(alloc, &pool);
-    Ok(node.sync(rt, alloc, &mut link)?)
-}
-
-/// Expects that a node counts the known versions of two answers.
-fn count_known<L: Ledger, C: Ledger, R: Threads + Wait + Sync>(
-    rt: &R,
-    alloc: Global,
-    blank: Blank,
-    slots: Blank,
-) -> Result<(), Fail>
-    requires range { (blank.name ≡ L.name) × (blank.parts ≡ L.parts) × (blank.parts ≡ 1) }
-    requires slots { (slots.name ≡ C.name) × (slots.parts ≡ C.parts) × (slots.parts ≡ 1024) }
-{
-    let config = RangeConfig::new(1, 0, 0, 1_000).ok_or("no such range")?;
-    let mut node = Node::<L, C>::open(alloc, blank, slots, config)?;
-    let report = sync_known(rt, alloc, &mut node, config)?;
-    let wanted = SyncReport {
-        known: 2,
-        ..finished(5, 2)
-    };
-    expect(report == wanted, "the report")
+    fn check(&self, alloc: Global, state: &RangeState) -> Result<(), Fail> {
+        self.0.expect_state(alloc, state)
+    }
 }
 
 #[test]
-fn the_known_versions_of_all_answers_are_counted(rt: HostRuntime) -> Result<(), Fail> {
-    let (range, slots) = (Blank::new(1), Blank::new(1024));
-    count_known::<Brand, Brand, HostRuntime>(&rt, rt.alloc(), range, slots)
-}
-
-/// Rehashes and syncs a node. Returns true if it takes the row of the partner, and false if the offer is refused as OtherRange.
-fn is_synced<L: Ledger, C: Ledger, R: Wait>(
-    rt: &R,
-    alloc: Global,
-    node: &mut Node<L, C>,
-    pool: &OfferPool,
-) -> Result<bool, Fail> {
-    node.rehash(rt, alloc)?;
-    let mut link = MemoryLink::new(alloc, pool);
-    match node.sync(rt, alloc, &mut link) {
-        Ok(report) => Ok(report == finished(3, 1)),
-        Err(Refusal::OtherRange) => Ok(false),
-        Err(refusal) => Err(Fail::from(refusal)),
-    }
-}
-
-/// Syncs one of two ranges with a partner that offers one of them. The partner has a row of `a` or of `b`.
-fn sync_ranges<L: Ledger, C: Ledger, R: Threads + Wait + Sync>(
-    rt: &R,
-    alloc: Global,
-    blanks: (Blank, Blank),
-    number: u64,
-    offered: u64,
-) -> Result<bool, Fail>
-    requires range { (blanks.0.name ≡ L.name) × (blanks.0.parts ≡ L.parts) × (blanks.0.parts ≡ 1) }
-    requires slots { (blanks.1.name ≡ C.name) × (blanks.1.parts ≡ C.parts) × (blanks.1.parts ≡ 1024) }
-{
-    let (range, slots) = blanks;
-    let config = RangeConfig::new(1, 1, number, 1_000).ok_or("no such range")?;
-    let other = RangeConfig::new(1, 1, offered, 1_000).ok_or("no such range")?;
-    let key = if offered == 0 {
-        b"a".as_slice()
-    } else {
-        b"b".as_slice()
-    };
-    let pool = pool_in(rt, alloc, other, &[(key, (1, 1))])?;
-    let mut node = Node::<L, C>::open(alloc, range, slots, config)?;
-    is_synced(rt, alloc, &mut node, &pool)
-}
-
-#[test]
-fn an_offer_of_another_range_is_refused(rt: HostRuntime) -> Result<(), Fail> {
-    let alloc = rt.alloc();
-    for (number, offered) in [(0, 0), (0, 1), (1, 0), (1, 1)] {
-        let blanks = (Blank::new(1), Blank::new(1024));
-        let synced = sync_ranges::<Brand, Brand, HostRuntime>(&rt, alloc, blanks, number, offered)?;
-        expect(
-            synced == (number == offered),
-            "only the range itself is synced",
-        )?;
-    }
-    Ok(())
+fn a_dropped_offer_is_gone(rt: HostRuntime) -> Result<(), Fail> {
+    let cancelled = Some(SessionState::Cancelled);
+    let test = DroppedOffer(Outcome::refused(Refusal::Gone.number(), 0, cancelled));
+    run_node(&rt, rt.alloc(), 1_000, &test)
 }

@@ -1,18 +1,18 @@
 //! Eight threads that write and read one range.
 ghost use Rattle.std.specs.Prelude.{◌≡◌};
 
-use crate::fixtures::{counted, open_range, value};
+use crate::calls::{copy, get, put};
+use crate::nodes::{Replica, all_keys};
 use caller_pass::Pass;
-use range_journal::Source;
 use ring_node::SharedRange;
 use std::alloc::Global;
 use std::marker::Brand;
-use std::process::Abort;
 use std::sync::Wait;
 use std::sync::ledger::{Blank, Ledger};
 use std::test::Fail;
 use std::thread;
 use std::thread::Threads;
+use test_core::checks::expect;
 use test_core::versions::version;
 use vclock::Refusal;
 use version_set::Kind;
@@ -32,61 +32,60 @@ fn round<L: Ledger, R: Wait>(
     alloc: Global,
     range: &SharedRange<L>,
     pass: &mut Pass<L>,
-    count: u32,
+    count: u64,
 ) -> Result<(), Refusal> {
     let seat = pass.seat();
-    let own = seat.to_be_bytes();
-    let (context, x) = (counted(alloc, u64::from(count))?, value(alloc)?);
-    range.put(rt, alloc, pass, &own, &context, Kind::Live, x)?;
-    let copy = version(
-        alloc,
-        (10 + u64::from(seat), u64::from(count) + 1),
-        Kind::Live,
-        b"x",
-    )?;
-    range.copy(rt, alloc, pass, Source::Copy, b"common", copy)?;
-    for key in [own.as_slice(), b"common".as_slice()] {
-        if let Err(unread) = range.get(rt, alloc, pass, key) {
-            return Err(unread.into_refusal());
-        }
+    let key = seat.to_be_bytes();
+    put(rt, alloc, range, pass, &key, count)?;
+    let pair = (10 + u64::from(seat), count.saturating_add(1));
+    let version = version(alloc, pair, Kind::Live, b"x")?;
+    copy(rt, alloc, range, pass, b"common", version)?;
+    get(rt, alloc, range, pass, &key)?;
+    get(rt, alloc, range, pass, b"common")?;
+    Ok(())
+}
+
+/// Runs all rounds of a thread.
+fn rounds<L: Ledger, R: Wait>(rt: &R, alloc: Global, range: &SharedRange<L>, pass: &mut Pass<L>) {
+    for count in 0..ROUNDS {
+        // A refused round leaves too few receipts.
+        let _ = round(rt, alloc, range, pass, u64::from(count));
+    }
+}
+
+/// Writes and reads a range in a thread for each of its eight passes.
+fn run_eight<L: Ledger + Send + Sync, R: Threads + Wait + Sync>(
+    rt: &R,
+    alloc: Global,
+    replica: &mut Replica<L>,
+) -> Result<(), Fail> {
+    let Replica { range, passes, .. } = replica;
+    let range: &SharedRange<L> = range;
+    thread::for_each_mut(rt, passes, 8, &|_, pass| rounds(rt, alloc, range, pass));
+    for pass in passes {
+        expect(
+            pass.receipts().len() == TOLD && pass.readings().len() == TOLD,
+            "each round has two receipts and two readings",
+        )?;
     }
     Ok(())
 }
 
-/// Runs all rounds of a thread, which hands its pass back.
-fn rounds<L: Ledger, R: Wait>(
-    rt: &R,
-    alloc: Global,
-    range: &SharedRange<L>,
-    pass: Pass<L>,
-) -> Pass<L> {
-    let mut pass = pass;
-    for count in 0..ROUNDS {
-        let _ = round(rt, alloc, range, &mut pass, count);
-    }
-    pass
-}
-
-fn eight_threads<L: Ledger + Send + Sync, R: Threads + Wait + Sync + Abort>(
+/// Runs eight threads up to the close of their range.
+fn eight_threads<L: Ledger + Send + Sync, R: Threads + Wait + Sync>(
     rt: &R,
     alloc: Global,
     blank: Blank,
 ) -> Result<(), Fail>
     requires ledger { (blank.name ≡ L.name) × (blank.parts ≡ L.parts) × (blank.parts ≡ 8) }
 {
-    let (range, passes) = open_range::<L>(alloc, blank, 8, ENTRIES)?;
-    let passes = thread::map_vec(rt, passes, &|pass| rounds(rt, alloc, &range, pass))?;
-    for pass in &passes {
-        assert_eq!(rt;
-            (pass.receipts().len(), pass.readings().len()),
-            (TOLD, TOLD)
-        );
-    }
-    match range.close(alloc, passes) {
-        Ok(closed) => assert_eq!(rt; closed.state.journal().len(), ENTRIES),
-        Err(refused) => return Err(Fail::from(refused.refusal)),
-    }
-    Ok(())
+    let mut replica = Replica::<L>::open(alloc, blank, 8, all_keys(ENTRIES)?)?;
+    run_eight(rt, alloc, &mut replica)?;
+    let state = replica.close(alloc)?;
+    expect(
+        state.journal().len() == ENTRIES,
+        "each round has two entries",
+    )
 }
 
 #[test]
