@@ -9,6 +9,7 @@
 mod calls;
 mod links;
 mod random;
+mod ranges;
 mod trouble;
 
 use links::tally::Tally;

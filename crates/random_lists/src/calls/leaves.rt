@@ -1,7 +1,7 @@
 //! The outcome of a partner's leaf, by the definitions.
 
 use crate::calls::plain::{Fault, PlainEntry, PlainRange};
-use crate::calls::trees::Tree;
+use crate::calls::trees::{PlainRow, Tree};
 use crate::trouble::Trouble;
 use range_journal::Source;
 use std::alloc::Global;
@@ -34,21 +34,9 @@ impl PlainRange {
     ) -> Result<Result<Taken, Fault>, Trouble> {
         let mut after = self.try_clone()?;
         let mut taken = Taken::none(alloc);
-        for row in tree.rows.iter().filter(|row| row.leaf == leaf) {
-            for version in &row.versions {
-                if after.knows(row.key, version) {
-                    taken.known = taken.known.wrapping_add(1);
-                } else if after.is_crowded_by(row.key, version) {
-                    return Ok(Err(Fault::Crowded));
-                } else {
-                    let entry = PlainEntry {
-                        key: row.key,
-                        version: *version,
-                        source: Source::Partner,
-                    };
-                    after.entries.push(entry)?;
-                    taken.news.push(entry)?;
-                }
+        for row in &tree.rows {
+            if row.leaf == leaf && !after.take_row(row, &mut taken)? {
+                return Ok(Err(Fault::Crowded));
             }
         }
         if after.has_room(0) {
@@ -56,5 +44,25 @@ impl PlainRange {
         } else {
             Ok(Err(Fault::JournalFull))
         }
+    }
+
+    /// Accepts a partner's row. Returns false at a version that is one too many for the key.
+    fn take_row(&mut self, row: &PlainRow, taken: &mut Taken) -> Result<bool, Trouble> {
+        for version in &row.versions {
+            if self.knows(row.key, version) {
+                taken.known = taken.known.wrapping_add(1);
+            } else if self.is_crowded_by(row.key, version) {
+                return Ok(false);
+            } else {
+                let entry = PlainEntry {
+                    key: row.key,
+                    version: *version,
+                    source: Source::Partner,
+                };
+                self.entries.push(entry)?;
+                taken.news.push(entry)?;
+            }
+        }
+        Ok(true)
     }
 }

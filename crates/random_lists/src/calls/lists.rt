@@ -384,7 +384,7 @@ impl Trial {
         let text = hash(Text::copy_of(alloc, &sent.text)?);
         let reply = self
             .own
-            .state
+            .range
             .take_answer(alloc, SEAT, id as u64, sent.node, text);
         match (reply, wanted) {
             (Ok(answer), Ok(taken)) => self.check_taken(alloc, id, sent, &answer, taken),

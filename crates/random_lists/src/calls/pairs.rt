@@ -4,9 +4,10 @@ use crate::calls::plain::{Fault, KEYS};
 use crate::calls::replicas::{Offered, Replica, SEAT};
 use crate::calls::trees::{Tree, differing};
 use crate::calls::walks::{Offering, Sent, Walk};
+use crate::ranges::reconcile_ranges;
 use crate::trouble::{Trouble, expect};
 use hash_tree::NodeAt;
-use range_state::{RangeState, Reconciled, reconcile};
+use range_state::Reconciled;
 use std::alloc::Global;
 use sync_session::SessionState;
 use vclock::Refusal;
@@ -28,7 +29,7 @@ pub(crate) fn reconcile_both(
 ) -> Result<(), Trouble> {
     let fault = pair_fault(a, b);
     let (of_a, of_b) = (a.offer(alloc)?, b.offer(alloc)?);
-    let reply = reconcile_states(alloc, &mut a.state, at_a, &mut b.state, at_b);
+    let reply = reconcile_ranges(alloc, &mut a.range, at_a, &mut b.range, at_b, SEAT);
     let wanted = match (fault, of_a, of_b) {
         (None, Some(of_a), Some(of_b)) => catch_up_both(alloc, a, (of_a, at_a), b, (of_b, at_b))?,
         (Some(fault), _, _) => Err(fault),
@@ -49,24 +50,6 @@ fn pair_fault(a: &Replica, b: &Replica) -> Option<Fault> {
     } else {
         a.crowd_fault().or(b.crowd_fault())
     }
-}
-
-/// Reconciles two ranges.
-fn reconcile_states(
-    alloc: Global,
-    a: &mut RangeState,
-    at_a: u16,
-    b: &mut RangeState,
-    at_b: u16,
-) -> Result<Reconciled, Refusal> {
-    let (one, other) = (a.config(), b.config());
-    if one.format() != other.format()
-        || one.bits() != other.bits()
-        || one.range() != other.range()
-    {
-        return Err(Refusal::OtherRange);
-    }
-    reconcile(alloc, a, at_a, b, at_b, SEAT)
 }
 
 /// Runs the plain program's two sessions, each on the rows that the other replica had at the beginning. If the first is

@@ -17,7 +17,7 @@ pub(crate) const KEYS: u64 = 8;
 const MOST_VERSIONS: usize = 64;
 
 /// The reason of a refusal.
-#[derive(Clone, Copy, PartialEq, Eq)]
+#[derive(Clone, Copy)]
 pub(crate) enum Fault {
     BadKey,
     BadValue,
@@ -39,22 +39,22 @@ pub(crate) enum Fault {
 impl Fault {
     /// Returns true if a refusal has this reason.
     pub(crate) fn is(self, refusal: &Refusal) -> bool {
-        match refusal {
-            Refusal::BadKey => self == Fault::BadKey,
-            Refusal::BadValue => self == Fault::BadValue,
-            Refusal::OtherRange => self == Fault::OtherRange,
-            Refusal::CounterFull => self == Fault::CounterFull,
-            Refusal::StaleContext(_) => self == Fault::StaleContext,
-            Refusal::Crowded => self == Fault::Crowded,
-            Refusal::JournalFull => self == Fault::JournalFull,
-            Refusal::Dirty => self == Fault::Dirty,
-            Refusal::Stale => self == Fault::Stale,
-            Refusal::OtherFormat => self == Fault::OtherFormat,
-            Refusal::SessionsFull => self == Fault::SessionsFull,
-            Refusal::UnknownSession => self == Fault::UnknownSession,
-            Refusal::NotAsked => self == Fault::NotAsked,
-            Refusal::WrongDigest => self == Fault::WrongDigest,
-            Refusal::NotCanonical => self == Fault::NotCanonical,
+        match (self, refusal) {
+            (Fault::BadKey, Refusal::BadKey)
+            | (Fault::BadValue, Refusal::BadValue)
+            | (Fault::OtherRange, Refusal::OtherRange)
+            | (Fault::CounterFull, Refusal::CounterFull)
+            | (Fault::StaleContext, Refusal::StaleContext(_))
+            | (Fault::Crowded, Refusal::Crowded)
+            | (Fault::JournalFull, Refusal::JournalFull)
+            | (Fault::Dirty, Refusal::Dirty)
+            | (Fault::Stale, Refusal::Stale)
+            | (Fault::OtherFormat, Refusal::OtherFormat)
+            | (Fault::SessionsFull, Refusal::SessionsFull)
+            | (Fault::UnknownSession, Refusal::UnknownSession)
+            | (Fault::NotAsked, Refusal::NotAsked)
+            | (Fault::WrongDigest, Refusal::WrongDigest)
+            | (Fault::NotCanonical, Refusal::NotCanonical) => true,
             _ => false,
         }
     }
@@ -107,6 +107,16 @@ impl PlainVersion {
     /// Returns true if it equals the other or is below it.
     pub(crate) fn is_covered_by(&self, other: &PlainVersion) -> bool {
         self == other || self.is_below(other)
+    }
+
+    /// Returns true if it equals one of these or is below one.
+    pub(crate) fn is_covered_by_any(&self, others: &[PlainVersion]) -> bool {
+        for other in others {
+            if self.is_covered_by(other) {
+                return true;
+            }
+        }
+        false
     }
 
     /// Returns the number of nodes that have counted.
@@ -208,6 +218,26 @@ impl PlainVersion {
     }
 }
 
+/// Returns true if a range's versions equal these ones, in order.
+pub(crate) fn are_equal(plain: &[PlainVersion], versions: &[Version]) -> bool {
+    for (version, other) in plain.iter().zip(versions) {
+        if !version.is(other) {
+            return false;
+        }
+    }
+    plain.len() == versions.len()
+}
+
+/// Returns true if these clocks are those of the versions, in order.
+pub(crate) fn are_clocks_of(clocks: &[Clock], versions: &[PlainVersion]) -> bool {
+    for (version, clock) in versions.iter().zip(clocks) {
+        if !version.has_clock(clock) {
+            return false;
+        }
+    }
+    versions.len() == clocks.len()
+}
+
 /// A version that was accepted for a key.
 #[derive(Clone, Copy)]
 pub(crate) struct PlainEntry {
@@ -256,20 +286,46 @@ impl PlainRange {
 
     /// Returns true if some accepted version equals this one or is above it.
     pub(crate) fn knows(&self, key: u64, version: &PlainVersion) -> bool {
-        self.entries.iter().any(|entry| entry.key == key && version.is_covered_by(&entry.version))
+        for entry in &self.entries {
+            if entry.key == key && version.is_covered_by(&entry.version) {
+                return true;
+            }
+        }
+        false
     }
 
     /// Returns true if some accepted version is above this one.
     fn has_above(&self, key: u64, version: &PlainVersion) -> bool {
-        self.entries.iter().any(|entry| entry.key == key && version.is_below(&entry.version))
+        for entry in &self.entries {
+            if entry.key == key && version.is_below(&entry.version) {
+                return true;
+            }
+        }
+        false
+    }
+
+    /// Returns true if some accepted version has seen everything that the clock of this one has.
+    fn has_seen(&self, key: u64, version: &PlainVersion) -> bool {
+        for entry in &self.entries {
+            if entry.key == key && version.is_at_most(&entry.version) {
+                return true;
+            }
+        }
+        false
     }
 
     /// Returns true if a new version is one too many for its key, with the versions that would still be held.
     pub(crate) fn is_crowded_by(&self, key: u64, version: &PlainVersion) -> bool {
-        let stays = |entry: &PlainEntry| entry.key == key
-            && !self.has_above(key, &entry.version)
-            && !entry.version.is_below(version);
-        self.entries.iter().filter(|entry| stays(*entry)).count() >= MOST_VERSIONS
+        let mut count = 0usize;
+        for entry in &self.entries {
+            let stays = entry.key == key
+                && !self.has_above(key, &entry.version)
+                && !entry.version.is_below(version);
+            if stays {
+                count = count.wrapping_add(1);
+            }
+        }
+        count >= MOST_VERSIONS
     }
 
     /// Returns the versions that are held for a key: the accepted ones that are below no other, each once, in the order
@@ -336,8 +392,7 @@ impl PlainRange {
             return Err(fault);
         }
         let raised = raised(context, node).ok_or(Fault::CounterFull)?;
-        let has_seen = |entry: &PlainEntry| entry.key == key && raised.is_at_most(&entry.version);
-        if self.entries.iter().any(has_seen) {
+        if self.has_seen(key, &raised) {
             return Err(Fault::StaleContext);
         }
         match self.room_fault(key, &raised) {

@@ -1,13 +1,15 @@
 //! A range and its plain program: each call is made on both, and their results and states are compared.
-ghost use Rattle.std.specs.Prelude.{◌≤◌};
 
-use crate::calls::plain::{Fault, KEYS, PlainEntry, PlainRange, PlainVersion, key_bytes};
-use crate::calls::trees::{Tree, leaf_depth, width};
+use crate::calls::plain::{
+    Fault, KEYS, PlainEntry, PlainRange, PlainVersion, are_clocks_of, are_equal, key_bytes,
+};
+use crate::calls::trees::{Tree, child, leaf_depth, width};
 use crate::calls::walks::Walk;
+use crate::ranges::Range;
 use crate::trouble::{Trouble, expect};
 use hash_tree::{Hashed, NodeAt};
 use range_journal::{Entry, Source};
-use range_state::{Accepted, RangeConfig, RangeState, Receipt};
+use range_state::{Accepted, Receipt};
 use rehash::run_job;
 use snapshot::Snapshot;
 use std::alloc::Global;
@@ -30,7 +32,7 @@ pub(crate) struct Work {
 
 /// A range and its plain program, with the clean nodes by depth and then by index.
 pub(crate) struct Replica {
-    pub(crate) state: RangeState,
+    pub(crate) range: Range,
     pub(crate) plain: PlainRange,
     /// The partner's offers: an old tree, then later ones.
     pub(crate) offered: Vec<Offered>,
@@ -54,9 +56,6 @@ impl Replica {
         is_half: bool,
         limit: u64,
     ) -> Result<Replica, Trouble> {
-        let number = if format == Format::One { 1 } else { 2 };
-        let config = RangeConfig::new(number, u64::from(is_half), 0, limit);
-        let config = config.ok_or(Trouble::Differs("a configuration"))?;
         let plain = PlainRange {
             format,
             is_half,
@@ -64,7 +63,7 @@ impl Replica {
             entries: Vec::new(alloc),
         };
         Ok(Replica {
-            state: RangeState::new(alloc, config)?,
+            range: Range::new(alloc, format, u64::from(is_half), limit)?,
             plain,
             offered: Vec::new(alloc),
             walks: Vec::new(alloc),
@@ -87,7 +86,7 @@ impl Replica {
         let at = u16::from(node) + 1;
         let bytes = key_bytes(key);
         let reply = self
-            .state
+            .range
             .put(alloc, SEAT, at, bytes, &clock, context.kind, value);
         self.check_put(key, &reply, wanted, &held)?;
         self.compare_held(alloc, key)
@@ -104,9 +103,7 @@ impl Replica {
         match (reply, wanted) {
             (Ok(receipt), Ok(version)) => self.journal(receipt, key, version, Source::Client),
             (Err(Refusal::StaleContext(clocks)), Err(Fault::StaleContext)) => {
-                let clocks = clocks.as_slice();
-                let same = clocks.len() == held.len()
-                    && held.iter().zip(clocks).all(|(v, clock)| v.has_clock(clock));
+                let same = are_clocks_of(clocks.as_slice(), held);
                 expect(same, "the clocks of a stale put")
             }
             (Err(refusal), Err(fault)) => expect(fault.is(refusal), "the refusal of a put"),
@@ -125,7 +122,7 @@ impl Replica {
         let wanted = self.plain.accept(key, &version);
         let sent = version.version(alloc)?;
         let source = if is_hint { Source::Hint } else { Source::Copy };
-        let reply = self.state.accept(alloc, SEAT, source, key_bytes(key), sent);
+        let reply = self.range.accept(alloc, SEAT, source, key_bytes(key), sent);
         match (&reply, wanted) {
             (Ok(Accepted::Taken(receipt)), Ok(true)) => {
                 self.journal(receipt, key, version, source)?
@@ -179,11 +176,9 @@ impl Replica {
     /// Compares the versions that are held for a key, and the number of entries.
     pub(crate) fn compare_held(&self, alloc: Global, key: u64) -> Result<(), Trouble> {
         let held = self.plain.held(alloc, key)?;
-        let versions = self.state.versions(key_bytes(key));
-        let same = versions.len() == held.len()
-            && held.iter().zip(versions).all(|(v, version)| v.is(version));
+        let same = are_equal(&held, self.range.versions(key_bytes(key)));
         expect(same, "what is held for a key")?;
-        let entries = self.state.journal().len();
+        let entries = self.range.journal().len();
         expect(
             entries == self.plain.entries.len() as u64,
             "the number of entries",
@@ -192,14 +187,9 @@ impl Replica {
 
     /// Gets the versions of a key.
     pub(crate) fn get(&self, alloc: Global, key: u64) -> Result<(), Trouble> {
-        let got = self.state.get(alloc, key_bytes(key))?;
+        let got = self.range.get(alloc, key_bytes(key))?;
         let held = self.plain.held(alloc, key)?;
-        let same = got.len() == held.len()
-            && held
-                .iter()
-                .zip(got.as_slice())
-                .all(|(v, version)| v.is(version));
-        expect(same, "the answer of a get")
+        expect(are_equal(&held, got.as_slice()), "the answer of a get")
     }
 
     /// Hashes all dirty nodes.
@@ -209,7 +199,7 @@ impl Replica {
         alloc: Global,
     ) -> Result<(), Trouble> {
         let dirty = self.dirty_count();
-        let hashed = self.state.rehash(rt, alloc)?;
+        let hashed = self.range.rehash(rt, alloc)?;
         expect(hashed == dirty, "the number of hashed nodes")?;
         self.clean = vec![in alloc; true; 4_369]?;
         Ok(())
@@ -222,8 +212,13 @@ impl Replica {
         } else {
             4_369
         };
-        let clean = self.clean.iter().take(nodes);
-        clean.filter(|clean| !**clean).count() as u64
+        let mut count = 0u64;
+        for clean in self.clean.iter().take(nodes) {
+            if !*clean {
+                count = count.wrapping_add(1);
+            }
+        }
+        count
     }
 
     /// Returns true if a node is clean.
@@ -234,7 +229,7 @@ impl Replica {
 
     /// Takes a job and hashes its text, which may be installed later.
     pub(crate) fn take_job(&mut self, alloc: Global, skip: u64) -> Result<(), Trouble> {
-        let Some(job) = self.state.take_job(alloc, skip)? else {
+        let Some(job) = self.range.take_job(alloc, skip)? else {
             return expect(self.dirty_count() == 0, "whether there is a job");
         };
         let node = job.node();
@@ -254,9 +249,14 @@ impl Replica {
         if node.depth >= leaf_depth(self.plain.format) {
             return true;
         }
-        let first = 16 * place(node.depth, node.index) + 1;
-        let children = self.clean.iter().skip(first).take(16);
-        children.filter(|clean| **clean).count() == 16
+        for j in 0..16 {
+            if let Some(child) = child(node, j)
+                && !self.is_clean(child)
+            {
+                return false;
+            }
+        }
+        true
     }
 
     /// Returns true if the text of a job is still its node's: the format is unchanged, each child is clean, and no
@@ -280,7 +280,7 @@ impl Replica {
             return Ok(());
         };
         let is_current = self.is_current(&work);
-        match self.state.install(work.node, &work.hashed) {
+        match self.range.install(work.node, &work.hashed) {
             Ok(()) => expect(is_current, "whether a digest is installed")?,
             Err(refusal) => expect(!is_current && Fault::Stale.is(&refusal), "a stale digest")?,
         }
@@ -299,7 +299,7 @@ impl Replica {
 
     /// Migrates the range to format 2, unless it has that format. No node is clean then, and no session is open.
     pub(crate) fn migrate(&mut self, alloc: Global) -> Result<(), Trouble> {
-        self.state.migrate(alloc)?;
+        self.range.migrate(alloc)?;
         if self.plain.format == Format::One {
             self.plain.format = Format::Two;
             self.clean = vec![in alloc; false; 4_369]?;
@@ -317,7 +317,7 @@ impl Replica {
 
     /// Makes a snapshot: the rows with their tree, or `None` if some node is dirty.
     pub(crate) fn offer(&self, alloc: Global) -> Result<Option<Offered>, Trouble> {
-        match self.state.snapshot(alloc) {
+        match self.range.snapshot(alloc) {
             Ok(snapshot) => {
                 expect(self.is_all_clean(), "whether there is a snapshot")?;
                 let tree = Tree::new(alloc, &self.plain)?;
@@ -350,7 +350,7 @@ impl Replica {
     /// Compares each entry.
     fn compare_journal(&self) -> Result<(), Trouble> {
         for (number, entry) in self.plain.entries.iter().enumerate() {
-            let same = match self.state.journal().get(number as u64) {
+            let same = match self.range.journal().get(number as u64) {
                 Some(kept) => is_entry(kept, number, entry),
                 None => false,
             };
@@ -368,7 +368,7 @@ impl Replica {
                 } else {
                     None
                 };
-                expect(self.state.digest_at(node) == digest, "a digest")?;
+                expect(self.range.digest_at(node) == digest, "a digest")?;
             }
         }
         Ok(())
@@ -376,9 +376,7 @@ impl Replica {
 }
 
 /// Returns the place of a node: the number of nodes before it, depth by depth.
-fn place(depth: u8, index: u16) -> usize
-    ensures { result ≤ 65808 }
-{
+fn place(depth: u8, index: u16) -> usize {
     let before = match depth {
         0 => 0,
         1 => 1,
@@ -410,7 +408,7 @@ impl Drop for Replica {
     /// Keeps the fields out of the proofs of callers that drop a replica.
     fn drop(self) {
         let Replica {
-            state: _state,
+            range: _range,
             plain: _plain,
             offered: _offered,
             walks: _walks,

@@ -39,15 +39,22 @@ impl Replica {
 
     /// Returns the reason why no more session can be opened, if there is one.
     pub(crate) fn crowd_fault(&self) -> Option<Fault> {
-        let open = self
-            .walks
-            .iter()
-            .filter(|walk| walk.state == SessionState::Open);
-        if open.count() >= MOST_OPEN || self.walks.len() >= MOST_RECORDS {
+        if self.open_count() >= MOST_OPEN || self.walks.len() >= MOST_RECORDS {
             Some(Fault::SessionsFull)
         } else {
             None
         }
+    }
+
+    /// Returns the number of open sessions.
+    fn open_count(&self) -> usize {
+        let mut count = 0usize;
+        for walk in &self.walks {
+            if walk.state == SessionState::Open {
+                count = count.wrapping_add(1);
+            }
+        }
+        count
     }
 
     /// Returns the reason why an offer is refused, if there is one.
@@ -73,7 +80,7 @@ impl Replica {
         partner: Offering,
     ) -> Result<(), Trouble> {
         let fault = self.offer_fault(&offer);
-        let reply = self.state.open_session(alloc, partner.at, offer);
+        let reply = self.range.open_session(alloc, partner.at, offer);
         match (reply, fault) {
             (Ok(id), None) => {
                 expect(id == self.walks.len() as u64, "the number of a session")?;
@@ -119,30 +126,25 @@ impl Replica {
 
     /// Compares each session with its walk.
     pub(crate) fn compare_walks(&self) -> Result<(), Trouble> {
-        let records = self.state.records();
-        let same = records.len() == self.walks.len()
-            && self
-                .walks
-                .iter()
-                .zip(records)
-                .all(|(walk, record)| walk.is(record));
-        expect(same, "a session")
+        let records = self.range.records();
+        for (walk, record) in self.walks.iter().zip(records) {
+            expect(walk.is(record), "a session")?;
+        }
+        expect(records.len() == self.walks.len(), "a session")
     }
 
     /// Compares the texts that each session took.
     pub(crate) fn compare_texts(&self) -> Result<(), Trouble> {
-        let records = self.state.records();
-        let same = self
-            .walks
-            .iter()
-            .zip(records)
-            .all(|(walk, record)| walk.has_taken(record.session().taken()));
-        expect(same, "the texts of a session")
+        for (walk, record) in self.walks.iter().zip(self.range.records()) {
+            let same = walk.has_taken(record.session().taken());
+            expect(same, "the texts of a session")?;
+        }
+        Ok(())
     }
 
     /// Cancels a session, which may not exist.
     pub(crate) fn cancel(&mut self, id: u64) -> Result<(), Trouble> {
-        let reply = self.state.cancel_session(id);
+        let reply = self.range.cancel_session(id);
         match (reply, self.walks.get_mut(id as usize)) {
             (Ok(()), Some(walk)) => walk.end(SessionState::Cancelled),
             (Err(refusal), None) => {
@@ -187,23 +189,30 @@ impl Replica {
             }
         }
         for entry in &self.plain.entries {
-            let is_there = self.offered.iter().any(|offered| has(&offered.tree, entry));
-            expect(
-                entry.source != Source::Partner || is_there,
-                "where an entry came from",
-            )?;
+            let is_there = entry.source != Source::Partner || self.is_offered(entry);
+            expect(is_there, "where an entry came from")?;
         }
         Ok(())
+    }
+
+    /// Returns true if a partner offered an entry's version.
+    fn is_offered(&self, entry: &PlainEntry) -> bool {
+        for offered in &self.offered {
+            if has(&offered.tree, entry) {
+                return true;
+            }
+        }
+        false
     }
 
     /// Compares a partner's rows with the held versions.
     fn compare_covered(&self, alloc: Global, tree: &Tree) -> Result<(), Trouble> {
         for row in &tree.rows {
             let held = self.plain.held(alloc, row.key)?;
-            let covered = row.versions.iter().all(|version| held
-                .iter()
-                .any(|other| version.is_covered_by(other)));
-            expect(covered, "whether a partner's version is held")?;
+            for version in &row.versions {
+                let covered = version.is_covered_by_any(&held);
+                expect(covered, "whether a partner's version is held")?;
+            }
         }
         Ok(())
     }
@@ -211,6 +220,10 @@ impl Replica {
 
 /// Returns true if a tree has an entry's version in the row of its key.
 fn has(tree: &Tree, entry: &PlainEntry) -> bool {
-    tree.rows.iter().any(|row| row.key == entry.key
-        && row.versions.iter().any(|v| *v == entry.version))
+    for row in &tree.rows {
+        if row.key == entry.key && row.versions.contains(&entry.version) {
+            return true;
+        }
+    }
+    false
 }

@@ -107,7 +107,9 @@ impl Tree {
         let mut text = Vec::new(alloc);
         text.push(inner_byte(self.format))?;
         for j in 0..16u16 {
-            if let Some(digest) = child(node, j).and_then(|child| self.digest_at(child)) {
+            if let Some(child) = child(node, j)
+                && let Some(digest) = self.digest_at(child)
+            {
                 text.extend_from_slice(&digest)?;
             }
         }
@@ -181,7 +183,7 @@ fn leaf_level(alloc: Global, format: Format, rows: &[PlainRow]) -> Result<Vec<Di
     let empty = Sha256::digest(&leaf_text(alloc, format, &[], 0)?);
     let mut level = Vec::new(alloc);
     for leaf in 0..width(leaf_depth(format)) {
-        if rows.iter().any(|row| row.leaf == leaf) {
+        if has_leaf(rows, leaf) {
             level.push(Sha256::digest(&leaf_text(alloc, format, rows, leaf)?))?;
         } else {
             level.push(empty)?;
@@ -190,17 +192,27 @@ fn leaf_level(alloc: Global, format: Format, rows: &[PlainRow]) -> Result<Vec<Di
     Ok(level)
 }
 
+/// Returns true if some row is in a leaf.
+fn has_leaf(rows: &[PlainRow], leaf: u16) -> bool {
+    for row in rows {
+        if row.leaf == leaf {
+            return true;
+        }
+    }
+    false
+}
+
 /// Returns the digests of the nodes above a level. A text that equals the one before isn't hashed again.
 fn level_above(alloc: Global, format: Format, below: &[Digest]) -> Result<Vec<Digest>, Trouble> {
     let mut level = Vec::new(alloc);
-    let mut last: Option<Vec<u8>> = None;
+    let mut last = Vec::new(alloc);
     let mut digest = [0; 32];
     for children in below.chunks(16) {
         let text = joined(alloc, format, children)?;
-        if last.as_ref().is_none_or(|last| *last != text) {
+        if text != last {
             digest = Sha256::digest(&text);
+            last = text;
         }
-        last = Some(text);
         level.push(digest)?;
     }
     Ok(level)

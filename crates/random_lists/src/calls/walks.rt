@@ -79,8 +79,17 @@ impl Walk {
             return Some(&self.partner.root);
         }
         let above = NodeAt::new(node.depth.wrapping_sub(1), node.index / 16)?;
-        let sent = self.taken.iter().find(|sent| sent.node == above)?;
-        digest_in(&sent.text, node.index % 16)
+        digest_in(self.taken_text(above)?, node.index % 16)
+    }
+
+    /// Returns the text that was taken for a node.
+    fn taken_text(&self, node: NodeAt) -> Option<&[u8]> {
+        for sent in &self.taken {
+            if sent.node == node {
+                return Some(&sent.text);
+            }
+        }
+        None
     }
 
     /// Returns true if the node is a leaf.
@@ -90,7 +99,7 @@ impl Walk {
 
     /// Returns the reason why a text isn't taken, if there is one. `partners` is the partner's text of the node.
     pub(crate) fn fault_of(&self, node: NodeAt, text: &[u8], partners: &[u8]) -> Option<Fault> {
-        if !self.outstanding.iter().any(|other| *other == node) {
+        if !self.outstanding.contains(&node) {
             return Some(Fault::NotAsked);
         }
         let digest = Sha256::digest(text);
@@ -157,14 +166,12 @@ impl Walk {
 
     /// Returns true if a session took the walk's texts.
     pub(crate) fn has_taken(&self, taken: &[Taken]) -> bool {
-        let is_same = |sent: &Sent, taken: &Taken| sent.node == taken.node()
-            && sent.text.as_slice() == taken.text().text();
+        for (sent, other) in self.taken.iter().zip(taken) {
+            if sent.node != other.node() || sent.text.as_slice() != other.text().text() {
+                return false;
+            }
+        }
         taken.len() == self.taken.len()
-            && self
-                .taken
-                .iter()
-                .zip(taken)
-                .all(|(sent, taken)| is_same(sent, taken))
     }
 }
 

@@ -4,11 +4,12 @@ use crate::links::own::{Ended, Worked};
 use crate::links::partner::Partner;
 use crate::links::rows::{Given, is_covered};
 use crate::links::tally::Tally;
+use crate::ranges::Range;
 use crate::trouble::{Trouble, expect};
 use hash_tree::{NodeAt, tree_depth};
 use key_ring::place;
 use range_journal::Source;
-use range_state::{RangeState, Receipt};
+use range_state::Receipt;
 use ring_node::SyncReport;
 use std::sync::ledger::Ledger;
 use sync_session::{Session, SessionState};
@@ -22,23 +23,12 @@ pub(crate) fn check_all<L: Ledger>(
     partner: &Partner,
     tally: &mut Tally,
 ) -> Result<(), Trouble> {
-    let state = &ended.closed.state;
-    let pass = ended.closed.passes.last();
-    let receipts = pass.ok_or(Trouble::Differs("the passes"))?.receipts();
-    check_held(state, &ended.given)?;
+    check_held(&ended.range, &ended.given)?;
     let (mut opened, mut told) = (0u64, 0usize);
     for sync in &ended.syncs {
-        let gains = Gains {
-            state,
-            sync,
-            receipts,
-        };
         expect(sync.failures == sync.losses(), "the failures of a link")?;
         if sync.has_opened() {
-            let record = state.records().get(opened as usize);
-            let record = record.ok_or(Trouble::Differs("the number of sessions"))?;
-            check_session(sync, opened, record.session())?;
-            gains.check(record.session(), partner)?;
+            check_opened(ended, sync, opened, partner)?;
             opened = opened.wrapping_add(1);
         } else {
             expect(sync.receipts == 0, "what came without a session")?;
@@ -46,21 +36,42 @@ pub(crate) fn check_all<L: Ledger>(
         told = told.wrapping_add(sync.receipts);
         sync.count(tally);
     }
-    expect(
-        state.records().len() as u64 == opened,
-        "the number of sessions",
-    )?;
-    let entries = state.journal().entries().iter();
-    let taken = entries
-        .filter(|entry| entry.source == Source::Partner)
-        .count();
+    let sessions = ended.range.records().len() as u64;
+    expect(sessions == opened, "the number of sessions")?;
+    let taken = count_partners(&ended.range);
     expect(taken == told, "the number of entries of the partner")
 }
 
+/// Checks the session that a sync opened, and what the range got.
+fn check_opened<L: Ledger>(
+    ended: &Ended<L>,
+    sync: &Worked,
+    id: u64,
+    partner: &Partner,
+) -> Result<(), Trouble> {
+    let Some(record) = ended.range.records().get(id as usize) else {
+        return Err(Trouble::Differs("the number of sessions"));
+    };
+    let session = record.session();
+    check_session(sync, id, session)?;
+    check_gains(ended, sync, session, partner)
+}
+
+/// Returns the number of entries whose versions are a partner's.
+fn count_partners(range: &Range) -> usize {
+    let mut count = 0usize;
+    for entry in range.journal().entries() {
+        if entry.source == Source::Partner {
+            count = count.wrapping_add(1);
+        }
+    }
+    count
+}
+
 /// Checks that each of the versions is covered by a held one.
-fn check_held(state: &RangeState, rows: &[Given]) -> Result<(), Trouble> {
+fn check_held(range: &Range, rows: &[Given]) -> Result<(), Trouble> {
     for row in rows {
-        let held = state.versions(row.key);
+        let held = range.versions(row.key);
         expect(is_covered(held, &row.version), "what is held")?;
     }
     Ok(())
@@ -115,53 +126,55 @@ fn check_report(
 
 /// Returns true if no node is in the list twice.
 fn is_each_once(nodes: &[NodeAt]) -> bool {
-    nodes.iter().all(|node| nodes.iter().filter(|other| *other == node).count() == 1)
-}
-
-/// The gains of a range in a sync, among the receipts of all its syncs.
-#[derive(Clone, Copy)]
-struct Gains<'a> {
-    state: &'a RangeState,
-    sync: &'a Worked,
-    receipts: &'a [Receipt],
-}
-
-impl<'a> Gains<'a> {
-    /// Compares them with the partner's rows when it made the session's offer.
-    fn check(&self, session: &Session, partner: &Partner) -> Result<(), Trouble> {
-        let is_finished = session.state() == SessionState::Finished;
-        let Some(offered) = partner.with_root(&session.root()) else {
-            let is_none = self.sync.receipts == 0 && !is_finished;
-            return expect(is_none, "what came by an offer that nobody made");
-        };
-        self.check_receipts(&offered.rows)?;
-        if let Ok(report) = &self.sync.report {
-            let count = report.accepted.wrapping_add(report.known);
-            let taken = count_taken(session, &offered.rows);
-            expect(count == taken, "the number of versions")?;
+    for (i, node) in nodes.iter().enumerate() {
+        for other in nodes.iter().take(i) {
+            if other == node {
+                return false;
+            }
         }
-        if is_finished {
-            check_held(self.state, &offered.rows)?;
-        }
-        Ok(())
     }
-
-    /// Checks that each entry has a version of the partner.
-    fn check_receipts(&self, rows: &[Given]) -> Result<(), Trouble> {
-        let receipts = self.receipts.iter().skip(self.sync.before);
-        for receipt in receipts.take(self.sync.receipts) {
-            let is_partners = receipt.seat == SEAT
-                && receipt.source == Source::Partner
-                && rows.iter().any(|row| is_of(receipt, row));
-            expect(is_partners, "an entry of the partner")?;
-        }
-        Ok(())
-    }
+    true
 }
 
-/// Returns true if an entry has the key and the version of a row.
-fn is_of(entry: &Receipt, row: &Given) -> bool {
-    entry.key.as_slice() == row.key && entry.version.same(&row.version)
+/// Compares what the range got in a sync with the partner's rows when it made the session's offer.
+fn check_gains<L: Ledger>(
+    ended: &Ended<L>,
+    sync: &Worked,
+    session: &Session,
+    partner: &Partner,
+) -> Result<(), Trouble> {
+    let is_finished = session.state() == SessionState::Finished;
+    let Some(offered) = partner.with_root(&session.root()) else {
+        let is_none = sync.receipts == 0 && !is_finished;
+        return expect(is_none, "what came by an offer that nobody made");
+    };
+    let receipts = ended.syncer.receipts().iter().skip(sync.before);
+    for receipt in receipts.take(sync.receipts) {
+        let is_partners = is_of_partner(receipt, &offered.rows);
+        expect(is_partners, "an entry of the partner")?;
+    }
+    if let Ok(report) = &sync.report {
+        let count = report.accepted.wrapping_add(report.known);
+        let taken = count_taken(session, &offered.rows);
+        expect(count == taken, "the number of versions")?;
+    }
+    if is_finished {
+        check_held(&ended.range, &offered.rows)?;
+    }
+    Ok(())
+}
+
+/// Returns true if a receipt of a sync has the key and the version of one of the partner's rows.
+fn is_of_partner(receipt: &Receipt, rows: &[Given]) -> bool {
+    if receipt.seat != SEAT || receipt.source != Source::Partner {
+        return false;
+    }
+    for row in rows {
+        if row.key == receipt.key.as_slice() && row.version.same(&receipt.version) {
+            return true;
+        }
+    }
+    false
 }
 
 /// Returns the number of versions that are in the leaves whose texts a session took.
@@ -179,6 +192,11 @@ fn count_taken(session: &Session, rows: &[Given]) -> u64 {
 fn has_leaf_of(session: &Session, key: &[u8]) -> bool {
     let format = session.own().format();
     let (depth, leaf) = (tree_depth(format), place(format, 0, key).leaf);
-    let mut taken = session.taken().iter();
-    taken.any(|text| text.node().depth == depth && text.node().index == leaf)
+    for taken in session.taken() {
+        let node = taken.node();
+        if node.depth == depth && node.index == leaf {
+            return true;
+        }
+    }
+    false
 }

@@ -1,10 +1,10 @@
 //! Partners.
 
 use crate::links::rows::{Given, KEYS, key_bytes};
+use crate::ranges::Range;
 use crate::trouble::Trouble;
 use hash_tree::Digest;
 use range_journal::Source;
-use range_state::{RangeConfig, RangeState};
 use ring_node::OfferPool;
 use snapshot::Snapshot;
 use std::alloc::Global;
@@ -20,9 +20,8 @@ pub(crate) struct Offered {
 }
 
 /// A partner, with its offers.
-#[derive(Drop)]
 pub(crate) struct Partner {
-    state: RangeState,
+    range: Range,
     pool: OfferPool,
     offered: Vec<Offered>,
 }
@@ -30,10 +29,8 @@ pub(crate) struct Partner {
 impl Partner {
     /// Returns a partner that holds nothing and offers nothing.
     pub(crate) fn new(alloc: Global, format: Format) -> Result<Partner, Refusal> {
-        let number = u64::from(format.number());
-        let config = RangeConfig::new(number, 0, 0, 1_000).ok_or(Refusal::BadRing)?;
         Ok(Partner {
-            state: RangeState::new(alloc, config)?,
+            range: Range::new(alloc, format, 0, 1_000)?,
             pool: OfferPool::new(alloc),
             offered: Vec::new(alloc),
         })
@@ -42,7 +39,7 @@ impl Partner {
     /// Accepts a version.
     pub(crate) fn accept(&mut self, alloc: Global, row: Given) -> Result<(), Refusal> {
         let Given { key, version } = row;
-        self.state.accept(alloc, 0, Source::Copy, key, version)?;
+        self.range.accept(alloc, 0, Source::Copy, key, version)?;
         Ok(())
     }
 
@@ -53,8 +50,8 @@ impl Partner {
         alloc: Global,
         times: u8,
     ) -> Result<(), Trouble> {
-        self.state.rehash(rt, alloc)?;
-        let snapshot = self.state.snapshot(alloc)?;
+        self.range.rehash(rt, alloc)?;
+        let snapshot = self.range.snapshot(alloc)?;
         for _ in 0..times {
             self.pool.publish(rt, Arc::try_clone(&snapshot)?)?;
         }
@@ -68,7 +65,7 @@ impl Partner {
         let mut rows = Vec::new(alloc);
         for number in 0..KEYS {
             let key = key_bytes(number);
-            for version in self.state.versions(key) {
+            for version in self.range.versions(key) {
                 let version = version.try_clone()?;
                 rows.push(Given { key, version })?;
             }
@@ -91,6 +88,22 @@ impl Partner {
 
     /// Returns its offer of that root, if it made one.
     pub(crate) fn with_root(&self, root: &Digest) -> Option<&Offered> {
-        self.offered.iter().find(|offered| offered.root == *root)
+        for offered in &self.offered {
+            if offered.root == *root {
+                return Some(offered);
+            }
+        }
+        None
+    }
+}
+
+impl Drop for Partner {
+    /// Keeps the fields out of the proofs of callers that drop a partner.
+    fn drop(self) {
+        let Partner {
+            range: _range,
+            pool: _pool,
+            offered: _offered,
+        } = self;
     }
 }

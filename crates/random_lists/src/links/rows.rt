@@ -41,8 +41,12 @@ pub(crate) fn key_bytes(key: u64) -> &'static [u8] {
 
 /// Returns true if a version is held, or one whose clock is later.
 pub(crate) fn is_covered(held: &[Version], version: &Version) -> bool {
-    held.iter()
-        .any(|other| other.same(version) || version.is_below(other))
+    for other in held {
+        if other.same(version) || version.is_below(other) {
+            return true;
+        }
+    }
+    false
 }
 
 /// Returns a key with a version of it. In format 2 one in four is a tombstone.

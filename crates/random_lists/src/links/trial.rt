@@ -11,8 +11,7 @@ use crate::links::tally::Tally;
 use crate::links::watched::Watched;
 use crate::random::Random;
 use crate::trouble::Trouble;
-use admission::{Controller, Slot};
-use ring_node::{Link, MemoryLink, ScriptedLink, SharedController};
+use ring_node::{Link, MemoryLink, ScriptedLink};
 use std::alloc::Global;
 use std::marker::Brand;
 use std::sync::Wait;
@@ -79,12 +78,8 @@ impl Trial {
         } else {
             1_000
         };
-        let mut own = Own::<L>::open(rt, alloc, range, self.format, limit)?;
-        let slots = SharedController::new(Controller::<C>::new(slots, alloc, 1, 8, 50_000)?);
-        let slot = slots.lend(rt)?;
-        let done = self.sync_all(rt, alloc, &slot, partner, &mut own);
-        slots.give_back(rt, slot);
-        done?;
+        let mut own = Own::<L, C>::open(rt, alloc, range, slots, self.format, limit)?;
+        self.sync_all(rt, alloc, partner, &mut own)?;
         let ended = own.end(alloc)?;
         check_all(&ended, partner, tally)
     }
@@ -112,12 +107,12 @@ impl Trial {
     }
 
     /// Has the range accept some of the partner's versions, and some others.
-    fn fill<L: Ledger, R: Wait>(
+    fn fill<L: Ledger, C: Ledger, R: Wait>(
         &mut self,
         rt: &R,
         alloc: Global,
         partner: &Partner,
-        own: &mut Own<L>,
+        own: &mut Own<L, C>,
     ) -> Result<(), Trouble> {
         if self.is_crowded {
             for number in 0..CROWD {
@@ -141,20 +136,19 @@ impl Trial {
         &mut self,
         rt: &R,
         alloc: Global,
-        slot: &Slot<C>,
         partner: &Partner,
-        own: &mut Own<L>,
+        own: &mut Own<L, C>,
     ) -> Result<(), Trouble> {
         self.fill(rt, alloc, partner, own)?;
-        self.rehash_mostly(rt, alloc, slot, own)?;
+        self.rehash_mostly(rt, alloc, own)?;
         for _ in 0..1 + self.random.below(2) {
             let deeds = random_deeds(alloc, &mut self.random)?;
             if self.random.once_in(16) {
                 let link = Forger::new(alloc, &mut self.random, self.format)?;
-                self.sync_over(rt, alloc, slot, ScriptedLink::new(alloc, link, deeds), own)?;
+                self.sync_over(rt, alloc, ScriptedLink::new(alloc, link, deeds), own)?;
             } else {
                 let link = MemoryLink::new(alloc, partner.pool());
-                self.sync_over(rt, alloc, slot, ScriptedLink::new(alloc, link, deeds), own)?;
+                self.sync_over(rt, alloc, ScriptedLink::new(alloc, link, deeds), own)?;
             }
         }
         Ok(())
@@ -165,19 +159,18 @@ impl Trial {
         &mut self,
         rt: &R,
         alloc: Global,
-        slot: &Slot<C>,
         link: K,
-        own: &mut Own<L>,
+        own: &mut Own<L, C>,
     ) -> Result<(), Trouble> {
         let mut link = Watched::new(alloc, link);
         for _ in 0..1 + self.random.below(2) {
             let turns = self.turns();
-            own.sync(rt, alloc, slot, &mut link, turns)?;
+            own.sync(rt, alloc, &mut link, turns)?;
             if self.random.once_in(3) {
                 let row = random_row(alloc, &mut self.random, self.format)?;
                 own.accept(rt, alloc, row)?;
             }
-            self.rehash_mostly(rt, alloc, slot, own)?;
+            self.rehash_mostly(rt, alloc, own)?;
         }
         Ok(())
     }
@@ -196,11 +189,10 @@ impl Trial {
         &mut self,
         rt: &R,
         alloc: Global,
-        slot: &Slot<C>,
-        own: &Own<L>,
+        own: &Own<L, C>,
     ) -> Result<(), Trouble> {
         if !self.random.once_in(8) {
-            own.rehash(rt, alloc, slot)?;
+            own.rehash(rt, alloc)?;
         }
         Ok(())
     }
