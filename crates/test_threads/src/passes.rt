@@ -8,6 +8,7 @@ use range_journal::Source;
 use range_state::Accepted;
 use std::alloc::Global;
 use std::marker::Brand;
+use std::process::Abort;
 use std::sync::ledger::{Blank, Ledger};
 use std::test::Fail;
 use std::thread::Threads;
@@ -29,8 +30,8 @@ fn expect_absorbed<L: Ledger>(book: &mut Book<L>, passes: &mut Vec<Pass<L>>) -> 
     expect(book.seats() == 2, "the book has two seats")
 }
 
-/// Opens two passes, and absorbs both.
-fn absorb_two<L: Ledger>(alloc: Global, blank: Blank) -> Result<(), Fail>
+/// Opens two passes, and absorbs both. The proof of a test names its ledger only if the call takes the runtime.
+fn absorb_two<L: Ledger>(_rt: &impl Abort, alloc: Global, blank: Blank) -> Result<(), Fail>
     requires name { blank.name ≡ L.name }
     requires parts { (blank.parts ≡ L.parts) × (L.parts ≡ 2) }
 {
@@ -40,11 +41,11 @@ fn absorb_two<L: Ledger>(alloc: Global, blank: Blank) -> Result<(), Fail>
 
 #[test]
 fn a_book_absorbs_its_passes(rt: HostRuntime) -> Result<(), Fail> {
-    absorb_two::<Brand>(rt.alloc(), Blank::new(2))
+    absorb_two::<Brand>(&rt, rt.alloc(), Blank::new(2))
 }
 
-/// Opens two passes, takes both back, and settles.
-fn settle_two<L: Ledger>(alloc: Global, blank: Blank) -> Result<(), Fail>
+/// Opens two passes, takes both back, and settles. It takes the runtime as [`absorb_two`] does.
+fn settle_two<L: Ledger>(_rt: &impl Abort, alloc: Global, blank: Blank) -> Result<(), Fail>
     requires name { blank.name ≡ L.name }
     requires parts { (blank.parts ≡ L.parts) × (L.parts ≡ 2) }
 {
@@ -63,7 +64,7 @@ fn settle_two<L: Ledger>(alloc: Global, blank: Blank) -> Result<(), Fail>
 
 #[test]
 fn a_book_settles(rt: HostRuntime) -> Result<(), Fail> {
-    settle_two::<Brand>(rt.alloc(), Blank::new(2))
+    settle_two::<Brand>(&rt, rt.alloc(), Blank::new(2))
 }
 
 /// Puts `x` under `a` at node 1, with an empty context. Returns the number of the entry.
