@@ -13,7 +13,7 @@ mod turns;
 mod walk;
 
 use crate::fault::Fault;
-use crate::ranges::new_range;
+use crate::ranges::{new_range, rehash};
 use pace::Paces;
 use phase::Phase;
 use plan::CallPlan;
@@ -60,8 +60,8 @@ fn make_calls(
         paces.rewrites = Phase::Puts(last).time(rt, alloc, first, keys)?;
     }
     paces.accepts = Phase::Accepts(last).time(rt, alloc, second, keys)?;
-    first.rehash(rt, alloc)?;
-    second.rehash(rt, alloc)?;
+    rehash(rt, alloc, first)?;
+    rehash(rt, alloc, second)?;
     run_turns(rt, alloc, plan, first, second, &mut paces)?;
     Ok(paces)
 }

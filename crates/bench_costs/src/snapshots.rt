@@ -1,6 +1,6 @@
 //! Work with one range: snapshots, one after another, or a migration to format 2.
 use crate::fault::Fault;
-use crate::ranges::{accept, new_range};
+use crate::ranges::{accept, new_range, rehash, snapshot};
 use range_state::RangeState;
 use std::alloc::Global;
 use std::io;
@@ -53,7 +53,7 @@ impl Deed {
         match self {
             Deed::Snapshots(count) => {
                 for _ in 0..count {
-                    let _snapshot = state.snapshot(alloc)?;
+                    let _snapshot = snapshot(alloc, state)?;
                 }
                 Ok(())
             }
@@ -84,7 +84,7 @@ fn clean_range(
     for number in 0..keys {
         accept(alloc, &mut state, number)?;
     }
-    state.rehash(rt, alloc)?;
+    rehash(rt, alloc, &mut state)?;
     Ok(state)
 }
 

@@ -4,6 +4,7 @@ mod watch;
 
 use crate::fault::Fault;
 use latencies::Latencies;
+use std::alloc::Global;
 use std::io;
 use std::sync::Wait;
 use std::thread::Threads;
@@ -12,7 +13,7 @@ use storm::{MOST_PUTS, StormEnd, Tallies, run_storm};
 use watch::Watch;
 
 /// The time when the rehash and sync workers run.
-#[derive(Clone, Copy, Debug, PartialEq, Eq)]
+#[derive(Clone, Copy, PartialEq, Eq)]
 enum Workers {
     /// While the writers run.
     Beside,
@@ -64,12 +65,23 @@ pub(crate) fn run<R: Threads + Wait + Clock + Print + Eprint + AllocGlobal + Syn
 ) -> Result<bool, Fault> {
     let tallies = Tallies::new();
     let watch = Watch::new(rt.alloc(), rt, &tallies, plan)?;
-    let start = Instant::now(rt)?;
-    let end = run_storm(rt, rt.alloc(), plan.puts.min(MOST_PUTS), &watch, &tallies)?;
-    let took = start.elapsed(rt)?;
+    let (end, took) = time_storm(rt, rt.alloc(), plan, &watch, &tallies)?;
     tell_end(rt, &end)?;
     tell_figures(rt, took, &watch.into_latencies(), &tallies)?;
     Ok(end.equal && end.settled)
+}
+
+/// Runs the storm, and returns how it ended and the time that it took.
+fn time_storm<R: Threads + Wait + Clock + Sync>(
+    rt: &R,
+    alloc: Global,
+    plan: StormPlan,
+    watch: &Watch<'_, R>,
+    tallies: &Tallies,
+) -> Result<(StormEnd, Duration), Fault> {
+    let start = Instant::now(rt)?;
+    let end = run_storm(rt, alloc, plan.puts.min(MOST_PUTS), watch, tallies)?;
+    Ok((end, start.elapsed(rt)?))
 }
 
 /// Prints how the storm ended.

@@ -36,7 +36,6 @@ const ORDERS: u64 = 100;
 const BYTE_OF_THE_TEXT: usize = 17;
 
 /// Both replicas of a range, the slots of their background work, and the keys of the day.
-#[derive(Drop)]
 struct Day<A: Ledger, B: Ledger, C: Ledger> {
     alloc: Global,
     first: Replica<A>,
@@ -247,10 +246,32 @@ where
 
     /// Closes both replicas.
     fn close<R: Print>(self, rt: &R) -> Result<(), Fault> {
-        let (first, second) = (self.first.close(self.alloc), self.second.close(self.alloc));
+        let Day {
+            alloc,
+            first,
+            second,
+            slots: _slots,
+            carts: _carts,
+            orders: _orders,
+        } = self;
+        let (first, second) = (first.close(alloc), second.close(alloc));
         let (entries, others) = (first?, second?);
         println!(rt; "  evening: {entries} and {others} entries, all receipts settled")?;
         Ok(())
+    }
+}
+
+impl<A: Ledger, B: Ledger, C: Ledger> Drop for Day<A, B, C> {
+    /// Keeps the fields out of the proofs of functions that drop a day.
+    fn drop(self) {
+        let Day {
+            alloc: _alloc,
+            first: _first,
+            second: _second,
+            slots: _slots,
+            carts: _carts,
+            orders: _orders,
+        } = self;
     }
 }
 

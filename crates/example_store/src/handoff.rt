@@ -12,7 +12,7 @@ use version_set::Version;
 const MOST_HINTS: u64 = 1_000;
 
 /// The state of a node, as the store's failure detector sees it.
-#[derive(Clone, Copy, Debug, PartialEq, Eq)]
+#[derive(Clone, Copy)]
 pub(crate) enum Health {
     Up,
     Down,

@@ -6,7 +6,7 @@ use std::alloc::Global;
 use vclock::Refusal;
 
 /// The two nodes that keep a range, in the order of its preference list.
-#[derive(Clone, Copy, Debug)]
+#[derive(Clone, Copy)]
 pub(crate) struct Homes {
     pub(crate) first: u16,
     pub(crate) second: u16,

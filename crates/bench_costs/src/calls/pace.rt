@@ -2,14 +2,14 @@
 use std::time::Duration;
 
 /// A number of calls, and the nanoseconds that they took together.
-#[derive(Clone, Copy, Debug, Default)]
+#[derive(Clone, Copy, Default)]
 pub(crate) struct Pace {
     pub(crate) calls: u64,
     nanos: u128,
 }
 
 /// The pace of each call. A call that was not made has the pace of no call.
-#[derive(Clone, Copy, Debug, Default)]
+#[derive(Clone, Copy, Default)]
 pub(crate) struct Paces {
     /// Puts of new keys.
     pub(crate) puts: Pace,

@@ -3,7 +3,7 @@ use crate::calls::pace::Pace;
 use crate::calls::round::Round;
 use crate::entries::{key, value};
 use crate::fault::Fault;
-use range_journal::Source;
+use crate::ranges::accept_copy;
 use range_state::RangeState;
 use std::alloc::Global;
 use std::time::{Clock, Instant};
@@ -14,7 +14,7 @@ use version_set::{Kind, Version};
 const NODE: u16 = 1;
 
 /// A call that is made for all keys.
-#[derive(Clone, Copy, Debug)]
+#[derive(Clone, Copy)]
 pub(crate) enum Phase {
     /// The keys are put.
     Puts(Round),
@@ -97,7 +97,7 @@ fn accept_all(
             kind: Kind::Live,
             value: value(alloc, round.value_number(number, keys))?,
         };
-        let _taken = range.accept(alloc, 0, Source::Copy, key.as_bytes(), version)?;
+        accept_copy(alloc, range, &key, version)?;
     }
     Ok(())
 }

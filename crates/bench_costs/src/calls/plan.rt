@@ -9,7 +9,7 @@ const FEW_KEYS: u64 = 1_000;
 pub(crate) const TURNS: u64 = 200;
 
 /// The plan of the calls: the number of keys before the turns.
-#[derive(Clone, Copy, Debug)]
+#[derive(Clone, Copy)]
 pub(crate) struct CallPlan {
     pub(crate) keys: u64,
 }

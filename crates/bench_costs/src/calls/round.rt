@@ -3,7 +3,7 @@ use std::alloc::Global;
 use vclock::{Clock, Refusal};
 
 /// The version of each key that is written, at node 1.
-#[derive(Clone, Copy, Debug, PartialEq, Eq)]
+#[derive(Clone, Copy, PartialEq, Eq)]
 pub(crate) enum Round {
     /// The first.
     First,

@@ -5,6 +5,7 @@ use crate::calls::plan::{CallPlan, TURNS};
 use crate::calls::round::Round;
 use crate::calls::walk::{Walk, sync};
 use crate::fault::Fault;
+use crate::ranges::{rehash, snapshot};
 use range_state::RangeState;
 use snapshot::Snapshot;
 use std::alloc::Global;
@@ -28,7 +29,7 @@ pub(crate) fn run_turns(
     second: &mut RangeState,
     paces: &mut Paces,
 ) -> Result<(), Fault> {
-    let mut latest = first.snapshot(alloc)?;
+    let mut latest = snapshot(alloc, first)?;
     for turn in 0..TURNS {
         // (after the numbers of all keys, and of all values)
         let number = plan.keys.wrapping_mul(2).wrapping_add(turn);
@@ -52,12 +53,12 @@ fn offer_key(
     put(alloc, range, Round::First, number, number)?;
     paces.puts_after_snapshot.add(from.elapsed(rt)?);
     let from = Instant::now(rt)?;
-    range.rehash(rt, alloc)?;
+    rehash(rt, alloc, range)?;
     paces.rehashes.add(from.elapsed(rt)?);
     let from = Instant::now(rt)?;
-    let snapshot = range.snapshot(alloc)?;
+    let offered = snapshot(alloc, range)?;
     paces.snapshots.add(from.elapsed(rt)?);
-    *latest = snapshot;
+    *latest = offered;
     Ok(())
 }
 
@@ -75,6 +76,6 @@ fn take_key(
     if walk != ONE_KEY {
         return Err(Fault::NotOneKey);
     }
-    range.rehash(rt, alloc)?;
+    rehash(rt, alloc, range)?;
     Ok(())
 }

@@ -17,7 +17,7 @@ const OFFER: u32 = 1;
 const NODES: u64 = 273;
 
 /// The result of a sync.
-#[derive(Clone, Copy, Debug, Default, PartialEq, Eq)]
+#[derive(Clone, Copy, Default, PartialEq, Eq)]
 pub(crate) struct Walk {
     /// The number of nodes that were asked for.
     pub(crate) asked: u64,

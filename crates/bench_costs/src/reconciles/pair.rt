@@ -1,5 +1,5 @@
 //! Two replicas of a range.
-use crate::ranges::{accept, new_range};
+use crate::ranges::{accept, new_range, rehash};
 use range_state::{RangeState, Reconciled, reconcile};
 use std::alloc::Global;
 use std::thread::Threads;
@@ -9,7 +9,6 @@ use vclock::Refusal;
 const LEAF_DEPTH: u8 = 2;
 
 /// Two replicas of a range, at the nodes 1 and 2, and the number of the next key.
-#[derive(Drop)]
 pub(crate) struct Pair {
     a: RangeState,
     b: RangeState,
@@ -39,9 +38,8 @@ impl Pair {
             accept(alloc, &mut self.b, self.next.wrapping_add(1))?;
             self.next = self.next.wrapping_add(2);
         }
-        self.a.rehash(rt, alloc)?;
-        self.b.rehash(rt, alloc)?;
-        Ok(())
+        rehash(rt, alloc, &mut self.a)?;
+        rehash(rt, alloc, &mut self.b)
     }
 
     /// Reconciles the replicas, which then hold equal versions.
@@ -51,13 +49,27 @@ impl Pair {
 
     /// Returns the number of leaves that differed in the last call of `reconcile`: those that the first replica asked.
     pub(crate) fn leaves(&self) -> u64 {
-        match self.a.records().last() {
-            Some(record) => {
-                let asked = record.session().asked().iter();
-                asked.filter(|node| node.depth == LEAF_DEPTH).count() as u64
+        let Some(record) = self.a.records().last() else {
+            return 0;
+        };
+        let mut leaves = 0u64;
+        for node in record.session().asked() {
+            if node.depth == LEAF_DEPTH {
+                leaves = leaves.wrapping_add(1);
             }
-            None => 0,
         }
+        leaves
+    }
+}
+
+impl Drop for Pair {
+    /// Keeps the ranges out of the proofs of callers that drop a pair.
+    fn drop(self) {
+        let Pair {
+            a: _a,
+            b: _b,
+            next: _next,
+        } = self;
     }
 }
 

@@ -7,7 +7,7 @@ use crate::ranges::MOST_ENTRIES;
 const MOST_THREADS: u16 = 8;
 
 /// The ranges that the threads write.
-#[derive(Clone, Copy, Debug, PartialEq, Eq)]
+#[derive(Clone, Copy)]
 pub(crate) enum Sharing {
     /// All write one range.
     One,
@@ -26,7 +26,7 @@ pub(crate) struct ThreadPlan {
 }
 
 /// The numbers of the keys of a thread: from one on, and below another.
-#[derive(Clone, Copy, Debug)]
+#[derive(Clone, Copy)]
 pub(crate) struct Part {
     pub(crate) from: u64,
     pub(crate) to: u64,

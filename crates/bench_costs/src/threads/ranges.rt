@@ -20,7 +20,7 @@ use vclock::Refusal;
 
 /// The times of the calls, the time when the ranges were closed, and whether they were closed: the passes and the
 /// journals agreed.
-#[derive(Clone, Copy, Debug)]
+#[derive(Clone, Copy)]
 pub(crate) struct Done {
     pub(crate) spans: Spans,
     pub(crate) closing: Span,
@@ -72,21 +72,43 @@ fn run_on_one<L: Ledger + Send + Sync, R: Threads + Wait + Clock + Sync>(
     requires { (blank.name ≡ L.name) × (blank.parts ≡ L.parts) × (L.parts ≡ plan.now.threads) }
 {
     let (range, passes) = open_range::<L>(alloc, blank, plan.threads)?;
+    let (passes, spans) = run_passes(rt, alloc, plan, &range, passes)?;
+    end(rt, alloc, range, passes, spans)
+}
+
+/// Runs a thread with each pass, and returns the passes.
+fn run_passes<L: Ledger + Send + Sync, R: Threads + Wait + Clock + Sync>(
+    rt: &R,
+    alloc: Global,
+    plan: &ThreadPlan,
+    range: &SharedRange<L>,
+    passes: Vec<Pass<L>>,
+) -> Result<(Vec<Pass<L>>, Spans), Fault> {
     let starts = Starts::new(plan.threads);
     let all = thread::map_vec(
         rt,
         passes,
-        &|pass| run_with(rt, alloc, plan, &starts, &range, pass),
+        &|pass| run_with(rt, alloc, plan, &starts, range, pass),
     )?;
+    gather(alloc, all)
+}
+
+/// Returns the passes of all threads, and the spans that cover theirs.
+fn gather<L: Ledger>(
+    alloc: Global,
+    all: Vec<Result<Returned<L>, Fault>>,
+) -> Result<(Vec<Pass<L>>, Spans), Fault> {
     let mut passes = Vec::new(alloc);
     let mut spans = None;
     for returned in all {
-        let returned = returned?;
-        passes.push(returned.pass)?;
-        spans = Some(covered(spans, returned.spans));
+        let Returned {
+            pass,
+            spans: others,
+        } = returned?;
+        passes.push(pass)?;
+        spans = Some(covered(spans, others));
     }
-    let spans = spans.ok_or(Fault::NotTogether)?;
-    end(rt, alloc, range, passes, spans)
+    Ok((passes, spans.ok_or(Fault::NotTogether)?))
 }
 
 /// Returns the spans that cover both, or the others if there are no spans yet.
@@ -104,9 +126,8 @@ fn run_with<L: Ledger, R: Wait + Clock>(
     plan: &ThreadPlan,
     starts: &Starts,
     range: &SharedRange<L>,
-    pass: Pass<L>,
+    mut pass: Pass<L>,
 ) -> Result<Returned<L>, Fault> {
-    let mut pass = pass;
     let part = plan.part(pass.seat());
     let spans = put_and_get(rt, alloc, range, &mut pass, starts, part)?;
     Ok(Returned { pass, spans })

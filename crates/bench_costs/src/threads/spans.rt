@@ -2,14 +2,14 @@
 use std::time::{Duration, Instant};
 
 /// The time between two moments.
-#[derive(Clone, Copy, Debug)]
+#[derive(Clone, Copy)]
 pub(crate) struct Span {
     pub(crate) from: Instant,
     pub(crate) to: Instant,
 }
 
 /// The times of a thread's puts and of its gets.
-#[derive(Clone, Copy, Debug)]
+#[derive(Clone, Copy)]
 pub(crate) struct Spans {
     pub(crate) puts: Span,
     pub(crate) gets: Span,
