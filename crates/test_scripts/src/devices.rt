@@ -1,6 +1,7 @@
 //! Scripts over readers and writers that fail.
 use crate::handoffs::WAITING;
 use crate::outages::FORK;
+use crate::scripts::{BAD_LINE, BAD_LINE_ANSWERS};
 use crate::syncs::ONE_KEY;
 use outage_script::{ScriptEnd, run_script};
 use std::fmt::Write as _;
@@ -183,15 +184,6 @@ const UPDATE_ANSWERS: &str = r#"{"clock":[[1,1]],"copied":0,"hinted":0,"number":
 {"clock":[[1,2]],"copied":0,"hinted":0,"number":1}
 {"cause":"StaleContext","held":[[[1,2]]],"refused":6}
 {"versions":[{"clock":[[1,2]],"value":"79"}]}
-"#;
-
-/// A script whose third line is bad.
-const BAD_LINE: &str = "{\"put\":{\"node\":1,\"key\":\"61\",\"context\":[],\"value\":\"78\"}}\n \n\
-     {\"put\":{\"node\":1}}\n{\"get\":{\"node\":1,\"key\":\"61\"}}\n";
-
-/// The script's output.
-const BAD_LINE_ANSWERS: &str = r#"{"clock":[[1,1]],"copied":0,"hinted":0,"number":0}
-{"cause":"BadLine","line":3,"refused":29}
 "#;
 
 #[test]

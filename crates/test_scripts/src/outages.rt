@@ -1,7 +1,6 @@
 //! Scripts over rings of several nodes.
-use crate::scripts::{expect, expect_answers};
+use crate::scripts::{expect, expect_answers, hex_of, put_line};
 use outage_script::ScriptEnd;
-use std::fmt::Write;
 use std::test::Fail;
 
 /// A ring of two nodes that keep one range.
@@ -258,17 +257,9 @@ fn a_tombstone_is_shown_as_null(rt: HostRuntime) -> Result<(), Fail> {
 #[test]
 fn format_two_has_longer_values(rt: HostRuntime) -> Result<(), Fail> {
     let alloc = rt.alloc();
-    let mut digits = String::new(alloc);
-    for _ in 0..65_536 {
-        digits.push_str("61")?;
-    }
     let ring = r#"{"ring":{"bits":0,"copies":1,"format":2,"nodes":[1]}}"#;
-    let fits = format!(in alloc;
-        r#"{{"put":{{"node":1,"key":"61","context":[],"value":"{digits}"}}}}"#
-    )?;
-    let long = format!(in alloc;
-        r#"{{"put":{{"node":1,"key":"61","context":[],"value":"{digits}61"}}}}"#
-    )?;
+    let fits = put_line(alloc, "61", "", &hex_of(alloc, 65_536)?)?;
+    let long = put_line(alloc, "61", "", &hex_of(alloc, 65_537)?)?;
     expect_answers(
         &rt,
         &[
@@ -282,27 +273,22 @@ fn format_two_has_longer_values(rt: HostRuntime) -> Result<(), Fail> {
     )
 }
 
+/// A put of null in a ring of format 2, and in one of format 1.
+const NULLS: &str = r#"{"ring":{"bits":0,"copies":1,"format":2,"nodes":[1]}}
+{"put":{"node":9,"key":"","context":[[0,1]],"value":null}}
+{"ring":{"bits":0,"copies":2,"nodes":[1,2]}}
+{"put":{"node":9,"key":"","context":[[0,1]],"value":null}}
+"#;
+
+/// The output of that script.
+const NULL_ANSWERS: &str = r#"{"nodes":1,"ranges":1}
+{"cause":"BadRing","refused":27}
+{"nodes":2,"ranges":1}
+{"cause":"BadLine","line":4,"refused":29}
+"#;
+
 #[test]
 fn null_is_judged_by_the_ring_in_force(rt: HostRuntime) -> Result<(), Fail> {
-    let alloc = rt.alloc();
-    let null = r#"{"put":{"node":9,"key":"","context":[[0,1]],"value":null}}"#;
-    let mut input = String::new(alloc);
-    writeln!(
-        input,
-        r#"{{"ring":{{"bits":0,"copies":1,"format":2,"nodes":[1]}}}}"#
-    )?;
-    writeln!(input, "{null}")?;
-    writeln!(input, "{PAIR}")?;
-    writeln!(input, "{null}")?;
-    let mut output = String::new(alloc);
-    writeln!(output, r#"{{"nodes":1,"ranges":1}}"#)?;
-    writeln!(output, "{BAD_RING}")?;
-    writeln!(output, "{PAIR_ANSWER}")?;
-    writeln!(output, r#"{{"cause":"BadLine","line":4,"refused":29}}"#)?;
-    expect(
-        &rt,
-        input.as_bytes(),
-        output.as_str(),
-        ScriptEnd::BadLine(4),
-    )
+    let input = NULLS.as_bytes();
+    expect(&rt, input, NULL_ANSWERS, ScriptEnd::BadLine(4))
 }

@@ -18,6 +18,16 @@ const GET: &str = r#"{"get":{"node":1,"key":"61"}}"#;
 /// The output if the first line is bad.
 const BAD_FIRST: &str = "{\"cause\":\"BadLine\",\"line\":1,\"refused\":29}\n";
 
+/// A script whose third line is bad.
+pub(crate) const BAD_LINE: &str =
+    "{\"put\":{\"node\":1,\"key\":\"61\",\"context\":[],\"value\":\"78\"}}\n \n\
+     {\"put\":{\"node\":1}}\n{\"get\":{\"node\":1,\"key\":\"61\"}}\n";
+
+/// The output of that script.
+pub(crate) const BAD_LINE_ANSWERS: &str = r#"{"clock":[[1,1]],"copied":0,"hinted":0,"number":0}
+{"cause":"BadLine","line":3,"refused":29}
+"#;
+
 /// Runs a script, and asserts its output and its end.
 pub(crate) fn expect(
     rt: &(impl AllocGlobal + Threads + Sync),
@@ -48,9 +58,30 @@ pub(crate) fn expect_answers(
     expect(rt, input.as_bytes(), output.as_str(), ScriptEnd::Done)
 }
 
+/// Returns the line of a put at node 1. Key and value are in hexadecimal, and the pairs of the context in JSON.
+pub(crate) fn put_line(
+    alloc: Global,
+    key: &str,
+    context: &str,
+    value: &str,
+) -> Result<String, AllocError> {
+    format!(in alloc;
+        r#"{{"put":{{"node":1,"key":"{key}","context":[{context}],"value":"{value}"}}}}"#
+    )
+}
+
 /// Returns the line of a put of `a` with a context.
 fn put_after(alloc: Global, context: &str) -> Result<String, AllocError> {
-    format!(in alloc; r#"{{"put":{{"node":1,"key":"61","context":[{context}],"value":"78"}}}}"#)
+    put_line(alloc, "61", context, "78")
+}
+
+/// Returns this number of bytes `a` in hexadecimal digits.
+pub(crate) fn hex_of(alloc: Global, length: usize) -> Result<String, AllocError> {
+    let mut text = String::new(alloc);
+    for _ in 0..length {
+        text.push_str("61")?;
+    }
+    Ok(text)
 }
 
 /// Returns the pairs of the nodes from 1 up to the last, with the counter 1, and then the pair of one more node.
@@ -119,16 +150,8 @@ fn the_last_counter_is_used(rt: HostRuntime) -> Result<(), Fail> {
 
 #[test]
 fn a_bad_line_ends_the_script(rt: HostRuntime) -> Result<(), Fail> {
-    let alloc = rt.alloc();
-    let input = format!(in alloc; "{PUT}\n \n{{\"put\":{{\"node\":1}}}}\n{PUT}\n")?;
-    let bad_third = "{\"cause\":\"BadLine\",\"line\":3,\"refused\":29}\n";
-    let output = format!(in alloc; "{PUT_ANSWER}\n{bad_third}")?;
-    expect(
-        &rt,
-        input.as_bytes(),
-        output.as_str(),
-        ScriptEnd::BadLine(3),
-    )
+    let input = BAD_LINE.as_bytes();
+    expect(&rt, input, BAD_LINE_ANSWERS, ScriptEnd::BadLine(3))
 }
 
 #[test]
@@ -178,22 +201,10 @@ fn a_key_holds_64_versions(rt: HostRuntime) -> Result<(), Fail> {
 #[test]
 fn refusals_come_in_order(rt: HostRuntime) -> Result<(), Fail> {
     let alloc = rt.alloc();
-    let pairs = pairs_up_to(alloc, 32, 33)?;
-    let full_clock = format!(in alloc;
-        r#"{{"put":{{"node":1,"key":"","context":[{pairs}],"value":"78"}}}}"#
-    )?;
-    let key = hex_of(alloc, 256)?;
-    let long_key = format!(in alloc;
-        r#"{{"put":{{"node":1,"key":"{key}","context":[],"value":"78"}}}}"#
-    )?;
-    let value = hex_of(alloc, 4_097)?;
-    let long_value = format!(in alloc;
-        r#"{{"put":{{"node":1,"key":"62","context":[],"value":"{value}"}}}}"#
-    )?;
-    let value = hex_of(alloc, 4_096)?;
-    let longest_value = format!(in alloc;
-        r#"{{"put":{{"node":1,"key":"62","context":[],"value":"{value}"}}}}"#
-    )?;
+    let full_clock = put_line(alloc, "", &pairs_up_to(alloc, 32, 33)?, "78")?;
+    let long_key = put_line(alloc, &hex_of(alloc, 256)?, "", "78")?;
+    let long_value = put_line(alloc, "62", "", &hex_of(alloc, 4_097)?)?;
+    let longest_value = put_line(alloc, "62", "", &hex_of(alloc, 4_096)?)?;
     expect_answers(
         &rt,
         &[
@@ -222,15 +233,6 @@ fn refusals_come_in_order(rt: HostRuntime) -> Result<(), Fail> {
             ),
         ],
     )
-}
-
-/// Returns this number of bytes `a` in hexadecimal digits.
-fn hex_of(alloc: Global, length: usize) -> Result<String, AllocError> {
-    let mut text = String::new(alloc);
-    for _ in 0..length {
-        text.push_str("61")?;
-    }
-    Ok(text)
 }
 
 #[test]
