@@ -5,11 +5,10 @@
 //! - [`slot`]: a slot, which can't be dropped: a program that loses one doesn't compile.
 //!
 //! ```
-//! assert!(rt; matches!(&controller.adjust(100), Ok(Some(99_000))));
-//! assert_eq!(rt; controller.target(), 4);
-//! assert!(rt; matches!(&controller.sample(60_100, 25_000), Ok(101)));
-//! assert!(rt; matches!(&controller.adjust(60_100), Ok(Some(25_000))));
-//! assert_eq!(rt; controller.target(), 5);
+//! controller.set_target(3);
+//! expect_slots(&controller, 3, 0, 3)?;
+//! controller.reset();
+//! expect_slots(&controller, 8, 0, 8)?;
 //! ```
 #![tactic(auto)]
 

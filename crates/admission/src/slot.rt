@@ -9,9 +9,9 @@ use std::sync::ledger::{Ledger, Share};
 /// and no slot of one controller is given to another. It can't be dropped: its borrower must give it back.
 ///
 /// ```
-/// lent.reserve(1)?;
 /// let slot = controller.lend()?;
-/// lent.push_reserved(slot);
+/// let counts = (controller.lent(), controller.free());
+/// controller.give_back(slot);
 /// ```
 pub struct Slot<L: Ledger> {
     pub(crate) share: Share<L>,

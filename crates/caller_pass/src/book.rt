@@ -19,7 +19,11 @@ use vclock::Refusal;
 /// let (book, mut passes) = open_passes::<L>(blank, alloc, 2)?;
 /// let one = passes.pop().ok_or("no pass")?;
 /// let zero = passes.pop().ok_or("one pass")?;
-/// Ok((LockedRange::new(state, book), one, zero))
+/// Ok(Locked {
+///     range: LockedRange::new(state, book),
+///     one,
+///     zero,
+/// })
 /// ```
 pub struct Book<L: Ledger> {
     count: ledger::Book<L>,

@@ -19,7 +19,10 @@ use vclock::{PassPart, Refusal};
 ///
 /// ```
 /// let closed = range.close(alloc, passes).ok().ok_or("not closed")?;
-/// assert_eq!(rt; (closed.state.journal().len(), closed.passes.len()), (2, 2));
+/// expect(
+///     closed.state.journal().len() == 2 && closed.passes.len() == 2,
+///     "two entries and both passes are returned",
+/// )
 /// ```
 #[derive(Drop)]
 pub struct Closed<L: Ledger> {
@@ -32,8 +35,12 @@ pub struct Closed<L: Ledger> {
 /// A range that wasn't closed, with its passes and the cause, so nothing is lost.
 ///
 /// ```
-/// let unclosed = range.close(alloc, passes).err().ok_or("closed")?;
-/// assert!(rt; matches!(&unclosed.refusal, Refusal::Stranger));
+/// let Unclosed {
+///     range,
+///     mut passes,
+///     refusal,
+/// } = range.close(alloc, passes).err().ok_or("closed")?;
+/// let is_stranger = matches!(&refusal, Refusal::Stranger);
 /// ```
 #[derive(Drop)]
 pub struct Unclosed<L: Ledger> {

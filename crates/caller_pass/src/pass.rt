@@ -15,11 +15,11 @@ use std::sync::ledger::{Ledger, Share};
 ///
 /// ```
 /// let held = range.get(alloc, one, b"a")?;
-/// assert_eq!(rt; held.len(), 1);
-/// assert_eq!(rt;
-///     (one.seen(), one.receipts().len(), one.readings().len()),
-///     (1, 1, 1)
-/// );
+/// expect(held.len() == 1, "one version is held")?;
+/// expect(
+///     one.seen() == 1 && one.receipts().len() == 1 && one.readings().len() == 1,
+///     "the pass has a receipt and a reading",
+/// )
 /// ```
 #[derive(Drop)]
 pub struct Pass<L: Ledger> {

@@ -13,9 +13,9 @@ pub type Digest = [u8; 32];
 /// no text is hashed under a lock.
 ///
 /// ```
-/// let hashed = hash(Text::copy_of(alloc, b"abc")?);
-/// assert_eq!(rt; hashed.text(), b"abc".as_slice());
-/// assert!(rt; is_spelled(alloc, hashed.digest(), ABC)?);
+/// let digest = hash(Text::from(leaf)).digest();
+/// expect(is_spelled(alloc, digest, EMPTY_LEAF)?, "it has its digest")?;
+/// let inner = inner_text(alloc, Format::One, &[digest; 16])?;
 /// ```
 #[derive(Debug)]
 pub struct Hashed {

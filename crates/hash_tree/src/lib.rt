@@ -9,8 +9,9 @@
 //! - [`laws`]: laws proved from the definitions.
 //!
 //! ```
-//! let hashed = hash(Text::copy_of(alloc, b"abc")?);
-//! assert_eq!(rt; hashed.text(), b"abc".as_slice());
+//! let digest = hash(Text::from(leaf)).digest();
+//! expect(is_spelled(alloc, digest, EMPTY_LEAF)?, "it has its digest")?;
+//! let inner = inner_text(alloc, Format::One, &[digest; 16])?;
 //! ```
 #![tactic(auto)]
 

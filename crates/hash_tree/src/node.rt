@@ -8,8 +8,7 @@ use vclock::Format;
 /// the nodes of the next depth with 16 times its index, and the 15 after.
 ///
 /// ```
-/// let node = NodeAt::new(2, 12).ok_or("no such node")?;
-/// let ask = Message::Ask(Ask { offer: 1, node });
+/// Ok(NodeAt::new(depth, index).ok_or("no such node")?)
 /// ```
 #[derive(Clone, Copy, Debug, PartialEq, Eq)]
 pub struct NodeAt {

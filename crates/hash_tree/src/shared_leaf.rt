@@ -28,8 +28,7 @@ use version_set::{Version, VersionSet};
 /// ```
 /// let mut text = Vec::new(alloc);
 /// leaf.put_text(&mut text)?;
-/// assert_eq!(rt; leaf.text_len(), text.len() as u128);
-/// assert!(rt; leaf.is_text(text.as_slice()));
+/// expect_text(alloc, leaf, text)
 /// ```
 #[derive(Debug)]
 pub struct SharedLeaf {

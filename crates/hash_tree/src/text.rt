@@ -10,7 +10,6 @@ use vclock::Refusal;
 ///
 /// ```
 /// let hashed = hash(Text::copy_of(alloc, b"abc")?);
-/// assert_eq!(rt; hashed.text(), b"abc".as_slice());
 /// ```
 #[derive(Debug)]
 pub struct Text {

@@ -55,12 +55,13 @@ impl Hint {
 /// The delivery of a hint: its owner journaled the version, or knew it.
 ///
 /// ```
-/// Ok(Delivery {
+/// let delivery = Delivery {
 ///     owner,
 ///     key: Bytes::copy_of(alloc, b"a")?,
 ///     version: version(alloc, (1, count), Kind::Live, b"x")?,
 ///     known: false,
-/// })
+/// };
+/// store.confirm(id, delivery)
 /// ```
 #[derive(Debug, Drop)]
 pub struct Delivery {

@@ -5,10 +5,8 @@
 //! - [`store`]: the hints of a carrier.
 //!
 //! ```
-//! let mut store = HintStore::new(alloc);
-//! assert_eq!(rt; keep(alloc, &mut store, 2, 1)?, 1);
+//! expect(keep(alloc, store, 2, 1)? == 1, "the first hint is 1")?;
 //! let hint = store.next(alloc, 2, 0)?.ok_or("no hint for 2")?;
-//! assert_eq!(rt; (hint.id, hint.owner), (1, 2));
 //! ```
 #![tactic(auto)]
 

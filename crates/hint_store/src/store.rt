@@ -33,10 +33,8 @@ struct Waiting {
 /// its fate. On error a store is unchanged.
 ///
 /// ```
-/// let mut store = HintStore::new(alloc);
-/// assert_eq!(rt; keep(alloc, &mut store, 2, 1)?, 1);
+/// expect(keep(alloc, store, 2, 1)? == 1, "the first hint is 1")?;
 /// let hint = store.next(alloc, 2, 0)?.ok_or("no hint for 2")?;
-/// assert_eq!(rt; (hint.id, hint.owner), (1, 2));
 /// ```
 #[derive(Debug)]
 pub struct HintStore {

@@ -5,10 +5,14 @@
 //! - [`ring`]: a ring, with its nodes and each range's preference list.
 //!
 //! ```
-//! let ring = Ring::new(rt.alloc(), 4, &[10, 20, 30, 40], 2)?;
-//! assert_eq!(rt; (ring.bits(), ring.ranges(), ring.copies()), (4, 16, 2));
-//! assert_eq!(rt; ring.nodes(), [10, 20, 30, 40].as_slice());
-//! assert_eq!(rt; ring.range_of(b"abc"), 9);
+//! expect(
+//!     ring.bits() == 4 && ring.ranges() == 16 && ring.copies() == 2,
+//!     "a ring has its ranges and copies",
+//! )?;
+//! expect(
+//!     ring.nodes() == [10, 20, 30, 40].as_slice(),
+//!     "a ring has its nodes",
+//! )?;
 //! ```
 #![tactic(auto)]
 

@@ -16,10 +16,14 @@ use vclock::{Format, Refusal};
 /// nodes in the order of the ring, 1 to 32, each once; and the number of nodes that keep a range.
 ///
 /// ```
-/// let ring = Ring::new(rt.alloc(), 4, &[10, 20, 30, 40], 2)?;
-/// assert_eq!(rt; (ring.bits(), ring.ranges(), ring.copies()), (4, 16, 2));
-/// assert_eq!(rt; ring.nodes(), [10, 20, 30, 40].as_slice());
-/// assert_eq!(rt; ring.range_of(b"abc"), 9);
+/// expect(
+///     ring.bits() == 4 && ring.ranges() == 16 && ring.copies() == 2,
+///     "a ring has its ranges and copies",
+/// )?;
+/// expect(
+///     ring.nodes() == [10, 20, 30, 40].as_slice(),
+///     "a ring has its nodes",
+/// )?;
 /// ```
 #[derive(Debug, Drop)]
 pub struct Ring {

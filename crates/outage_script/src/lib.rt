@@ -3,8 +3,7 @@
 //!
 //! ```
 //! let (ended, written) = run_bytes(rt, rt.alloc(), input);
-//! assert_eq!(rt; str::from_utf8(&written)?, output);
-//! assert_eq!(rt; ended, end, "after {output}");
+//! let written = str::from_utf8(&written)?;
 //! ```
 #![tactic(auto)]
 

@@ -28,11 +28,11 @@ pub enum Source {
 /// A version that a range accepted, with its number and the seat of the caller that delivered it.
 ///
 /// ```
-/// let entry = journal.get(0).ok_or("no entry 0")?;
-/// assert_eq!(rt;
-///     (entry.number, entry.seat, entry.source),
-///     (0, 7, Source::Partner)
-/// );
+/// let entry = journal.get(1).ok_or("no entry 1")?;
+/// expect(
+///     entry.number == 1 && entry.seat == 7 && entry.source == Source::Partner,
+///     "an entry has its number, seat and source",
+/// )?;
 /// ```
 #[derive(Debug, Drop)]
 pub struct Entry {
@@ -65,11 +65,14 @@ impl Entry {
 /// which a range's rows are checked and its callers' passes are settled. On error a journal is unchanged.
 ///
 /// ```
-/// let mut journal = Journal::new(alloc, 2);
-/// append(alloc, &mut journal, 1)?;
-/// append(alloc, &mut journal, 2)?;
+/// append(alloc, journal, 1)?;
+/// append(alloc, journal, 2)?;
+/// let later = version(alloc, (1, 2), Kind::Live, b"x")?;
 /// let held = held_in(alloc, journal.entries(), b"a")?;
-/// assert_eq!(rt; held.len(), 1);
+/// expect(
+///     held.len() == 1 && held.covers(&later),
+///     "the later version is held",
+/// )?;
 /// ```
 #[derive(Debug)]
 pub struct Journal {

@@ -5,11 +5,14 @@
 //! - [`laws`]: laws proved from the definitions.
 //!
 //! ```
-//! let mut journal = Journal::new(alloc, 2);
-//! append(alloc, &mut journal, 1)?;
-//! append(alloc, &mut journal, 2)?;
+//! append(alloc, journal, 1)?;
+//! append(alloc, journal, 2)?;
+//! let later = version(alloc, (1, 2), Kind::Live, b"x")?;
 //! let held = held_in(alloc, journal.entries(), b"a")?;
-//! assert_eq!(rt; held.len(), 1);
+//! expect(
+//!     held.len() == 1 && held.covers(&later),
+//!     "the later version is held",
+//! )?;
 //! ```
 #![tactic(auto)]
 

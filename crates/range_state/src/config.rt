@@ -12,7 +12,10 @@ use vclock::limits::{ENTRIES_MAX, RING_BITS_MAX};
 ///
 /// ```
 /// let config = RangeConfig::new(2, 8, 255, 1_000_000).ok_or("no such range")?;
-/// assert_eq!(rt; config.format(), Format::Two);
+/// expect(
+///     config.format() == Format::Two && config.bits() == 8 && config.range() == 255,
+///     "a range has its format and place",
+/// )?;
 /// ```
 #[derive(Clone, Copy, Debug, PartialEq, Eq)]
 pub struct RangeConfig {

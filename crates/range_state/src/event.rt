@@ -19,7 +19,7 @@ pub type Receipt = Entry;
 /// The outcome of accepting a version: it was new to the range, or known.
 ///
 /// ```
-/// match state.accept(alloc, 0, Source::Copy, b"a", copy)? {
+/// match state.accept(alloc, 3, Source::Copy, key, copy)? {
 ///     Accepted::Taken(receipt) => Ok(Some(receipt.number)),
 ///     Accepted::Known => Ok(None),
 /// }
@@ -35,9 +35,7 @@ pub enum Accepted {
 /// The outcome of a text that a session took.
 ///
 /// ```
-/// let node = first(state)?;
-/// let text = text_of(alloc, partner, node)?;
-/// Ok(state.take_answer(alloc, 5, 0, node, text)?)
+/// state.take_answer(alloc, 5, id, node, text)
 /// ```
 #[derive(Debug, Drop)]
 pub struct AnswerTaken {
@@ -127,7 +125,7 @@ pub struct AnswerEvent {
 ///
 /// ```
 /// events.push(Event::TakeJob(0))?;
-/// events.push(Event::Install(InstallEvent { node, hashed }))?;
+/// events.push(install_of_abc(alloc)?)?;
 /// ```
 #[derive(Debug, Drop)]
 pub enum Event {

@@ -14,14 +14,10 @@
 //!   its partner had, if no two different texts share a digest.
 //!
 //! ```
-//! let config = RangeConfig::new(1, 0, 0, 1_000).ok_or("no such range")?;
-//! let mut state = RangeState::new(alloc, config)?;
-//! if has_a {
-//!     let context = Clock::from_pairs(alloc, &[])?;
-//!     let value = Bytes::copy_of(alloc, b"x")?;
-//!     state.put(alloc, 0, 1, b"a", &context, Kind::Live, value)?;
-//! }
-//! state.rehash(rt, alloc)?;
+//! let context = clock(alloc, context)?;
+//! let value = Bytes::copy_of(alloc, value)?;
+//! let receipt = state.put(alloc, 0, at, key, &context, Kind::Live, value)?;
+//! Ok(receipt.number)
 //! ```
 #![tactic(auto)]
 

@@ -7,8 +7,7 @@ use sync_session::Session;
 /// so the texts that a session compared and took can be looked up later.
 ///
 /// ```
-/// let record = state.records().get(id).ok_or("no record")?;
-/// Ok(record.session().state())
+/// Ok(record(state, id)?.session().state())
 /// ```
 pub struct Record {
     pub(crate) partner: u16,

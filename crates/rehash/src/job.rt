@@ -13,9 +13,8 @@ use vclock::{Format, Refusal};
 /// lock in little time, and their texts are written and hashed without the lock. The result is installed in the range,
 /// which refuses it as Stale if the node has changed since.
 /// ```
-/// let job = job_at(rt, alloc, state, depth, index)?;
 /// let node = job.node();
-/// Ok(state.install(node, &run_job(job))?)
+/// state.install(node, &run_job(job))
 /// ```
 #[derive(Debug, Drop)]
 pub struct Job {

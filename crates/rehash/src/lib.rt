@@ -5,9 +5,8 @@
 //! - [`bulk`]: hashing many jobs in several threads.
 //!
 //! ```
-//! let job = job_at(rt, alloc, state, depth, index)?;
 //! let node = job.node();
-//! Ok(state.install(node, &run_job(job))?)
+//! state.install(node, &run_job(job))
 //! ```
 #![tactic(auto)]
 

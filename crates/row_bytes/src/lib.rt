@@ -9,7 +9,8 @@
 //! ```
 //! let (row, _) = read_row(alloc, format, text)?;
 //! a_held_set_is_a_row();
-//! Ok((write_row(alloc, format, &row)?, row.versions.len()))
+//! let written = write_row(alloc, format, &row)?;
+//! Ok((row, written))
 //! ```
 #![tactic(auto)]
 

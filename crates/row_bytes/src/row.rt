@@ -13,7 +13,8 @@ use version_set::VersionSet;
 /// ```
 /// let (row, _) = read_row(alloc, format, text)?;
 /// a_held_set_is_a_row();
-/// Ok((write_row(alloc, format, &row)?, row.versions.len()))
+/// let written = write_row(alloc, format, &row)?;
+/// Ok((row, written))
 /// ```
 #[derive(Debug, Drop)]
 pub struct Row {
@@ -26,8 +27,11 @@ pub struct Row {
 /// The rows that were read from one text.
 ///
 /// ```
-/// let answer = read_rows(alloc, Format::One, &twice);
-/// assert!(rt; matches!(&answer, Err(Refusal::RowBroken(21))));
+/// let rows = read_all(alloc, Format::One, &twice);
+/// expect(
+///     matches!(&rows, Err(Refusal::RowBroken(21))),
+///     "the second row is broken",
+/// )?;
 /// ```
 #[derive(Debug, Drop)]
 pub struct RowList {

@@ -5,9 +5,8 @@
 //! - [`laws`]: a law proved from the definitions.
 //!
 //! ```
-//! let snapshot = clean_range(&rt, alloc)?.snapshot(alloc)?;
-//! assert_eq!(rt; text_at(alloc, &snapshot, 2, 0)?.as_slice(), [0].as_slice());
-//! assert_eq!(rt; text_at(alloc, &snapshot, 1, 0)?.len(), 513);
+//! let snapshot = Snapshot::new(alloc, Format::One, 3, 5, leaves, digests)?;
+//! expect_head(&snapshot, &root)?;
 //! ```
 #![tactic(auto)]
 

@@ -9,8 +9,7 @@
 //!   or below held ones, if no two different texts share a digest.
 //!
 //! ```
-//! let node = first(session)?;
-//! match session.take(alloc, node, text_of(alloc, partner, node)?)? {
+//! match session.take(alloc, node, text)? {
 //!     Answered::Inner => Ok(None),
 //!     Answered::Leaf(rows) => Ok(Some(rows.len())),
 //! }

@@ -37,8 +37,7 @@ pub enum Answered {
 /// refuses a text as NotCanonical: then the session has failed.
 ///
 /// ```
-/// let node = first(session)?;
-/// match session.take(alloc, node, text_of(alloc, partner, node)?)? {
+/// match session.take(alloc, node, text)? {
 ///     Answered::Inner => Ok(None),
 ///     Answered::Leaf(rows) => Ok(Some(rows.len())),
 /// }

@@ -21,6 +21,14 @@ fn abc(alloc: Global) -> Result<Hashed, Refusal> {
     Ok(hash(Text::copy_of(alloc, b"abc")?))
 }
 
+/// Returns the partner's text of a node with its last byte changed.
+fn forged_text(alloc: Global, partner: &Snapshot, node: NodeAt) -> Result<Hashed, Fail> {
+    let mut text = partner.answer(alloc, Ask { offer: 1, node })?;
+    let last = text.pop().ok_or("no last byte")?;
+    text.push(last ^ 1)?;
+    Ok(hash(Text::from(text)))
+}
+
 /// Opens a session with a partner of format 1 and range 0, and returns its number.
 fn open_session<L: Ledger>(
     alloc: Global,
@@ -97,10 +105,11 @@ fn expect_true_texts<L: Ledger>(
     let id = open_session(alloc, locked, partner.root())?;
     expect(id == 1, "the second session is number 1")?;
     let root = first(locked, 1)?;
-    let forged = take(alloc, locked, 1, root, abc(alloc)?);
+    let forged = forged_text(alloc, partner, root)?;
+    let refused = take(alloc, locked, 1, root, forged);
     expect(
-        is_refused(forged, Refusal::WrongDigest),
-        "a forged text is refused",
+        is_refused(refused, Refusal::WrongDigest) && first(locked, 1)? == root,
+        "a forged text is refused, and the root is still outstanding",
     )?;
     let (receipts, state) = take_true(alloc, locked, partner, root)?;
     expect(

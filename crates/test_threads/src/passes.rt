@@ -1,6 +1,5 @@
 //! Passes, from their opening to the close of their range.
-ghost use Rattle.std.specs.Prelude.{◌≡◌, IsTrue};
-ghost use Rattle.range_state.specs.State.{is_sent};
+ghost use Rattle.std.specs.Prelude.{◌≡◌};
 
 use crate::locked::Locked;
 use caller_pass::{Book, LockedRange, Pass, Unclosed, open_passes};
@@ -94,21 +93,18 @@ fn write<L: Ledger>(
     )
 }
 
-/// Accepts a version of `a` at a seat, and returns whether it was new.
+/// Accepts a copy of `a` at a seat, and returns the number of its entry, or `None` if it is known.
 fn accept<L: Ledger>(
     alloc: Global,
     range: &mut LockedRange<L>,
     pass: &mut Pass<L>,
-    source: Source,
     pair: (u64, u64),
     value: &[u8],
-) -> Result<bool, Refusal>
-    requires { IsTrue (is_sent source) }
-{
+) -> Result<Option<u64>, Refusal> {
     let version = version(alloc, pair, Kind::Live, value)?;
-    match range.accept(alloc, pass, source, b"a", version)? {
-        Accepted::Taken(_) => Ok(true),
-        Accepted::Known => Ok(false),
+    match range.accept(alloc, pass, Source::Copy, b"a", version)? {
+        Accepted::Taken(receipt) => Ok(Some(receipt.number)),
+        Accepted::Known => Ok(None),
     }
 }
 
@@ -118,17 +114,17 @@ fn copy<L: Ledger>(
     range: &mut LockedRange<L>,
     zero: &mut Pass<L>,
 ) -> Result<(), Fail> {
-    let is_new = accept(alloc, range, zero, Source::Copy, (1, 1), b"x")?;
-    expect(!is_new, "the copy is known")?;
+    let known = accept(alloc, range, zero, (1, 1), b"x")?;
+    expect(known.is_none(), "the copy is known")?;
     expect(
         zero.seen() == 0 && zero.receipts().is_empty(),
         "a known copy has no receipt",
     )?;
-    let is_new = accept(alloc, range, zero, Source::Hint, (2, 1), b"y")?;
-    expect(is_new, "the hint is new")?;
+    let taken = accept(alloc, range, zero, (9, 1), b"y")?;
+    expect(taken == Some(1), "the other copy is entry 1")?;
     expect(
         zero.seen() == 2 && zero.receipts().len() == 1,
-        "the hint has a receipt",
+        "the other copy has a receipt",
     )
 }
 

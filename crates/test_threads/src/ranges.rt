@@ -1,7 +1,7 @@
 //! Calls of a shared range, in one thread.
 ghost use Rattle.std.specs.Prelude.{◌≡◌};
 
-use crate::calls::{copy, get, put};
+use crate::calls::{copy, get, put, snapshot};
 use crate::nodes::{Replica, all_keys};
 use caller_pass::Pass;
 use ring_node::{NotClosed, SharedRange};
@@ -11,6 +11,7 @@ use std::sync::Wait;
 use std::sync::ledger::{Blank, Ledger};
 use std::test::Fail;
 use test_core::checks::expect;
+use test_core::refusals::is_refused;
 use test_core::versions::{members, version};
 use vclock::Refusal;
 use version_set::Kind;
@@ -64,6 +65,10 @@ fn write_and_copy<L: Ledger, R: Wait>(
     let Replica { range, passes, .. } = replica;
     let (second, others) = passes.split_last_mut().ok_or("no pass")?;
     let first = others.first_mut().ok_or("one pass")?;
+    expect(
+        is_refused(snapshot(rt, alloc, range), Refusal::Dirty),
+        "a new range is dirty",
+    )?;
     write(rt, alloc, range, first)?;
     expect(
         copy_of_a(rt, alloc, range, second, (1, 1))?.is_none(),

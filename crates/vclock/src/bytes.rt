@@ -20,8 +20,8 @@ const BLOCK_LEN: usize = 32;
 /// block that all clones share, across threads: a value held by a row, a journal and a snapshot is in memory once.
 ///
 /// ```
-/// let bytes = Bytes::copy_of(alloc, &[0x78])?;
-/// assert_eq!(rt; bytes.as_slice(), b"x".as_slice());
+/// let bytes = Bytes::copy_of(rt.alloc(), &[0x78])?;
+/// let clone = bytes.try_clone()?;
 /// ```
 pub struct Bytes {
     kept: Storage,

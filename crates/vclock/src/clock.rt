@@ -35,10 +35,13 @@ pub enum ClockOrder {
 /// context of a put is the clocks that its client has read.
 ///
 /// ```
-/// let clock = Clock::from_pairs(alloc, &[(2, 1), (1, 3)])?;
-/// let raised = clock.raise(alloc, 2)?;
-/// assert_eq!(rt; raised.pairs(), [(1, 3), (2, 2)].as_slice());
-/// assert_eq!(rt; clock.compare(&raised), ClockOrder::Before);
+/// let old = clock(alloc, &[(2, 1), (1, 3)])?;
+/// let raised = old.raise(alloc, 2)?;
+/// expect_pairs(&raised, &[(1, 3), (2, 2)])?;
+/// expect(
+///     old.compare(&raised) == ClockOrder::Before && raised.compare(&old) == ClockOrder::After,
+///     "the old clock is before the raised one",
+/// )
 /// ```
 #[derive(Debug)]
 pub struct Clock {

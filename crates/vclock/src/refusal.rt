@@ -67,8 +67,11 @@ pub enum PassPart {
 /// cancels that session and keeps the versions it accepted.
 ///
 /// ```
-/// let full = Clock::from_pairs(alloc, &pairs)?;
-/// assert!(rt; matches!(&full.raise(alloc, 1), Err(Refusal::ClockFull)));
+/// expect_refused(
+///     full.raise(alloc, 1),
+///     Refusal::ClockFull,
+///     "33 pairs by a raise",
+/// )?;
 /// ```
 #[derive(Debug, Drop)]
 pub enum Refusal {

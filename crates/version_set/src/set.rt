@@ -28,13 +28,11 @@ pub enum Offered {
 /// members, in ascending order of their texts, so equal sets look alike on all replicas. On error a set is unchanged.
 ///
 /// ```
-/// let mut set = VersionSet::empty(alloc);
-/// set.offer(version(alloc, (1, 1), Kind::Tombstone, b"")?)?;
-/// set.offer(version(alloc, (1, 1), Kind::Live, b"x")?)?;
-/// assert_eq!(rt;
-///     members(alloc, &set)?.as_str(),
-///     "[(1, 1)] Live [120]\n[(1, 1)] Tombstone []\n"
-/// );
+/// offer_version(set, version(alloc, (1, 1), Kind::Tombstone, b"")?)?;
+/// offer_version(set, version(alloc, (1, 1), Kind::Live, b"x")?)?;
+/// let both = "[(1, 1)] Live [120]\n[(1, 1)] Tombstone []\n";
+/// let held = members(alloc, set)?;
+/// expect(held.as_str() == both, "a tombstone and a value are kept")
 /// ```
 #[derive(Debug)]
 pub struct VersionSet {

@@ -6,9 +6,9 @@
 //! - [`laws`]: a law proved from the definitions.
 //!
 //! ```
-//! assert_eq!(rt; encode(alloc, message)?.as_slice(), bytes);
-//! let read = decode(alloc, bytes)?;
-//! assert_eq!(rt; encode(alloc, &read)?.as_slice(), bytes);
+//! expect(has_bytes(alloc, message, bytes)?, "a message has its bytes")?;
+//! let read = read(alloc, bytes)?;
+//! expect(has_bytes(alloc, &read, bytes)?, "it is read from its bytes")
 //! ```
 #![tactic(auto)]
 

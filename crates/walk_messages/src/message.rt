@@ -27,8 +27,8 @@ pub struct Offer {
 /// An ask for the text of a node of an offered tree. A session sends one for each of its outstanding nodes.
 ///
 /// ```
-/// let node = NodeAt::new(2, 12).ok_or("no such node")?;
-/// let ask = Message::Ask(Ask { offer: 1, node });
+/// let node = node_at(2, 12)?;
+/// expect_bytes(alloc, &Message::Ask(Ask { offer: 1, node }), ASK)?;
 /// ```
 #[derive(Clone, Copy, Debug)]
 pub struct Ask {
@@ -44,7 +44,7 @@ pub struct Ask {
 /// ```
 /// let answer = Message::Answer(Answer {
 ///     offer: 1,
-///     node: NodeAt::new(2, 0).ok_or("no such node")?,
+///     node: node_at(2, 0)?,
 ///     text: Text::copy_of(alloc, b"\x00")?,
 /// });
 /// ```
@@ -61,9 +61,9 @@ pub struct Answer {
 /// A message between two replicas, written by `encode` and read by `decode`.
 ///
 /// ```
-/// assert_eq!(rt; encode(alloc, message)?.as_slice(), bytes);
-/// let read = decode(alloc, bytes)?;
-/// assert_eq!(rt; encode(alloc, &read)?.as_slice(), bytes);
+/// expect(has_bytes(alloc, message, bytes)?, "a message has its bytes")?;
+/// let read = read(alloc, bytes)?;
+/// expect(has_bytes(alloc, &read, bytes)?, "it is read from its bytes")
 /// ```
 #[derive(Debug, Drop)]
 pub enum Message {
