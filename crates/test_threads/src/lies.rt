@@ -6,7 +6,7 @@ use crate::partners::{Row, pool_of};
 use crate::runs::{NodeTest, run_node};
 use hash_tree::{NodeAt, Text, hash};
 use range_state::RangeState;
-use ring_node::{Deed, Link, MemoryLink, Reached, ScriptedLink};
+use ring_node::{Deed, Link, MemoryLink, OfferPool, Reached, ScriptedLink};
 use std::alloc::Global;
 use std::sync::Wait;
 use std::sync::ledger::Ledger;
@@ -16,11 +16,11 @@ use sync_session::SessionState;
 use vclock::Refusal;
 use walk_messages::{Answer, Message, Offer, decode, encode};
 
-/// A sync of a range without rows with a partner that has these rows, over a link that does the deeds.
+/// A sync of a range without rows with a partner, over a link that does the deeds.
 #[derive(Clone, Copy)]
 struct Scripted<'a> {
-    /// The rows.
-    rows: &'a [Row<'a>],
+    /// The partner's pool.
+    pool: &'a OfferPool,
     /// The deeds.
     deeds: &'a [Deed],
     /// The maximum number of turns.
@@ -37,8 +37,7 @@ impl<'a> NodeTest for Scripted<'a> {
         node: &mut Node<L, C>,
     ) -> Result<(), Fail> {
         let deeds = Vec::from_slice(alloc, self.deeds)?;
-        let pool = pool_of(rt, alloc, self.rows)?;
-        let mut link = ScriptedLink::new(alloc, MemoryLink::new(alloc, &pool), deeds);
+        let mut link = ScriptedLink::new(alloc, MemoryLink::new(alloc, self.pool), deeds);
         self.outcome
             .expect_sync(rt, alloc, node, &mut link, self.turns)
     }
@@ -48,7 +47,7 @@ impl<'a> NodeTest for Scripted<'a> {
     }
 }
 
-/// Syncs a range without rows with such a partner, over such a link.
+/// Syncs a range without rows with a partner that has these rows, over such a link.
 fn sync_by<R: Threads + Wait + Sync>(
     rt: &R,
     alloc: Global,
@@ -57,8 +56,9 @@ fn sync_by<R: Threads + Wait + Sync>(
     turns: u64,
     outcome: Outcome<'_>,
 ) -> Result<(), Fail> {
+    let pool = pool_of(rt, alloc, rows)?;
     let test = Scripted {
-        rows,
+        pool: &pool,
         deeds,
         turns,
         outcome,
@@ -292,9 +292,14 @@ impl<K: Link> Link for Flood<K> {
     }
 }
 
-/// A sync of three turns with such a partner, with this outcome.
+/// A sync of three turns with a partner that answers by floods.
 #[derive(Clone, Copy)]
-struct Flooded<'a>(Outcome<'a>);
+struct Flooded<'a> {
+    /// The pool that the offer is from.
+    pool: &'a OfferPool,
+    /// The expected outcome.
+    outcome: Outcome<'a>,
+}
 
 impl<'a> NodeTest for Flooded<'a> {
     fn run<L: Ledger, C: Ledger, R: Threads + Wait + Sync>(
@@ -303,22 +308,25 @@ impl<'a> NodeTest for Flooded<'a> {
         alloc: Global,
         node: &mut Node<L, C>,
     ) -> Result<(), Fail> {
-        let pool = pool_of(rt, alloc, &[Row::new(b"a", 1)])?;
         let mut link = Flood {
             alloc,
-            link: MemoryLink::new(alloc, &pool),
+            link: MemoryLink::new(alloc, self.pool),
             asks: 0,
         };
-        self.0.expect_sync(rt, alloc, node, &mut link, 3)
+        self.outcome.expect_sync(rt, alloc, node, &mut link, 3)
     }
 
     fn check(&self, alloc: Global, state: &RangeState) -> Result<(), Fail> {
-        self.0.expect_state(alloc, state)
+        self.outcome.expect_state(alloc, state)
     }
 }
 
 #[test]
 fn floods_are_bad_answers(rt: HostRuntime) -> Result<(), Fail> {
-    let test = Flooded(Outcome::reported(report(SessionState::Cancelled, 1, 0, 3), 0));
+    let pool = pool_of(&rt, rt.alloc(), &[Row::new(b"a", 1)])?;
+    let test = Flooded {
+        pool: &pool,
+        outcome: Outcome::reported(report(SessionState::Cancelled, 1, 0, 3), 0),
+    };
     run_node(&rt, rt.alloc(), 1_000, &test)
 }

@@ -236,6 +236,7 @@ impl<L: Ledger, C: Ledger> Node<L, C> {
         } = self;
         replica.close(alloc)
     }
+
     /// Closes the range, and returns the number of entries in its journal.
     pub fn count(self, alloc: Global) -> Result<u64, Fail> {
         Ok(self.close(alloc)?.journal().len())

@@ -84,24 +84,25 @@ fn expect_dropped<R: Wait>(
     expect(newest.offer == 17, "the newest offer is the last one")
 }
 
-/// Seventeen offers of one pool.
-struct Seventeen;
+/// Seventeen offers of one pool, all of this snapshot.
+#[derive(Clone, Copy)]
+struct Seventeen<'a>(&'a Arc<Snapshot, Global>);
 
-impl NodeTest for Seventeen {
+impl<'a> NodeTest for Seventeen<'a> {
     fn run<L: Ledger, C: Ledger, R: Threads + Wait + Sync>(
         &self,
         rt: &R,
         alloc: Global,
         node: &mut Node<L, C>,
     ) -> Result<(), Fail> {
-        let snapshot = snapshot_of(rt, alloc, &[])?;
         let pool = &node.replica.offers;
-        expect_first(rt, alloc, pool, &snapshot)?;
-        expect_dropped(rt, alloc, pool, &snapshot)
+        expect_first(rt, alloc, pool, self.0)?;
+        expect_dropped(rt, alloc, pool, self.0)
     }
 }
 
 #[test]
 fn the_seventeenth_offer_drops_the_first(rt: HostRuntime) -> Result<(), Fail> {
-    run_node(&rt, rt.alloc(), 1, &Seventeen)
+    let snapshot = snapshot_of(&rt, rt.alloc(), &[])?;
+    run_node(&rt, rt.alloc(), 1, &Seventeen(&snapshot))
 }

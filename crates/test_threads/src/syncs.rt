@@ -21,10 +21,8 @@ use vclock::Refusal;
 struct Truthful<'a> {
     /// The rows that the node has before.
     known: &'a [Row<'a>],
-    /// The configuration of the partner's range.
-    config: RangeConfig,
-    /// The rows of the partner.
-    offered: &'a [Row<'a>],
+    /// The partner's pool.
+    pool: &'a OfferPool,
     /// The expected outcome.
     outcome: Outcome<'a>,
 }
@@ -40,8 +38,7 @@ impl<'a> NodeTest for Truthful<'a> {
             let version = row.version(alloc)?;
             node.replica.copy(rt, alloc, row.key, version)?;
         }
-        let pool = pool_in(rt, alloc, self.config, self.offered)?;
-        let mut link = MemoryLink::new(alloc, &pool);
+        let mut link = MemoryLink::new(alloc, self.pool);
         self.outcome.expect_sync(rt, alloc, node, &mut link, TURNS)
     }
 
@@ -50,7 +47,7 @@ impl<'a> NodeTest for Truthful<'a> {
     }
 }
 
-/// Syncs a node with such a partner. The node's range has this configuration.
+/// Syncs a node that knows rows with a partner that offers rows. Their ranges have these configurations.
 fn sync_in<R: Threads + Wait + Sync>(
     rt: &R,
     alloc: Global,
@@ -60,10 +57,10 @@ fn sync_in<R: Threads + Wait + Sync>(
     offered: &[Row<'_>],
     outcome: Outcome<'_>,
 ) -> Result<(), Fail> {
+    let pool = pool_in(rt, alloc, config, offered)?;
     let test = Truthful {
         known,
-        config,
-        offered,
+        pool: &pool,
         outcome,
     };
     run_in(rt, alloc, own, &test)
@@ -185,9 +182,16 @@ impl<'a, K: Link> Link for Dropping<'a, K> {
     }
 }
 
-/// A sync whose offer is dropped before the second answer, with this outcome.
+/// A sync whose offer is dropped before the second answer.
 #[derive(Clone, Copy)]
-struct DroppedOffer<'a>(Outcome<'a>);
+struct DroppedOffer<'a> {
+    /// The partner's pool.
+    pool: &'a OfferPool,
+    /// The snapshot that drops the offer.
+    snapshot: &'a Arc<Snapshot, Global>,
+    /// The expected outcome.
+    outcome: Outcome<'a>,
+}
 
 impl<'a> NodeTest for DroppedOffer<'a> {
     fn run<L: Ledger, C: Ledger, R: Threads + Wait + Sync>(
@@ -196,24 +200,31 @@ impl<'a> NodeTest for DroppedOffer<'a> {
         alloc: Global,
         node: &mut Node<L, C>,
     ) -> Result<(), Fail> {
-        let pool = pool_of(rt, alloc, &[Row::new(b"a", 1)])?;
         let mut link = Dropping {
-            link: MemoryLink::new(alloc, &pool),
-            pool: &pool,
-            snapshot: snapshot_of(rt, alloc, &[])?,
+            link: MemoryLink::new(alloc, self.pool),
+            pool: self.pool,
+            snapshot: Arc::try_clone(self.snapshot)?,
             asks: 0,
         };
-        self.0.expect_sync(rt, alloc, node, &mut link, TURNS)
+        self.outcome.expect_sync(rt, alloc, node, &mut link, TURNS)
     }
 
     fn check(&self, alloc: Global, state: &RangeState) -> Result<(), Fail> {
-        self.0.expect_state(alloc, state)
+        self.outcome.expect_state(alloc, state)
     }
 }
 
 #[test]
 fn a_dropped_offer_is_gone(rt: HostRuntime) -> Result<(), Fail> {
     let cancelled = Some(SessionState::Cancelled);
-    let test = DroppedOffer(Outcome::refused(Refusal::Gone.number(), 0, cancelled));
+    let (pool, snapshot) = (
+        pool_of(&rt, rt.alloc(), &[Row::new(b"a", 1)])?,
+        snapshot_of(&rt, rt.alloc(), &[])?,
+    );
+    let test = DroppedOffer {
+        pool: &pool,
+        snapshot: &snapshot,
+        outcome: Outcome::refused(Refusal::Gone.number(), 0, cancelled),
+    };
     run_node(&rt, rt.alloc(), 1_000, &test)
 }
