@@ -10,8 +10,12 @@
   const countOf = (format) => (format === 1 ? 273 : 4369);
   const leafStart = (format) => (format === 1 ? 17 : 273);
 
+  function leafOf(ring, key) {
+    return data.leaves[`${ring.format} ${ring.ranges} ${key}`];
+  }
+
   function begin(ring) {
-    const state = { ring, up: {}, hints: {}, slots: { free: 8, lent: 0, target: 8 }, entries: {}, digests: {}, rows: {}, changed: {}, changedRows: {} };
+    const state = { ring, up: {}, hints: {}, slots: { free: 8, lent: 0, target: 8 }, entries: {}, digests: {}, rows: {}, changed: {}, leaf: null };
     for (const node of ring.nodes) state.up[node] = 1;
     for (const node of ring.shown) {
       state.digests[node] = new Array(countOf(ring.format)).fill(-1);
@@ -23,7 +27,6 @@
   function take(state, step) {
     if (step.ring) state = begin(step.ring);
     state.changed = {};
-    state.changedRows = {};
     Object.assign(state.up, step.up);
     Object.assign(state.slots, step.slots);
     Object.assign(state.entries, step.entries);
@@ -39,7 +42,7 @@
     }
     for (const [node, rows] of Object.entries(step.rows || {})) {
       Object.assign(state.rows[node], rows);
-      state.changedRows[node] = new Set(Object.keys(rows));
+      state.leaf = leafOf(state.ring, Object.keys(rows)[0]);
     }
     return state;
   }
@@ -155,35 +158,25 @@
 
   // ---- rows
 
-  let leaf = null;
-  let byHand = false;
+  // The leaf that was chosen by hand; if none was, the leaf that changed last is shown.
+  let chosen = null;
 
-  const chosenPlace = () => (leaf === null ? -1 : leafStart(state.ring.format) + leaf);
+  const leafNow = () => (chosen === null ? state.leaf : chosen);
+  const chosenPlace = () => (leafNow() === null ? -1 : leafStart(state.ring.format) + leafNow());
 
-  function leafOf(key) {
-    return data.leaves[`${state.ring.format} ${state.ring.ranges} ${key}`];
-  }
-
-  function leavesWithRows() {
-    const found = new Set();
-    for (const node of state.ring.shown) {
-      for (const [key, versions] of Object.entries(state.rows[node])) if (versions.length) found.add(leafOf(key));
-    }
+  function leavesToChoose() {
     const start = leafStart(state.ring.format);
-    for (const at of differing()) if (at >= start) found.add(at - start);
+    const found = new Set([...differing()].filter((at) => at >= start).map((at) => at - start));
+    for (const node of state.ring.shown) {
+      for (const [key, versions] of Object.entries(state.rows[node])) if (versions.length) found.add(leafOf(state.ring, key));
+    }
+    if (leafNow() !== null) found.add(leafNow());
     return [...found].sort((x, y) => x - y);
   }
 
-  // Chooses the leaf that the step changed, unless one was chosen by hand.
   function showLeaves() {
-    const list = leavesWithRows();
-    const changed = state.ring.shown.flatMap((node) => [...(state.changedRows[node] || [])].map(leafOf));
-    if (changed.length && !changed.includes(leaf)) leaf = changed[0];
-    else if (leaf !== null && !list.includes(leaf) && !byHand) leaf = null;
-    if (leaf === null && list.length) leaf = list[0];
-    if (leaf !== null && leaf >= 16 ** (state.ring.format + 1)) leaf = null;
-    const all = leaf !== null && !list.includes(leaf) ? [...list, leaf].sort((x, y) => x - y) : list;
-    byId("leaf").replaceChildren(...all.map((it) => new Option(String(it), String(it), false, it === leaf)));
+    const all = leavesToChoose();
+    byId("leaf").replaceChildren(...all.map((it) => new Option(String(it), String(it), false, it === leafNow())));
     byId("leaf").disabled = all.length === 0;
   }
 
@@ -202,9 +195,9 @@
 
   function showRows() {
     const { shown } = state.ring;
-    const keys = [...new Set(shown.flatMap((node) => Object.keys(state.rows[node])))].filter((key) => leafOf(key) === leaf).sort();
+    const keys = [...new Set(shown.flatMap((node) => Object.keys(state.rows[node])))].filter((key) => leafOf(state.ring, key) === leafNow()).sort();
     if (!keys.length) {
-      byId("rows").textContent = leaf === null ? "No row is held yet." : "This leaf has no rows.";
+      byId("rows").textContent = leafNow() === null ? "No row is held yet." : "This leaf has no rows.";
       return;
     }
     const table = document.createElement("table");
@@ -238,8 +231,7 @@
   }
 
   function chooseLeaf(number) {
-    leaf = number;
-    byHand = true;
+    chosen = number;
     showLeaves();
     showRows();
     showTrees();
@@ -312,6 +304,8 @@
     if (!data.steps.length) return;
     number = Math.max(0, Math.min(number, data.steps.length - 1));
     reach(number);
+    const step = data.steps[number];
+    if (step.rows || step.ring) chosen = null;
     if (current >= 0) buttons[current].removeAttribute("aria-current");
     current = number;
     buttons[number].setAttribute("aria-current", "step");
@@ -321,7 +315,6 @@
       list.scrollTop = item.offsetTop - list.offsetTop - 60;
     }
     byId("step").value = number;
-    const step = data.steps[number];
     byId("said").textContent = `Line ${step.line} (step ${number + 1} of ${data.steps.length})${step.refused ? `: refused, ${step.refused}` : ""}`;
     showLeaves();
     showRing();
@@ -332,7 +325,7 @@
   byId("back").addEventListener("click", () => show(current - 1));
   byId("next").addEventListener("click", () => show(current + 1));
   byId("step").addEventListener("input", (event) => show(Number(event.target.value)));
-  buttons.forEach((button, number) => button.addEventListener("click", () => { byHand = false; show(number); }));
+  buttons.forEach((button, number) => button.addEventListener("click", () => show(number)));
   document.addEventListener("keydown", (event) => {
     if (event.altKey || event.ctrlKey || event.metaKey || event.target.closest("select, input")) return;
     if (event.key === "ArrowRight" || event.key === "ArrowDown" && event.target.closest(".script")) show(current + 1);
