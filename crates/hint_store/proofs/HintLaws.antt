@@ -15,6 +15,7 @@ use Rattle.std.specs.Ordering.{is_eq}
 use Rattle.version_set.proofs.SetLaws.{version_total, is_same-exact}
 use Rattle.version_set.specs.declared.version.Version.{Version}
 use Rattle.version_set.specs.Version.{is_same}
+use Rattle.vclock.proofs.BoolLaws.{and-true}
 use Rattle.vclock.specs.Outcome.{Outcome, gives, refuses}
 use Rattle.vclock.specs.declared.refusal.Refusal.TheVariants.{HintsFull, UnknownHint}
 use Rattle.hint_store.specs.declared.hint.Hint.{Hint}
@@ -82,10 +83,6 @@ any_nowhere t i hints one a none = false_from_ne_true (list_any t hints) (λ e.
 
 pub answered-id : (id : ℕ) (d : Delivery) (k : Kept) → is_answered id d k ≡ true → k.hint.id ≡ id
 answered-id id d k e = eqb-true k.hint.id id (and_parts (is_pending k) (nat_eq k.hint.id id) (and_parts (is_pending k && nat_eq k.hint.id id) (delivers_hint d k.hint) e).0).1
-
-pub and-true : (b : Bool) → (b && true) ≡ b
-and-true true = refl
-and-true false = refl
 
 pub awaits_some : (hints : List Kept) (id : ℕ) (d : Delivery) (k : Kept) → HaveIdsFrom 1 hints → Some k ≡ kept_at hints id → list_any (is_answered id d) hints ≡ (is_undelivered k.fate && delivers_hint d k.hint)
 awaits_some hints id d k a e =

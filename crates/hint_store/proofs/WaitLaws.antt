@@ -12,12 +12,13 @@ use Rattle.std.proofs.lemmas.List.Edits.{length-insert, get_or-insert_below, get
 use Rattle.std.proofs.lemmas.List.{length_push}
 use Rattle.version_set.specs.declared.version.Version.{Version}
 use Rattle.vclock.specs.declared.refusal.Refusal.TheVariants.{HintsFull}
+use Rattle.vclock.proofs.BoolLaws.{and-true}
 use Rattle.hint_store.specs.declared.hint.Delivery.{Delivery}
 use Rattle.hint_store.specs.declared.hint.Kept.{Kept}
 use Rattle.hint_store.specs.declared.store.Waiting.{Waiting}
 use Rattle.hint_store.specs.Hints.{is_undelivered, is_pending, pending_count, HaveIdsFrom, fate_of, is_due, with_hint, keep_fault, AreHints}
 use Rattle.hint_store.specs.Waits.{id_of, IsBefore, is_up_to, waits_by, AreWaiting}
-use Rattle.hint_store.proofs.HintLaws.{id_at, get_or_same, find_first, find_none, ids, and-true, AreNumberedFrom-push, AreNumberedFrom-confirmed, IsFound, confirmed_at, fate_closed}
+use Rattle.hint_store.proofs.HintLaws.{id_at, get_or_same, find_first, find_none, ids, AreNumberedFrom-push, AreNumberedFrom-confirmed, IsFound, confirmed_at, fate_closed}
 
 -- how many pass a test that all pass
 count_all : {X : Type 0} (xs : List X) → count_by (λ _. true) xs ≡ length xs

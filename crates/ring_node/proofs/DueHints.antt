@@ -4,6 +4,7 @@ use Rattle.std.specs.Prelude.{nat_eq, nat_lt, find, IfOk, IfSome}
 use Rattle.std.specs.Option.{option_map}
 use Rattle.std.proofs.lemmas.Bool.{and_parts, ltb-true, eqb-true}
 use Rattle.vclock.specs.Answer.{Answers}
+use Rattle.vclock.proofs.BoolLaws.{or-false}
 use Rattle.vclock.specs.declared.refusal.Refusal.{Refusal}
 use Rattle.hint_store.specs.declared.hint.Hint.{Hint}
 use Rattle.hint_store.specs.declared.hint.Kept.{Kept}
@@ -13,14 +14,10 @@ use Rattle.hint_store.specs.Hints.{is_pending, is_due, next_hint}
 abbrev pub IsFor : ℕ → ℕ → Hint → Type 0
 IsFor owner after h = (h.owner ≡ owner) × (after < h.id)
 
-or_false : (b : Bool) → (b || false) ≡ b
-or_false true = refl
-or_false false = refl
-
 is_for : (owner after : ℕ) (k : Kept) → is_due (owner ∷ []) after k ≡ true → IsFor owner after k.hint
 is_for owner after k due =
     let both = and_parts (is_pending k && nat_lt after k.hint.id) (nat_eq k.hint.owner owner || false) due in (
-      eqb-true k.hint.owner owner (sym (or_false (nat_eq k.hint.owner owner)) ∙ both.1),
+      eqb-true k.hint.owner owner (sym (or-false (nat_eq k.hint.owner owner)) ∙ both.1),
       ltb-true after k.hint.id (and_parts (is_pending k) (nat_lt after k.hint.id) both.0).1,
     )
 

@@ -2,14 +2,14 @@
 use Rattle.std.proofs.Common.{◌≡◌, ℕ, zero, suc, ◌^◌, ◌≤◌, Bool, true, false, ◌&&◌, cond, leb, ltb, eqb, take, drop, Result, List, [], ◌∷◌, ◌++◌, length, None, Ok, Err, refl, sym, ap, subst, ◌∙◌, append_assoc, arith}
 use Rattle.std.specs.Int.{Width, w8, w16, w32, w64, byte_len, from_be_bytes, to_be_bytes}
 use Rattle.std.specs.List.{flat_map, list_all, AllByRecursion}
-use Rattle.std.proofs.lemmas.Bool.{leb-true, le-leb, le-ltb, ltb-false, ne_eqb, eqb-false, or_parts}
+use Rattle.std.proofs.lemmas.Bool.{and_from, and_parts, leb-true, le-leb, le-ltb, ltb-false, ne_eqb, eqb-false, or_parts}
 use Rattle.std.proofs.lemmas.List.{append-nil, length-drop}
 use Rattle.vclock.specs.Bytes.{key_fault}
 use Rattle.vclock.specs.declared.format.Format.{Format}
 use Rattle.vclock.specs.declared.format.Format.TheVariants.{One, Two}
 use Rattle.version_set.specs.declared.version.Version.{Version}
 use Rattle.version_set.specs.Version.{version_text, IsVersionSet}
-use Rattle.version_set.proofs.ListLaws.{all-push}
+use Rattle.version_set.proofs.ListLaws.{all-inner, all-push}
 use Rattle.row_bytes.specs.declared.row.Row.{Row}
 use Rattle.row_bytes.specs.Rows.{is_before, is_apart, row_text, IsVersion, AreAscending, AreApart, IsRow, BeginsWithKey}
 use Rattle.row_bytes.specs.Reading.{◌>>=◌, number_at, field_at, bytes_at, pair_at, pairs_at, kind_at, longest_value, version_at, may_follow, versions_at, row_at}
@@ -19,36 +19,21 @@ use Rattle.row_bytes.proofs.Laws.{version_takes, version_again}
 use Rattle.row_bytes.proofs.LimitLaws.{no_fault}
 use Rattle.row_bytes.proofs.RowSetLaws.{set_of}
 
--- both tests hold
-both_hold : (a b : Bool) → (a && b) ≡ true → (a ≡ true) × (b ≡ true)
-both_hold true b e = (refl, e)
-both_hold false b e = absurd cc
-
--- both tests are true together
-both_true : (a b : Bool) → a ≡ true → b ≡ true → (a && b) ≡ true
-both_true true b p q = q
-both_true false b p q = absurd cc
-
 -- ---- versions one after another
-
--- an item within a list has the fact
-AllByRecursion-inner : {X : Type 0} (P : X → Type 0) (xs : List X) (y : X) (ys : List X) → AllByRecursion P (xs ++ y ∷ ys) → P y
-AllByRecursion-inner P [] y ys h = h.0
-AllByRecursion-inner P (x ∷ xs) y ys h = AllByRecursion-inner P xs y ys h.1
 
 -- versions that are apart, and one more that is apart from each
 apart_push : (before : List Version) (v : Version) → AreApart before → list_all (λ u. is_apart u v) before ≡ true → AreApart (before ++ v ∷ [])
 apart_push [] v h e = (tt, tt)
 apart_push (u ∷ us) v h e =
-    let b = both_hold (is_apart u v) (list_all (λ u. is_apart u v) us) e in
+    let b = and_parts (is_apart u v) (list_all (λ u. is_apart u v) us) e in
     (all-push (λ (w : Version). is_apart u w ≡ true) us v h.0 b.0, apart_push us v h.1 b.1)
 
 -- a version is apart from each before it
 apart_at : (before : List Version) (v : Version) (after : List Version) → AreApart (before ++ v ∷ after) → list_all (λ u. is_apart u v) before ≡ true
 apart_at [] v after h = refl
 apart_at (u ∷ us) v after h =
-    both_true (is_apart u v) (list_all (λ u. is_apart u v) us)
-    (AllByRecursion-inner (λ (w : Version). is_apart u w ≡ true) us v after h.0) (apart_at us v after h.1)
+    and_from (is_apart u v) (list_all (λ u. is_apart u v) us)
+    (all-inner (λ (w : Version). is_apart u w ≡ true) us v after h.0) (apart_at us v after h.1)
 
 -- what a loop over versions read after those before
 pub record ReadVersions (format : Format) (k : ℕ) (last : List ℕ) (before : List Version) (bytes : List ℕ) (all : List Version) (rest : List ℕ) : Type 0 where
@@ -70,7 +55,7 @@ versions_takes format (suc k) last before bytes x fits e =
     let a = bind_ok (version_at format bytes) (λ v. cond (may_follow format last before v.0) (versions_at format k (version_text format v.0) (before ++ v.0 ∷ []) v.1) (Err (length bytes))) x e in
     let v = version_takes format bytes a.0 fits a.1 in
     let p = passed_ok (may_follow format last before a.0.0) (length bytes) (versions_at format k (version_text format a.0.0) (before ++ a.0.0 ∷ []) a.0.1) x a.2 in
-    let may = both_hold (is_before last (version_text format a.0.0)) (list_all (λ u. is_apart u a.0.0) before) p.0 in
+    let may = and_parts (is_before last (version_text format a.0.0)) (list_all (λ u. is_apart u a.0.0) before) p.0 in
     let h = versions_takes format k (version_text format a.0.0) (before ++ a.0.0 ∷ []) a.0.1 x v.0.rest_fits p.1 in
     record {
       new = a.0.0 ∷ h.new;
@@ -89,7 +74,7 @@ versions_again format last before [] rest each ascending apart = ap (λ (vs : Li
 versions_again format last before (v ∷ vs) rest each ascending apart =
     let first : version_at format ((version_text format v ++ flat_map (version_text format) vs) ++ rest) ≡ Ok (v, flat_map (version_text format) vs ++ rest) =
     ap (version_at format) (append_assoc (version_text format v) (flat_map (version_text format) vs) rest) ∙ version_again format v (flat_map (version_text format) vs ++ rest) each.0 in
-    let may : (is_before last (version_text format v) && list_all (λ u. is_apart u v) before) ≡ true = both_true _ _ ascending.0 (apart_at before v vs apart) in
+    let may : (is_before last (version_text format v) && list_all (λ u. is_apart u v) before) ≡ true = and_from _ _ ascending.0 (apart_at before v vs apart) in
     let grouped : (before ++ v ∷ []) ++ vs ≡ before ++ v ∷ vs = append_assoc before (v ∷ []) vs in
     rw (first, may) (versions_again format (version_text format v) (before ++ v ∷ []) vs rest each.1 ascending.1 (rw grouped apart) ∙ ap (λ (vs : List Version). Ok (vs, rest)) grouped)
 
@@ -121,7 +106,7 @@ pub key_takes : (bytes : List ℕ) (len : ℕ × List ℕ) (key : List ℕ × Li
 key_takes bytes len key fits l k =
     let front = field_takes w16 (2 ^ 16) wide16 (few 255) bytes len fits l in
     let text = bytes_takes len.0 len.1 key front.takes.rest_fits k in
-    let limits = both_hold (leb 1 len.0) (leb len.0 255) front.passed in
+    let limits = and_parts (leb 1 len.0) (leb len.0 255) front.passed in
     let both = Takes-then bytes (to_be_bytes w16 len.0) len.1 key.0 key.1 front.takes text.0 in
     record {
       fits = key_of key.0 (rw text.1 (leb-true _ _ limits.0)) (rw text.1 (leb-true _ _ limits.1));
@@ -146,7 +131,7 @@ set_in format bytes len key count versions fits l k n e =
     let front = field_takes w16 (2 ^ 16) wide16 (few 255) bytes len fits l in
     let key_front = bytes_takes len.0 len.1 key front.takes.rest_fits k in
     let field = field_takes w16 (2 ^ 16) wide16 (few 64) key.1 count key_front.0.rest_fits n in
-    let range = both_hold (leb 1 count.0) (leb count.0 64) field.passed in
+    let range = and_parts (leb 1 count.0) (leb count.0 64) field.passed in
     set_read format count.0 count.1 versions field.takes.rest_fits (leb-true count.0 64 range.1) e
 
 -- the parts of a row that were read, put together
@@ -186,7 +171,7 @@ row_takes format bytes x fits e =
     let count = field_takes w16 (2 ^ 16) wide16 (few 64) b.0.1 c.0 key.0.rest_fits c.1 in
     let versions = versions_takes format c.0.0 [] [] c.0.1 d.0 count.takes.rest_fits d.1 in
     subst (λ (y : Row × List ℕ). Takes bytes (row_text format y.0) y.1 × IsRow format y.0) (ok_is (record { key = b.0.0; versions = d.0.0 }, d.0.1) x d.2)
-    (made_row format bytes a.0.0 a.0.1 b.0.0 b.0.1 c.0.0 c.0.1 d.0.0 d.0.1 len.takes (both_hold _ _ len.passed) key.0 key.1 count.takes (both_hold _ _ count.passed) versions)
+    (made_row format bytes a.0.0 a.0.1 b.0.0 b.0.1 c.0.0 c.0.1 d.0.0 d.0.1 len.takes (and_parts _ _ len.passed) key.0 key.1 count.takes (and_parts _ _ count.passed) versions)
 
 -- a row that is spelled so is read
 pub row_again : (format : Format) (r : Row) (rest : List ℕ) → IsRow format r → row_at format (row_text format r ++ rest) ≡ Ok (r, rest)
@@ -195,8 +180,8 @@ row_again format r rest h =
     let key = key_limits r.key h.key in
     let last = flat_map (version_text format) r.versions ++ rest in
     let regrouped : row_text format r ++ rest ≡ to_be_bytes w16 (length r.key) ++ (r.key ++ (to_be_bytes w16 (length r.versions) ++ (flat_map (version_text format) r.versions ++ rest))) = simp append_assoc in
-    let len = field_again w16 (2 ^ 16) wide16 (few 255) (length r.key) (r.key ++ (to_be_bytes w16 (length r.versions) ++ (flat_map (version_text format) r.versions ++ rest))) (omega (arith, key.short)) (both_true _ _ (le-leb _ _ key.some) (le-leb _ _ key.short)) in
-    let count = field_again w16 (2 ^ 16) wide16 (few 64) (length r.versions) (flat_map (version_text format) r.versions ++ rest) (omega (arith, h.few)) (both_true _ _ (le-leb _ _ h.some) (le-leb _ _ h.few)) in
+    let len = field_again w16 (2 ^ 16) wide16 (few 255) (length r.key) (r.key ++ (to_be_bytes w16 (length r.versions) ++ (flat_map (version_text format) r.versions ++ rest))) (omega (arith, key.short)) (and_from _ _ (le-leb _ _ key.some) (le-leb _ _ key.short)) in
+    let count = field_again w16 (2 ^ 16) wide16 (few 64) (length r.versions) (flat_map (version_text format) r.versions ++ rest) (omega (arith, h.few)) (and_from _ _ (le-leb _ _ h.some) (le-leb _ _ h.few)) in
     let versions = versions_again format [] [] r.versions rest h.each h.ascending h.apart in
     ap (row_at format) regrouped ∙ rw (len, bytes_again r.key (to_be_bytes w16 (length r.versions) ++ (flat_map (version_text format) r.versions ++ rest)), count, versions) refl
 

@@ -83,10 +83,6 @@ place_before (suc zero) height index sum within = omega arith
 place_before (suc (suc zero)) height index sum within = omega arith
 place_before (suc (suc (suc depth))) height index sum within = absurd (omega arith)
 
--- Equal options have equal values.
-some_is : (x y : List ℕ) → Some x ≡ Some y → x ≡ y
-some_is x y e = cc
-
 -- The digests are right.
 right : (leaf : List ℕ → ℕ) → AreTrue One leaf [] (map Some true_digests)
 unfolding AreTrue
@@ -94,7 +90,8 @@ right leaf depth height index d sum within e =
     let place = place_at depth index in
     let before : place < length true_digests = omega (arith, place_before depth height index sum within, length-by_place (sha256 (text_of 2)) (sha256 (text_of 1)) (sha256 (text_of 0))) in
     let got : Some (get_or true_digests place []) ≡ Some d = sym (get_or-map (λ (x : List ℕ). Some x) true_digests place [] None before) ∙ e in
-    sym (some_is (get_or true_digests place []) d got) ∙ at_place depth height index sum within ∙ ap sha256 (sym (node_is leaf height index))
+    let is : get_or true_digests place [] ≡ d = cc in
+    sym is ∙ at_place depth height index sum within ∙ ap sha256 (sym (node_is leaf height index))
 
 -- The leaves have no rows.
 leaves_are : (bits range : ℕ) → replicate 256 empty_leaf ≡ leaves_of (empty_map bits range)

@@ -4,6 +4,7 @@ use Rattle.std.proofs.lemmas.Bool.{or_cases, or_left, or_right, ltb-false, lt-lt
 use Rattle.std.proofs.lemmas.Bool.Decides.{nat_tests}
 use Rattle.std.proofs.Math.ListN.{drop_of_length-le}
 use Rattle.std.proofs.lemmas.List.{length-drop}
+use Rattle.vclock.proofs.BoolLaws.{or-false}
 use Rattle.vclock.specs.Clock.{Pairs, counter, IsAtMost, at_most, Rises, IsClock, with_counter, raised, raise_fault, has_node, has_repeat, is_bad_pair, clock_of, merged, merge_fault}
 use Rattle.std.proofs.Common.{None, Some, ◌||◌}
 use Rattle.vclock.specs.declared.refusal.Refusal.TheVariants.{ClockFull}
@@ -206,10 +207,6 @@ clock_of-drop ps i d h = rw (add-one i, drop-cons ps i d h) refl
 pub counter-clock_of : (ps : Pairs) (n : ℕ) → counter (clock_of ps) n ≡ counter ps n
 counter-clock_of [] n = refl
 counter-clock_of ((m, c) ∷ ps) n = counter-with_counter (clock_of ps) m c n ∙ ap (cond (eqb m n) c) (counter-clock_of ps n)
-
-pub or-false : (a : Bool) → (a || false) ≡ a
-or-false true = refl
-or-false false = refl
 
 eqb_turned : (m n : ℕ) → eqb m n ≡ eqb n m
 eqb_turned m n = grind (arith, nat_tests)

@@ -15,6 +15,15 @@ pub all-push : {X : Type 0} (P : X → Type 0) (xs : List X) (y : X) → AllByRe
 all-push P [] y all here = (here, tt)
 all-push P (x ∷ xs) y all here = (all.0, all-push P xs y all.1 here)
 
+-- the items after the first ones
+pub all-rest : {X : Type 0} (P : X → Type 0) (xs ys : List X) → AllByRecursion P (xs ++ ys) → AllByRecursion P ys
+all-rest P [] ys all = all
+all-rest P (x ∷ xs) ys all = all-rest P xs ys all.1
+
+-- an item within a list
+pub all-inner : {X : Type 0} (P : X → Type 0) (xs : List X) (y : X) (ys : List X) → AllByRecursion P (xs ++ y ∷ ys) → P y
+all-inner P xs y ys all = (all-rest P xs (y ∷ ys) all).0
+
 pub all-filter : {X : Type 0} (P : X → Type 0) (p : X → Bool) (xs : List X) → AllByRecursion P xs → AllByRecursion P (filter p xs)
 all-filter P p [] all = tt
 all-filter P p (x ∷ xs) all = elim (p x) as (λ b. AllByRecursion P (cond b (x ∷ filter p xs) (filter p xs))) [ true ↦ (all.0, all-filter P p xs all.1) | false ↦ all-filter P p xs all.1 ]

@@ -11,6 +11,7 @@ use Rattle.std.proofs.lemmas.Cmp.{then_total, on_total, lists_total, nat_cmp_tot
 use Rattle.vclock.specs.Clock.{Pairs, counter, at_most, IsClock}
 use Rattle.std.proofs.lemmas.List.Folds.{Any-from_list_any, list_any-from_Any}
 use Rattle.vclock.proofs.ClockLaws.{at_most-counters, at_most-is, at_most_itself, same_clock}
+use Rattle.vclock.proofs.BoolLaws.{or-false}
 use Rattle.version_set.specs.Kind.{kind_byte}
 use Rattle.version_set.specs.declared.kind.Kind.{Kind}
 use Rattle.version_set.specs.declared.kind.Kind.TheVariants.{Live, Tombstone}
@@ -207,10 +208,6 @@ maximal-with_version v S a own h =
     no_part_2 : {X : Type 0} (p q : X → Bool) (xs : List X) → list_any (λ x. p x || q x) xs ≡ false → list_any q xs ≡ false
     no_part_2 p q [] e = refl
     no_part_2 p q (x ∷ xs) e = or_from _ _ (or_parts _ _ (or_parts _ _ e).0).1 (no_part_2 p q xs (or_parts _ _ e).1)
-
-    or-false : (a : Bool) → (a || false) ≡ a
-    or-false true = refl
-    or-false false = refl
 
 -- versions with one text are equal
 pub version_exact : (v w : Version) → version_cmp v w ≡ Equal → v ≡ w

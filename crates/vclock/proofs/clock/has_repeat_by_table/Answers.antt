@@ -3,7 +3,8 @@ use Rattle.std.proofs.lemmas.Bool.{or_from, cases_eq, or_right}
 use Rattle.std.proofs.lemmas.List.{get_or-set_same, get_or-set_other, get_or-replicate, length-replicate}
 use Rattle.std.proofs.lemmas.Bool.{eq-eqb, ne_eqb}
 use Rattle.vclock.specs.Clock.{Pairs, has_node}
-use Rattle.vclock.proofs.ClockLaws.{good_at, good_pair, or-false, has_node_more, has_repeat_more, has_repeat_found}
+use Rattle.vclock.proofs.BoolLaws.{or-false}
+use Rattle.vclock.proofs.ClockLaws.{good_at, good_pair, has_node_more, has_repeat_more, has_repeat_found}
 use Rattle.vclock.proofs.clock.has_repeat_by_table.Goals as goal
 
 -- the table says which nodes came, one pair on
