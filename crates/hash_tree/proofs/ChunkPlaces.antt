@@ -9,7 +9,7 @@ use Rattle.version_set.specs.Kind.{value_fault}
 use Rattle.version_set.specs.declared.version.Version.{Version}
 use Rattle.row_bytes.specs.declared.row.Row.{Row}
 use Rattle.row_bytes.specs.Rows.{row_text}
-use Rattle.hash_tree.specs.Leaves.{Bucket, IsBucket}
+use Rattle.hash_tree.specs.Leaves.{Bucket}
 use Rattle.hash_tree.specs.Chunks.{all_rows, chunk_rows, chunk_text, IsChunk, AreChunks, IsGapSpot, IsSplit, row_versions, offered_at}
 use Rattle.hash_tree.specs.Texts.{leaf_byte, leaf_text}
 use Rattle.hash_tree.proofs.KeyLaws.{all_get}
@@ -123,10 +123,6 @@ on_ok_map (Err e) f h = tt
 pub on_err_map : {A B : Type 0} {P Q : Type 0} (r : Result A B) → (P → Q) → OnErr r P → OnErr r Q
 on_err_map (Ok x) f h = tt
 on_err_map (Err e) f h = f h
-
-pub either_way : {A B : Type 0} {P Q G : Type 0} (r : Result A B) → OnOk r P → OnErr r Q → (P → G) → (Q → G) → G
-either_way (Ok x) p q f g = f p
-either_way (Err e) p q f g = g q
 
 -- ---- one chunk changes
 
@@ -245,11 +241,3 @@ is_split chunks i cut old a b h few some less is full front back =
             few = omega (arith, many, few);
           };
     }
-
--- ---- what a leaf keeps of its chunks
-
-abbrev pub KeepsChunks : Format → List Bucket → Type 0
-KeepsChunks format chunks = IsBucket (record { format = format; rows = all_rows chunks }) × AreChunks format chunks
-
-pub keeps_no_chunks : (format : Format) → KeepsChunks format []
-keeps_no_chunks format = (record { ascending = tt; each = tt }, record { each = tt; few = omega arith })

@@ -1,5 +1,5 @@
 -- The rows of a leaf in chunks, and the text of each chunk.
-use Rattle.std.specs.Prelude.{◌≡◌, ℕ, zero, suc, ◌+◌, ◌^◌, ◌<◌, ◌≤◌, Bool, false, List, [], ◌∷◌, ◌++◌, length, take}
+use Rattle.std.specs.Prelude.{◌≡◌, ℕ, zero, suc, ◌+◌, ◌^◌, ◌<◌, ◌≤◌, Bool, false, List, [], ◌∷◌, ◌++◌, length, take, Result, Ok, Err}
 use Rattle.std.specs.List.{AllByRecursion, flat_map}
 use Rattle.std.specs.Ordering.{is_le}
 use Rattle.vclock.specs.declared.format.Format.{Format}
@@ -7,7 +7,8 @@ use Rattle.version_set.specs.declared.version.Version.{Version}
 use Rattle.version_set.specs.Version.{offered}
 use Rattle.row_bytes.specs.declared.row.Row.{Row}
 use Rattle.row_bytes.specs.Rows.{row_text}
-use Rattle.hash_tree.specs.Leaves.{Bucket, key_cmp}
+use Rattle.hash_tree.specs.Leaves.{Bucket, key_cmp, IsAt, IsBetween}
+use Rattle.hash_tree.specs.declared.chunks.Spot.{Spot}
 
 -- the rows of all chunks, in order
 abbrev pub all_rows : List Bucket → List Row
@@ -49,6 +50,11 @@ pub record IsGapSpot (chunks : List Bucket) (place i at : ℕ) : Type 0 where
   pub chunk : i < length chunks
   pub before : length (all_rows (take i chunks)) + at ≡ place
   pub within : at ≤ length (chunk_rows chunks i)
+
+-- the spot of the row of a key, or the spot at which one would be inserted, if there are chunks
+abbrev pub IsSpot : List ℕ → List Bucket → Result Spot Spot → Type 0
+IsSpot k chunks (Ok s) = IsRowSpot chunks (place_in chunks s.chunk s.at) s.chunk s.at × IsAt k (all_rows chunks) (place_in chunks s.chunk s.at)
+IsSpot k chunks (Err s) = (1 ≤ length chunks → IsGapSpot chunks (place_in chunks s.chunk s.at) s.chunk s.at) × IsBetween k (all_rows chunks) (place_in chunks s.chunk s.at)
 
 -- the key of the first row, or no bytes
 abbrev pub first_key : List Row → List ℕ

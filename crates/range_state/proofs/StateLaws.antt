@@ -179,16 +179,8 @@ room_left s log new entries limit h =
     rw (lt-ltb (length s.entries) s.config.limit (omega (arith, h.within, ap length entries, limit))) refl
 
 -- an offer that fits is refused for want of memory alone
-pub admit_err : (s : State) (leaves : List Bucket) (leaf : ℕ) (x : Entry) (v w : Version) (b : Bucket) (e : Refusal) → AreLeaves s.config s.entries leaves → leaf ≡ leaf_in s.config x.key → b ≡ get_or leaves leaf b → w ≡ v
-    → full_fault s ≡ None → offer_fault v (held s.entries x.key) ≡ None
-    → ((offer_fault w (versions_in x.key b.rows) ≡ None) × (e ≡ NoMemory)) ⊎ (offer_fault w (versions_in x.key b.rows) ≡ Some e) → ((e ≡ NoMemory) × IsTrue (is_given (admit s x))) ⊎ (admit s x ≡ refuses e)
-admit_err s leaves leaf x v w b e ok at is copy room fits h =
-    let here = set_here s leaves leaf x.key b ok at is in
-    let same : offer_fault w (versions_in x.key b.rows) ≡ None = (λ i. offer_fault (copy i) (here i)) ∙ fits in
-    elim h [
-      | inl m ↦ inl (m.1, rw room refl)
-      | inr f ↦ absurd (let no : Some e ≡ None = sym f ∙ same in cc)
-    ]
+pub admit_given : (s : State) (x : Entry) → full_fault s ≡ None → IsTrue (is_given (admit s x))
+admit_given s x room = rw room refl
 
 -- some version that is held has seen the clock
 pub stale : (versions set : List Version) (clock : Pairs) (clocks : List Pairs) → set ≡ versions → list_any (λ v. at_most clock v.clock) set ≡ true → clocks ≡ map (λ (v : Version). v.clock) set → stale_fault versions clock ≡ Some (StaleContext clocks)
