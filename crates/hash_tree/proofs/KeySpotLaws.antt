@@ -208,22 +208,22 @@ pub record IsChunkOf (k : List ℕ) (chunks : List Bucket) (i : ℕ) : Type 0 wh
   pub before : AllByRecursion (λ (y : Row). key_cmp k y.key ≡ Greater) (all_rows (take i chunks))
   pub after : AllByRecursion (λ (y : Row). key_cmp k y.key ≡ Less) (all_rows (drop (i + 1) chunks))
 
-at_there : (k : List ℕ) (chunks : List Bucket) (i at : ℕ) → IsChunkOf k chunks i → IsAt k (chunk_rows chunks i) at → IsAt k (all_rows chunks) (place_in chunks i at)
+at_there : (k : List ℕ) (chunks : List Bucket) (i at : ℕ) → IsChunkOf k chunks i → IsAt k (chunk_rows chunks i) at → IsAt k (all_rows chunks) (place_in chunks (record { chunk = i; at = at }))
 at_there k chunks i at h place =
     let front = all_rows (take i chunks) in
     subst (λ (rows : List Row). IsAt k rows (length front + at)) (sym (three_parts chunks i h.within)) (at_among k front (chunk_rows chunks i) (all_rows (drop (i + 1) chunks)) at (length front) h.before h.after refl place)
 
-between_there : (k : List ℕ) (chunks : List Bucket) (i at : ℕ) → IsChunkOf k chunks i → IsBetween k (chunk_rows chunks i) at → IsBetween k (all_rows chunks) (place_in chunks i at)
+between_there : (k : List ℕ) (chunks : List Bucket) (i at : ℕ) → IsChunkOf k chunks i → IsBetween k (chunk_rows chunks i) at → IsBetween k (all_rows chunks) (place_in chunks (record { chunk = i; at = at }))
 between_there k chunks i at h place =
     let front = all_rows (take i chunks) in
     subst (λ (rows : List Row). IsBetween k rows (length front + at)) (sym (three_parts chunks i h.within)) (between_among k front (chunk_rows chunks i) (all_rows (drop (i + 1) chunks)) at (length front) h.before h.after refl place)
 
 -- the spot that a chunk has for a key
 pub row_spot : (k : List ℕ) (chunks : List Bucket) (i at : ℕ) → IsChunkOf k chunks i → IsAt k (chunk_rows chunks i) at → IsSpot k chunks (Ok (record { chunk = i; at = at }))
-row_spot k chunks i at h place = (record { chunk = h.within; before = refl; within = place.within }, at_there k chunks i at h place)
+row_spot k chunks i at h place = (record { chunk = h.within; within = place.within }, at_there k chunks i at h place)
 
 pub gap_spot : (k : List ℕ) (chunks : List Bucket) (i at : ℕ) → IsChunkOf k chunks i → IsBetween k (chunk_rows chunks i) at → IsSpot k chunks (Err (record { chunk = i; at = at }))
-gap_spot k chunks i at h place = (λ some. record { chunk = h.within; before = refl; within = place.within }, between_there k chunks i at h place)
+gap_spot k chunks i at h place = (λ some. record { chunk = h.within; within = place.within }, between_there k chunks i at h place)
 
 pub no_chunk_spot : (k : List ℕ) (chunks : List Bucket) → length chunks ≡ 0 → IsSpot k chunks (Err (record { chunk = 0; at = 0 }))
 no_chunk_spot k [] none = (λ some. absurd (omega (arith, some)), record { within = omega arith; offers = λ v. refl; holds = refl })
@@ -231,18 +231,15 @@ no_chunk_spot k (c ∷ chunks) none = absurd (omega (arith, none))
 
 -- ---- what is at the spot of a key
 
-row_at_spot : (chunks : List Bucket) (place i at : ℕ) (d : Row) → IsRowSpot chunks place i at → get_or (all_rows chunks) place d ≡ get_or (chunk_rows chunks i) at d
-row_at_spot chunks place i at d spot =
-    let front = all_rows (take i chunks) in
-    let back = all_rows (drop (i + 1) chunks) in
-    ap (λ (rs : List Row). get_or rs place d) (three_parts chunks i spot.chunk)
-    ∙ ap (λ (n : ℕ). get_or (front ++ chunk_rows chunks i ++ back) n d) (sym spot.before)
-    ∙ row_among front (chunk_rows chunks i) back at (length front) d refl spot.within
+row_at_spot : (chunks : List Bucket) (s : Spot) (d : Row) → IsRowSpot chunks s → get_or (all_rows chunks) (place_in chunks s) d ≡ get_or (chunk_rows chunks s.chunk) s.at d
+row_at_spot chunks s d spot =
+    let front = all_rows (take s.chunk chunks) in
+    ap (λ (rs : List Row). get_or rs (place_in chunks s) d) (three_parts chunks s.chunk spot.chunk)
+    ∙ row_among front (chunk_rows chunks s.chunk) (all_rows (drop (s.chunk + 1) chunks)) s.at (length front) d refl spot.within
 
 -- the row read at the spot of a key is one of all rows
-spot_is : (chunks : List Bucket) (place i at : ℕ) (c : Bucket) (r : Row) → IsRowSpot chunks place i at → c ≡ get_or chunks i c → r ≡ get_or c.rows at r → r ≡ get_or (all_rows chunks) place r
-spot_is chunks place i at c r spot is row =
-    row ∙ ap (λ (rs : List Row). get_or rs at r) (rows_read chunks i c spot.chunk is) ∙ sym (row_at_spot chunks place i at r spot)
+spot_is : (chunks : List Bucket) (s : Spot) (c : Bucket) (r : Row) → IsRowSpot chunks s → c ≡ get_or chunks s.chunk c → r ≡ get_or c.rows s.at r → r ≡ get_or (all_rows chunks) (place_in chunks s) r
+spot_is chunks s c r spot is row = row ∙ ap (λ (rs : List Row). get_or rs s.at r) (rows_read chunks s.chunk c spot.chunk is) ∙ sym (row_at_spot chunks s r spot)
 
 -- the spot of a key is within its chunk
 pub spot_within : (k : List ℕ) (chunks : List Bucket) (s : Spot) (c : Bucket) → IsSpot k chunks (Ok s) → c ≡ get_or chunks s.chunk c → s.at < length c.rows
@@ -250,18 +247,18 @@ spot_within k chunks s c at is = subst (λ (rs : List Row). s.at < length rs) (s
 
 -- the row there has the key
 pub spot_key : (k : List ℕ) (chunks : List Bucket) (s : Spot) (c : Bucket) (r : Row) → IsSpot k chunks (Ok s) → c ≡ get_or chunks s.chunk c → r ≡ get_or c.rows s.at r → r.key ≡ k
-spot_key k chunks s c r at is row = ap (λ (x : Row). x.key) (spot_is chunks (place_in chunks s.chunk s.at) s.chunk s.at c r at.0 is row) ∙ at.1.key r
+spot_key k chunks s c r at is row = ap (λ (x : Row). x.key) (spot_is chunks s c r at.0 is row) ∙ at.1.key r
 
 -- it has the versions of the key
 pub spot_versions : (k : List ℕ) (chunks : List Bucket) (s : Spot) (c : Bucket) (r : Row) → IsSpot k chunks (Ok s) → c ≡ get_or chunks s.chunk c → r ≡ get_or c.rows s.at r → r.versions ≡ versions_in k (all_rows chunks)
-spot_versions k chunks s c r at is row = ap (λ (x : Row). x.versions) (spot_is chunks (place_in chunks s.chunk s.at) s.chunk s.at c r at.0 is row) ∙ sym (at.1.holds r)
+spot_versions k chunks s c r at is row = ap (λ (x : Row). x.versions) (spot_is chunks s c r at.0 is row) ∙ sym (at.1.holds r)
 
 -- it is one of all rows
 pub spot_row : (k : List ℕ) (chunks : List Bucket) (s : Spot) (c : Bucket) (r : Row) → IsSpot k chunks (Ok s) → c ≡ get_or chunks s.chunk c → r ≡ get_or c.rows s.at r → Contains (all_rows chunks) (record { key = k; versions = r.versions })
 spot_row k chunks s c r at is row =
-    let whole = spot_is chunks (place_in chunks s.chunk s.at) s.chunk s.at c r at.0 is row in
-    let same : get_or (all_rows chunks) (place_in chunks s.chunk s.at) r ≡ record { key = k; versions = r.versions } = λ j. record { key = at.1.key r j; versions = (sym whole j).versions } in
-    subst (Contains (all_rows chunks)) same (Contains-get_or (all_rows chunks) (place_in chunks s.chunk s.at) r at.1.within)
+    let whole = spot_is chunks s c r at.0 is row in
+    let same : get_or (all_rows chunks) (place_in chunks s) r ≡ record { key = k; versions = r.versions } = λ j. record { key = at.1.key r j; versions = (sym whole j).versions } in
+    subst (Contains (all_rows chunks)) same (Contains-get_or (all_rows chunks) (place_in chunks s) r at.1.within)
 
 -- the rows of the chunk from the spot on are a run
 pub spot_run : (k : List ℕ) (chunks : List Bucket) (s : Spot) (c : Bucket) → IsSpot k chunks (Ok s) → c ≡ get_or chunks s.chunk c → IsRun (all_rows chunks) k (drop s.at c.rows)
@@ -282,7 +279,7 @@ spot_run k chunks s c at is =
       run_is = drop_more c.rows s.at (record { key = k; versions = [] }) within;
       key =
           ap (λ (rs : List Row). (get_or rs s.at (record { key = k; versions = [] })).key) (rows_read chunks s.chunk c at.0.chunk is)
-          ∙ ap (λ (x : Row). x.key) (sym (row_at_spot chunks (place_in chunks s.chunk s.at) s.chunk s.at (record { key = k; versions = [] }) at.0))
+          ∙ ap (λ (x : Row). x.key) (sym (row_at_spot chunks s (record { key = k; versions = [] }) at.0))
           ∙ at.1.key (record { key = k; versions = [] });
     }
 

@@ -35,26 +35,29 @@ pub record AreChunks (format : Format) (chunks : List Bucket) : Type 0 where
   pub each : AllByRecursion (IsChunk format) chunks
   pub few : length chunks ≤ 2 ^ 56
 
--- the place among all rows of the row at `at` in chunk i
-abbrev pub place_in : List Bucket → ℕ → ℕ → ℕ
-place_in chunks i at = length (all_rows (take i chunks)) + at
+-- the place among all rows of the row at a spot
+abbrev pub place_in : List Bucket → Spot → ℕ
+place_in chunks s = length (all_rows (take s.chunk chunks)) + s.at
 
--- the row at `place` among all rows is in chunk i, at `at` among the chunk's rows
-pub record IsRowSpot (chunks : List Bucket) (place i at : ℕ) : Type 0 where
-  pub chunk : i < length chunks
-  pub before : length (all_rows (take i chunks)) + at ≡ place
-  pub within : at < length (chunk_rows chunks i)
+-- there is a row at the spot
+pub record IsRowSpot (chunks : List Bucket) (s : Spot) : Type 0 where
+  pub chunk : s.chunk < length chunks
+  pub within : s.at < length (chunk_rows chunks s.chunk)
 
--- a row inserted into chunk i, at `at` among the chunk's rows, is then at `place` among all rows
-pub record IsGapSpot (chunks : List Bucket) (place i at : ℕ) : Type 0 where
-  pub chunk : i < length chunks
-  pub before : length (all_rows (take i chunks)) + at ≡ place
-  pub within : at ≤ length (chunk_rows chunks i)
+-- a row can be inserted at the spot, into one of the chunks
+pub record IsGapSpot (chunks : List Bucket) (s : Spot) : Type 0 where
+  pub chunk : s.chunk < length chunks
+  pub within : s.at ≤ length (chunk_rows chunks s.chunk)
+
+-- and the chunk isn't full
+pub record IsRoomySpot (chunks : List Bucket) (s : Spot) : Type 0 where
+  pub gap : IsGapSpot chunks s
+  pub room : length (chunk_rows chunks s.chunk) < 15
 
 -- the spot of the row of a key, or the spot at which one would be inserted, if there are chunks
 abbrev pub IsSpot : List ℕ → List Bucket → Result Spot Spot → Type 0
-IsSpot k chunks (Ok s) = IsRowSpot chunks (place_in chunks s.chunk s.at) s.chunk s.at × IsAt k (all_rows chunks) (place_in chunks s.chunk s.at)
-IsSpot k chunks (Err s) = (1 ≤ length chunks → IsGapSpot chunks (place_in chunks s.chunk s.at) s.chunk s.at) × IsBetween k (all_rows chunks) (place_in chunks s.chunk s.at)
+IsSpot k chunks (Ok s) = IsRowSpot chunks s × IsAt k (all_rows chunks) (place_in chunks s)
+IsSpot k chunks (Err s) = (1 ≤ length chunks → IsGapSpot chunks s) × IsBetween k (all_rows chunks) (place_in chunks s)
 
 -- the key of the first row, or no bytes
 abbrev pub first_key : List Row → List ℕ

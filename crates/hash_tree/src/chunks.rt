@@ -9,7 +9,7 @@ ghost use Rattle.version_set.specs.Kind.{value_fault};
 ghost use Rattle.version_set.specs.Version.{offer_fault, offered};
 ghost use Rattle.row_bytes.specs.Rows.{FitsText};
 ghost use Rattle.hash_tree.specs.Leaves.{Bucket, key_cmp, AscendByKey, IsPlace, versions_in, with_offer};
-ghost use Rattle.hash_tree.specs.Chunks.{all_rows, chunk_rows, chunk_text, AreChunks, place_in, IsSpot, IsRowSpot, IsGapSpot, IsSplit, row_versions, offered_at};
+ghost use Rattle.hash_tree.specs.Chunks.{all_rows, chunk_rows, chunk_text, AreChunks, place_in, IsSpot, IsRowSpot, IsGapSpot, IsRoomySpot, IsSplit, row_versions, offered_at};
 
 use crate::chunk::Chunk;
 use crate::written_rows::MOST_ROWS;
@@ -136,12 +136,11 @@ fn offer_at(
     spot: Spot,
     version: Version,
 ) -> Result<(), Refusal>
-    requires spot { IsRowSpot chunks.old.items (place_in chunks.old.items spot.chunk spot.at) spot.chunk spot.at }
+    requires spot { IsRowSpot chunks.old.items spot }
     requires value { AllByRecursion (λ (c : Bucket). value_fault c.format version.kind version.value ≡ None) chunks.old.items }
-    requires room { offer_fault version
-        (row_versions (all_rows chunks.old.items) (place_in chunks.old.items spot.chunk spot.at)) ≡ None }
+    requires room { offer_fault version (row_versions (all_rows chunks.old.items) (place_in chunks.old.items spot)) ≡ None }
     ensures rows { Does result (all_rows chunks.old.items) (all_rows chunks.new.items)
-        (gives tt (offered_at (all_rows chunks.old.items) (place_in chunks.old.items spot.chunk spot.at) version)) }
+        (gives tt (offered_at (all_rows chunks.old.items) (place_in chunks.old.items spot) version)) }
     ensures chunks { (format : Format) → AreChunks format chunks.old.items → AreChunks format chunks.new.items }
 {
     chunks[spot.chunk].offer(alloc, spot.at, version)
@@ -156,12 +155,11 @@ fn insert_at(
     gap: Spot,
     row: Row,
 ) -> Result<(), Refusal>
-    requires gap { 1 ≤ length chunks.old.items
-        → IsGapSpot chunks.old.items (place_in chunks.old.items gap.chunk gap.at) gap.chunk gap.at }
+    requires gap { 1 ≤ length chunks.old.items → IsGapSpot chunks.old.items gap }
     requires fits { FitsText format row }
     requires chunks { AreChunks format chunks.old.items }
     ensures rows { Does result (all_rows chunks.old.items) (all_rows chunks.new.items)
-        (gives tt (insert (all_rows chunks.old.items) (place_in chunks.old.items gap.chunk gap.at) row)) }
+        (gives tt (insert (all_rows chunks.old.items) (place_in chunks.old.items gap) row)) }
     ensures chunks { AreChunks format chunks.new.items }
 {
     if chunks.is_empty() {
@@ -172,14 +170,13 @@ fn insert_at(
     chunks[spot.chunk].insert(alloc, spot.at, row)
 }
 
-/// Makes room at a gap, by splitting a full chunk, and returns the place of the gap. The rows are unchanged, even on
+/// Makes room at a gap, by splitting a full chunk, and returns the spot of the gap. The rows are unchanged, even on
 /// error. Refused: NoMemory.
 fn roomy_gap(alloc: Global, chunks: &mut Vec<Chunk>, gap: Spot) -> Result<Spot, Refusal>
-    requires gap { IsGapSpot chunks.old.items (place_in chunks.old.items gap.chunk gap.at) gap.chunk gap.at }
+    requires gap { IsGapSpot chunks.old.items gap }
     requires each { AllByRecursion (λ (c : Bucket). length c.rows ≤ 15) chunks.old.items }
-    ensures gap { Answers result None (λ now.
-        IsGapSpot chunks.new.items (place_in chunks.old.items gap.chunk gap.at) now.chunk now.at
-        × (length (chunk_rows chunks.new.items now.chunk) < 15)) }
+    ensures gap { Answers result None (λ now. IsRoomySpot chunks.new.items now
+        × (place_in chunks.new.items now ≡ place_in chunks.old.items gap)) }
     ensures rows { all_rows chunks.new.items ≡ all_rows chunks.old.items }
     ensures chunks { (format : Format) → AreChunks format chunks.old.items → AreChunks format chunks.new.items }
 {
@@ -221,7 +218,7 @@ fn split_at(
     requires some { 1 ≤ cut }
     requires less { cut < 15 }
     requires full { length (chunk_rows chunks.old.items number) ≡ 15 }
-    ensures ok { Answers result None (λ _. IsSplit chunks.old.items number cut chunks.new.items) }
+    ensures split { Answers result None (λ _. IsSplit chunks.old.items number cut chunks.new.items) }
     ensures err { OnErr result (chunks.new.items ≡ chunks.old.items) }
 {
     if chunks.len() >= MOST_CHUNKS {

@@ -21,14 +21,14 @@ offer_at-requires-clause-room c =
     let chunks = c.args.chunks.now.items in
     let k = c.args.key.now in
     let at = subst (λ (cs : List Bucket). IsSpot k cs (Ok c.in-Ok.spot)) c.deref.ensures.value c.in-Ok.ensures in
-    subst (λ (S : List Version). offer_fault c.args.version S ≡ None) (sym (at_holds k (all_rows chunks) (place_in chunks c.in-Ok.spot.chunk c.in-Ok.spot.at) at.1)) c.requires.room
+    subst (λ (S : List Version). offer_fault c.args.version S ≡ None) (sym (at_holds k (all_rows chunks) (place_in chunks c.in-Ok.spot) at.1)) c.requires.room
 
 pub returns-in-Ok-clause-rows : goal.returns-in-Ok-clause-rows
 returns-in-Ok-clause-rows c =
     let chunks = c.args.chunks.now.items in
     let k = c.args.key.now in
     let at = subst (λ (cs : List Bucket). IsSpot k cs (Ok c.in-Ok.spot)) c.deref.ensures.value c.in-Ok.ensures in
-    subst (λ (rs : List Row). Does c.offer_at.result (all_rows chunks) (all_rows c.offer_at.new.chunks.items) (gives tt rs)) (at_offers k c.args.version (all_rows chunks) (place_in chunks c.in-Ok.spot.chunk c.in-Ok.spot.at) at.1) c.offer_at.ensures.rows
+    subst (λ (rs : List Row). Does c.offer_at.result (all_rows chunks) (all_rows c.offer_at.new.chunks.items) (gives tt rs)) (at_offers k c.args.version (all_rows chunks) (place_in chunks c.in-Ok.spot) at.1) c.offer_at.ensures.rows
 
 pub returns-in-Ok-clause-chunks : goal.returns-in-Ok-clause-chunks
 returns-in-Ok-clause-chunks c = c.offer_at.ensures.chunks c.args.format c.requires.chunks
@@ -40,7 +40,7 @@ pub returns-in_ok-row-in-Err-clause-rows : goal.returns-in_ok-row-in-Err-clause-
 returns-in_ok-row-in-Err-clause-rows c =
     let chunks = c.args.chunks.now.items in
     let k = c.args.key.now in
-    let place = place_in chunks c.in-Err.gap.chunk c.in-Err.gap.at in
+    let place = place_in chunks c.in-Err.gap in
     let between = subst (λ (cs : List Bucket). IsSpot k cs (Err c.in-Err.gap)) c.deref.ensures.value c.in-Err.ensures in
     let row : c.in_ok-row-in-Err.row ≡ record { key = k; versions = offered c.args.version [] } = search rules in
     subst (λ (rs : List Row). Does c.insert_at.result (all_rows chunks) (all_rows c.insert_at.new.chunks.items) (gives tt rs)) (ap (insert (all_rows chunks) place) row ∙ sym (between.1.offers c.args.version)) c.insert_at.ensures.rows

@@ -12,8 +12,8 @@ split-requires-clause-within c =
     let is : old ≡ get_or chunks c.args.number old = search rules in
     omega (arith, c.requires.full, c.requires.less, ap (λ (rs : List Row). length rs) (rows_read chunks c.args.number old c.requires.within is))
 
-pub returns-clause-ok : goal.returns-clause-ok
-returns-clause-ok c =
+pub returns-clause-split : goal.returns-clause-split
+returns-clause-split c =
     let chunks = c.args.chunks.now.items in
     let i = c.args.number in
     let old = c.index_mut.result.now in
