@@ -9,8 +9,9 @@ use Rattle.version_set.specs.Kind.{value_fault}
 use Rattle.version_set.specs.declared.version.Version.{Version}
 use Rattle.row_bytes.specs.declared.row.Row.{Row}
 use Rattle.row_bytes.specs.Rows.{row_text}
-use Rattle.hash_tree.specs.Leaves.{Bucket, IsBucket}
-use Rattle.hash_tree.specs.Chunks.{all_rows, chunk_rows, chunk_text, IsChunk, AreChunks, IsGapSpot, IsSplit, row_versions, offered_at}
+use Rattle.hash_tree.specs.Leaves.{Bucket}
+use Rattle.hash_tree.specs.Chunks.{all_rows, chunk_rows, chunk_text, IsChunk, AreChunks, place_in, IsGapSpot, IsSplit, row_versions, offered_at}
+use Rattle.hash_tree.specs.declared.chunks.Spot.{Spot}
 use Rattle.hash_tree.specs.Texts.{leaf_byte, leaf_text}
 use Rattle.hash_tree.proofs.KeyLaws.{all_get}
 use Rattle.hash_tree.proofs.ChunkLaws.{all-set, all-insert}
@@ -106,13 +107,17 @@ pub values_fit : (format : Format) (chunks : List Bucket) (v : Version) → AllB
 values_fit format [] v all h = tt
 values_fit format (c ∷ chunks) v all h = (subst (λ (f : Format). value_fault f v.kind v.value ≡ None) (sym all.0.same) h, values_fit format chunks v all.1 h)
 
--- where a chunk is parted before a gap, the gap is in the second part
-pub gap-behind : (chunks parts : List Bucket) (place i at cut : ℕ) → IsGapSpot chunks place i at → IsSplit chunks i cut parts → length (chunk_rows chunks i) ≡ 15 → cut < at → IsGapSpot parts place (i + 1) (at - cut)
-gap-behind chunks parts place i at cut gap split full behind = record {
+-- where a chunk is split before a gap, the gap is in the second part
+pub gap-behind : (chunks parts : List Bucket) (s : Spot) (cut : ℕ) → IsGapSpot chunks s → IsSplit chunks s.chunk cut parts → length (chunk_rows chunks s.chunk) ≡ 15 → cut < s.at → IsGapSpot parts (record { chunk = s.chunk + 1; at = s.at - cut })
+gap-behind chunks parts s cut gap split full behind = record {
   chunk = omega (arith, split.more, gap.chunk);
-  before = omega (arith, ap (λ (rows : List Row). length rows) split.first, length-append (all_rows (take i chunks)) (chunk_rows parts i), split.front, gap.before, behind);
   within = omega (arith, split.back, gap.within, full, behind);
 }
+
+-- its place is the same
+pub place-behind : (chunks parts : List Bucket) (s : Spot) (cut : ℕ) → IsSplit chunks s.chunk cut parts → cut < s.at → place_in parts (record { chunk = s.chunk + 1; at = s.at - cut }) ≡ place_in chunks s
+place-behind chunks parts s cut split behind =
+    omega (arith, ap (λ (rows : List Row). length rows) split.first, length-append (all_rows (take s.chunk chunks)) (chunk_rows parts s.chunk), split.front, behind)
 
 -- ---- what holds where a call answers, and where it fails
 
@@ -123,10 +128,6 @@ on_ok_map (Err e) f h = tt
 pub on_err_map : {A B : Type 0} {P Q : Type 0} (r : Result A B) → (P → Q) → OnErr r P → OnErr r Q
 on_err_map (Ok x) f h = tt
 on_err_map (Err e) f h = f h
-
-pub either_way : {A B : Type 0} {P Q G : Type 0} (r : Result A B) → OnOk r P → OnErr r Q → (P → G) → (Q → G) → G
-either_way (Ok x) p q f g = f p
-either_way (Err e) p q f g = g q
 
 -- ---- one chunk changes
 
@@ -245,11 +246,3 @@ is_split chunks i cut old a b h few some less is full front back =
             few = omega (arith, many, few);
           };
     }
-
--- ---- what a leaf keeps of its chunks
-
-abbrev pub KeepsChunks : Format → List Bucket → Type 0
-KeepsChunks format chunks = IsBucket (record { format = format; rows = all_rows chunks }) × AreChunks format chunks
-
-pub keeps_no_chunks : (format : Format) → KeepsChunks format []
-keeps_no_chunks format = (record { ascending = tt; each = tt }, record { each = tt; few = omega arith })

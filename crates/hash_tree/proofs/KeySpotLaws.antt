@@ -1,24 +1,25 @@
 -- The row of a key, or the place for one, is that of its chunk among all rows.
-use Rattle.std.proofs.Common.{◌≡◌, ℕ, zero, suc, ◌+◌, ◌-◌, ◌<◌, ◌≤◌, Bool, true, false, not, cond, None, Some, List, [], ◌∷◌, ◌++◌, length, get_or, set, take, drop, refl, sym, ap, subst, ◌∙◌, arith}
-use Rattle.std.specs.Prelude.{nat_lt}
-use Rattle.std.specs.List.{AllByRecursion, insert, list_any}
+use Rattle.std.proofs.Common.{◌≡◌, ℕ, zero, suc, ◌+◌, ◌-◌, ◌<◌, ◌≤◌, Bool, true, false, Ok, Err, None, List, [], ◌∷◌, ◌++◌, length, get_or, set, take, drop, refl, sym, ap, subst, ◌∙◌, append_assoc, arith}
+use Rattle.std.specs.List.{AllByRecursion, Contains, insert}
 use Rattle.std.specs.List.Sorted.{IsPartitionedBy, IsPartitionPoint}
 use Rattle.std.specs.Ordering.{is_le}
 use Rattle.std.specs.declared.cmp.Ordering.TheVariants.{Less, Equal, Greater}
-use Rattle.std.proofs.lemmas.List.{length-append, set-append_left, set-append_right, get_or_append_left, get_or-append-add}
+use Rattle.std.proofs.lemmas.List.{length-append, take-append-drop, drop_more, set-append_left, set-append_right, get_or_append_left, get_or-append-add}
 use Rattle.std.proofs.lemmas.List.Edits.{insert-append_left, insert-append_right}
-use Rattle.vclock.specs.declared.refusal.Refusal.TheVariants.{Crowded}
+use Rattle.std.proofs.lemmas.List.Elements.{Contains-get_or}
+use Rattle.vclock.specs.declared.format.Format.{Format}
 use Rattle.version_set.specs.declared.version.Version.{Version}
 use Rattle.version_set.specs.Order.{place_by}
-use Rattle.version_set.specs.Version.{offered, offer_fault, is_below}
+use Rattle.version_set.specs.Version.{offered}
 use Rattle.version_set.proofs.ListLaws.{all-append}
 use Rattle.row_bytes.specs.declared.row.Row.{Row}
-use Rattle.hash_tree.specs.Leaves.{key_cmp, Bucket, AscendByKey, IsAt, IsBetween, with_offer, versions_in}
-use Rattle.hash_tree.specs.Chunks.{all_rows, chunk_rows, begin_by, place_in, IsRowSpot, IsGapSpot, row_versions, offered_at}
+use Rattle.hash_tree.specs.Leaves.{key_cmp, Bucket, IsBucket, AscendByKey, IsAt, IsBetween, IsRun, FindsRow, with_offer, versions_in}
+use Rattle.hash_tree.specs.Chunks.{all_rows, chunk_rows, begin_by, place_in, IsSpot, IsRowSpot, row_versions, offered_at}
+use Rattle.hash_tree.specs.declared.chunks.Spot.{Spot}
 use Rattle.hash_tree.proofs.KeyLaws.{key_exact, turned, less_trans}
-use Rattle.hash_tree.proofs.LeafLaws.{offer_first, in_first}
+use Rattle.hash_tree.proofs.LeafLaws.{offer_first, in_first, no_row, some_each}
 use Rattle.hash_tree.proofs.ChunkLaws.{versions_at-get, offered_at-set}
-use Rattle.hash_tree.proofs.ChunkPlaces.{three_parts}
+use Rattle.hash_tree.proofs.ChunkPlaces.{three_parts, rows_read}
 
 -- ---- rows in order, in parts
 
@@ -154,7 +155,7 @@ in_back : (k : List ℕ) (rows back : List Row) → AllByRecursion (λ (y : Row)
 in_back k [] back all = in_first k back all
 in_back k (r ∷ rows) back all = elim (key_cmp k r.key) as (λ o. place_by o [] r.versions (versions_in k (rows ++ back)) ≡ place_by o [] r.versions (versions_in k rows)) [ Less ↦ refl | Equal ↦ refl | Greater ↦ in_back k rows back all ]
 
-pub versions_among : (k : List ℕ) (front rows back : List Row) → AllByRecursion (λ (y : Row). key_cmp k y.key ≡ Greater) front → AllByRecursion (λ (y : Row). key_cmp k y.key ≡ Less) back → versions_in k (front ++ rows ++ back) ≡ versions_in k rows
+versions_among : (k : List ℕ) (front rows back : List Row) → AllByRecursion (λ (y : Row). key_cmp k y.key ≡ Greater) front → AllByRecursion (λ (y : Row). key_cmp k y.key ≡ Less) back → versions_in k (front ++ rows ++ back) ≡ versions_in k rows
 versions_among k front rows back less greater = in_back k (front ++ rows) back greater ∙ in_front k front rows less
 
 offers_among : (k : List ℕ) (v : Version) (front rows back : List Row) → AllByRecursion (λ (y : Row). key_cmp k y.key ≡ Greater) front → AllByRecursion (λ (y : Row). key_cmp k y.key ≡ Less) back → with_offer k v (front ++ rows ++ back) ≡ front ++ with_offer k v rows ++ back
@@ -167,7 +168,7 @@ row_among front rows back i n d is within =
     ∙ ap (λ (m : ℕ). get_or (front ++ rows) (m + i) d) is ∙ get_or-append-add front rows i d
 
 -- the row of the key
-pub at_among : (k : List ℕ) (front rows back : List Row) (i n : ℕ) → AllByRecursion (λ (y : Row). key_cmp k y.key ≡ Greater) front → AllByRecursion (λ (y : Row). key_cmp k y.key ≡ Less) back → n ≡ length front → IsAt k rows i → IsAt k (front ++ rows ++ back) (n + i)
+at_among : (k : List ℕ) (front rows back : List Row) (i n : ℕ) → AllByRecursion (λ (y : Row). key_cmp k y.key ≡ Greater) front → AllByRecursion (λ (y : Row). key_cmp k y.key ≡ Less) back → n ≡ length front → IsAt k rows i → IsAt k (front ++ rows ++ back) (n + i)
 at_among k front rows back i n less greater is at = record {
   within = omega (arith, is, at.within, length-append front rows, length-append (front ++ rows) back);
   key = λ d. ap (λ (r : Row). r.key) (row_among front rows back i n d is at.within) ∙ at.key d;
@@ -185,7 +186,7 @@ at_among k front rows back i n less greater is at = record {
 }
 
 -- the place for one
-pub between_among : (k : List ℕ) (front rows back : List Row) (i n : ℕ) → AllByRecursion (λ (y : Row). key_cmp k y.key ≡ Greater) front → AllByRecursion (λ (y : Row). key_cmp k y.key ≡ Less) back → n ≡ length front → IsBetween k rows i → IsBetween k (front ++ rows ++ back) (n + i)
+between_among : (k : List ℕ) (front rows back : List Row) (i n : ℕ) → AllByRecursion (λ (y : Row). key_cmp k y.key ≡ Greater) front → AllByRecursion (λ (y : Row). key_cmp k y.key ≡ Less) back → n ≡ length front → IsBetween k rows i → IsBetween k (front ++ rows ++ back) (n + i)
 between_among k front rows back i n less greater is between = record {
   within = omega (arith, is, between.within, length-append front rows, length-append (front ++ rows) back);
   offers = λ v.
@@ -207,25 +208,84 @@ pub record IsChunkOf (k : List ℕ) (chunks : List Bucket) (i : ℕ) : Type 0 wh
   pub before : AllByRecursion (λ (y : Row). key_cmp k y.key ≡ Greater) (all_rows (take i chunks))
   pub after : AllByRecursion (λ (y : Row). key_cmp k y.key ≡ Less) (all_rows (drop (i + 1) chunks))
 
-pub versions_there : (k : List ℕ) (chunks : List Bucket) (i : ℕ) → IsChunkOf k chunks i → versions_in k (chunk_rows chunks i) ≡ versions_in k (all_rows chunks)
-versions_there k chunks i h =
-    sym (ap (versions_in k) (three_parts chunks i h.within) ∙ versions_among k (all_rows (take i chunks)) (chunk_rows chunks i) (all_rows (drop (i + 1) chunks)) h.before h.after)
-
-pub at_there : (k : List ℕ) (chunks : List Bucket) (i at : ℕ) → IsChunkOf k chunks i → IsAt k (chunk_rows chunks i) at → IsAt k (all_rows chunks) (place_in chunks i at)
+at_there : (k : List ℕ) (chunks : List Bucket) (i at : ℕ) → IsChunkOf k chunks i → IsAt k (chunk_rows chunks i) at → IsAt k (all_rows chunks) (place_in chunks (record { chunk = i; at = at }))
 at_there k chunks i at h place =
     let front = all_rows (take i chunks) in
     subst (λ (rows : List Row). IsAt k rows (length front + at)) (sym (three_parts chunks i h.within)) (at_among k front (chunk_rows chunks i) (all_rows (drop (i + 1) chunks)) at (length front) h.before h.after refl place)
 
-pub between_there : (k : List ℕ) (chunks : List Bucket) (i at : ℕ) → IsChunkOf k chunks i → IsBetween k (chunk_rows chunks i) at → IsBetween k (all_rows chunks) (place_in chunks i at)
+between_there : (k : List ℕ) (chunks : List Bucket) (i at : ℕ) → IsChunkOf k chunks i → IsBetween k (chunk_rows chunks i) at → IsBetween k (all_rows chunks) (place_in chunks (record { chunk = i; at = at }))
 between_there k chunks i at h place =
     let front = all_rows (take i chunks) in
     subst (λ (rows : List Row). IsBetween k rows (length front + at)) (sym (three_parts chunks i h.within)) (between_among k front (chunk_rows chunks i) (all_rows (drop (i + 1) chunks)) at (length front) h.before h.after refl place)
 
-pub row_spot : (k : List ℕ) (chunks : List Bucket) (i at : ℕ) → IsChunkOf k chunks i → IsAt k (chunk_rows chunks i) at → IsRowSpot chunks (place_in chunks i at) i at
-row_spot k chunks i at h place = record { chunk = h.within; before = refl; within = place.within }
+-- the spot that a chunk has for a key
+pub row_spot : (k : List ℕ) (chunks : List Bucket) (i at : ℕ) → IsChunkOf k chunks i → IsAt k (chunk_rows chunks i) at → IsSpot k chunks (Ok (record { chunk = i; at = at }))
+row_spot k chunks i at h place = (record { chunk = h.within; within = place.within }, at_there k chunks i at h place)
 
-pub gap_spot : (k : List ℕ) (chunks : List Bucket) (i at : ℕ) → IsChunkOf k chunks i → IsBetween k (chunk_rows chunks i) at → IsGapSpot chunks (place_in chunks i at) i at
-gap_spot k chunks i at h place = record { chunk = h.within; before = refl; within = place.within }
+pub gap_spot : (k : List ℕ) (chunks : List Bucket) (i at : ℕ) → IsChunkOf k chunks i → IsBetween k (chunk_rows chunks i) at → IsSpot k chunks (Err (record { chunk = i; at = at }))
+gap_spot k chunks i at h place = (λ some. record { chunk = h.within; within = place.within }, between_there k chunks i at h place)
+
+pub no_chunk_spot : (k : List ℕ) (chunks : List Bucket) → length chunks ≡ 0 → IsSpot k chunks (Err (record { chunk = 0; at = 0 }))
+no_chunk_spot k [] none = (λ some. absurd (omega (arith, some)), record { within = omega arith; offers = λ v. refl; holds = refl })
+no_chunk_spot k (c ∷ chunks) none = absurd (omega (arith, none))
+
+-- ---- what is at the spot of a key
+
+row_at_spot : (chunks : List Bucket) (s : Spot) (d : Row) → IsRowSpot chunks s → get_or (all_rows chunks) (place_in chunks s) d ≡ get_or (chunk_rows chunks s.chunk) s.at d
+row_at_spot chunks s d spot =
+    let front = all_rows (take s.chunk chunks) in
+    ap (λ (rs : List Row). get_or rs (place_in chunks s) d) (three_parts chunks s.chunk spot.chunk)
+    ∙ row_among front (chunk_rows chunks s.chunk) (all_rows (drop (s.chunk + 1) chunks)) s.at (length front) d refl spot.within
+
+-- the row read at the spot of a key is one of all rows
+spot_is : (chunks : List Bucket) (s : Spot) (c : Bucket) (r : Row) → IsRowSpot chunks s → c ≡ get_or chunks s.chunk c → r ≡ get_or c.rows s.at r → r ≡ get_or (all_rows chunks) (place_in chunks s) r
+spot_is chunks s c r spot is row = row ∙ ap (λ (rs : List Row). get_or rs s.at r) (rows_read chunks s.chunk c spot.chunk is) ∙ sym (row_at_spot chunks s r spot)
+
+-- the spot of a key is within its chunk
+pub spot_within : (k : List ℕ) (chunks : List Bucket) (s : Spot) (c : Bucket) → IsSpot k chunks (Ok s) → c ≡ get_or chunks s.chunk c → s.at < length c.rows
+spot_within k chunks s c at is = subst (λ (rs : List Row). s.at < length rs) (sym (rows_read chunks s.chunk c at.0.chunk is)) at.0.within
+
+-- the row there has the key
+pub spot_key : (k : List ℕ) (chunks : List Bucket) (s : Spot) (c : Bucket) (r : Row) → IsSpot k chunks (Ok s) → c ≡ get_or chunks s.chunk c → r ≡ get_or c.rows s.at r → r.key ≡ k
+spot_key k chunks s c r at is row = ap (λ (x : Row). x.key) (spot_is chunks s c r at.0 is row) ∙ at.1.key r
+
+-- it has the versions of the key
+pub spot_versions : (k : List ℕ) (chunks : List Bucket) (s : Spot) (c : Bucket) (r : Row) → IsSpot k chunks (Ok s) → c ≡ get_or chunks s.chunk c → r ≡ get_or c.rows s.at r → r.versions ≡ versions_in k (all_rows chunks)
+spot_versions k chunks s c r at is row = ap (λ (x : Row). x.versions) (spot_is chunks s c r at.0 is row) ∙ sym (at.1.holds r)
+
+-- it is one of all rows
+pub spot_row : (k : List ℕ) (chunks : List Bucket) (s : Spot) (c : Bucket) (r : Row) → IsSpot k chunks (Ok s) → c ≡ get_or chunks s.chunk c → r ≡ get_or c.rows s.at r → Contains (all_rows chunks) (record { key = k; versions = r.versions })
+spot_row k chunks s c r at is row =
+    let whole = spot_is chunks s c r at.0 is row in
+    let same : get_or (all_rows chunks) (place_in chunks s) r ≡ record { key = k; versions = r.versions } = λ j. record { key = at.1.key r j; versions = (sym whole j).versions } in
+    subst (Contains (all_rows chunks)) same (Contains-get_or (all_rows chunks) (place_in chunks s) r at.1.within)
+
+-- the rows of the chunk from the spot on are a run
+pub spot_run : (k : List ℕ) (chunks : List Bucket) (s : Spot) (c : Bucket) → IsSpot k chunks (Ok s) → c ≡ get_or chunks s.chunk c → IsRun (all_rows chunks) k (drop s.at c.rows)
+spot_run k chunks s c at is =
+    let within = spot_within k chunks s c at is in
+    let r : Row = get_or c.rows s.at (record { key = k; versions = [] }) in
+    let front = all_rows (take s.chunk chunks) in
+    let back = all_rows (drop (s.chunk + 1) chunks) in
+    record {
+      front = front ++ take s.at c.rows;
+      first = r;
+      more = drop (s.at + 1) c.rows;
+      back = back;
+      rows_are =
+          three_parts chunks s.chunk at.0.chunk
+          ∙ ap (λ (rs : List Row). front ++ rs ++ back) (sym (rows_read chunks s.chunk c at.0.chunk is) ∙ sym (take-append-drop s.at c.rows))
+          ∙ ap (λ (rs : List Row). rs ++ back) (sym (append_assoc front (take s.at c.rows) (drop s.at c.rows)));
+      run_is = drop_more c.rows s.at (record { key = k; versions = [] }) within;
+      key =
+          ap (λ (rs : List Row). (get_or rs s.at (record { key = k; versions = [] })).key) (rows_read chunks s.chunk c at.0.chunk is)
+          ∙ ap (λ (x : Row). x.key) (sym (row_at_spot chunks s (record { key = k; versions = [] }) at.0))
+          ∙ at.1.key (record { key = k; versions = [] });
+    }
+
+-- a key with a gap has no row
+pub gap_no_row : (format : Format) (k : List ℕ) (chunks : List Bucket) (s : Spot) → IsBucket (record { format = format; rows = all_rows chunks }) → IsSpot k chunks (Err s) → FindsRow (all_rows chunks) k None
+gap_no_row format k chunks s b at = no_row k (all_rows chunks) b.ascending (some_each format (all_rows chunks) b.each) at.1.holds
 
 -- ---- an offer to the row of a key is one to its place
 
@@ -238,10 +298,3 @@ pub at_holds : (k : List ℕ) (rows : List Row) (i : ℕ) → IsAt k rows i → 
 at_holds k rows i at =
     let d : Row = record { key = []; versions = [] } in
     versions_at-get rows i d at.within ∙ sym (at.holds d)
-
--- any version can be offered to no versions
-pub nothing_crowds : (v : Version) (S : List Version) → S ≡ [] → offer_fault v S ≡ None
-nothing_crowds v S none = ap (offer_fault v) none ∙ few v
-  where
-    few : (v : Version) → offer_fault v [] ≡ None
-    few v = elim (not (list_any (is_below v) (v ∷ []))) as (λ b. cond (nat_lt 64 (length (cond b (v ∷ []) []))) (Some Crowded) None ≡ None) [ true ↦ refl | false ↦ refl ]

@@ -1,3 +1,4 @@
+pub mod OutcomeLaws
 pub mod KeyLaws
 pub mod SearchLaws
 pub mod LeafLaws

@@ -1,5 +1,5 @@
 -- The rows of a leaf in chunks, and the text of each chunk.
-use Rattle.std.specs.Prelude.{◌≡◌, ℕ, zero, suc, ◌+◌, ◌^◌, ◌<◌, ◌≤◌, Bool, false, List, [], ◌∷◌, ◌++◌, length, take}
+use Rattle.std.specs.Prelude.{◌≡◌, ℕ, zero, suc, ◌+◌, ◌^◌, ◌<◌, ◌≤◌, Bool, false, List, [], ◌∷◌, ◌++◌, length, take, Result, Ok, Err}
 use Rattle.std.specs.List.{AllByRecursion, flat_map}
 use Rattle.std.specs.Ordering.{is_le}
 use Rattle.vclock.specs.declared.format.Format.{Format}
@@ -7,7 +7,8 @@ use Rattle.version_set.specs.declared.version.Version.{Version}
 use Rattle.version_set.specs.Version.{offered}
 use Rattle.row_bytes.specs.declared.row.Row.{Row}
 use Rattle.row_bytes.specs.Rows.{row_text}
-use Rattle.hash_tree.specs.Leaves.{Bucket, key_cmp}
+use Rattle.hash_tree.specs.Leaves.{Bucket, key_cmp, IsAt, IsBetween}
+use Rattle.hash_tree.specs.declared.chunks.Spot.{Spot}
 
 -- the rows of all chunks, in order
 abbrev pub all_rows : List Bucket → List Row
@@ -34,21 +35,29 @@ pub record AreChunks (format : Format) (chunks : List Bucket) : Type 0 where
   pub each : AllByRecursion (IsChunk format) chunks
   pub few : length chunks ≤ 2 ^ 56
 
--- the place among all rows of the row at `at` in chunk i
-abbrev pub place_in : List Bucket → ℕ → ℕ → ℕ
-place_in chunks i at = length (all_rows (take i chunks)) + at
+-- the place among all rows of the row at a spot
+abbrev pub place_in : List Bucket → Spot → ℕ
+place_in chunks s = length (all_rows (take s.chunk chunks)) + s.at
 
--- the row at `place` among all rows is in chunk i, at `at` among the chunk's rows
-pub record IsRowSpot (chunks : List Bucket) (place i at : ℕ) : Type 0 where
-  pub chunk : i < length chunks
-  pub before : length (all_rows (take i chunks)) + at ≡ place
-  pub within : at < length (chunk_rows chunks i)
+-- there is a row at the spot
+pub record IsRowSpot (chunks : List Bucket) (s : Spot) : Type 0 where
+  pub chunk : s.chunk < length chunks
+  pub within : s.at < length (chunk_rows chunks s.chunk)
 
--- a row inserted into chunk i, at `at` among the chunk's rows, is then at `place` among all rows
-pub record IsGapSpot (chunks : List Bucket) (place i at : ℕ) : Type 0 where
-  pub chunk : i < length chunks
-  pub before : length (all_rows (take i chunks)) + at ≡ place
-  pub within : at ≤ length (chunk_rows chunks i)
+-- a row can be inserted at the spot, into one of the chunks
+pub record IsGapSpot (chunks : List Bucket) (s : Spot) : Type 0 where
+  pub chunk : s.chunk < length chunks
+  pub within : s.at ≤ length (chunk_rows chunks s.chunk)
+
+-- and the chunk isn't full
+pub record IsRoomySpot (chunks : List Bucket) (s : Spot) : Type 0 where
+  pub gap : IsGapSpot chunks s
+  pub room : length (chunk_rows chunks s.chunk) < 15
+
+-- the spot of the row of a key, or the spot at which one would be inserted, if there are chunks
+abbrev pub IsSpot : List ℕ → List Bucket → Result Spot Spot → Type 0
+IsSpot k chunks (Ok s) = IsRowSpot chunks s × IsAt k (all_rows chunks) (place_in chunks s)
+IsSpot k chunks (Err s) = (1 ≤ length chunks → IsGapSpot chunks s) × IsBetween k (all_rows chunks) (place_in chunks s)
 
 -- the key of the first row, or no bytes
 abbrev pub first_key : List Row → List ℕ

@@ -1,7 +1,8 @@
 //! Consecutive rows of a leaf that several leaves may share.
-ghost use Rattle.std.specs.Prelude.{◌≡◌, ◌<◌, ◌≤◌, [], ◌∷◌, ⊤, None, Some, if◌then◌else◌, length, take, drop, slice_index_or, IfOk, OnOk, OnErr};
+ghost use Rattle.std.specs.Prelude.{◌≡◌, ◌<◌, ◌≤◌, [], ◌∷◌, None, length, take, drop, slice_index_or};
 ghost use Rattle.std.specs.List.{flat_map, insert};
 ghost use Rattle.vclock.specs.Answer.{Answers};
+ghost use Rattle.vclock.specs.Outcome.{Does, gives};
 ghost use Rattle.version_set.specs.Kind.{value_fault};
 ghost use Rattle.version_set.specs.Version.{offer_fault};
 ghost use Rattle.row_bytes.specs.Rows.{row_text, FitsText};
@@ -59,6 +60,14 @@ impl Chunk {
         self.held.rows()
     }
 
+    /// Returns the row at a place.
+    pub(crate) fn row(&self, at: usize) -> &Row
+        requires { at < length self.now.rows }
+        ensures { (d : Row) → result.now ≡ slice_index_or self.now.rows at d }
+    {
+        &self.rows()[at]
+    }
+
     /// Returns true if the first key is at most `key`. Reads no row.
     pub(crate) fn begins_by(&self, key: &[u8]) -> bool
         ensures { result ≡ begin_by key.now self.now.rows }
@@ -99,18 +108,8 @@ impl Chunk {
         })
     }
 
-    /// Returns true if an offer of the version to the set of the row at a place is refused as Crowded.
-    fn crowds(&self, at: usize, version: &Version) -> bool
-        requires { at < length self.now.rows }
-        ensures { offer_fault version.now (row_versions self.now.rows at)
-            ≡ (if result then Some Refusal.Crowded else None) }
-    {
-        self.rows()[at].versions.crowds(version)
-    }
-
-    /// Offers a version to the set of the row at a place. If the rows have other owners, a copy of them is changed.
-    ///
-    /// Refused, in order: Crowded (the set would have over 64 versions), NoMemory.
+    /// Offers a version to the set of the row at a place, which has room for it. If the rows have other owners, a copy
+    /// of them is changed. Refused: NoMemory.
     pub(crate) fn offer(
         &mut self,
         alloc: Global,
@@ -119,13 +118,10 @@ impl Chunk {
     ) -> Result<(), Refusal>
         requires at { at < length self.old.rows }
         requires value { value_fault self.old.format version.kind version.value ≡ None }
-        ensures answers { Answers result (offer_fault version (row_versions self.old.rows at)) (λ _. ⊤) }
-        ensures ok { OnOk result (self.new ≡ record self.old { rows = offered_at self.old.rows at version }) }
-        ensures err { OnErr result (self.new ≡ self.old) }
+        requires room { offer_fault version (row_versions self.old.rows at) ≡ None }
+        ensures { Does result self.old self.new
+            (gives tt (record self.old { rows = offered_at self.old.rows at version })) }
     {
-        if self.crowds(at, &version) {
-            return Err(Refusal::Crowded);
-        }
         Arc::make_mut(&mut self.held)?.offer(alloc, at, version)
     }
 
@@ -134,9 +130,7 @@ impl Chunk {
     pub(crate) fn insert(&mut self, alloc: Global, at: usize, row: Row) -> Result<(), Refusal>
         requires at { at ≤ length self.old.rows }
         requires fits { FitsText self.old.format row }
-        ensures answers { Answers result None (λ _. ⊤) }
-        ensures ok { OnOk result (self.new ≡ record self.old { rows = insert self.old.rows at row }) }
-        ensures err { OnErr result (self.new ≡ self.old) }
+        ensures { Does result self.old self.new (gives tt (record self.old { rows = insert self.old.rows at row })) }
     {
         let first = if at == 0 {
             Some(row.key.try_clone()?)
@@ -154,10 +148,8 @@ impl Chunk {
     pub(crate) fn split(&mut self, alloc: Global, at: usize) -> Result<Chunk, Refusal>
         requires some { 1 ≤ at }
         requires within { at < length self.old.rows }
-        ensures answers { Answers result None (λ _. ⊤) }
-        ensures front { OnOk result (self.new ≡ record self.old { rows = take at self.old.rows }) }
-        ensures back { IfOk result (λ back. back ≡ record self.old { rows = drop at self.old.rows }) }
-        ensures err { OnErr result (self.new ≡ self.old) }
+        ensures { Does result self.old self.new
+            (gives (record self.old { rows = drop at self.old.rows }) (record self.old { rows = take at self.old.rows })) }
     {
         let first = self.held.rows()[at].key.try_clone()?;
         let mut held = Arc::new(alloc, WrittenRows::none(alloc, self.held.format()))?;

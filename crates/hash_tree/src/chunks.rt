@@ -1,20 +1,22 @@
-//! The rows of a leaf in chunks: finding a row, and inserting one.
-ghost use Rattle.std.specs.Prelude.{◌≡◌, ◌+◌, ◌<◌, ◌≤◌, ◌^◌, ⊤, None, length, take, drop, IfOk, OnOk, OnErr};
+//! The rows of a leaf in chunks: finding a row, and offering a version.
+ghost use Rattle.std.specs.Prelude.{◌≡◌, ◌+◌, ◌<◌, ◌≤◌, ◌^◌, [], None, length, take, drop, OnErr};
 ghost use Rattle.std.specs.List.{AllByRecursion, flat_map, insert};
 ghost use Rattle.std.specs.declared.cmp.Ordering.TheVariants.{Less, Greater};
 ghost use Rattle.vclock.specs.Answer.{Answers};
+ghost use Rattle.vclock.specs.Bytes.{key_fault};
+ghost use Rattle.vclock.specs.Outcome.{Does, gives};
 ghost use Rattle.version_set.specs.Kind.{value_fault};
-ghost use Rattle.version_set.specs.Version.{offer_fault};
+ghost use Rattle.version_set.specs.Version.{offer_fault, offered};
 ghost use Rattle.row_bytes.specs.Rows.{FitsText};
-ghost use Rattle.hash_tree.specs.Leaves.{Bucket, key_cmp, AscendByKey};
-ghost use Rattle.hash_tree.specs.Chunks.{all_rows, chunk_rows, chunk_text, AreChunks, place_in, IsRowSpot, IsGapSpot, IsSplit, row_versions, offered_at};
+ghost use Rattle.hash_tree.specs.Leaves.{Bucket, key_cmp, AscendByKey, IsPlace, versions_in, with_offer};
+ghost use Rattle.hash_tree.specs.Chunks.{all_rows, chunk_rows, chunk_text, AreChunks, place_in, IsSpot, IsRowSpot, IsGapSpot, IsRoomySpot, IsSplit, row_versions, offered_at};
 
 use crate::chunk::Chunk;
 use crate::written_rows::MOST_ROWS;
 use row_bytes::Row;
 use std::alloc::Global;
-use vclock::{Format, Refusal};
-use version_set::Version;
+use vclock::{Bytes, Format, Refusal};
+use version_set::{Version, VersionSet};
 
 /// The maximum number of chunks of a leaf: more than any memory holds, and few enough to count the bytes of its text.
 const MOST_CHUNKS: usize = 1 << 56;
@@ -28,9 +30,25 @@ pub(crate) struct Spot {
     pub(crate) at: usize,
 }
 
+/// Returns the spot of the row of a key, or the spot at which to insert one, by a binary search.
+pub(crate) fn spot_of(chunks: &[Chunk], key: &[u8]) -> Result<Spot, Spot>
+    requires each { AllByRecursion (λ (c : Bucket). 1 ≤ length c.rows) chunks.now }
+    requires ascending { AscendByKey (all_rows chunks.now) }
+    ensures { IsSpot key.now chunks.now result }
+{
+    if chunks.is_empty() {
+        return Err(Spot { chunk: 0, at: 0 });
+    }
+    let chunk = chunk_of(chunks, key);
+    match find_place(chunks[chunk].rows(), key) {
+        Ok(at) => Ok(Spot { chunk, at }),
+        Err(at) => Err(Spot { chunk, at }),
+    }
+}
+
 /// Returns the index of the chunk that has the row of a key, or into which one is inserted: the last chunk whose first
 /// key is at most the key, otherwise the first chunk.
-pub(crate) fn chunk_of(chunks: &[Chunk], key: &[u8]) -> usize
+fn chunk_of(chunks: &[Chunk], key: &[u8]) -> usize
     requires some { 1 ≤ length chunks.now }
     requires each { AllByRecursion (λ (c : Bucket). 1 ≤ length c.rows) chunks.now }
     requires ascending { AscendByKey (all_rows chunks.now) }
@@ -41,6 +59,14 @@ pub(crate) fn chunk_of(chunks: &[Chunk], key: &[u8]) -> usize
     chunks
         .partition_point(|chunk| chunk.begins_by(key))
         .saturating_sub(1)
+}
+
+/// Returns the place of the row of a key, or the place at which to insert one.
+fn find_place(rows: &[Row], key: &[u8]) -> Result<usize, usize>
+    requires { AscendByKey rows.now }
+    ensures { IsPlace key.now rows.now result }
+{
+    rows.binary_search_by(|row| row.key.as_slice().cmp(key))
 }
 
 /// Returns the length in bytes of the text of a leaf with these chunks.
@@ -66,58 +92,91 @@ pub(crate) fn share_chunks(alloc: Global, chunks: &[Chunk]) -> Result<Vec<Chunk>
     Ok(copy)
 }
 
-/// Offers a version to the set of a row. On error the chunks are unchanged.
-///
-/// Refused, in order: Crowded (the set would have over 64 versions), NoMemory.
-pub(crate) fn offer_at(
+/// Offers a version to the set of a key, which has room for it. If the key has no row, one is added. On error the rows
+/// are unchanged. Refused: NoMemory.
+pub(crate) fn offer_to_key(
+    alloc: Global,
+    format: Format,
+    chunks: &mut Vec<Chunk>,
+    key: &[u8],
+    version: Version,
+) -> Result<(), Refusal>
+    requires ascending { AscendByKey (all_rows chunks.old.items) }
+    requires key { key_fault key.now ≡ None }
+    requires value { value_fault format version.kind version.value ≡ None }
+    requires room { offer_fault version (versions_in key.now (all_rows chunks.old.items)) ≡ None }
+    requires chunks { AreChunks format chunks.old.items }
+    ensures rows { Does result (all_rows chunks.old.items) (all_rows chunks.new.items)
+        (gives tt (with_offer key.now version (all_rows chunks.old.items))) }
+    ensures chunks { AreChunks format chunks.new.items }
+{
+    match spot_of(chunks, key) {
+        Ok(spot) => offer_at(alloc, chunks, spot, version),
+        Err(gap) => {
+            let row = row_of_one(alloc, key, version)?;
+            insert_at(alloc, format, chunks, gap, row)
+        }
+    }
+}
+
+/// Returns the row of a key with one version. Refused: NoMemory.
+fn row_of_one(alloc: Global, key: &[u8], version: Version) -> Result<Row, Refusal>
+    ensures { Answers result None (λ row. row ≡ record { key = key.now; versions = offered version [] }) }
+{
+    let key = Bytes::copy_of(alloc, key)?;
+    let mut versions = VersionSet::empty(alloc);
+    versions.offer(version)?;
+    Ok(Row { key, versions })
+}
+
+/// Offers a version to the set of a row, which has room for it. On error the rows are unchanged. Refused: NoMemory.
+fn offer_at(
     alloc: Global,
     chunks: &mut Vec<Chunk>,
     spot: Spot,
     version: Version,
 ) -> Result<(), Refusal>
-    requires spot { IsRowSpot chunks.old.items (place_in chunks.old.items spot.chunk spot.at) spot.chunk spot.at }
+    requires spot { IsRowSpot chunks.old.items spot }
     requires value { AllByRecursion (λ (c : Bucket). value_fault c.format version.kind version.value ≡ None) chunks.old.items }
-    ensures answers { Answers result (offer_fault version
-        (row_versions (all_rows chunks.old.items) (place_in chunks.old.items spot.chunk spot.at))) (λ _. ⊤) }
-    ensures ok { OnOk result (all_rows chunks.new.items
-        ≡ offered_at (all_rows chunks.old.items) (place_in chunks.old.items spot.chunk spot.at) version) }
+    requires room { offer_fault version (row_versions (all_rows chunks.old.items) (place_in chunks.old.items spot)) ≡ None }
+    ensures rows { Does result (all_rows chunks.old.items) (all_rows chunks.new.items)
+        (gives tt (offered_at (all_rows chunks.old.items) (place_in chunks.old.items spot) version)) }
     ensures chunks { (format : Format) → AreChunks format chunks.old.items → AreChunks format chunks.new.items }
-    ensures err { OnErr result (chunks.new.items ≡ chunks.old.items) }
 {
     chunks[spot.chunk].offer(alloc, spot.at, version)
 }
 
-/// Inserts a row among the others, after splitting its chunk if that is full. On error the rows are unchanged.
-///
-/// Refused: NoMemory.
-pub(crate) fn insert_at(
+/// Inserts a row among the others, after splitting its chunk if that is full. If there is no chunk, it makes one. On
+/// error the rows are unchanged. Refused: NoMemory.
+fn insert_at(
     alloc: Global,
     format: Format,
     chunks: &mut Vec<Chunk>,
-    spot: Spot,
+    gap: Spot,
     row: Row,
 ) -> Result<(), Refusal>
-    requires spot { IsGapSpot chunks.old.items (place_in chunks.old.items spot.chunk spot.at) spot.chunk spot.at }
+    requires gap { 1 ≤ length chunks.old.items → IsGapSpot chunks.old.items gap }
     requires fits { FitsText format row }
     requires chunks { AreChunks format chunks.old.items }
-    ensures answers { Answers result None (λ _. ⊤) }
-    ensures ok { OnOk result (all_rows chunks.new.items
-        ≡ insert (all_rows chunks.old.items) (place_in chunks.old.items spot.chunk spot.at) row) }
+    ensures rows { Does result (all_rows chunks.old.items) (all_rows chunks.new.items)
+        (gives tt (insert (all_rows chunks.old.items) (place_in chunks.old.items gap) row)) }
     ensures chunks { AreChunks format chunks.new.items }
-    ensures err { OnErr result (all_rows chunks.new.items ≡ all_rows chunks.old.items) }
 {
-    let gap = roomy_gap(alloc, chunks, spot)?;
-    chunks[gap.chunk].insert(alloc, gap.at, row)
+    if chunks.is_empty() {
+        chunks.push(Chunk::of_row(alloc, format, row)?)?;
+        return Ok(());
+    }
+    let spot = roomy_gap(alloc, chunks, gap)?;
+    chunks[spot.chunk].insert(alloc, spot.at, row)
 }
 
-/// Makes room at a gap, by splitting a full chunk, and returns the place of the gap. The rows are unchanged, even on
+/// Makes room at a gap, by splitting a full chunk, and returns the spot of the gap. The rows are unchanged, even on
 /// error. Refused: NoMemory.
 fn roomy_gap(alloc: Global, chunks: &mut Vec<Chunk>, gap: Spot) -> Result<Spot, Refusal>
-    requires gap { IsGapSpot chunks.old.items (place_in chunks.old.items gap.chunk gap.at) gap.chunk gap.at }
+    requires gap { IsGapSpot chunks.old.items gap }
     requires each { AllByRecursion (λ (c : Bucket). length c.rows ≤ 15) chunks.old.items }
-    ensures answers { Answers result None (λ _. ⊤) }
-    ensures gap { IfOk result (λ now. IsGapSpot chunks.new.items (place_in chunks.old.items gap.chunk gap.at) now.chunk now.at) }
-    ensures room { IfOk result (λ now. length (chunk_rows chunks.new.items now.chunk) < 15) }
+    ensures gap { Answers result None (λ now. IsRoomySpot chunks.new.items now
+        × (place_in chunks.new.items now ≡ place_in chunks.old.items gap)) }
     ensures rows { all_rows chunks.new.items ≡ all_rows chunks.old.items }
     ensures chunks { (format : Format) → AreChunks format chunks.old.items → AreChunks format chunks.new.items }
 {
@@ -159,8 +218,7 @@ fn split_at(
     requires some { 1 ≤ cut }
     requires less { cut < 15 }
     requires full { length (chunk_rows chunks.old.items number) ≡ 15 }
-    ensures answers { Answers result None (λ _. ⊤) }
-    ensures ok { OnOk result (IsSplit chunks.old.items number cut chunks.new.items) }
+    ensures split { Answers result None (λ _. IsSplit chunks.old.items number cut chunks.new.items) }
     ensures err { OnErr result (chunks.new.items ≡ chunks.old.items) }
 {
     if chunks.len() >= MOST_CHUNKS {

@@ -20,7 +20,6 @@ mod chunks;
 pub mod comparison;
 pub mod digest;
 pub mod laws;
-mod leaf;
 pub mod marks;
 pub mod node;
 pub mod shared_leaf;

@@ -1,19 +1,22 @@
-//! Leaves with several owners: a range, and the jobs that read them.
-ghost use Rattle.std.specs.Prelude.{◌≡◌, ◌↔◌, ◌++◌, ◌+◌, ◌<◌, [], ⊤, None, IsTrue, length, unwrap_or, option_map, MatchOption, OnOk, OnErr};
+//! The rows of one leaf, with several owners: a range, and the jobs that read them.
+ghost use Rattle.std.specs.Prelude.{◌≡◌, ◌↔◌, ◌++◌, ◌+◌, ◌<◌, ◌≤◌, [], ⊤, None, IsTrue, length, unwrap_or, option_map, MatchOption, OnOk, OnErr};
 ghost use Rattle.std.specs.List.{flat_map};
 ghost use Rattle.std.specs.Vec.{vec_capacity};
 ghost use Rattle.std.specs.Arc.{arc_value};
 ghost use Rattle.vclock.specs.Answer.{Answers};
 ghost use Rattle.vclock.specs.Bytes.{key_fault};
+ghost use Rattle.vclock.specs.Outcome.{Does, gives};
 ghost use Rattle.version_set.specs.Kind.{value_fault};
 ghost use Rattle.version_set.specs.Version.{offer_fault};
 ghost use Rattle.row_bytes.specs.Rows.{row_text};
-ghost use Rattle.hash_tree.specs.Leaves.{IsBucket, FindsRow, FindsRun, versions_in, with_offer};
+ghost use Rattle.hash_tree.specs.Leaves.{AscendByKey, IsBucket, FindsRow, FindsRun, versions_in, with_offer};
+ghost use Rattle.hash_tree.specs.Chunks.{all_rows, AreChunks};
 ghost use Rattle.hash_tree.specs.Texts.{leaf_text};
 
+use crate::chunk::Chunk;
+use crate::chunks::{offer_to_key, share_chunks, spot_of, text_len};
 use crate::comparison::is_chunked_text;
-use crate::leaf::Leaf;
-use crate::texts::leaf_byte;
+use crate::texts::put_chunks;
 use row_bytes::Row;
 use std::alloc::{AllocError, Global};
 use std::marker::Model;
@@ -22,8 +25,8 @@ use vclock::{Format, Refusal};
 use version_set::{Version, VersionSet};
 
 /// The rows of one leaf, in ascending order of key, with any number of owners: a range, its snapshots and its jobs
-/// share it until the range changes it. The rows are in chunks that copies of a leaf share. A leaf without rows takes
-/// no memory. On error a leaf is unchanged.
+/// share it until the range changes it. The rows are in chunks that copies of a leaf share: an insertion moves the rows
+/// of one chunk only. A leaf without rows takes no memory. On error a leaf is unchanged.
 ///
 /// ```
 /// let mut text = Vec::new(alloc);
@@ -33,19 +36,22 @@ use version_set::{Version, VersionSet};
 #[derive(Debug)]
 pub struct SharedLeaf {
     format: Format,
-    leaf: Option<Arc<Leaf, Global>>,
+    chunks: Option<Arc<Vec<Chunk>, Global>>,
 }
 
 impl Model for SharedLeaf {
-    ghost use Rattle.std.specs.Prelude.{◌≡◌, [], unwrap_or, option_map};
+    ghost use Rattle.std.specs.Prelude.{[], unwrap_or, option_map};
     ghost use Rattle.std.specs.Arc.{arc_value};
-    ghost use Rattle.hash_tree.specs.Leaves.{Bucket};
+    ghost use Rattle.std.specs.Vec.{vec_items};
+    ghost use Rattle.hash_tree.specs.Leaves.{Bucket, IsBucket};
+    ghost use Rattle.hash_tree.specs.Chunks.{all_rows, AreChunks};
 
     ghost Value = { Bucket };
 
-    ghost view = { λ s. unwrap_or (option_map arc_value s.leaf) (record { format = s.format; rows = [] }) };
+    ghost view = { λ s. record { format = s.format; rows = all_rows (unwrap_or (option_map (λ c. vec_items (arc_value c)) s.chunks) []) } };
 
-    ghost invariant = { λ s. (unwrap_or (option_map arc_value s.leaf) (record { format = s.format; rows = [] })).format ≡ s.format };
+    ghost invariant = { λ s. IsBucket (record { format = s.format; rows = all_rows (unwrap_or (option_map (λ c. vec_items (arc_value c)) s.chunks) []) })
+        × AreChunks s.format (unwrap_or (option_map (λ c. vec_items (arc_value c)) s.chunks) []) };
 }
 
 impl SharedLeaf {
@@ -53,7 +59,10 @@ impl SharedLeaf {
     pub fn empty(format: Format) -> SharedLeaf
         ensures { result ≡ record { format = format; rows = [] } }
     {
-        SharedLeaf { format, leaf: None }
+        SharedLeaf {
+            format,
+            chunks: None,
+        }
     }
 
     /// Returns the format of the rows.
@@ -64,53 +73,43 @@ impl SharedLeaf {
     }
 
     /// Returns the length in bytes of the text of the leaf. Reads no row, but each chunk.
-    #[tactic(auto, unfolding(crate::specs::Texts::leaf_text))]
     pub fn text_len(&self) -> u128
         ensures { result ≡ length (leaf_text self.now.format self.now.rows) }
     {
-        match &self.leaf {
-            Some(leaf) => leaf.text_len(),
-            None => 1,
-        }
+        text_len(self.chunks())
     }
 
     /// Adds an owner to the leaf, and returns its handle. Refused: NoMemory. Copies no row.
     pub fn share(&self) -> Result<SharedLeaf, Refusal>
         ensures { Answers result None (λ shared. shared ≡ self.now) }
     {
-        let leaf = match &self.leaf {
-            Some(leaf) => Some(Arc::try_clone(leaf)?),
+        let chunks = match &self.chunks {
+            Some(chunks) => Some(Arc::try_clone(chunks)?),
             None => None,
         };
         Ok(SharedLeaf {
             format: self.format,
-            leaf,
+            chunks,
         })
     }
 
     /// Appends the text of the leaf, copied from its chunks. Fails only if memory is needed beyond the room of `out`,
     /// which is then unchanged.
-    #[tactic(auto, unfolding(crate::specs::Texts::leaf_text))]
     pub fn put_text(&self, out: &mut Vec<u8>) -> Result<(), AllocError>
         ensures ok { OnOk result (out.new.items ≡ out.old.items ++ leaf_text self.now.format self.now.rows) }
         ensures room { OnErr result (vec_capacity out.old < length out.old.items + length (leaf_text self.now.format self.now.rows)) }
         ensures err { OnErr result (out.new.items ≡ out.old.items) }
     {
-        match &self.leaf {
-            Some(leaf) => leaf.put_text(out),
-            None => Ok(out.push(leaf_byte(self.format))?),
-        }
+        // Summing the lengths first touches every chunk in one pass, so their cache misses overlap.
+        reserve(out, self.text_len())?;
+        put_chunks(out, self.format, self.chunks())
     }
 
     /// Returns true if `text` is the text of the leaf. Doesn't allocate.
-    #[tactic(auto, unfolding(crate::specs::Texts::leaf_text))]
     pub fn is_text(&self, text: &[u8]) -> bool
         ensures { IsTrue result ↔ (text.now ≡ leaf_text self.now.format self.now.rows) }
     {
-        match &self.leaf {
-            Some(leaf) => leaf.is_text(text),
-            None => is_chunked_text(self.format, text, &[]),
-        }
+        is_chunked_text(self.format, text, self.chunks())
     }
 
     /// Returns the versions that are held for a key, if it has a row, by a binary search. Doesn't allocate.
@@ -118,10 +117,11 @@ impl SharedLeaf {
         ensures found { unwrap_or (option_map (λ s. s.now) result) [] ≡ versions_in key.now self.now.rows }
         ensures valid { IsBucket self.now }
     {
-        match &self.leaf {
-            Some(leaf) => leaf.find(key),
-            None => None,
-        }
+        let chunks = self.chunks();
+        let Ok(spot) = spot_of(chunks, key) else {
+            return None;
+        };
+        Some(&chunks[spot.chunk].row(spot.at).versions)
     }
 
     /// Returns the row of a key, if it has one: its versions and its text. Searches by a binary search. Doesn't
@@ -130,74 +130,101 @@ impl SharedLeaf {
         ensures found { FindsRow self.now.rows key.now (option_map (λ x. x.0.now) result) }
         ensures text { MatchOption result ⊤ (λ x. x.1.now ≡ row_text self.now.format (record { key = key.now; versions = x.0.now })) }
     {
-        match &self.leaf {
-            Some(leaf) => leaf.find_row(key),
-            None => None,
-        }
+        let chunks = self.chunks();
+        let Ok(spot) = spot_of(chunks, key) else {
+            return None;
+        };
+        let chunk = &chunks[spot.chunk];
+        Some((&chunk.row(spot.at).versions, chunk.row_text(spot.at)))
     }
 
     /// Returns the row of a key, if it has one, and some rows that follow it, with their texts one after another.
-    /// Searches by a binary search. Doesn't allocate. The number of rows matters only for speed: the leaf returns those
-    /// that it keeps together.
+    /// Searches by a binary search. Doesn't allocate. The number of rows matters only for speed: the rows end with the
+    /// chunk of the key.
     pub fn find_run(&self, key: &[u8]) -> Option<(&[Row], &[u8])>
         ensures found { FindsRun self.now.rows key.now (option_map (λ x. x.0.now) result) }
         ensures text { MatchOption result ⊤ (λ x. x.1.now ≡ flat_map (row_text self.now.format) x.0.now) }
     {
-        match &self.leaf {
-            Some(leaf) => leaf.find_run(key),
-            None => None,
-        }
+        let chunks = self.chunks();
+        let Ok(spot) = spot_of(chunks, key) else {
+            return None;
+        };
+        let chunk = &chunks[spot.chunk];
+        let (_, rows) = chunk.rows().split_at(spot.at);
+        Some((rows, chunk.texts_from(spot.at)))
     }
 
-    /// Offers a version to the set of a key. If the leaf has other owners, a copy of it is changed.
-    ///
-    /// Refused, in order: Crowded (the set would have over 64 versions), NoMemory.
+    /// Offers a version to the set of a key, which has room for it. If the key has no row, one is added. If the leaf has
+    /// other owners, a copy of it is changed. Refused: NoMemory.
     pub fn offer(&mut self, alloc: Global, key: &[u8], version: Version) -> Result<(), Refusal>
         requires key { key_fault key.now ≡ None }
         requires value { value_fault self.old.format version.kind version.value ≡ None }
-        ensures answers { Answers result (offer_fault version (versions_in key.now self.old.rows)) (λ _. ⊤) }
-        ensures ok { OnOk result (self.new ≡ record self.old { rows = with_offer key.now version self.old.rows }) }
-        ensures err { OnErr result (self.new ≡ self.old) }
+        requires room { offer_fault version (versions_in key.now self.old.rows) ≡ None }
+        ensures { Does result self.old self.new
+            (gives tt (record self.old { rows = with_offer key.now version self.old.rows })) }
     {
-        match &mut self.leaf {
-            Some(leaf) => offer_to(alloc, leaf, key, version),
+        match &mut self.chunks {
+            Some(chunks) => offer_to(alloc, self.format, chunks, key, version),
             None => {
-                let mut leaf = Leaf::empty(alloc, self.format);
-                leaf.offer(alloc, key, version)?;
-                self.leaf = Some(Arc::new(alloc, leaf)?);
+                let mut chunks = Vec::new(alloc);
+                offer_to_key(alloc, self.format, &mut chunks, key, version)?;
+                self.chunks = Some(Arc::new(alloc, chunks)?);
                 Ok(())
             }
         }
     }
+
+    /// Returns the chunks.
+    fn chunks(&self) -> &[Chunk]
+        ensures rows { record { format = self.now.format; rows = all_rows result.now } ≡ self.now }
+        ensures valid { IsBucket (record { format = self.now.format; rows = all_rows result.now }) }
+        ensures chunks { AreChunks self.now.format result.now }
+    {
+        match &self.chunks {
+            Some(chunks) => chunks.as_slice(),
+            None => &[],
+        }
+    }
 }
 
-/// Offers a version to the set of a key of a leaf. If the leaf has other owners, a changed copy replaces it. On error
-/// the leaf is unchanged.
-///
-/// Refused, in order: Crowded (the set would have over 64 versions), NoMemory.
+/// Offers a version to the set of a key, which has room for it, among the rows of chunks. If the chunks have other
+/// owners, a changed copy replaces them. On error the rows are unchanged. Refused: NoMemory.
 fn offer_to(
     alloc: Global,
-    shared: &mut Arc<Leaf, Global>,
+    format: Format,
+    shared: &mut Arc<Vec<Chunk>, Global>,
     key: &[u8],
     version: Version,
 ) -> Result<(), Refusal>
+    requires ascending { AscendByKey (all_rows (arc_value shared.old).items) }
     requires key { key_fault key.now ≡ None }
-    requires value { value_fault (arc_value shared.old).format version.kind version.value ≡ None }
-    ensures answers { Answers result (offer_fault version (versions_in key.now (arc_value shared.old).rows)) (λ _. ⊤) }
-    ensures ok { OnOk result (arc_value shared.new ≡ record (arc_value shared.old)
-        { rows = with_offer key.now version (arc_value shared.old).rows }) }
-    ensures err { OnErr result (arc_value shared.new ≡ arc_value shared.old) }
+    requires value { value_fault format version.kind version.value ≡ None }
+    requires room { offer_fault version (versions_in key.now (all_rows (arc_value shared.old).items)) ≡ None }
+    requires chunks { AreChunks format (arc_value shared.old).items }
+    ensures rows { Does result (all_rows (arc_value shared.old).items) (all_rows (arc_value shared.new).items)
+        (gives tt (with_offer key.now version (all_rows (arc_value shared.old).items))) }
+    ensures chunks { AreChunks format (arc_value shared.new).items }
 {
-    if let Some(leaf) = Arc::get_mut(shared) {
-        return leaf.offer(alloc, key, version);
+    if let Some(chunks) = Arc::get_mut(shared) {
+        return offer_to_key(alloc, format, chunks, key, version);
     }
-    if shared.crowds(key, &version) {
-        return Err(Refusal::Crowded);
-    }
-    let mut copy = shared.try_clone(alloc)?;
-    copy.offer(alloc, key, version)?;
+    let mut copy = share_chunks(alloc, shared)?;
+    offer_to_key(alloc, format, &mut copy, key, version)?;
     *shared = Arc::new(alloc, copy)?;
     Ok(())
+}
+
+/// Makes room for `len` more bytes. Fails only if memory is needed.
+fn reserve(out: &mut Vec<u8>, len: u128) -> Result<(), AllocError>
+    ensures items { out.new.items ≡ out.old.items }
+    ensures capacity { vec_capacity out.old ≤ vec_capacity out.new }
+    ensures room { OnOk result (length out.new.items + len ≤ vec_capacity out.new) }
+    ensures err { OnErr result (vec_capacity out.old < length out.old.items + len) }
+{
+    match usize::try_from(len) {
+        Ok(len) => out.reserve(len),
+        Err(_) => Err(AllocError),
+    }
 }
 
 impl Drop for SharedLeaf {
@@ -205,7 +232,7 @@ impl Drop for SharedLeaf {
     fn drop(self) {
         let SharedLeaf {
             format: _format,
-            leaf: _leaf,
+            chunks: _chunks,
         } = self;
     }
 }

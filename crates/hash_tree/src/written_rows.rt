@@ -1,8 +1,9 @@
 //! Consecutive rows of a leaf with their texts.
-ghost use Rattle.std.specs.Prelude.{◌≡◌, ◌++◌, ◌+◌, ◌-◌, ◌<◌, ◌≤◌, ◌^◌, [], ⊤, None, length, take, drop, slice_index_or, IfOk, OnOk, OnErr};
+ghost use Rattle.std.specs.Prelude.{◌≡◌, ◌++◌, ◌+◌, ◌-◌, ◌<◌, ◌≤◌, ◌^◌, [], None, length, take, drop, slice_index_or, OnOk};
 ghost use Rattle.std.specs.List.{AllByRecursion, flat_map, insert, sum_by};
 ghost use Rattle.std.specs.Vec.{vec_capacity};
 ghost use Rattle.vclock.specs.Answer.{Answers};
+ghost use Rattle.vclock.specs.Outcome.{Does, gives};
 ghost use Rattle.version_set.specs.Kind.{value_fault};
 ghost use Rattle.version_set.specs.Version.{offer_fault};
 ghost use Rattle.row_bytes.specs.Rows.{row_text, FitsText};
@@ -127,7 +128,7 @@ impl WrittenRows {
         texts
     }
 
-    /// Offers a version to the set of the row at a place. Refused: NoMemory.
+    /// Offers a version to the set of the row at a place, which has room for it. Refused: NoMemory.
     pub(crate) fn offer(
         &mut self,
         alloc: Global,
@@ -137,9 +138,8 @@ impl WrittenRows {
         requires at { at < length self.old.rows }
         requires value { value_fault self.old.format version.kind version.value ≡ None }
         requires room { offer_fault version (row_versions self.old.rows at) ≡ None }
-        ensures answers { Answers result None (λ _. ⊤) }
-        ensures ok { OnOk result (self.new ≡ record self.old { rows = offered_at self.old.rows at version }) }
-        ensures err { OnErr result (self.new ≡ self.old) }
+        ensures { Does result self.old self.new
+            (gives tt (record self.old { rows = offered_at self.old.rows at version })) }
     {
         let more = version_len(self.format, &version) as usize;
         let start = total(&self.lens[..at]);
@@ -159,9 +159,7 @@ impl WrittenRows {
     pub(crate) fn insert(&mut self, alloc: Global, at: usize, row: Row) -> Result<(), Refusal>
         requires at { at ≤ length self.old.rows }
         requires fits { FitsText self.old.format row }
-        ensures answers { Answers result None (λ _. ⊤) }
-        ensures ok { OnOk result (self.new ≡ record self.old { rows = insert self.old.rows at row }) }
-        ensures err { OnErr result (self.new ≡ self.old) }
+        ensures { Does result self.old self.new (gives tt (record self.old { rows = insert self.old.rows at row })) }
     {
         let len = row_len(self.format, &row);
         let (spare_rows, spare_bytes) = (self.spare_rows(), self.spare_bytes());
@@ -192,10 +190,8 @@ impl WrittenRows {
     /// Splits off the rows from a place on. Refused: NoMemory.
     pub(crate) fn split(&mut self, alloc: Global, at: usize) -> Result<WrittenRows, Refusal>
         requires within { at < length self.old.rows }
-        ensures answers { Answers result None (λ _. ⊤) }
-        ensures front { OnOk result (self.new ≡ record self.old { rows = take at self.old.rows }) }
-        ensures back { IfOk result (λ back. back ≡ record self.old { rows = drop at self.old.rows }) }
-        ensures err { OnErr result (self.new ≡ self.old) }
+        ensures { Does result self.old self.new
+            (gives (record self.old { rows = drop at self.old.rows }) (record self.old { rows = take at self.old.rows })) }
     {
         let cut = total(&self.lens[..at]);
         let lens = Vec::from_slice(alloc, &self.lens[at..])?;

@@ -1,5 +1,5 @@
 -- What a step keeps, and why it is refused.
-use Rattle.std.proofs.Common.{◌≡◌, ◌≢◌, ℕ, zero, suc, ◌<◌, ◌≤◌, ◌%◌, ◌^◌, Bool, true, false, cond, set, List, [], ◌∷◌, ◌++◌, length, get_or, take, refl, ap, sym, subst, ◌∙◌, ◌⊎◌, arith, inl, inr, Option, Some, None, Decides, length-set, replicate}
+use Rattle.std.proofs.Common.{◌≡◌, ◌≢◌, ℕ, zero, suc, ◌<◌, ◌≤◌, ◌%◌, ◌^◌, Bool, true, false, cond, set, List, [], ◌∷◌, ◌++◌, length, get_or, take, refl, ap, sym, subst, ◌∙◌, arith, inl, inr, Option, Some, None, Decides, length-set, replicate}
 use Rattle.std.specs.Prelude.{nat_eq, map, IsTrue}
 use Rattle.std.specs.Cmp.Lexicographic.{pointwise}
 use Rattle.std.proofs.lemmas.Bool.{cases_eq, cases_Bool, cases_lt, lt-ltb, or_parts, both_ways, eqb-true}
@@ -14,7 +14,7 @@ use Rattle.vclock.proofs.ClockLaws.{at_most_itself}
 use Rattle.vclock.specs.declared.format.Format.{Format}
 use Rattle.vclock.specs.declared.format.Format.TheVariants.{One, Two}
 use Rattle.vclock.specs.declared.refusal.Refusal.{Refusal}
-use Rattle.vclock.specs.declared.refusal.Refusal.TheVariants.{NoMemory, OtherRange, StaleContext}
+use Rattle.vclock.specs.declared.refusal.Refusal.TheVariants.{OtherRange, StaleContext}
 use Rattle.version_set.specs.Kind.{value_fault}
 use Rattle.version_set.specs.declared.kind.Kind.{Kind}
 use Rattle.version_set.specs.declared.version.Version.{Version}
@@ -26,7 +26,7 @@ use Rattle.range_journal.specs.Log.{Log}
 use Rattle.range_journal.specs.declared.journal.Source.TheVariants.{Partner}
 use Rattle.range_journal.specs.Journal.{accepted, held, versions_of, AreNews, NeverCrowded}
 use Rattle.range_journal.proofs.JournalLaws.{AreNews-push, covered-held, held-push, Reserved}
-use Rattle.vclock.specs.Outcome.{refuses, is_given}
+use Rattle.vclock.specs.Outcome.{is_given}
 use Rattle.row_bytes.specs.Rows.{IsRow}
 use Rattle.row_bytes.proofs.LimitLaws.{no_fault, no_fault_else}
 use Rattle.row_bytes.specs.declared.row.Row.{Row}
@@ -179,16 +179,8 @@ room_left s log new entries limit h =
     rw (lt-ltb (length s.entries) s.config.limit (omega (arith, h.within, ap length entries, limit))) refl
 
 -- an offer that fits is refused for want of memory alone
-pub admit_err : (s : State) (leaves : List Bucket) (leaf : ℕ) (x : Entry) (v w : Version) (b : Bucket) (e : Refusal) → AreLeaves s.config s.entries leaves → leaf ≡ leaf_in s.config x.key → b ≡ get_or leaves leaf b → w ≡ v
-    → full_fault s ≡ None → offer_fault v (held s.entries x.key) ≡ None
-    → ((offer_fault w (versions_in x.key b.rows) ≡ None) × (e ≡ NoMemory)) ⊎ (offer_fault w (versions_in x.key b.rows) ≡ Some e) → ((e ≡ NoMemory) × IsTrue (is_given (admit s x))) ⊎ (admit s x ≡ refuses e)
-admit_err s leaves leaf x v w b e ok at is copy room fits h =
-    let here = set_here s leaves leaf x.key b ok at is in
-    let same : offer_fault w (versions_in x.key b.rows) ≡ None = (λ i. offer_fault (copy i) (here i)) ∙ fits in
-    elim h [
-      | inl m ↦ inl (m.1, rw room refl)
-      | inr f ↦ absurd (let no : Some e ≡ None = sym f ∙ same in cc)
-    ]
+pub admit_given : (s : State) (x : Entry) → full_fault s ≡ None → IsTrue (is_given (admit s x))
+admit_given s x room = rw room refl
 
 -- some version that is held has seen the clock
 pub stale : (versions set : List Version) (clock : Pairs) (clocks : List Pairs) → set ≡ versions → list_any (λ v. at_most clock v.clock) set ≡ true → clocks ≡ map (λ (v : Version). v.clock) set → stale_fault versions clock ≡ Some (StaleContext clocks)

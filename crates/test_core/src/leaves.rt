@@ -1,15 +1,30 @@
 //! Leaves with more rows than a chunk holds. Another program made the digest from the definition.
+ghost use Rattle.std.specs.Prelude.{◌≡◌, None, Some, if◌then◌else◌};
+ghost use Rattle.version_set.specs.Version.{offer_fault};
+ghost use Rattle.hash_tree.specs.Leaves.{versions_in};
+
 use crate::checks::expect;
 use crate::versions::version;
 use hash_tree::{SharedLeaf, Text, hash};
 use std::alloc::Global;
 use std::test::Fail;
-use vclock::{Format, check_key};
-use version_set::Kind;
+use vclock::{Format, Refusal, check_key};
+use version_set::{Kind, Version};
 
 /// The digest of a leaf of format 1 with 300 rows: the keys are the numbers from 0 to 299 as two bytes each, and each
 /// has the value `x` with node 1 counted once.
 const DIGEST: &str = "3d4b43aee8c45e9539c33cf37739c0af4a68f2c75518213933079d15d55106bd";
+
+/// Returns true if an offer of the version to the set of a key is refused as Crowded.
+fn crowds(leaf: &SharedLeaf, key: &[u8], version: &Version) -> bool
+    ensures { offer_fault version.now (versions_in key.now leaf.now.rows)
+        ≡ (if result then Some Refusal.Crowded else None) }
+{
+    match leaf.find(key) {
+        Some(set) => set.crowds(version),
+        None => false,
+    }
+}
 
 /// Offers the value `x` to the set of a key.
 fn offer(alloc: Global, leaf: &mut SharedLeaf, key: &[u8]) -> Result<(), Fail> {
@@ -18,6 +33,9 @@ fn offer(alloc: Global, leaf: &mut SharedLeaf, key: &[u8]) -> Result<(), Fail> {
     version
         .kind
         .check_value(leaf.format(), version.value.as_slice())?;
+    if crowds(leaf, key, &version) {
+        return Err(Fail::from("the set of a key has no room"));
+    }
     leaf.offer(alloc, key, version)?;
     Ok(())
 }

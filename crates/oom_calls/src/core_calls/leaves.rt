@@ -1,10 +1,15 @@
 //! Shared leaves.
+ghost use Rattle.std.specs.Prelude.{◌≡◌, None, Some, if◌then◌else◌};
+ghost use Rattle.version_set.specs.Version.{offer_fault};
+ghost use Rattle.hash_tree.specs.Leaves.{versions_in};
+
 use crate::core_calls::versions::version;
 use crate::lines::{show, unchanged};
 use hash_tree::SharedLeaf;
 use std::alloc::Global;
 use std::io;
 use vclock::{Format, Refusal, check_key};
+use version_set::Version;
 
 /// The keys, of one byte each, that are offered a version one after the other.
 const KEYS: &[u8] = b"acabeda";
@@ -34,6 +39,17 @@ fn count(leaf: &SharedLeaf) -> u64 {
         .count() as u64
 }
 
+/// Returns true if an offer of the version to the set of a key is refused as Crowded.
+fn crowds(leaf: &SharedLeaf, key: &[u8], version: &Version) -> bool
+    ensures { offer_fault version.now (versions_in key.now leaf.now.rows)
+        ≡ (if result then Some Refusal.Crowded else None) }
+{
+    match leaf.find(key) {
+        Some(set) => set.crowds(version),
+        None => false,
+    }
+}
+
 /// Offers a version to the set of a key.
 fn offer_to(alloc: Global, leaf: &mut SharedLeaf, key: u8) -> Result<(), Refusal> {
     let version = version(alloc, 2)?;
@@ -42,6 +58,9 @@ fn offer_to(alloc: Global, leaf: &mut SharedLeaf, key: u8) -> Result<(), Refusal
     version
         .kind
         .check_value(leaf.format(), version.value.as_slice())?;
+    if crowds(leaf, &key, &version) {
+        return Err(Refusal::Crowded);
+    }
     leaf.offer(alloc, &key, version)
 }
 

@@ -1,6 +1,7 @@
-use Rattle.std.proofs.Common.{rules, ◌≡◌, ◌+◌, ◌<◌, ◌^◌, List, length, get_or, set, ap, arith}
+use Rattle.std.proofs.Common.{rules, refl, ◌≡◌, ◌+◌, ◌<◌, ◌^◌, List, length, get_or, set, ap, arith}
 use Rattle.std.specs.List.{insert}
 use Rattle.row_bytes.specs.declared.row.Row.{Row}
+use Rattle.hash_tree.proofs.OutcomeLaws.{given}
 use Rattle.hash_tree.proofs.ChunkPlaces.{rows_read, is_split}
 use Rattle.hash_tree.proofs.chunks.split_at.Goals as goal
 
@@ -11,12 +12,13 @@ split-requires-clause-within c =
     let is : old ≡ get_or chunks c.args.number old = search rules in
     omega (arith, c.requires.full, c.requires.less, ap (λ (rs : List Row). length rs) (rows_read chunks c.args.number old c.requires.within is))
 
-pub returns-clause-ok : goal.returns-clause-ok
-returns-clause-ok c =
+pub returns-clause-split : goal.returns-clause-split
+returns-clause-split c =
     let chunks = c.args.chunks.now.items in
     let i = c.args.number in
     let old = c.index_mut.result.now in
     let is : old ≡ get_or chunks i old = search rules in
     let now : c.insert.new.self.items ≡ insert (set chunks i c.split.new.self) (i + 1) c.in_ok-back.back = search rules in
     let few : length chunks < 2 ^ 56 = omega (arith, c.if-len-ge-MOST_CHUNKS.false, c.len.ensures) in
-    rw now (is_split chunks i c.args.cut old c.split.new.self c.in_ok-back.back c.requires.within few c.requires.some c.requires.less is (omega (arith, c.requires.full, ap (λ (rs : List Row). length rs) (rows_read chunks i old c.requires.within is))) c.in_ok-back.ensures.front c.in_ok-back.ensures.back)
+    let parts = given _ _ _ _ c.in_ok-back.ensures in
+    rw now (refl, is_split chunks i c.args.cut old c.split.new.self c.in_ok-back.back c.requires.within few c.requires.some c.requires.less is (omega (arith, c.requires.full, ap (λ (rs : List Row). length rs) (rows_read chunks i old c.requires.within is))) parts.1 parts.0)

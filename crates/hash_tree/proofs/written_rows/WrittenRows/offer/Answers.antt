@@ -1,7 +1,9 @@
 use Rattle.std.proofs.Common.{Result, Ok, Err, None, Some, refl, inl, inr, ◌≡◌, ◌++◌, ◌+◌, ◌≤◌, ◌∙◌, ℕ, List, length, take, drop, set, sym, ap, arith}
+use Rattle.std.proofs.lemmas.List.{set-get_or}
 use Rattle.std.proofs.lemmas.Result.{err_from_is_err_and}
 use Rattle.std.specs.List.{sum_by}
 use Rattle.std.specs.Result.{IsOk, OnErr}
+use Rattle.vclock.specs.Outcome.{gives}
 use Rattle.version_set.specs.Version.{offered}
 use Rattle.row_bytes.specs.declared.row.Row.{Row}
 use Rattle.row_bytes.specs.Rows.{row_text, FitsText}
@@ -30,13 +32,16 @@ overflow_sub-len c =
     let before = λ (ls : List ℕ). sum_by (λ (n : ℕ). n) (take c.args.at ls) in
     omega (arith, start_within s.format s.rows.items s.lens.items s.text.items c.args.at c.self.invariant, c.total-start.ensures, ap before c.deref.ensures.value, c.len.ensures)
 
-pub returns-in_err-offer-clause-answers : goal.returns-in_err-offer-clause-answers
-returns-in_err-offer-clause-answers c =
+pub returns-in_err-offer : goal.returns-in_err-offer
+returns-in_err-offer c =
     let s = c.self.inside in
     let versions = versions-inside c.args.self.now s.format s.rows.items c.args.at c.index_mut-row.result.now c.self.view_is c.requires.at c.index_mut-row.ensures.value in
     let none = rw (← versions) at c.requires.room in
     let p = err_from_is_err_and c.from_residual-in_err-offer.result c.from_residual-in_err-offer.ensures.1 in
-    rw (p.1, p.2) (elim c.in_err-offer.ensures.answers [ inl n ↦ inl (refl, n.1) | inr e ↦ absurd (let no : None ≡ Some _ = sym none ∙ e in cc) ])
+    let old = c.index_mut-row.result.now in
+    let same : set s.rows.items c.args.at (record { key = old.key; versions = c.offer.new.self }) ≡ s.rows.items =
+    ap (λ (vs : _). set s.rows.items c.args.at (record { key = old.key; versions = vs })) c.in_err-offer.ensures.err ∙ ap (set s.rows.items c.args.at) c.index_mut-row.ensures.value ∙ set-get_or s.rows.items c.args.at old in
+    rw (p.1, p.2) (ap (λ (rs : List Row). record { format = s.format; rows = rs }) same ∙ c.self.view_is, elim c.in_err-offer.ensures.answers [ inl n ↦ inl (n.1, refl) | inr e ↦ absurd (let no : None ≡ Some _ = sym none ∙ e in cc) ])
 
 pub put_row-requires : goal.put_row-requires
 put_row-requires c =
@@ -125,8 +130,8 @@ invariant_of-self-2 c =
     c.replace.ensures ∙ ap (λ (t : List ℕ). take start t ++ c.put_row.new.out.items ++ drop end t) c.make_room.ensures.items ∙ ap (λ (t : List ℕ). take start s.text.items ++ t ++ drop end s.text.items) written in
     keeps-set s.format s.rows.items s.lens.items s.text.items at c.row_len.result start end new c.replace.new.text.items c.self.invariant within fits c.row_len.ensures.exact begins ends now
 
-pub returns-clause-ok : goal.returns-clause-ok
-returns-clause-ok c =
+pub returns : goal.returns
+returns c =
     let s = c.self.inside in
     let at = c.args.at in
     let old = c.index_mut-row.result.now in
@@ -135,4 +140,4 @@ returns-clause-ok c =
     ap (λ (vs : _). set s.rows.items at (record { key = old.key; versions = vs })) c.in_ok-offer.ensures.set
     ∙ ap (λ (x : Row). set s.rows.items at (record { key = x.key; versions = offered c.args.version x.versions })) c.index_mut-row.ensures.value
     ∙ sym (offered_at-set s.rows.items at c.args.version old within) in
-    ap (λ (rs : List Row). record { format = s.format; rows = rs }) rows ∙ ap (λ (b : Bucket). record { format = b.format; rows = offered_at b.rows at c.args.version }) c.self.view_is
+    ap (λ (b : Bucket). gives tt b) (sym (ap (λ (rs : List Row). record { format = s.format; rows = rs }) rows ∙ ap (λ (b : Bucket). record { format = b.format; rows = offered_at b.rows at c.args.version }) c.self.view_is))

@@ -1,10 +1,10 @@
-use Rattle.std.proofs.Common.{◌≡◌, ◌<◌, Some, None, length, take, sym, ap, subst, ◌∙◌, arith, inl, inr, refl}
+use Rattle.std.proofs.Common.{◌≡◌, ◌<◌, length, take, sym, ap, subst, ◌∙◌, arith, inl, refl}
 use Rattle.std.proofs.lemmas.Result.{err_from_is_err_and}
 use Rattle.version_set.specs.Kind.{value_fault}
-use Rattle.version_set.specs.Version.{offer_fault}
 use Rattle.range_journal.specs.declared.journal.Entry.{Entry}
 use Rattle.range_journal.specs.Journal.{held}
 use Rattle.hash_tree.specs.Leaves.{versions_in}
+use Rattle.hash_tree.proofs.OutcomeLaws.{given, no_memory}
 use Rattle.range_state.specs.Replays.{Replayed}
 use Rattle.range_state.specs.State.{leaf_in}
 use Rattle.range_state.proofs.ReplayLaws.{leaf_there, leaf_holds_key, leaf_format, next_own, next_fits, next_leaves}
@@ -27,8 +27,8 @@ offer-requires-clause-value c =
     let copy : c.in_ok-version.version ≡ e.version = c.in_ok-version.ensures.1 ∙ ap (λ (x : Entry). x.version) (sym c.index-self-self.is) in
     (λ i. value_fault (format i) (copy i).kind (copy i).value) ∙ (next_own r e c.self.invariant.0 below c.index-self-self.is).value
 
-pub returns-in_err-offer : goal.returns-in_err-offer
-returns-in_err-offer c =
+pub offer-requires-clause-room : goal.offer-requires-clause-room
+offer-requires-clause-room c =
     let r : Replayed = record { config = c.self.inside.config; entries = c.self.inside.entries.now; front = c.self.inside.front } in
     let e : Entry = c.index-self-self.result in
     let key = c.as_slice-key.result.now in
@@ -37,9 +37,12 @@ returns-in_err-offer c =
     let below : r.front < length r.entries = subst (λ (x : Replayed). x.front < length x.entries) (sym c.self.view_is) c.requires in
     let at : c.leaf_of-leaf.result ≡ leaf_in r.config key = c.leaf_of-leaf.ensures ∙ ap (λ (x : Replayed). leaf_in x.config key) (sym c.self.view_is) in
     let was : versions_in key c.index_mut.result.now.rows ≡ held (take r.front r.entries) e.key = leaf_holds_key r.config _ c.self.inside.leaves.items c.leaf_of-leaf.result key c.index_mut.result.now c.self.invariant.1 at c.index_mut.ensures.value ∙ ap (held (take r.front r.entries)) same in
-    let none : offer_fault c.in_ok-version.version (versions_in key c.index_mut.result.now.rows) ≡ None = next_fits r e c.in_ok-version.version _ c.self.invariant.0 below c.index-self-self.is copy was in
+    next_fits r e c.in_ok-version.version _ c.self.invariant.0 below c.index-self-self.is copy was
+
+pub returns-in_err-offer : goal.returns-in_err-offer
+returns-in_err-offer c =
     let p = err_from_is_err_and c.from_residual-in_err-offer.result c.from_residual-in_err-offer.ensures.1 in
-    rw (p.1, p.2) (c.self.view_is, elim c.in_err-offer.ensures.answers [ inl full ↦ inl (full.1, refl) | inr fault ↦ absurd (let no : None ≡ Some _ = sym none ∙ fault in cc) ])
+    rw (p.1, p.2) (c.self.view_is, inl ((no_memory _ _ _ _ _ c.in_err-offer.ensures).1, refl))
 
 pub invariant_of-self-2 : goal.invariant_of-self-2
 invariant_of-self-2 c =
@@ -57,5 +60,5 @@ invariant_of-self-2 c =
         short = ok.short;
         within = omega (arith, below);
       },
-      next_leaves r e c.self.inside.leaves.items c.leaf_of-leaf.result c.index_mut.result.now c.offer.new.self key c.in_ok-version.version below c.index-self-self.is c.self.invariant.1 at c.index_mut.ensures.value same copy c.in_ok-offer.ensures.ok,
+      next_leaves r e c.self.inside.leaves.items c.leaf_of-leaf.result c.index_mut.result.now c.offer.new.self key c.in_ok-version.version below c.index-self-self.is c.self.invariant.1 at c.index_mut.ensures.value same copy (given _ _ _ _ c.in_ok-offer.ensures).1,
     )

@@ -1,4 +1,4 @@
-use Rattle.std.proofs.Common.{rules, ◌≡◌, ℕ, None, [], ◌∷◌, ◌++◌, false, sym, subst, ap, ◌∙◌, length, arith}
+use Rattle.std.proofs.Common.{rules, ◌≡◌, ℕ, None, inl, [], ◌∷◌, ◌++◌, false, sym, subst, ap, ◌∙◌, length, arith}
 use Rattle.std.proofs.lemmas.Result.{err_from_is_err_and}
 use Rattle.range_journal.specs.declared.journal.Entry.{Entry}
 use Rattle.range_journal.specs.Log.{Log}
@@ -9,7 +9,8 @@ use Rattle.range_journal.specs.Journal.{held}
 use Rattle.hash_tree.specs.Nodes.{Tree, dirtied, tree_depth}
 use Rattle.range_state.specs.State.{State, AreLeaves, leaf_in, place_fault, full_fault, entry_of, knows}
 use Rattle.range_journal.proofs.JournalLaws.{reserve_ok}
-use Rattle.range_state.proofs.StateLaws.{leaf_within, leaf_in_tree, rows_here, in_limits, in_vain, admitted, admit_err, room_left}
+use Rattle.hash_tree.proofs.OutcomeLaws.{given, no_memory}
+use Rattle.range_state.proofs.StateLaws.{leaf_within, leaf_in_tree, rows_here, set_here, in_limits, in_vain, admitted, admit_given, room_left}
 use Rattle.range_state.proofs.state.RangeState.admit.Goals as goal
 
 pub index_mut-requires : goal.index_mut-requires
@@ -30,20 +31,26 @@ offer-requires-clause-value c =
     let copy = c.in_ok-row_version.ensures.1 in
     (λ i. value_fault (rows i).format (copy i).kind (copy i).value) ∙ (in_limits s.config c.args.key.now c.args.version.kind c.args.version.value c.requires.fits.here).1
 
+pub offer-requires-clause-room : goal.offer-requires-clause-room
+offer-requires-clause-room c =
+    let s = c.args.self.now in
+    let ok = subst (λ (s : State). AreLeaves s.config s.entries c.self.inside.leaves.items) c.self.view_is c.self.invariant.1 in
+    let here = set_here s c.self.inside.leaves.items c.from.result c.args.key.now c.index_mut.result.now ok (c.from.ensures ∙ c.requires.fits.leaf_is) c.index_mut.ensures.value in
+    let copy = c.in_ok-row_version.ensures.1 in
+    (λ i. offer_fault (copy i) (here i)) ∙ c.requires.fits.fits
+
 pub invariant_of-self-in_err-offer : goal.invariant_of-self-in_err-offer
 invariant_of-self-in_err-offer c =
     let s : State = record { config = c.self.inside.config; entries = c.self.inside.journal.entries; marks = c.self.inside.marks.digests; records = c.self.inside.records.items } in
-    let both = in_vain s c.self.inside.leaves.items c.from.result c.reserve.new.self.entries c.index_mut.result.now c.offer.new.self c.self.invariant.0 c.self.invariant.1 c.index_mut.ensures.value c.in_err-offer.ensures.err (ap (λ (t : Log). t.entries) (reserve_ok c.self.inside.journal _ 1 c.in_ok-reserve.ensures.reserves).is) in
+    let both = in_vain s c.self.inside.leaves.items c.from.result c.reserve.new.self.entries c.index_mut.result.now c.offer.new.self c.self.invariant.0 c.self.invariant.1 c.index_mut.ensures.value c.in_err-offer.ensures.0 (ap (λ (t : Log). t.entries) (reserve_ok c.self.inside.journal _ 1 c.in_ok-reserve.ensures.reserves).is) in
     (both.0, both.1, ap (λ (t : Log). t.limit) (reserve_ok c.self.inside.journal _ 1 c.in_ok-reserve.ensures.reserves).is ∙ c.self.invariant.2, c.self.invariant.3)
 
 pub returns-in_err-offer : goal.returns-in_err-offer
 returns-in_err-offer c =
     let s : State = record { config = c.self.inside.config; entries = c.self.inside.journal.entries; marks = c.self.inside.marks.digests; records = c.self.inside.records.items } in
-    let ok = subst (λ (s : State). AreLeaves s.config s.entries c.self.inside.leaves.items) c.self.view_is c.self.invariant.1 in
-    let at = c.from.ensures ∙ c.requires.fits.leaf_is in
     let room = subst (λ (s : State). full_fault s ≡ None) c.self.view_is (room_left s c.self.inside.journal _ (λ i. s.entries) c.self.invariant.2 (reserve_ok c.self.inside.journal _ 1 c.in_ok-reserve.ensures.reserves)) in
     let p = err_from_is_err_and c.from_residual-in_err-offer.result c.from_residual-in_err-offer.ensures.1 in
-    rw (p.1, p.2) (search rules, admit_err c.args.self.now c.self.inside.leaves.items c.from.result (entry_of c.args.self.now c.args.seat c.args.source c.args.key.now c.args.version) c.args.version c.in_ok-row_version.row_version c.index_mut.result.now c.in_err-offer.field-0.0 ok at c.index_mut.ensures.value c.in_ok-row_version.ensures.1 room c.requires.fits.fits c.in_err-offer.ensures.answers)
+    rw (p.1, p.2) (search rules, inl ((no_memory _ _ _ _ _ c.in_err-offer.ensures).1, admit_given c.args.self.now (entry_of c.args.self.now c.args.seat c.args.source c.args.key.now c.args.version) room))
 
 pub dirty-requires : goal.dirty-requires
 dirty-requires c =
@@ -69,5 +76,5 @@ invariant_of-self-2 c =
     let format : c.dirty.new.self.format ≡ s.config.format = ap (λ (t : Tree). t.format) c.dirty.ensures.path ∙ c.self.invariant.3 in
     let path : c.dirty.new.self.digests ≡ dirtied s.config.format c.from.result s.marks = ap (λ (t : Tree). t.digests) c.dirty.ensures.path ∙ ap (λ (f : Format). dirtied f c.args.leaf s.marks) c.self.invariant.3 ∙ ap (λ (n : ℕ). dirtied s.config.format n s.marks) (sym c.from.ensures) in
     let both = admitted s c.self.inside.leaves.items c.from.result e c.append_reserved.new.self.entries c.dirty.new.self.digests c.index_mut.result.now c.offer.new.self c.args.key.now c.in_ok-row_version.row_version c.self.invariant.0 c.self.invariant.1 c.requires.own leaf here news c.pairs-valid.ensures.valid fits
-    c.index_mut.ensures.value key c.in_ok-row_version.ensures.1 c.in_ok-offer.ensures.ok entries path in
+    c.index_mut.ensures.value key c.in_ok-row_version.ensures.1 (given _ _ _ _ c.in_ok-offer.ensures).1 entries path in
     (both.0, both.1, ap (λ (t : Log). t.limit) log ∙ ap (λ (t : Log). t.limit) (reserve_ok c.self.inside.journal _ 1 c.in_ok-reserve.ensures.reserves).is ∙ c.self.invariant.2, format)

@@ -1,8 +1,10 @@
 use Rattle.std.proofs.Common.{◌≡◌, ℕ, ◌+◌, None, Some, true, false, length, sym, ap, ◌∙◌, inr, arith}
 use Rattle.vclock.specs.declared.refusal.Refusal.TheVariants.{Crowded}
+use Rattle.version_set.specs.declared.version.Version.{Version}
 use Rattle.version_set.specs.Version.{covered, offer_fault}
 use Rattle.range_journal.specs.declared.journal.Source.TheVariants.{Partner}
 use Rattle.hash_tree.specs.Leaves.{versions_in}
+use Rattle.hash_tree.proofs.OutcomeLaws.{given}
 use Rattle.range_state.specs.declared.state.preparation.Batch.{Batch}
 use Rattle.range_state.specs.State.{State}
 use Rattle.range_state.proofs.BatchLaws.{known_next, crowded_next, news_next}
@@ -28,6 +30,11 @@ returns-then-crowds-clause-answers c =
     let full : offer_fault c.args.version.now (versions_in c.args.key.now a.leaf.rows) ≡ Some Crowded = rw (c.find-set.ensures.found, c.if-crowds.true) at c.crowds.ensures in
     inr (crowded_next c.args.self.now c.args.seat c.args.leaf c.args.key.now c.args.version.now a Crowded c.requires.batch c.requires.leaf full)
 
+pub offer-requires-clause-room : goal.offer-requires-clause-room
+offer-requires-clause-room c =
+    let fits : offer_fault c.args.version.now (versions_in c.args.key.now c.args.batch.now.leaf.rows) ≡ None = rw (c.find-set.ensures.found, c.if-crowds.false) at c.crowds.ensures in
+    ap (λ (v : Version). offer_fault v (versions_in c.args.key.now c.args.batch.now.leaf.rows)) c.in_ok-row_version.ensures.1 ∙ fits
+
 pub returns-clause-answers : goal.returns-clause-answers
 returns-clause-answers c =
     let s = c.args.self.now in
@@ -40,7 +47,7 @@ returns-clause-answers c =
     c.in_ok-entry.ensures.1 ∙ ap (λ (n : ℕ). record { number = n; seat = c.args.seat; source = Partner; key = c.args.key.now; version = c.args.version.now }) number in
     let same : c.in_ok-receipt.receipt ≡ c.in_ok-entry.entry = c.in_ok-receipt.ensures.1 ∙ sym c.in_ok-entry.ensures.1 in (
       (news_next s c.args.seat c.args.leaf c.args.key.now c.args.version.now c.in_ok-row_version.row_version a b c.in_ok-entry.entry c.in_ok-receipt.receipt c.requires.batch c.requires.leaf fresh fits c.in_ok-row_version.ensures.1
-          made same c.in_ok-offer.ensures.ok c.in_ok-push.ensures.items c.in_ok-push-2.ensures.items (λ i. a.known)).0,
+          made same (given _ _ _ _ c.in_ok-offer.ensures).1 c.in_ok-push.ensures.items c.in_ok-push-2.ensures.items (λ i. a.known)).0,
       tt,
     )
 
@@ -56,4 +63,4 @@ returns-clause-ok c =
     c.in_ok-entry.ensures.1 ∙ ap (λ (n : ℕ). record { number = n; seat = c.args.seat; source = Partner; key = c.args.key.now; version = c.args.version.now }) number in
     let same : c.in_ok-receipt.receipt ≡ c.in_ok-entry.entry = c.in_ok-receipt.ensures.1 ∙ sym c.in_ok-entry.ensures.1 in
     (news_next s c.args.seat c.args.leaf c.args.key.now c.args.version.now c.in_ok-row_version.row_version a b c.in_ok-entry.entry c.in_ok-receipt.receipt c.requires.batch c.requires.leaf fresh fits c.in_ok-row_version.ensures.1
-    made same c.in_ok-offer.ensures.ok c.in_ok-push.ensures.items c.in_ok-push-2.ensures.items (λ i. a.known)).1
+    made same (given _ _ _ _ c.in_ok-offer.ensures).1 c.in_ok-push.ensures.items c.in_ok-push-2.ensures.items (λ i. a.known)).1

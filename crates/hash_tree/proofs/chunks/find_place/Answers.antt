@@ -3,7 +3,7 @@ use Rattle.std.proofs.lemmas.Fn.{always_returns_same}
 use Rattle.row_bytes.specs.declared.row.Row.{Row}
 use Rattle.hash_tree.specs.Leaves.{key_cmp}
 use Rattle.hash_tree.proofs.SearchLaws.{found}
-use Rattle.hash_tree.proofs.leaf.find_place.Goals as goal
+use Rattle.hash_tree.proofs.chunks.find_place.Goals as goal
 
 pub returns : goal.returns
 returns c =
