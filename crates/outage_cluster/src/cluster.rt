@@ -6,9 +6,8 @@ ghost use Rattle.vclock.specs.Clock.{clock_of};
 ghost use Rattle.vclock.specs.Outcome.{gives, DoesOrBreaksOff};
 ghost use Rattle.vclock.specs.Bytes.{key_fault};
 ghost use Rattle.version_set.specs.Kind.{value_fault};
-ghost use Rattle.outage_cluster.specs.Acts.{put_fault, down_act, down_fault, held_at, is_tree_node, keepers_fault, range_on, key_act, value_kind, node_act, nodes_fault, put_act, range_fault, rehash_at, ring_nodes_fault, row_answer, sync_at, held_text, up_act, value_bytes};
+ghost use Rattle.outage_cluster.specs.Acts.{put_fault, down_act, down_fault, held_at, is_tree_node, keepers_fault, range_on, key_act, node_act, nodes_fault, put_act, range_fault, rehash_at, ring_nodes_fault, row_answer, sync_at, held_text, up_act};
 ghost use Rattle.outage_cluster.specs.Handoff.{carrier_of, deliver_at, hinted, up_nodes};
-ghost use Rattle.outage_commands.specs.Orders.{get_ask, node_ask, put_ask, rehash_ask, sync_ask};
 ghost use Rattle.outage_cluster.specs.State.{first_config, first_ring, hints_of, home, is_down, is_member, made, replicas_of};
 
 use crate::answer::CommandAnswer;
@@ -26,7 +25,7 @@ use std::marker::Model;
 use std::thread::Threads;
 use vclock::limits::ENTRIES_MAX;
 use vclock::{Bytes, Clock, Format, Refusal, check_key};
-use version_set::{Kind, VersionSet};
+use version_set::VersionSet;
 
 /// A ring: its nodes, the hints that they keep, and the replicas of its ranges.
 pub(crate) struct Cluster {
@@ -89,7 +88,7 @@ impl Cluster {
 
     /// Puts a value at a node, sends the copies and keeps the hints. Returns the answer with the clock and the number.
     pub(crate) fn put(&mut self, alloc: Global, put: Put) -> Result<CommandAnswer, Refusal>
-        ensures { DoesOrBreaksOff result self.old self.new (put_act (put_ask put) self.old) }
+        ensures { DoesOrBreaksOff result self.old self.new (put_act put self.old) }
     {
         let context = self.check_put(alloc, &put)?;
         let range = self.ring.range_of(put.key.as_slice());
@@ -221,7 +220,7 @@ impl Cluster {
     /// Returns the answer with the versions that are held for a key.
     #[tactic(auto, unfolding(crate::specs::Acts::key_act))]
     pub(crate) fn get(&self, alloc: Global, get: &Get) -> Result<CommandAnswer, Refusal>
-        ensures { DoesOrBreaksOff result self.now self.now (key_act (held_at (get_ask get.now)) (get_ask get.now) self.now) }
+        ensures { DoesOrBreaksOff result self.now self.now (key_act (held_at get.now) get.now self.now) }
     {
         self.check_nodes(get.node, &[])?;
         check_key(get.key.as_slice())?;
@@ -235,7 +234,7 @@ impl Cluster {
     /// Returns the answer with the text of the row of a key.
     #[tactic(auto, unfolding(crate::specs::Acts::key_act))]
     pub(crate) fn row(&self, alloc: Global, get: Get) -> Result<CommandAnswer, Refusal>
-        ensures { DoesOrBreaksOff result self.now self.now (key_act (row_answer (get_ask get)) (get_ask get) self.now) }
+        ensures { DoesOrBreaksOff result self.now self.now (key_act (row_answer get) get self.now) }
     {
         self.check_nodes(get.node, &[])?;
         check_key(get.key.as_slice())?;
@@ -267,7 +266,7 @@ impl Cluster {
         alloc: Global,
         ask: &Rehash,
     ) -> Result<CommandAnswer, Refusal>
-        ensures { DoesOrBreaksOff result self.old self.new (rehash_at (rehash_ask ask.now) self.old) }
+        ensures { DoesOrBreaksOff result self.old self.new (rehash_at ask.now self.old) }
     {
         if ask.range >= self.ranges.len() as u64 {
             return Err(Refusal::OtherRange);
@@ -278,7 +277,7 @@ impl Cluster {
 
     /// Tests that both nodes of a sync are up and keep the range.
     pub(crate) fn check_sync(&self, ask: &SyncFrom) -> Result<(), Refusal>
-        ensures { AnswersAtOnce result (keepers_fault (sync_ask ask.now) self.now) (λ _. ⊤) }
+        ensures { AnswersAtOnce result (keepers_fault ask.now self.now) (λ _. ⊤) }
     {
         self.check_ring_nodes(ask.node, &[ask.from])?;
         self.check_up(ask.node)?;
@@ -294,7 +293,7 @@ impl Cluster {
     /// Makes a node fetch the versions of a range that another has. Returns the answer with the report.
     #[tactic(auto, unfolding(crate::specs::Acts::sync_at))]
     pub(crate) fn sync(&mut self, alloc: Global, ask: &SyncFrom) -> Result<CommandAnswer, Refusal>
-        ensures { DoesOrBreaksOff result self.old self.new (sync_at (sync_ask ask.now) self.old) }
+        ensures { DoesOrBreaksOff result self.old self.new (sync_at ask.now self.old) }
     {
         if ask.range >= self.ranges.len() as u64 {
             return Err(Refusal::OtherRange);
@@ -307,7 +306,7 @@ impl Cluster {
     #[tactic(auto, unfolding(crate::specs::Acts::node_act))]
     pub(crate) fn node(&self, ask: &ShowNode) -> Result<CommandAnswer, Refusal>
         requires { IsTrue (is_tree_node self.now.format ask.now.depth ask.now.index) }
-        ensures { DoesOrBreaksOff result self.now self.now (node_act (node_ask ask.now) self.now) }
+        ensures { DoesOrBreaksOff result self.now self.now (node_act ask.now self.now) }
     {
         self.check_nodes(ask.node, &[])?;
         let Some(replica) = self.replica_at(ask.node, ask.range) else {
@@ -339,13 +338,13 @@ impl Cluster {
 
     /// Makes the context of a put, if no part of the put is refused.
     fn check_put(&self, alloc: Global, put: &Put) -> Result<Clock, Refusal>
-        ensures { AnswersOrNoMemory result (put_fault (put_ask put.now) self.now)
-            (λ context. context ≡ clock_of put.now.context.items) }
+        ensures { AnswersOrNoMemory result (put_fault put.now self.now)
+            (λ context. context ≡ clock_of put.now.context) }
     {
-        self.check_nodes(put.node, &put.lose)?;
-        let context = Clock::from_pairs(alloc, &put.context)?;
+        self.check_nodes(put.node, put.lose.as_slice())?;
+        let context = Clock::from_pairs(alloc, put.context.as_slice())?;
         check_key(put.key.as_slice())?;
-        check_value(self.format, &put.value)?;
+        put.kind.check_value(self.format, put.value.as_slice())?;
         Ok(context)
     }
 
@@ -408,16 +407,6 @@ pub(crate) fn tree_node(format: Format, depth: u64, index: u64) -> Option<NodeAt
         return None;
     }
     NodeAt::new(depth as u8, index as u16)
-}
-
-/// Tests that a put may have the value, or the tombstone, in a format.
-fn check_value(format: Format, value: &Option<Bytes>) -> Result<(), Refusal>
-    ensures { AnswersAtOnce result (value_fault format (value_kind value.now) (value_bytes value.now)) (λ _. ⊤) }
-{
-    match value {
-        Some(value) => Kind::Live.check_value(format, value.as_slice()),
-        None => Kind::Tombstone.check_value(format, &[]),
-    }
 }
 
 /// Writes the text of the row of a key: no bytes if no version is held.

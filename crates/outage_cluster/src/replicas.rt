@@ -4,8 +4,7 @@ ghost use Rattle.std.specs.Result.{result_map_both};
 ghost use Rattle.vclock.specs.Answer.{AnswersOrNoMemory};
 ghost use Rattle.vclock.specs.Outcome.{DoesOrNoMemory, DoesOrBreaksOff};
 ghost use Rattle.vclock.specs.Clock.{clock_of};
-ghost use Rattle.outage_cluster.specs.Acts.{takes, after_copy, clean_at, gets_hint, put_into, value_kind, value_bytes};
-ghost use Rattle.outage_commands.specs.Orders.{put_ask};
+ghost use Rattle.outage_cluster.specs.Acts.{takes, after_copy, clean_at, gets_hint, put_into};
 ghost use Rattle.outage_cluster.specs.State.{at_home, home, replica_at, at_node, replicas_made};
 ghost use Rattle.outage_cluster.specs.Homes.{AreOf, IsHome};
 ghost use Rattle.outage_cluster.specs.Syncs.{IsReported, walk_fault, synced_with};
@@ -22,8 +21,8 @@ use range_state::{Accepted, RangeConfig, Receipt, Synced};
 use std::alloc::{AllocError, Global};
 use std::marker::Model;
 use std::thread::Threads;
-use vclock::{Bytes, Clock, Refusal};
-use version_set::{Kind, Version};
+use vclock::{Clock, Refusal};
+use version_set::Version;
 
 /// The replicas of a range.
 pub(crate) struct Replicas {
@@ -118,12 +117,12 @@ impl Replicas {
 
     /// Lists the nodes that are to have a hint of a put, since they are down, in the order of the preference list.
     fn owners(&self, alloc: Global, down: &[u64], put: &Put) -> Result<Vec<u16>, AllocError>
-        ensures { IfOk result (λ owners. owners.items ≡ owners_of (gets_hint down.now put.now.node put.now.lose.items) self.now) }
+        ensures { IfOk result (λ owners. owners.items ≡ owners_of (gets_hint down.now put.now.node put.now.lose) self.now) }
     {
         self.replicas
             .iter()
             .map(|replica| replica.node())
-            .filter(|other| gets_hint(down, put.node, &put.lose, *other))
+            .filter(|other| gets_hint(down, put.node, put.lose.as_slice(), *other))
             .collect(alloc)
     }
 
@@ -153,24 +152,29 @@ impl Replicas {
         down: &[u64],
         put: Put,
     ) -> Result<Sent, Refusal>
-        requires { context.now ≡ clock_of put.context.items }
+        requires { context.now ≡ clock_of put.context }
         ensures puts { DoesOrBreaksOff (result_map_both (λ done. (done.receipt, done.copied)) (λ e. e) result)
-            self.old self.new (put_into down.now (put_ask put) self.old) }
+            self.old self.new (put_into down.now put self.old) }
         ensures owners { IfOk result (λ done. done.owners.items
-            ≡ owners_of (gets_hint down.now put.node put.lose.items) self.old) }
+            ≡ owners_of (gets_hint down.now put.node put.lose) self.old) }
     {
         let Some(place) = place_of(&self.replicas, put.node) else {
             return Err(Refusal::OtherRange);
         };
         let owners = self.owners(alloc, down, &put)?;
-        let (kind, value) = payload(put.value);
-        let receipt = self.replicas[place].put(alloc, put.key.as_slice(), context, kind, value)?;
+        let receipt = self.replicas[place].put(
+            alloc,
+            put.key.as_slice(),
+            context,
+            put.kind,
+            put.value,
+        )?;
         let copied = send_to(
             alloc,
             &mut self.replicas,
             down,
             put.node,
-            &put.lose,
+            put.lose.as_slice(),
             &receipt,
         )?;
         Ok(Sent {
@@ -212,17 +216,6 @@ fn place_of(replicas: &[Replica], node: u64) -> Option<usize>
         }
     }
     None
-}
-
-/// Returns the kind and the value of a put: a tombstone's value is empty.
-fn payload(value: Option<Bytes>) -> (Kind, Bytes)
-    ensures kind { result.0 ≡ value_kind value }
-    ensures bytes { result.1 ≡ value_bytes value }
-{
-    match value {
-        Some(value) => (Kind::Live, value),
-        None => (Kind::Tombstone, Bytes::new()),
-    }
 }
 
 impl Drop for Replicas {

@@ -1,7 +1,6 @@
 //! The world that a script changes: a cluster, and the slots for background work.
 ghost use Rattle.std.specs.Prelude.{◌≡◌, ◌≢◌, IsTrue, IfOk, IfErr, OnOk};
 ghost use Rattle.outage_cluster.specs.Acts.{act, deliver_act, rehash_act, ring_act, ring_config, suits, sync_act, replied};
-ghost use Rattle.outage_commands.specs.Orders.{ask_of, rehash_ask, ring_ask, sync_ask};
 ghost use Rattle.outage_cluster.specs.State.{left, start};
 ghost use Rattle.vclock.specs.Outcome.{DoesOrBreaksOff};
 
@@ -17,6 +16,7 @@ use std::mem::forget;
 use std::sync::ledger::{Blank, Ledger};
 use std::thread::Threads;
 use vclock::{Format, Refusal};
+use version_set::Kind;
 
 /// The treatment of the replicas' memory at the end of a run.
 #[derive(Clone, Copy, Debug, PartialEq, Eq)]
@@ -64,13 +64,13 @@ impl<L: Ledger> World<L> {
         }
     }
 
-    /// Returns true if the ring in force has such a command: in format 1 no value is null, the tree has the node, and
-    /// the controller may have the target.
+    /// Returns true if the ring in force has such a command: its format has puts of the kind, the tree has the node,
+    /// and the controller may have the target. Format 1 has no tombstones.
     pub fn suits(&self, command: &Command) -> bool
-        ensures { result ≡ suits self.now (ask_of command.now) }
+        ensures { result ≡ suits self.now command.now }
     {
         match command {
-            Command::Put(put) => self.cluster.format() == Format::Two || put.value.is_some(),
+            Command::Put(put) => self.cluster.format() == Format::Two || put.kind == Kind::Live,
             Command::Node(ask) => tree_node(self.cluster.format(), ask.depth, ask.index).is_some(),
             Command::Slot(command) => self.slots.is_target(command),
             _ => true,
@@ -85,9 +85,9 @@ impl<L: Ledger> World<L> {
         alloc: Global,
         command: Command,
     ) -> Result<CommandAnswer, AllocError>
-        requires { IsTrue (suits self.old (ask_of command)) }
-        ensures reply { IfOk result (λ answer. answer ≡ replied (act (ask_of command) self.old)) }
-        ensures after { OnOk result (self.new ≡ left (act (ask_of command) self.old) self.old) }
+        requires { IsTrue (suits self.old command) }
+        ensures reply { IfOk result (λ answer. answer ≡ replied (act command self.old)) }
+        ensures after { OnOk result (self.new ≡ left (act command self.old) self.old) }
     {
         let answer = self.perform(rt, alloc, command);
         answered(answer)
@@ -101,8 +101,8 @@ impl<L: Ledger> World<L> {
         alloc: Global,
         command: Command,
     ) -> Result<CommandAnswer, Refusal>
-        requires { IsTrue (suits self.old (ask_of command)) }
-        ensures { DoesOrBreaksOff result self.old self.new (act (ask_of command) self.old) }
+        requires { IsTrue (suits self.old command) }
+        ensures { DoesOrBreaksOff result self.old self.new (act command self.old) }
     {
         match command {
             Command::Ring(ring) => self.renew(alloc, &ring),
@@ -122,12 +122,12 @@ impl<L: Ledger> World<L> {
 
     /// Makes a new cluster, with new slots.
     fn renew(&mut self, alloc: Global, ask: &NewRing) -> Result<CommandAnswer, Refusal>
-        ensures { DoesOrBreaksOff result self.old self.new (ring_act (ring_ask ask.now) (ring_config (ring_ask ask.now))) }
+        ensures { DoesOrBreaksOff result self.old self.new (ring_act ask.now (ring_config ask.now)) }
     {
         let Some(config) = RangeConfig::new(ask.format, ask.bits, 0, ask.limit) else {
             return Err(Refusal::BadRing);
         };
-        let ring = Ring::new(alloc, ask.bits, &ask.nodes, ask.copies)?;
+        let ring = Ring::new(alloc, ask.bits, ask.nodes.as_slice(), ask.copies)?;
         let (nodes, ranges) = (ring.nodes().len() as u64, u64::from(ring.ranges()));
         self.cluster = Cluster::new(alloc, ring, config)?;
         self.slots.renew();
@@ -154,7 +154,7 @@ impl<L: Ledger> World<L> {
         alloc: Global,
         ask: &Rehash,
     ) -> Result<CommandAnswer, Refusal>
-        ensures { DoesOrBreaksOff result self.old self.new (rehash_act (rehash_ask ask.now) self.old) }
+        ensures { DoesOrBreaksOff result self.old self.new (rehash_act ask.now self.old) }
     {
         self.cluster.check_range(ask.node, ask.range)?;
         self.slots.lend()?;
@@ -166,7 +166,7 @@ impl<L: Ledger> World<L> {
     /// Makes a node fetch the versions of a range that another has, with a slot that is given back.
     #[tactic(auto, unfolding(crate::specs::Acts::sync_act))]
     fn sync(&mut self, alloc: Global, ask: &SyncFrom) -> Result<CommandAnswer, Refusal>
-        ensures { DoesOrBreaksOff result self.old self.new (sync_act (sync_ask ask.now) self.old) }
+        ensures { DoesOrBreaksOff result self.old self.new (sync_act ask.now self.old) }
     {
         self.cluster.check_sync(ask)?;
         self.slots.lend()?;

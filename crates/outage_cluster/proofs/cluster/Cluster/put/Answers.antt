@@ -6,7 +6,6 @@ use Rattle.key_ring.specs.Places.{range_at}
 use Rattle.vclock.specs.Outcome.{gives}
 use Rattle.outage_cluster.specs.Acts.{put_fault, gets_hint, put_into}
 use Rattle.outage_cluster.specs.Handoff.{carrier_of, hinted, owners_of}
-use Rattle.outage_commands.specs.Orders.{put_ask}
 use Rattle.outage_cluster.specs.State.{Replica, replicas_of, with_replicas}
 use Rattle.outage_cluster.proofs.DeliveryLaws.{put_refused, put_result, put_unasked}
 use Rattle.outage_cluster.proofs.cluster.Cluster.put.Goals as goal
@@ -16,13 +15,13 @@ returns-in_err-context c =
     let p = err_from_is_err_and c.from_residual.result c.from_residual.ensures.1 in
     rw (p.1, p.2) (elim c.in_err-context.ensures [
       | inl memory ↦ inl memory
-      | inr cause ↦ inr (refl, put_unasked (put_ask c.args.put) c.args.self.now c.in_err-context.field-0.0 cause)
+      | inr cause ↦ inr (refl, put_unasked c.args.put c.args.self.now c.in_err-context.field-0.0 cause)
     ])
 
 pub returns-in_err-sent : goal.returns-in_err-sent
 returns-in_err-sent c =
     let s = c.args.self.now in
-    let ask = put_ask c.args.put in
+    let ask = c.args.put in
     let reps = c.index_mut.result.now in
     let items = c.self.inside.ranges.items in
     let i = c.from.result in
@@ -48,7 +47,7 @@ returns-in_err-sent c =
 pub returns : goal.returns
 returns c =
     let s = c.args.self.now in
-    let p = put_ask c.args.put in
+    let p = c.args.put in
     let reps = c.index_mut.result.now in
     let new = c.put.new.self in
     let receipt = c.in_ok-sent.sent.receipt in

@@ -2,7 +2,6 @@ use Rattle.std.proofs.Common.{rules, ◌≡◌, ◌<◌, [], inl, inr, ap, subst
 use Rattle.std.proofs.lemmas.List.{set-get_or}
 use Rattle.std.proofs.lemmas.Result.{err_from_is_err_and}
 use Rattle.hint_store.proofs.HintLaws.{get_or_same}
-use Rattle.outage_commands.specs.Orders.{sync_ask}
 use Rattle.outage_cluster.specs.State.{Replica, home, replica_at}
 use Rattle.outage_cluster.specs.Syncs.{walk_fault}
 use Rattle.outage_cluster.proofs.DeliveryLaws.{sync_refused}
@@ -12,7 +11,7 @@ use Rattle.outage_cluster.proofs.cluster.Cluster.sync.Goals as goal
 pub returns-in_err-done : goal.returns-in_err-done
 returns-in_err-done c =
     let s = c.args.self.now in
-    let q = sync_ask c.args.ask.now in
+    let q = c.args.ask.now in
     let e = c.in_err-done.field-0.0 in
     let reps = c.index_mut.result.now in
     let items = c.self.inside.ranges.items in
