@@ -3,7 +3,7 @@ ghost use Rattle.std.specs.Prelude.{◌≡◌, ◌<◌, ◌^◌, ◌==◌, ⊤, 
 ghost use Rattle.std.specs.List.{list_all, AllByRecursion};
 ghost use Rattle.vclock.specs.Answer.{Answers, AnswersAtOnce, AnswersOrNoMemory};
 ghost use Rattle.vclock.specs.Clock.{clock_of};
-ghost use Rattle.vclock.specs.Outcome.{gives, DoesOrBreaksOff};
+ghost use Rattle.vclock.specs.Outcome.{DoesOrBreaksOff};
 ghost use Rattle.vclock.specs.Bytes.{key_fault};
 ghost use Rattle.version_set.specs.Kind.{value_fault};
 ghost use Rattle.outage_cluster.specs.Acts.{put_fault, down_act, down_fault, held_at, is_tree_node, keepers_fault, range_on, key_act, node_act, nodes_fault, put_act, range_fault, rehash_at, ring_nodes_fault, row_answer, sync_at, held_text, up_act};
@@ -49,14 +49,12 @@ impl Model for Cluster {
 
 impl Cluster {
     /// Makes the cluster at the start of a script: a ring of node 1, with one range.
-    pub(crate) fn start(alloc: Global) -> Result<Cluster, AllocError>
-        ensures { IfOk result (λ cluster. cluster ≡ made first_ring first_config) }
+    pub(crate) fn start(alloc: Global) -> Result<Cluster, Refusal>
+        ensures { Answers result None (λ cluster. cluster ≡ made first_ring first_config) }
     {
         let config = RangeConfig::new(1, 0, 0, ENTRIES_MAX).unwrap();
-        match Ring::new(alloc, 0, &[1], 1) {
-            Ok(ring) => Cluster::new(alloc, ring, config),
-            Err(_) => Err(AllocError),
-        }
+        let ring = Ring::new(alloc, 0, &[1], 1)?;
+        Ok(Cluster::new(alloc, ring, config)?)
     }
 
     /// Makes the cluster of a ring. Its nodes are up, have no hints, and have accepted nothing.
@@ -114,9 +112,9 @@ impl Cluster {
 
     /// Keeps a hint of an entry for each of these owners at the carrier of a range, and returns the number that were
     /// kept.
-    fn keep_hints(&mut self, range: u16, owners: &[u16], entry: &Receipt) -> Result<u64, AllocError>
+    fn keep_hints(&mut self, range: u16, owners: &[u16], entry: &Receipt) -> Result<u64, Refusal>
         requires { range < 2 ^ self.old.ring.bits }
-        ensures count { IfOk result (λ n. n ≡ (hinted entry.now owners.now self.old (carrier_of self.old range)).0) }
+        ensures count { Answers result None (λ n. n ≡ (hinted entry.now owners.now self.old (carrier_of self.old range)).0) }
         ensures kept { OnOk result (self.new ≡ (hinted entry.now owners.now self.old (carrier_of self.old range)).1) }
     {
         let Some(carrier) = self.carrier_of(range) else {
@@ -200,9 +198,9 @@ impl Cluster {
 
     /// Offers the hints that a node keeps to their owners. Returns the answer with the numbers of those that were
     /// taken, known, and still pending.
-    pub(crate) fn deliver(&mut self, alloc: Global, node: u64) -> Result<CommandAnswer, AllocError>
+    pub(crate) fn deliver(&mut self, alloc: Global, node: u64) -> Result<CommandAnswer, Refusal>
         requires { nodes_fault self.old node [] ≡ None }
-        ensures { IfOk result (λ a. deliver_at self.old node (hints_of self.old node) ≡ gives a self.new) }
+        ensures { DoesOrBreaksOff result self.old self.new (deliver_at self.old node (hints_of self.old node)) }
     {
         let up = self.up_nodes(alloc)?;
         let Some(place) = self.place_of(node) else {

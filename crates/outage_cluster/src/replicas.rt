@@ -1,7 +1,7 @@
 //! The replicas of a range, in the order of its preference list.
 ghost use Rattle.std.specs.Prelude.{◌≡◌, ◌≢◌, ◌<◌, ◌^◌, length, filter, map, option_map, IfOk, IfErr, IfSome, IfNone, OnOk, None};
 ghost use Rattle.std.specs.Result.{result_map_both};
-ghost use Rattle.vclock.specs.Answer.{AnswersOrNoMemory};
+ghost use Rattle.vclock.specs.Answer.{Answers, AnswersOrNoMemory};
 ghost use Rattle.vclock.specs.Outcome.{DoesOrNoMemory, DoesOrBreaksOff};
 ghost use Rattle.vclock.specs.Clock.{clock_of};
 ghost use Rattle.outage_cluster.specs.Acts.{takes, after_copy, clean_at, gets_hint, put_into};
@@ -162,21 +162,17 @@ impl Replicas {
             return Err(Refusal::OtherRange);
         };
         let owners = self.owners(alloc, down, &put)?;
-        let receipt = self.replicas[place].put(
-            alloc,
-            put.key.as_slice(),
-            context,
-            put.kind,
-            put.value,
-        )?;
-        let copied = send_to(
-            alloc,
-            &mut self.replicas,
-            down,
-            put.node,
-            put.lose.as_slice(),
-            &receipt,
-        )?;
+        let Put {
+            node,
+            key,
+            kind,
+            value,
+            lose,
+            ..
+        } = put;
+        let receipt = self.replicas[place].put(alloc, key.as_slice(), context, kind, value)?;
+        let lose = lose.as_slice();
+        let copied = send_to(alloc, &mut self.replicas, down, node, lose, &receipt)?;
         Ok(Sent {
             receipt,
             copied,
@@ -193,8 +189,8 @@ fn send_to(
     node: u64,
     lose: &[u64],
     entry: &Receipt,
-) -> Result<u64, AllocError>
-    ensures count { IfOk result (λ n. n ≡ length (filter (takes down.now node lose.now entry.now) replicas.old)) }
+) -> Result<u64, Refusal>
+    ensures count { Answers result None (λ n. n ≡ length (filter (takes down.now node lose.now entry.now) replicas.old)) }
     ensures all { OnOk result (replicas.new ≡ map (after_copy down.now node lose.now entry.now) replicas.old) }
     ensures config { (config : Config) → AreOf config replicas.old → AreOf config replicas.new }
 {

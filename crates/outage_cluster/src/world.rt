@@ -1,7 +1,8 @@
 //! The world that a script changes: a cluster, and the slots for background work.
-ghost use Rattle.std.specs.Prelude.{◌≡◌, ◌≢◌, IsTrue, IfOk, IfErr, OnOk};
+ghost use Rattle.std.specs.Prelude.{◌≡◌, ◌≢◌, None, IsTrue, IfOk, IfErr, OnOk};
 ghost use Rattle.outage_cluster.specs.Acts.{act, deliver_act, rehash_act, ring_act, ring_config, suits, sync_act, replied};
 ghost use Rattle.outage_cluster.specs.State.{left, start};
+ghost use Rattle.vclock.specs.Answer.{Answers};
 ghost use Rattle.vclock.specs.Outcome.{DoesOrBreaksOff};
 
 use crate::answer::CommandAnswer;
@@ -42,16 +43,14 @@ impl<L: Ledger> Model for World<L> {
 }
 
 impl<L: Ledger> World<L> {
-    /// Makes the world at the start of a script: a ring of node 1 with one range, and no slot lent.
-    pub fn start(blank: Blank, alloc: Global) -> Result<World<L>, AllocError>
+    /// Makes the world at the start of a script: a ring of node 1 with one range, and no slot lent. Refused: NoMemory.
+    pub fn start(blank: Blank, alloc: Global) -> Result<World<L>, Refusal>
         requires ledger { (blank.name ≡ L.name) × (blank.parts ≡ L.parts) × (blank.parts ≡ 1024) }
-        ensures { IfOk result (λ world. world ≡ start) }
+        ensures { Answers result None (λ world. world ≡ start) }
     {
         let cluster = Cluster::start(alloc)?;
-        match Slots::new(blank, alloc) {
-            Ok(slots) => Ok(World { cluster, slots }),
-            Err(_) => Err(AllocError),
-        }
+        let slots = Slots::new(blank, alloc)?;
+        Ok(World { cluster, slots })
     }
 
     /// Takes all slots back, and frees the memory of the replicas or leaves it.
@@ -143,7 +142,7 @@ impl<L: Ledger> World<L> {
         self.slots.lend()?;
         let answer = self.cluster.deliver(alloc, node);
         self.slots.give_back();
-        Ok(answer?)
+        answer
     }
 
     /// Rehashes a range at a node, with a slot that is given back.
