@@ -15,7 +15,6 @@ use Rattle.range_state.specs.State as range
 use Rattle.range_state.specs.Sessions.{crowd_fault}
 use Rattle.outage_cluster.specs.declared.answer.CommandAnswer.{CommandAnswer}
 use Rattle.outage_commands.specs.declared.command.Put.{Put}
-use Rattle.outage_commands.specs.declared.command.SyncFrom.{SyncFrom}
 use Rattle.outage_cluster.specs.Acts.{after_copy, put_fault, gets_hint, range_on, nodes_fault, put_act, put_by, put_into, replica_in, sync_at, synced_in, takes}
 use Rattle.outage_cluster.specs.declared.answer.CommandAnswer.TheVariants as Answers
 use Rattle.outage_cluster.specs.Handoff.{Round, carrier_of, deliver_at, hinted, kept_all, owners_of, round_of}
@@ -76,18 +75,18 @@ pub nobody_home : {T : Type 0} (n : ℕ) (reps : List Replica) (call : range.Sta
 nobody_home n reps call none = rw none refl
 
 -- a sync that is refused
-pub sync_refused : (q : SyncFrom) (s : Cluster) (e : Refusal) → walk_fault (range_on s q.from q.range) (replica_in s q.node q.range) ≡ Some e → sync_at q s ≡ refuses e
+pub sync_refused : (node from r : ℕ) (s : Cluster) (e : Refusal) → walk_fault (range_on s from r) (replica_in s node r) ≡ Some e → sync_at node from r s ≡ refuses e
 unfolding sync_at
-sync_refused q s e cause = pick (range_on s q.from q.range) (replica_in s q.node q.range) cause
+sync_refused node from r s e cause = pick (range_on s from r) (replica_in s node r) cause
   where
     one : (f : Option Refusal) (rest : Outcome CommandAnswer Cluster) (later : Option Refusal) → (later ≡ Some e → rest ≡ refuses e) → first_fault f later ≡ Some e → (f >> rest) ≡ refuses e
     one (Some x) rest later more is = cc
     one None rest later more is = more is
 
-    pick : (partner : Option range.State) (own : Option Replica) → walk_fault partner own ≡ Some e → synced_in q s partner own ≡ refuses e
+    pick : (partner : Option range.State) (own : Option Replica) → walk_fault partner own ≡ Some e → synced_in node r s partner own ≡ refuses e
     pick None own is = cc
     pick (Some h) None is = one (range.dirty_fault h) _ _ (λ later. cc) is
-    pick (Some h) (Some r) is = one (range.dirty_fault h) _ _ (one (crowd_fault r.sessions) _ _ (stands (range.dirty_fault r.range) _)) is
+    pick (Some h) (Some own) is = one (range.dirty_fault h) _ _ (one (crowd_fault own.sessions) _ _ (stands (range.dirty_fault own.range) _)) is
       where
         stands : (f : Option Refusal) (rest : Outcome CommandAnswer Cluster) → f ≡ Some e → (f >> rest) ≡ refuses e
         stands (Some x) rest is = cc

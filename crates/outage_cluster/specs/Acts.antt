@@ -190,10 +190,11 @@ range_fault s node r = first_fault (nodes_fault s node []) (kept_fault (range_on
 abbrev pub clean_at : range.State → Outcome ℕ range.State
 clean_at h = gives (dirty_count h.marks) (rehashed h)
 
-unfoldable pub rehash_at : Rehash → Cluster → Outcome CommandAnswer Cluster
-rehash_at q s = do
-  hashed ← at_home q.node clean_at (slice_index_or s.replicas q.range [])
-  gives (Answers.Rehash hashed.0) (with_range s q.range hashed.1)
+-- a rehash of range r at a node
+unfoldable pub rehash_at : ℕ → ℕ → Cluster → Outcome CommandAnswer Cluster
+rehash_at node r s = do
+  hashed ← at_home node clean_at (slice_index_or s.replicas r [])
+  gives (Answers.Rehash hashed.0) (with_range s r hashed.1)
 
 -- the fault of the nodes of a sync: one is not on the ring, one is down, or one does not keep the range
 abbrev pub sync_nodes_fault : SyncFrom → Cluster → Option Refusal
@@ -206,20 +207,21 @@ keepers_fault q s = first_fault (sync_nodes_fault q s) (first_fault (kept_fault 
 abbrev pub replica_in : Cluster → ℕ → ℕ → Option Replica
 replica_in s node r = replica_at node (slice_index_or s.replicas r [])
 
--- a sync of a replica with the range of another node
-abbrev pub synced_in : SyncFrom → Cluster → Option range.State → Option Replica → Outcome CommandAnswer Cluster
-synced_in q s None own = refuses OtherRange
-synced_in q s (Some h) None = do
+-- a sync of a node's replica of range r with the range of another node
+abbrev pub synced_in : ℕ → ℕ → Cluster → Option range.State → Option Replica → Outcome CommandAnswer Cluster
+synced_in node r s None own = refuses OtherRange
+synced_in node r s (Some h) None = do
   range.dirty_fault h
   refuses OtherRange
-synced_in q s (Some h) (Some own) = do
+synced_in node r s (Some h) (Some own) = do
   range.dirty_fault h
   crowd_fault own.sessions
   range.dirty_fault own.range
-  gives (Answers.Sync (sync_report own (range.rows_now h))) (with_range s q.range (at_node q.node (synced_with (range.rows_now h)) (slice_index_or s.replicas q.range [])))
+  gives (Answers.Sync (sync_report own (range.rows_now h))) (with_range s r (at_node node (synced_with (range.rows_now h)) (slice_index_or s.replicas r [])))
 
-unfoldable pub sync_at : SyncFrom → Cluster → Outcome CommandAnswer Cluster
-sync_at q s = synced_in q s (range_on s q.from q.range) (replica_in s q.node q.range)
+-- a sync of a node's replica of range r with that of the node `from`
+unfoldable pub sync_at : ℕ → ℕ → ℕ → Cluster → Outcome CommandAnswer Cluster
+sync_at node from r s = synced_in node r s (range_on s from r) (replica_in s node r)
 
 -- ---- the commands
 
@@ -242,12 +244,12 @@ deliver_act n s = do
 unfoldable pub rehash_act : Rehash → ClusterState → Outcome CommandAnswer ClusterState
 rehash_act q s = do
   range_fault s.cluster q.node q.range
-  with_slot s (rehash_at q s.cluster)
+  with_slot s (rehash_at q.node q.range s.cluster)
 
 unfoldable pub sync_act : SyncFrom → ClusterState → Outcome CommandAnswer ClusterState
 sync_act q s = do
   keepers_fault q s.cluster
-  with_slot s (sync_at q s.cluster)
+  with_slot s (sync_at q.node q.from q.range s.cluster)
 
 -- the answer of a command, and the state after it
 unfoldable pub act : Command → ClusterState → Outcome CommandAnswer ClusterState

@@ -6,12 +6,14 @@ ghost use Rattle.vclock.specs.Clock.{clock_of};
 ghost use Rattle.vclock.specs.Outcome.{DoesOrBreaksOff};
 ghost use Rattle.vclock.specs.Bytes.{key_fault};
 ghost use Rattle.version_set.specs.Kind.{value_fault};
-ghost use Rattle.outage_cluster.specs.Acts.{put_fault, down_act, down_fault, held_at, is_tree_node, keepers_fault, range_on, key_act, node_act, nodes_fault, put_act, range_fault, rehash_at, ring_nodes_fault, row_answer, sync_at, held_text, up_act};
+ghost use Rattle.outage_cluster.specs.Acts.{put_fault, down_act, down_fault, held_at, is_tree_node, keepers_fault, kept_fault, range_on, key_act, node_act, nodes_fault, put_act, range_fault, rehash_at, ring_nodes_fault, row_answer, sync_at, held_text, up_act};
 ghost use Rattle.outage_cluster.specs.Handoff.{carrier_of, deliver_at, hinted, up_nodes};
+ghost use Rattle.outage_cluster.specs.Homes.{IsHomeIn, IsHomeOf};
 ghost use Rattle.outage_cluster.specs.State.{first_config, first_ring, hints_of, home, is_down, is_member, made, replicas_of};
 
 use crate::answer::CommandAnswer;
 use crate::handoff::{deliver_all, keep_all};
+use crate::home::Home;
 use crate::replica::Replica;
 use crate::replicas::{Replicas, Sent};
 use hash_tree::{NodeAt, Text, tree_depth};
@@ -244,59 +246,58 @@ impl Cluster {
         Ok(CommandAnswer::Row(text))
     }
 
-    /// Tests that a node that is up keeps a range of that number.
-    pub(crate) fn check_range(&self, node: u64, range: u64) -> Result<(), Refusal>
-        ensures { AnswersAtOnce result (range_fault self.now node range) (λ _. ⊤) }
+    /// Finds the home of the replica of a range at a node that is up.
+    pub(crate) fn home_of(&self, ask: &Rehash) -> Result<Home, Refusal>
+        ensures { AnswersAtOnce result (range_fault self.now ask.now.node ask.now.range)
+            (IsHomeOf self.now ask.now.node ask.now.range) }
     {
-        self.check_nodes(node, &[])?;
-        match self.replica_at(node, range) {
-            Some(_) => Ok(()),
-            None => Err(Refusal::OtherRange),
-        }
+        self.check_nodes(ask.node, &[])?;
+        self.home_in(ask.node, ask.range)
     }
 
-    /// Makes every node of the tree of a range at a node clean. Returns the answer with the number of those that were
-    /// dirty.
+    /// Makes every node of the tree of a replica clean. Returns the answer with the number of those that were dirty.
     #[tactic(auto, unfolding(crate::specs::Acts::rehash_at))]
     pub(crate) fn rehash(
         &mut self,
         rt: &(impl Threads + Sync),
         alloc: Global,
-        ask: &Rehash,
+        at: Home,
     ) -> Result<CommandAnswer, Refusal>
-        ensures { DoesOrBreaksOff result self.old self.new (rehash_at ask.now self.old) }
+        requires { IsHomeIn self.old at }
+        ensures { DoesOrBreaksOff result self.old self.new (rehash_at at.node at.range self.old) }
     {
-        if ask.range >= self.ranges.len() as u64 {
-            return Err(Refusal::OtherRange);
-        }
-        let hashed = self.ranges[ask.range as usize].rehash(rt, alloc, ask.node)?;
+        let hashed = self.ranges[at.range].rehash(rt, alloc, at)?;
         Ok(CommandAnswer::Rehash(hashed))
     }
 
-    /// Tests that both nodes of a sync are up and keep the range.
-    pub(crate) fn check_sync(&self, ask: &SyncFrom) -> Result<(), Refusal>
-        ensures { AnswersAtOnce result (keepers_fault ask.now self.now) (λ _. ⊤) }
+    /// Finds the homes of both replicas of a sync, if both nodes are up: first that of the node that fetches.
+    pub(crate) fn homes_of(&self, ask: &SyncFrom) -> Result<(Home, Home), Refusal>
+        ensures { AnswersAtOnce result (keepers_fault ask.now self.now)
+            (λ homes. IsHomeOf self.now ask.now.node ask.now.range homes.0
+            × IsHomeOf self.now ask.now.from ask.now.range homes.1) }
     {
         self.check_ring_nodes(ask.node, &[ask.from])?;
         self.check_up(ask.node)?;
         self.check_up(ask.from)?;
-        let own = self.replica_at(ask.node, ask.range);
-        let partner = self.replica_at(ask.from, ask.range);
-        if own.is_none() || partner.is_none() {
-            return Err(Refusal::OtherRange);
-        }
-        Ok(())
+        let own = self.home_in(ask.node, ask.range)?;
+        let from = self.home_in(ask.from, ask.range)?;
+        Ok((own, from))
     }
 
     /// Makes a node fetch the versions of a range that another has. Returns the answer with the report.
     #[tactic(auto, unfolding(crate::specs::Acts::sync_at))]
-    pub(crate) fn sync(&mut self, alloc: Global, ask: &SyncFrom) -> Result<CommandAnswer, Refusal>
-        ensures { DoesOrBreaksOff result self.old self.new (sync_at ask.now self.old) }
+    pub(crate) fn sync(
+        &mut self,
+        alloc: Global,
+        own: Home,
+        from: Home,
+    ) -> Result<CommandAnswer, Refusal>
+        requires own { IsHomeIn self.old own }
+        requires from { IsHomeIn self.old from }
+        requires range { from.range ≡ own.range }
+        ensures { DoesOrBreaksOff result self.old self.new (sync_at own.node from.node own.range self.old) }
     {
-        if ask.range >= self.ranges.len() as u64 {
-            return Err(Refusal::OtherRange);
-        }
-        let done = self.ranges[ask.range as usize].sync(alloc, ask.node, ask.from)?;
+        let done = self.ranges[own.range].sync(alloc, own, from)?;
         Ok(CommandAnswer::Sync(done))
     }
 
@@ -314,6 +315,17 @@ impl Cluster {
             unreachable!()
         };
         Ok(CommandAnswer::Node(replica.digest_at(node)))
+    }
+
+    /// Finds the home of a node's replica of the range of that number, if the ring has such a range.
+    fn home_in(&self, node: u64, range: u64) -> Result<Home, Refusal>
+        ensures { AnswersAtOnce result (kept_fault (range_on self.now node range))
+            (IsHomeOf self.now node range) }
+    {
+        if range >= self.ranges.len() as u64 {
+            return Err(Refusal::OtherRange);
+        }
+        self.ranges[range as usize].home_of(node, range as usize)
     }
 
     /// Finds the replica at a node of the range of that number, if the ring has such a range.

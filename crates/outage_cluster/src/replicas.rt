@@ -1,10 +1,10 @@
 //! The replicas of a range, in the order of its preference list.
 ghost use Rattle.std.specs.Prelude.{◌≡◌, ◌≢◌, ◌<◌, ◌^◌, length, filter, map, option_map, IfOk, IfErr, IfSome, IfNone, OnOk, None};
 ghost use Rattle.std.specs.Result.{result_map_both};
-ghost use Rattle.vclock.specs.Answer.{Answers, AnswersOrNoMemory};
+ghost use Rattle.vclock.specs.Answer.{Answers, AnswersAtOnce, AnswersOrNoMemory};
 ghost use Rattle.vclock.specs.Outcome.{DoesOrNoMemory, DoesOrBreaksOff};
 ghost use Rattle.vclock.specs.Clock.{clock_of};
-ghost use Rattle.outage_cluster.specs.Acts.{takes, after_copy, clean_at, gets_hint, put_into};
+ghost use Rattle.outage_cluster.specs.Acts.{takes, after_copy, clean_at, gets_hint, kept_fault, put_into};
 ghost use Rattle.outage_cluster.specs.State.{at_home, home, replica_at, at_node, replicas_made};
 ghost use Rattle.outage_cluster.specs.Homes.{AreOf, IsHome};
 ghost use Rattle.outage_cluster.specs.Syncs.{IsReported, walk_fault, synced_with};
@@ -13,6 +13,7 @@ ghost use Rattle.outage_cluster.specs.Handoff.{owners_of};
 ghost use Rattle.range_journal.specs.declared.journal.Source.{Source};
 ghost use Rattle.range_state.specs.State.{rows_now, accept};
 
+use crate::home::Home;
 use crate::replica::{Replica, gets_hint};
 use key_ring::Ring;
 use outage_commands::Put;
@@ -81,38 +82,44 @@ impl Replicas {
         Some(&self.replicas[place])
     }
 
-    /// Makes every node of the tree of a node's replica clean, and returns the number of those that were dirty.
+    /// Finds the home of a node's replica, if these are the replicas of the range of that number.
+    pub(crate) fn home_of(&self, node: u64, range: usize) -> Result<Home, Refusal>
+        ensures { AnswersAtOnce result (kept_fault (home node self.now))
+            (λ h. (h.node ≡ node) × (h.range ≡ range) × IsHome h.node self.now h.place) }
+    {
+        let Some(place) = place_of(&self.replicas, node) else {
+            return Err(Refusal::OtherRange);
+        };
+        let node = self.replicas[place].node();
+        Ok(Home { node, range, place })
+    }
+
+    /// Makes every node of the tree of a replica clean, and returns the number of those that were dirty.
     pub(crate) fn rehash(
         &mut self,
         rt: &(impl Threads + Sync),
         alloc: Global,
-        node: u64,
+        at: Home,
     ) -> Result<u64, Refusal>
-        ensures { DoesOrBreaksOff result self.old self.new (at_home node clean_at self.old) }
+        requires { IsHome at.node self.old at.place }
+        ensures { DoesOrBreaksOff result self.old self.new (at_home at.node clean_at self.old) }
     {
-        let Some(place) = place_of(&self.replicas, node) else {
-            return Err(Refusal::OtherRange);
-        };
-        self.replicas[place].rehash(rt, alloc)
+        self.replicas[at.place].rehash(rt, alloc)
     }
 
     /// Makes a node fetch the versions that another has, in a session with it.
-    pub(crate) fn sync(&mut self, alloc: Global, node: u64, from: u64) -> Result<Synced, Refusal>
+    pub(crate) fn sync(&mut self, alloc: Global, own: Home, from: Home) -> Result<Synced, Refusal>
+        requires own { IsHome own.node self.old own.place }
+        requires from { IsHome from.node self.old from.place }
         ensures answers { AnswersOrNoMemory result
-            (walk_fault (home from self.old) (replica_at node self.old))
-            (λ a. IfSome (home from self.old) (λ h. IfSome (replica_at node self.old) (λ r. IsReported r (rows_now h) a))) }
-        ensures ok { OnOk result (IfSome (home from self.old) (λ h.
-            self.new ≡ at_node node (synced_with (rows_now h)) self.old)) }
+            (walk_fault (home from.node self.old) (replica_at own.node self.old))
+            (λ a. IfSome (home from.node self.old) (λ h. IfSome (replica_at own.node self.old) (λ r. IsReported r (rows_now h) a))) }
+        ensures ok { OnOk result (IfSome (home from.node self.old) (λ h.
+            self.new ≡ at_node own.node (synced_with (rows_now h)) self.old)) }
         ensures err { IfErr result (λ e. e ≢ Refusal.NoMemory → self.new ≡ self.old) }
     {
-        let Some(partner) = self.find(from) else {
-            return Err(Refusal::OtherRange);
-        };
-        let (partner, other) = (partner.node(), partner.snapshot(alloc)?);
-        let Some(place) = place_of(&self.replicas, node) else {
-            return Err(Refusal::OtherRange);
-        };
-        self.replicas[place].sync_with(alloc, partner, &other)
+        let other = self.replicas[from.place].snapshot(alloc)?;
+        self.replicas[own.place].sync_with(alloc, from.node, &other)
     }
 
     /// Lists the nodes that are to have a hint of a put, since they are down, in the order of the preference list.

@@ -155,9 +155,9 @@ impl<L: Ledger> World<L> {
     ) -> Result<CommandAnswer, Refusal>
         ensures { DoesOrBreaksOff result self.old self.new (rehash_act ask.now self.old) }
     {
-        self.cluster.check_range(ask.node, ask.range)?;
+        let home = self.cluster.home_of(ask)?;
         self.slots.lend()?;
-        let answer = self.cluster.rehash(rt, alloc, ask);
+        let answer = self.cluster.rehash(rt, alloc, home);
         self.slots.give_back();
         answer
     }
@@ -167,9 +167,9 @@ impl<L: Ledger> World<L> {
     fn sync(&mut self, alloc: Global, ask: &SyncFrom) -> Result<CommandAnswer, Refusal>
         ensures { DoesOrBreaksOff result self.old self.new (sync_act ask.now self.old) }
     {
-        self.cluster.check_sync(ask)?;
+        let (own, from) = self.cluster.homes_of(ask)?;
         self.slots.lend()?;
-        let answer = self.cluster.sync(alloc, ask);
+        let answer = self.cluster.sync(alloc, own, from);
         self.slots.give_back();
         answer
     }
