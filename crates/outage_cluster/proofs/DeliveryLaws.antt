@@ -14,8 +14,8 @@ use Rattle.version_set.specs.declared.kind.Kind.{Kind}
 use Rattle.range_state.specs.State as range
 use Rattle.range_state.specs.Sessions.{crowd_fault}
 use Rattle.outage_cluster.specs.declared.answer.CommandAnswer.{CommandAnswer}
-use Rattle.outage_commands.specs.Asks.{PutAsk, SyncAsk}
-use Rattle.outage_cluster.specs.Acts.{after_copy, put_fault, gets_hint, range_on, value_kind, nodes_fault, put_act, put_by, put_into, replica_in, sync_at, synced_in, takes, value_bytes}
+use Rattle.outage_commands.specs.declared.command.Put.{Put}
+use Rattle.outage_cluster.specs.Acts.{after_copy, put_fault, gets_hint, range_on, nodes_fault, put_act, put_by, put_into, replica_in, sync_at, synced_in, takes}
 use Rattle.outage_cluster.specs.declared.answer.CommandAnswer.TheVariants as Answers
 use Rattle.outage_cluster.specs.Handoff.{Round, carrier_of, deliver_at, hinted, kept_all, owners_of, round_of}
 use Rattle.outage_cluster.specs.State.{Cluster, Replica, at_home, hints_of, is_down, is_member, replica_at, replicas_of, with_replicas}
@@ -43,30 +43,30 @@ pub hinted_none : (e : Entry) (owners : List ℕ) (s : Cluster) (o : Option ℕ)
 hinted_none e owners s o n is p = rw (is, p) refl
 
 -- a put that was taken
-pub put_result : (p : PutAsk) (s : Cluster) (e : Entry) (copies n : ℕ) (owners : List ℕ) (new : List Replica) (after : Cluster) → put_fault p s ≡ None → put_into s.down p (replicas_of s p.key) ≡ gives (e, copies) new → owners ≡ owners_of (gets_hint s.down p.node p.lose) (replicas_of s p.key) → n ≡ (hinted e owners (with_replicas s p.key new) (carrier_of s (range_at s.ring.bits p.key))).0 → after ≡ (hinted e owners (with_replicas s p.key new) (carrier_of s (range_at s.ring.bits p.key))).1 → put_act p s ≡ gives (Answers.Put e.version.clock copies n e.number) after
+pub put_result : (p : Put) (s : Cluster) (e : Entry) (copies n : ℕ) (owners : List ℕ) (new : List Replica) (after : Cluster) → put_fault p s ≡ None → put_into s.down p (replicas_of s p.key) ≡ gives (e, copies) new → owners ≡ owners_of (gets_hint s.down p.node p.lose) (replicas_of s p.key) → n ≡ (hinted e owners (with_replicas s p.key new) (carrier_of s (range_at s.ring.bits p.key))).0 → after ≡ (hinted e owners (with_replicas s p.key new) (carrier_of s (range_at s.ring.bits p.key))).1 → put_act p s ≡ gives (Answers.Put e.version.clock copies n e.number) after
 unfolding put_act
 put_result p s e copies n owners new after fine made own count is = rw (fine, made, count, is, own) refl
 
 -- and one that its range refused
-pub put_refused : (p : PutAsk) (s : Cluster) (e : Refusal) → put_fault p s ≡ None → put_into s.down p (replicas_of s p.key) ≡ refuses e → put_act p s ≡ refuses e
+pub put_refused : (p : Put) (s : Cluster) (e : Refusal) → put_fault p s ≡ None → put_into s.down p (replicas_of s p.key) ≡ refuses e → put_act p s ≡ refuses e
 unfolding put_act
 put_refused p s e fine refused = rw (fine, refused) refl
 
-pub put_unasked : (p : PutAsk) (s : Cluster) (e : Refusal) → put_fault p s ≡ Some e → put_act p s ≡ refuses e
+pub put_unasked : (p : Put) (s : Cluster) (e : Refusal) → put_fault p s ≡ Some e → put_act p s ≡ refuses e
 unfolding put_act
 put_unasked p s e cause = rw cause refl
 
 -- a put with what a node keeps, said part by part
-pub put_parts : (p : PutAsk) (h : range.State) (node : ℕ) (key : List ℕ) (context : Pairs) (kind : Kind) (value : List ℕ) → node ≡ p.node → key ≡ p.key → context ≡ clock_of p.context → kind ≡ value_kind p.value → value ≡ value_bytes p.value → range.put h 0 node key context kind value ≡ put_by p h
+pub put_parts : (p : Put) (h : range.State) (node : ℕ) (key : List ℕ) (context : Pairs) (kind : Kind) (value : List ℕ) → node ≡ p.node → key ≡ p.key → context ≡ clock_of p.context → kind ≡ p.kind → value ≡ p.value → range.put h 0 node key context kind value ≡ put_by p h
 unfolding put_by
 put_parts p h node key context kind value a b c d e = rw (a, b, c, d, e) refl
 
 -- the copies of a put that its node took
-pub put_copied : (down : List ℕ) (p : PutAsk) (reps mid : List Replica) (e : Entry) → at_home p.node (put_by p) reps ≡ gives e mid → put_into down p reps ≡ gives (e, length (filter (takes down p.node p.lose e) mid)) (map (after_copy down p.node p.lose e) mid)
+pub put_copied : (down : List ℕ) (p : Put) (reps mid : List Replica) (e : Entry) → at_home p.node (put_by p) reps ≡ gives e mid → put_into down p reps ≡ gives (e, length (filter (takes down p.node p.lose e) mid)) (map (after_copy down p.node p.lose e) mid)
 unfolding put_into
 put_copied down p reps mid e is = rw is refl
 
-pub put_uncopied : (down : List ℕ) (p : PutAsk) (reps : List Replica) (e : Refusal) → at_home p.node (put_by p) reps ≡ refuses e → put_into down p reps ≡ refuses e
+pub put_uncopied : (down : List ℕ) (p : Put) (reps : List Replica) (e : Refusal) → at_home p.node (put_by p) reps ≡ refuses e → put_into down p reps ≡ refuses e
 unfolding put_into
 put_uncopied down p reps e is = rw is refl
 
@@ -75,18 +75,18 @@ pub nobody_home : {T : Type 0} (n : ℕ) (reps : List Replica) (call : range.Sta
 nobody_home n reps call none = rw none refl
 
 -- a sync that is refused
-pub sync_refused : (q : SyncAsk) (s : Cluster) (e : Refusal) → walk_fault (range_on s q.from q.range) (replica_in s q.node q.range) ≡ Some e → sync_at q s ≡ refuses e
+pub sync_refused : (node from r : ℕ) (s : Cluster) (e : Refusal) → walk_fault (range_on s from r) (replica_in s node r) ≡ Some e → sync_at node from r s ≡ refuses e
 unfolding sync_at
-sync_refused q s e cause = pick (range_on s q.from q.range) (replica_in s q.node q.range) cause
+sync_refused node from r s e cause = pick (range_on s from r) (replica_in s node r) cause
   where
     one : (f : Option Refusal) (rest : Outcome CommandAnswer Cluster) (later : Option Refusal) → (later ≡ Some e → rest ≡ refuses e) → first_fault f later ≡ Some e → (f >> rest) ≡ refuses e
     one (Some x) rest later more is = cc
     one None rest later more is = more is
 
-    pick : (partner : Option range.State) (own : Option Replica) → walk_fault partner own ≡ Some e → synced_in q s partner own ≡ refuses e
+    pick : (partner : Option range.State) (own : Option Replica) → walk_fault partner own ≡ Some e → synced_in node r s partner own ≡ refuses e
     pick None own is = cc
     pick (Some h) None is = one (range.dirty_fault h) _ _ (λ later. cc) is
-    pick (Some h) (Some r) is = one (range.dirty_fault h) _ _ (one (crowd_fault r.sessions) _ _ (stands (range.dirty_fault r.range) _)) is
+    pick (Some h) (Some own) is = one (range.dirty_fault h) _ _ (one (crowd_fault own.sessions) _ _ (stands (range.dirty_fault own.range) _)) is
       where
         stands : (f : Option Refusal) (rest : Outcome CommandAnswer Cluster) → f ≡ Some e → (f >> rest) ≡ refuses e
         stands (Some x) rest is = cc

@@ -28,7 +28,14 @@ use Rattle.range_state.specs.Trees.{rehashed}
 use Rattle.range_state.specs.declared.event.Accepted.{Accepted}
 use Rattle.hash_tree.specs.Nodes.{tree_depth, place_at, kept_digest, dirty_count}
 use Rattle.hash_tree.specs.Texts.{node_digest}
-use Rattle.outage_commands.specs.Asks.{RingAsk, PutAsk, GetAsk, RehashAsk, SyncAsk, NodeAsk, Ask, ring, put, get, row, take_down, bring_up, deliver, rehash, sync, show_node, slot, sample}
+use Rattle.outage_commands.specs.declared.command.Command.{Command}
+use Rattle.outage_commands.specs.declared.command.Command.TheVariants as Commands
+use Rattle.outage_commands.specs.declared.command.Get.{Get}
+use Rattle.outage_commands.specs.declared.command.NewRing.{NewRing}
+use Rattle.outage_commands.specs.declared.command.Put.{Put}
+use Rattle.outage_commands.specs.declared.command.Rehash.{Rehash}
+use Rattle.outage_commands.specs.declared.command.ShowNode.{ShowNode}
+use Rattle.outage_commands.specs.declared.command.SyncFrom.{SyncFrom}
 use Rattle.outage_cluster.specs.declared.answer.CommandAnswer.{CommandAnswer}
 use Rattle.outage_cluster.specs.declared.answer.CommandAnswer.TheVariants as Answers
 use Rattle.outage_cluster.specs.State.{Cluster, ClusterState, Replica, first_slots, made, in_replica, at_home, left, replica_at, at_node, replicas_of, with_range, with_replicas, home, is_member, is_down, taken_down, brought_up, hints_of}
@@ -39,15 +46,15 @@ use Rattle.outage_cluster.specs.declared.answer.CommandAnswer.TheVariants.{Refus
 
 -- ---- a ring
 
-abbrev pub places_of : RingAsk → Places
+abbrev pub places_of : NewRing → Places
 places_of r = record { bits = r.bits; nodes = r.nodes; copies = r.copies }
 
 -- the configuration of range 0, if the format and the limit are valid
-abbrev pub ring_config : RingAsk → Option Config
+abbrev pub ring_config : NewRing → Option Config
 ring_config r = config_of r.format r.bits 0 r.limit
 
 -- a new cluster, with new slots
-abbrev pub ring_act : RingAsk → Option Config → Outcome CommandAnswer ClusterState
+abbrev pub ring_act : NewRing → Option Config → Outcome CommandAnswer ClusterState
 ring_act r None = refuses BadRing
 ring_act r (Some c) = do
   ring_fault (places_of r)
@@ -79,22 +86,13 @@ up_act n s = do
 
 -- ---- a put
 
--- null is a tombstone, whose value is empty
-abbrev pub value_kind : Option (List ℕ) → Kind
-value_kind (Some value) = Live
-value_kind None = Tombstone
-
-abbrev pub value_bytes : Option (List ℕ) → List ℕ
-value_bytes (Some value) = value
-value_bytes None = []
-
 -- the fault of a put before its range is looked for
-abbrev pub put_fault : PutAsk → Cluster → Option Refusal
-put_fault p s = first_fault (nodes_fault s p.node p.lose) (first_fault (pairs_fault p.context) (first_fault (key_fault p.key) (value_fault s.format (value_kind p.value) (value_bytes p.value))))
+abbrev pub put_fault : Put → Cluster → Option Refusal
+put_fault p s = first_fault (nodes_fault s p.node p.lose) (first_fault (pairs_fault p.context) (first_fault (key_fault p.key) (value_fault s.format p.kind p.value)))
 
 -- a put into the state of its node: the script's seat is 0
-unfoldable pub put_by : PutAsk → range.State → Outcome Entry range.State
-put_by p h = range.put h 0 p.node p.key (clock_of p.context) (value_kind p.value) (value_bytes p.value)
+unfoldable pub put_by : Put → range.State → Outcome Entry range.State
+put_by p h = range.put h 0 p.node p.key (clock_of p.context) p.kind p.value
 
 -- a replica is to have a put: it is another node, and not one that gets no copy
 abbrev pub is_sent_to : ℕ → List ℕ → ℕ → Bool
@@ -121,7 +119,7 @@ abbrev pub after_copy : List ℕ → ℕ → List ℕ → Entry → Replica → 
 after_copy down node lose e r = if gets_copy down node lose r.node then left (copied_to e r) r else r
 
 -- a put and its copies: the entry, and the number of replicas that take a copy or know it
-unfoldable pub put_into : List ℕ → PutAsk → List Replica → Outcome (Entry × ℕ) (List Replica)
+unfoldable pub put_into : List ℕ → Put → List Replica → Outcome (Entry × ℕ) (List Replica)
 put_into down p reps = do
   at ← at_home p.node (put_by p) reps
   gives (at.0, length (filter (takes down p.node p.lose at.0) at.1)) (map (after_copy down p.node p.lose at.0) at.1)
@@ -130,7 +128,7 @@ put_into down p reps = do
 abbrev pub put_told : Entry × ℕ → ℕ × Cluster → Outcome CommandAnswer Cluster
 put_told e kept = gives (Answers.Put e.0.version.clock e.1 kept.0 e.0.number) kept.1
 
-unfoldable pub put_act : PutAsk → Cluster → Outcome CommandAnswer Cluster
+unfoldable pub put_act : Put → Cluster → Outcome CommandAnswer Cluster
 put_act p s = do
   put_fault p s
   at ← put_into s.down p (replicas_of s p.key)
@@ -144,13 +142,13 @@ shown s show None = refuses OtherRange
 shown s show (Some h) = gives (show h) s
 
 -- the answer about a key at a node
-unfoldable pub key_act : (range.State → CommandAnswer) → GetAsk → Cluster → Outcome CommandAnswer Cluster
+unfoldable pub key_act : (range.State → CommandAnswer) → Get → Cluster → Outcome CommandAnswer Cluster
 key_act show g s = do
   nodes_fault s g.node []
   key_fault g.key
   shown s show (home g.node (replicas_of s g.key))
 
-abbrev pub held_at : GetAsk → range.State → CommandAnswer
+abbrev pub held_at : Get → range.State → CommandAnswer
 held_at g h = Answers.Versions (held h.entries g.key)
 
 -- a row's text in a format, or no bytes if no version is held
@@ -158,7 +156,7 @@ abbrev pub held_text : Format → List ℕ → List Version → List ℕ
 held_text format key [] = []
 held_text format key (v ∷ vs) = row_text format (record { key = key; versions = v ∷ vs })
 
-abbrev pub row_answer : GetAsk → range.State → CommandAnswer
+abbrev pub row_answer : Get → range.State → CommandAnswer
 row_answer g h = Answers.Row (held_text h.config.format g.key (held h.entries g.key))
 
 -- the state of the range of that number at a node: None if the node does not keep it or the ring has no such range
@@ -169,10 +167,10 @@ range_on s node r = home node (slice_index_or s.replicas r [])
 abbrev pub shown_digest : ℕ → ℕ → range.State → Option (List ℕ)
 shown_digest depth index h = if is_some (kept_digest h.marks (place_at depth index)) then Some (node_digest h.config.format (range.leaf_in h.config) (rows_of h.entries) (tree_depth h.config.format - depth) index) else None
 
-abbrev pub node_at : NodeAsk → range.State → CommandAnswer
+abbrev pub node_at : ShowNode → range.State → CommandAnswer
 node_at q h = Answers.Node (shown_digest q.depth q.index h)
 
-unfoldable pub node_act : NodeAsk → Cluster → Outcome CommandAnswer Cluster
+unfoldable pub node_act : ShowNode → Cluster → Outcome CommandAnswer Cluster
 node_act q s = do
   nodes_fault s q.node []
   shown s (node_at q) (range_on s q.node q.range)
@@ -192,36 +190,38 @@ range_fault s node r = first_fault (nodes_fault s node []) (kept_fault (range_on
 abbrev pub clean_at : range.State → Outcome ℕ range.State
 clean_at h = gives (dirty_count h.marks) (rehashed h)
 
-unfoldable pub rehash_at : RehashAsk → Cluster → Outcome CommandAnswer Cluster
-rehash_at q s = do
-  hashed ← at_home q.node clean_at (slice_index_or s.replicas q.range [])
-  gives (Answers.Rehash hashed.0) (with_range s q.range hashed.1)
+-- a rehash of range r at a node
+unfoldable pub rehash_at : ℕ → ℕ → Cluster → Outcome CommandAnswer Cluster
+rehash_at node r s = do
+  hashed ← at_home node clean_at (slice_index_or s.replicas r [])
+  gives (Answers.Rehash hashed.0) (with_range s r hashed.1)
 
 -- the fault of the nodes of a sync: one is not on the ring, one is down, or one does not keep the range
-abbrev pub sync_nodes_fault : SyncAsk → Cluster → Option Refusal
+abbrev pub sync_nodes_fault : SyncFrom → Cluster → Option Refusal
 sync_nodes_fault q s = first_fault (ring_nodes_fault s q.node (q.from ∷ [])) (first_fault (down_fault s q.node) (down_fault s q.from))
 
-abbrev pub keepers_fault : SyncAsk → Cluster → Option Refusal
+abbrev pub keepers_fault : SyncFrom → Cluster → Option Refusal
 keepers_fault q s = first_fault (sync_nodes_fault q s) (first_fault (kept_fault (range_on s q.node q.range)) (kept_fault (range_on s q.from q.range)))
 
 -- the replica at a node of the range of that number
 abbrev pub replica_in : Cluster → ℕ → ℕ → Option Replica
 replica_in s node r = replica_at node (slice_index_or s.replicas r [])
 
--- a sync of a replica with the range of another node
-abbrev pub synced_in : SyncAsk → Cluster → Option range.State → Option Replica → Outcome CommandAnswer Cluster
-synced_in q s None own = refuses OtherRange
-synced_in q s (Some h) None = do
+-- a sync of a node's replica of range r with the range of another node
+abbrev pub synced_in : ℕ → ℕ → Cluster → Option range.State → Option Replica → Outcome CommandAnswer Cluster
+synced_in node r s None own = refuses OtherRange
+synced_in node r s (Some h) None = do
   range.dirty_fault h
   refuses OtherRange
-synced_in q s (Some h) (Some own) = do
+synced_in node r s (Some h) (Some own) = do
   range.dirty_fault h
   crowd_fault own.sessions
   range.dirty_fault own.range
-  gives (Answers.Sync (sync_report own (range.rows_now h))) (with_range s q.range (at_node q.node (synced_with (range.rows_now h)) (slice_index_or s.replicas q.range [])))
+  gives (Answers.Sync (sync_report own (range.rows_now h))) (with_range s r (at_node node (synced_with (range.rows_now h)) (slice_index_or s.replicas r [])))
 
-unfoldable pub sync_at : SyncAsk → Cluster → Outcome CommandAnswer Cluster
-sync_at q s = synced_in q s (range_on s q.from q.range) (replica_in s q.node q.range)
+-- a sync of a node's replica of range r with that of the node `from`
+unfoldable pub sync_at : ℕ → ℕ → ℕ → Cluster → Outcome CommandAnswer Cluster
+sync_at node from r s = synced_in node r s (range_on s from r) (replica_in s node r)
 
 -- ---- the commands
 
@@ -241,46 +241,48 @@ deliver_act n s = do
   nodes_fault s.cluster n []
   with_slot s (deliver_at s.cluster n (hints_of s.cluster n))
 
-unfoldable pub rehash_act : RehashAsk → ClusterState → Outcome CommandAnswer ClusterState
+unfoldable pub rehash_act : Rehash → ClusterState → Outcome CommandAnswer ClusterState
 rehash_act q s = do
   range_fault s.cluster q.node q.range
-  with_slot s (rehash_at q s.cluster)
+  with_slot s (rehash_at q.node q.range s.cluster)
 
-unfoldable pub sync_act : SyncAsk → ClusterState → Outcome CommandAnswer ClusterState
+unfoldable pub sync_act : SyncFrom → ClusterState → Outcome CommandAnswer ClusterState
 sync_act q s = do
   keepers_fault q s.cluster
-  with_slot s (sync_at q s.cluster)
+  with_slot s (sync_at q.node q.from q.range s.cluster)
 
 -- the answer of a command, and the state after it
-unfoldable pub act : Ask → ClusterState → Outcome CommandAnswer ClusterState
-act (ring r) s = ring_act r (ring_config r)
-act (put p) s = in_cluster s (put_act p s.cluster)
-act (get g) s = in_cluster s (key_act (held_at g) g s.cluster)
-act (row g) s = in_cluster s (key_act (row_answer g) g s.cluster)
-act (take_down n) s = in_cluster s (down_act n s.cluster)
-act (bring_up n) s = in_cluster s (up_act n s.cluster)
-act (deliver n) s = deliver_act n s
-act (rehash q) s = rehash_act q s
-act (sync q) s = sync_act q s
-act (show_node q) s = in_cluster s (node_act q s.cluster)
-act (slot x) s = in_slots s (slot_act x s.slots)
-act (sample q) s = in_slots s (sample_act q s.slots)
+unfoldable pub act : Command → ClusterState → Outcome CommandAnswer ClusterState
+act (Commands.Ring r) s = ring_act r (ring_config r)
+act (Commands.Put p) s = in_cluster s (put_act p s.cluster)
+act (Commands.Get g) s = in_cluster s (key_act (held_at g) g s.cluster)
+act (Commands.Row g) s = in_cluster s (key_act (row_answer g) g s.cluster)
+act (Commands.Down n) s = in_cluster s (down_act n s.cluster)
+act (Commands.Up n) s = in_cluster s (up_act n s.cluster)
+act (Commands.Deliver n) s = deliver_act n s
+act (Commands.Rehash q) s = rehash_act q s
+act (Commands.Sync q) s = sync_act q s
+act (Commands.Node q) s = in_cluster s (node_act q s.cluster)
+act (Commands.Slot x) s = in_slots s (slot_act x s.slots)
+act (Commands.Sample q) s = in_slots s (sample_act q s.slots)
 
 -- the tree of a range in a format has a node
 abbrev pub is_tree_node : Format → ℕ → ℕ → Bool
 is_tree_node format depth index = nat_le depth (tree_depth format) && nat_lt index (16 ^ depth)
 
--- the ring in force has such a command: in format 1 no value is null, the tree has the node, and the controller may
--- have the target
-abbrev pub has_value : Format → Option (List ℕ) → Bool
-has_value One value = is_some value
-has_value Two value = true
+-- a format has puts of a kind: format 1 has no tombstones
+abbrev pub has_kind : Format → Kind → Bool
+has_kind One Live = true
+has_kind One Tombstone = false
+has_kind Two kind = true
 
-abbrev pub suits : ClusterState → Ask → Bool
-suits s (put p) = has_value s.cluster.format p.value
-suits s (show_node q) = is_tree_node s.cluster.format q.depth q.index
-suits s (slot x) = is_target s.slots x
-suits s ask = true
+-- the ring in force has such a command: its format has puts of the kind, the tree has the node, and the controller may
+-- have the target
+abbrev pub suits : ClusterState → Command → Bool
+suits s (Commands.Put p) = has_kind s.cluster.format p.kind
+suits s (Commands.Node q) = is_tree_node s.cluster.format q.depth q.index
+suits s (Commands.Slot x) = is_target s.slots x
+suits s command = true
 
 -- the answer of a command: its own, or its refusal
 abbrev pub replied : {S : Type 0} → Outcome CommandAnswer S → CommandAnswer

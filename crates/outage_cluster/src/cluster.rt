@@ -3,16 +3,17 @@ ghost use Rattle.std.specs.Prelude.{◌≡◌, ◌<◌, ◌^◌, ◌==◌, ⊤, 
 ghost use Rattle.std.specs.List.{list_all, AllByRecursion};
 ghost use Rattle.vclock.specs.Answer.{Answers, AnswersAtOnce, AnswersOrNoMemory};
 ghost use Rattle.vclock.specs.Clock.{clock_of};
-ghost use Rattle.vclock.specs.Outcome.{gives, DoesOrBreaksOff};
+ghost use Rattle.vclock.specs.Outcome.{DoesOrBreaksOff};
 ghost use Rattle.vclock.specs.Bytes.{key_fault};
 ghost use Rattle.version_set.specs.Kind.{value_fault};
-ghost use Rattle.outage_cluster.specs.Acts.{put_fault, down_act, down_fault, held_at, is_tree_node, keepers_fault, range_on, key_act, value_kind, node_act, nodes_fault, put_act, range_fault, rehash_at, ring_nodes_fault, row_answer, sync_at, held_text, up_act, value_bytes};
+ghost use Rattle.outage_cluster.specs.Acts.{put_fault, down_act, down_fault, held_at, is_tree_node, keepers_fault, kept_fault, range_on, key_act, node_act, nodes_fault, put_act, range_fault, rehash_at, ring_nodes_fault, row_answer, sync_at, held_text, up_act};
 ghost use Rattle.outage_cluster.specs.Handoff.{carrier_of, deliver_at, hinted, up_nodes};
-ghost use Rattle.outage_commands.specs.Orders.{get_ask, node_ask, put_ask, rehash_ask, sync_ask};
+ghost use Rattle.outage_cluster.specs.Homes.{IsHomeIn, IsHomeOf};
 ghost use Rattle.outage_cluster.specs.State.{first_config, first_ring, hints_of, home, is_down, is_member, made, replicas_of};
 
 use crate::answer::CommandAnswer;
 use crate::handoff::{deliver_all, keep_all};
+use crate::home::Home;
 use crate::replica::Replica;
 use crate::replicas::{Replicas, Sent};
 use hash_tree::{NodeAt, Text, tree_depth};
@@ -26,7 +27,7 @@ use std::marker::Model;
 use std::thread::Threads;
 use vclock::limits::ENTRIES_MAX;
 use vclock::{Bytes, Clock, Format, Refusal, check_key};
-use version_set::{Kind, VersionSet};
+use version_set::VersionSet;
 
 /// A ring: its nodes, the hints that they keep, and the replicas of its ranges.
 pub(crate) struct Cluster {
@@ -50,14 +51,12 @@ impl Model for Cluster {
 
 impl Cluster {
     /// Makes the cluster at the start of a script: a ring of node 1, with one range.
-    pub(crate) fn start(alloc: Global) -> Result<Cluster, AllocError>
-        ensures { IfOk result (λ cluster. cluster ≡ made first_ring first_config) }
+    pub(crate) fn start(alloc: Global) -> Result<Cluster, Refusal>
+        ensures { Answers result None (λ cluster. cluster ≡ made first_ring first_config) }
     {
         let config = RangeConfig::new(1, 0, 0, ENTRIES_MAX).unwrap();
-        match Ring::new(alloc, 0, &[1], 1) {
-            Ok(ring) => Cluster::new(alloc, ring, config),
-            Err(_) => Err(AllocError),
-        }
+        let ring = Ring::new(alloc, 0, &[1], 1)?;
+        Ok(Cluster::new(alloc, ring, config)?)
     }
 
     /// Makes the cluster of a ring. Its nodes are up, have no hints, and have accepted nothing.
@@ -89,7 +88,7 @@ impl Cluster {
 
     /// Puts a value at a node, sends the copies and keeps the hints. Returns the answer with the clock and the number.
     pub(crate) fn put(&mut self, alloc: Global, put: Put) -> Result<CommandAnswer, Refusal>
-        ensures { DoesOrBreaksOff result self.old self.new (put_act (put_ask put) self.old) }
+        ensures { DoesOrBreaksOff result self.old self.new (put_act put self.old) }
     {
         let context = self.check_put(alloc, &put)?;
         let range = self.ring.range_of(put.key.as_slice());
@@ -115,9 +114,9 @@ impl Cluster {
 
     /// Keeps a hint of an entry for each of these owners at the carrier of a range, and returns the number that were
     /// kept.
-    fn keep_hints(&mut self, range: u16, owners: &[u16], entry: &Receipt) -> Result<u64, AllocError>
+    fn keep_hints(&mut self, range: u16, owners: &[u16], entry: &Receipt) -> Result<u64, Refusal>
         requires { range < 2 ^ self.old.ring.bits }
-        ensures count { IfOk result (λ n. n ≡ (hinted entry.now owners.now self.old (carrier_of self.old range)).0) }
+        ensures count { Answers result None (λ n. n ≡ (hinted entry.now owners.now self.old (carrier_of self.old range)).0) }
         ensures kept { OnOk result (self.new ≡ (hinted entry.now owners.now self.old (carrier_of self.old range)).1) }
     {
         let Some(carrier) = self.carrier_of(range) else {
@@ -201,9 +200,9 @@ impl Cluster {
 
     /// Offers the hints that a node keeps to their owners. Returns the answer with the numbers of those that were
     /// taken, known, and still pending.
-    pub(crate) fn deliver(&mut self, alloc: Global, node: u64) -> Result<CommandAnswer, AllocError>
+    pub(crate) fn deliver(&mut self, alloc: Global, node: u64) -> Result<CommandAnswer, Refusal>
         requires { nodes_fault self.old node [] ≡ None }
-        ensures { IfOk result (λ a. deliver_at self.old node (hints_of self.old node) ≡ gives a self.new) }
+        ensures { DoesOrBreaksOff result self.old self.new (deliver_at self.old node (hints_of self.old node)) }
     {
         let up = self.up_nodes(alloc)?;
         let Some(place) = self.place_of(node) else {
@@ -221,7 +220,7 @@ impl Cluster {
     /// Returns the answer with the versions that are held for a key.
     #[tactic(auto, unfolding(crate::specs::Acts::key_act))]
     pub(crate) fn get(&self, alloc: Global, get: &Get) -> Result<CommandAnswer, Refusal>
-        ensures { DoesOrBreaksOff result self.now self.now (key_act (held_at (get_ask get.now)) (get_ask get.now) self.now) }
+        ensures { DoesOrBreaksOff result self.now self.now (key_act (held_at get.now) get.now self.now) }
     {
         self.check_nodes(get.node, &[])?;
         check_key(get.key.as_slice())?;
@@ -235,7 +234,7 @@ impl Cluster {
     /// Returns the answer with the text of the row of a key.
     #[tactic(auto, unfolding(crate::specs::Acts::key_act))]
     pub(crate) fn row(&self, alloc: Global, get: Get) -> Result<CommandAnswer, Refusal>
-        ensures { DoesOrBreaksOff result self.now self.now (key_act (row_answer (get_ask get)) (get_ask get) self.now) }
+        ensures { DoesOrBreaksOff result self.now self.now (key_act (row_answer get) get self.now) }
     {
         self.check_nodes(get.node, &[])?;
         check_key(get.key.as_slice())?;
@@ -247,59 +246,58 @@ impl Cluster {
         Ok(CommandAnswer::Row(text))
     }
 
-    /// Tests that a node that is up keeps a range of that number.
-    pub(crate) fn check_range(&self, node: u64, range: u64) -> Result<(), Refusal>
-        ensures { AnswersAtOnce result (range_fault self.now node range) (λ _. ⊤) }
+    /// Finds the home of the replica of a range at a node that is up.
+    pub(crate) fn home_of(&self, ask: &Rehash) -> Result<Home, Refusal>
+        ensures { AnswersAtOnce result (range_fault self.now ask.now.node ask.now.range)
+            (IsHomeOf self.now ask.now.node ask.now.range) }
     {
-        self.check_nodes(node, &[])?;
-        match self.replica_at(node, range) {
-            Some(_) => Ok(()),
-            None => Err(Refusal::OtherRange),
-        }
+        self.check_nodes(ask.node, &[])?;
+        self.home_in(ask.node, ask.range)
     }
 
-    /// Makes every node of the tree of a range at a node clean. Returns the answer with the number of those that were
-    /// dirty.
+    /// Makes every node of the tree of a replica clean. Returns the answer with the number of those that were dirty.
     #[tactic(auto, unfolding(crate::specs::Acts::rehash_at))]
     pub(crate) fn rehash(
         &mut self,
         rt: &(impl Threads + Sync),
         alloc: Global,
-        ask: &Rehash,
+        at: Home,
     ) -> Result<CommandAnswer, Refusal>
-        ensures { DoesOrBreaksOff result self.old self.new (rehash_at (rehash_ask ask.now) self.old) }
+        requires { IsHomeIn self.old at }
+        ensures { DoesOrBreaksOff result self.old self.new (rehash_at at.node at.range self.old) }
     {
-        if ask.range >= self.ranges.len() as u64 {
-            return Err(Refusal::OtherRange);
-        }
-        let hashed = self.ranges[ask.range as usize].rehash(rt, alloc, ask.node)?;
+        let hashed = self.ranges[at.range].rehash(rt, alloc, at)?;
         Ok(CommandAnswer::Rehash(hashed))
     }
 
-    /// Tests that both nodes of a sync are up and keep the range.
-    pub(crate) fn check_sync(&self, ask: &SyncFrom) -> Result<(), Refusal>
-        ensures { AnswersAtOnce result (keepers_fault (sync_ask ask.now) self.now) (λ _. ⊤) }
+    /// Finds the homes of both replicas of a sync, if both nodes are up: first that of the node that fetches.
+    pub(crate) fn homes_of(&self, ask: &SyncFrom) -> Result<(Home, Home), Refusal>
+        ensures { AnswersAtOnce result (keepers_fault ask.now self.now)
+            (λ homes. IsHomeOf self.now ask.now.node ask.now.range homes.0
+            × IsHomeOf self.now ask.now.from ask.now.range homes.1) }
     {
         self.check_ring_nodes(ask.node, &[ask.from])?;
         self.check_up(ask.node)?;
         self.check_up(ask.from)?;
-        let own = self.replica_at(ask.node, ask.range);
-        let partner = self.replica_at(ask.from, ask.range);
-        if own.is_none() || partner.is_none() {
-            return Err(Refusal::OtherRange);
-        }
-        Ok(())
+        let own = self.home_in(ask.node, ask.range)?;
+        let from = self.home_in(ask.from, ask.range)?;
+        Ok((own, from))
     }
 
     /// Makes a node fetch the versions of a range that another has. Returns the answer with the report.
     #[tactic(auto, unfolding(crate::specs::Acts::sync_at))]
-    pub(crate) fn sync(&mut self, alloc: Global, ask: &SyncFrom) -> Result<CommandAnswer, Refusal>
-        ensures { DoesOrBreaksOff result self.old self.new (sync_at (sync_ask ask.now) self.old) }
+    pub(crate) fn sync(
+        &mut self,
+        alloc: Global,
+        own: Home,
+        from: Home,
+    ) -> Result<CommandAnswer, Refusal>
+        requires own { IsHomeIn self.old own }
+        requires from { IsHomeIn self.old from }
+        requires range { from.range ≡ own.range }
+        ensures { DoesOrBreaksOff result self.old self.new (sync_at own.node from.node own.range self.old) }
     {
-        if ask.range >= self.ranges.len() as u64 {
-            return Err(Refusal::OtherRange);
-        }
-        let done = self.ranges[ask.range as usize].sync(alloc, ask.node, ask.from)?;
+        let done = self.ranges[own.range].sync(alloc, own, from)?;
         Ok(CommandAnswer::Sync(done))
     }
 
@@ -307,7 +305,7 @@ impl Cluster {
     #[tactic(auto, unfolding(crate::specs::Acts::node_act))]
     pub(crate) fn node(&self, ask: &ShowNode) -> Result<CommandAnswer, Refusal>
         requires { IsTrue (is_tree_node self.now.format ask.now.depth ask.now.index) }
-        ensures { DoesOrBreaksOff result self.now self.now (node_act (node_ask ask.now) self.now) }
+        ensures { DoesOrBreaksOff result self.now self.now (node_act ask.now self.now) }
     {
         self.check_nodes(ask.node, &[])?;
         let Some(replica) = self.replica_at(ask.node, ask.range) else {
@@ -317,6 +315,17 @@ impl Cluster {
             unreachable!()
         };
         Ok(CommandAnswer::Node(replica.digest_at(node)))
+    }
+
+    /// Finds the home of a node's replica of the range of that number, if the ring has such a range.
+    fn home_in(&self, node: u64, range: u64) -> Result<Home, Refusal>
+        ensures { AnswersAtOnce result (kept_fault (range_on self.now node range))
+            (IsHomeOf self.now node range) }
+    {
+        if range >= self.ranges.len() as u64 {
+            return Err(Refusal::OtherRange);
+        }
+        self.ranges[range as usize].home_of(node, range as usize)
     }
 
     /// Finds the replica at a node of the range of that number, if the ring has such a range.
@@ -339,13 +348,13 @@ impl Cluster {
 
     /// Makes the context of a put, if no part of the put is refused.
     fn check_put(&self, alloc: Global, put: &Put) -> Result<Clock, Refusal>
-        ensures { AnswersOrNoMemory result (put_fault (put_ask put.now) self.now)
-            (λ context. context ≡ clock_of put.now.context.items) }
+        ensures { AnswersOrNoMemory result (put_fault put.now self.now)
+            (λ context. context ≡ clock_of put.now.context) }
     {
-        self.check_nodes(put.node, &put.lose)?;
-        let context = Clock::from_pairs(alloc, &put.context)?;
+        self.check_nodes(put.node, put.lose.as_slice())?;
+        let context = Clock::from_pairs(alloc, put.context.as_slice())?;
         check_key(put.key.as_slice())?;
-        check_value(self.format, &put.value)?;
+        put.kind.check_value(self.format, put.value.as_slice())?;
         Ok(context)
     }
 
@@ -408,16 +417,6 @@ pub(crate) fn tree_node(format: Format, depth: u64, index: u64) -> Option<NodeAt
         return None;
     }
     NodeAt::new(depth as u8, index as u16)
-}
-
-/// Tests that a put may have the value, or the tombstone, in a format.
-fn check_value(format: Format, value: &Option<Bytes>) -> Result<(), Refusal>
-    ensures { AnswersAtOnce result (value_fault format (value_kind value.now) (value_bytes value.now)) (λ _. ⊤) }
-{
-    match value {
-        Some(value) => Kind::Live.check_value(format, value.as_slice()),
-        None => Kind::Tombstone.check_value(format, &[]),
-    }
 }
 
 /// Writes the text of the row of a key: no bytes if no version is held.

@@ -15,6 +15,7 @@
 pub mod answer;
 mod cluster;
 mod handoff;
+mod home;
 mod replica;
 mod replicas;
 mod slots;

@@ -9,7 +9,7 @@ ghost use Rattle.range_journal.specs.declared.journal.Source.{Source};
 ghost use Rattle.range_state.specs.State.{is_sent, dirty_fault, rows_now, fresh, accept, put};
 ghost use Rattle.range_state.specs.Syncs.{IsOfRange};
 ghost use Rattle.std.specs.Arc.{arc_value};
-ghost use Rattle.outage_cluster.specs.Acts.{takes, after_copy, clean_at, copied_to, gets_hint, is_sent_to, shown_digest};
+ghost use Rattle.outage_cluster.specs.Acts.{takes, after_copy, clean_at, gets_hint, is_sent_to, shown_digest};
 ghost use Rattle.outage_cluster.specs.State.{in_replica, replica_of};
 ghost use Rattle.outage_cluster.specs.Syncs.{IsReported, session_fault, synced_with};
 
@@ -17,7 +17,7 @@ use hash_tree::{Digest, NodeAt};
 use range_journal::Source;
 use range_state::{Accepted, RangeConfig, RangeState, Receipt, Synced};
 use snapshot::Snapshot;
-use std::alloc::{AllocError, Global};
+use std::alloc::Global;
 use std::marker::Model;
 use std::sync::Arc;
 use std::thread::Threads;
@@ -176,6 +176,7 @@ impl Replica {
     }
 
     /// Sends the replica a copy of an entry, if it is to get one. Returns true if it took it or knew it.
+    #[tactic(auto, unfolding(crate::specs::Acts::copied_to))]
     pub(crate) fn send(
         &mut self,
         alloc: Global,
@@ -183,29 +184,20 @@ impl Replica {
         node: u64,
         lose: &[u64],
         entry: &Receipt,
-    ) -> Result<bool, AllocError>
-        ensures taken { IfOk result (λ taken. taken ≡ takes down.now node lose.now entry.now self.old) }
+    ) -> Result<bool, Refusal>
+        ensures taken { Answers result None (λ taken. taken ≡ takes down.now node lose.now entry.now self.old) }
         ensures after { OnOk result (self.new ≡ after_copy down.now node lose.now entry.now self.old) }
         ensures config { self.new.range.config ≡ self.old.range.config }
     {
         if !is_sent_to(node, lose, self.node) || down.contains(&u64::from(self.node)) {
             return Ok(false);
         }
-        match self.take_copy(alloc, entry) {
+        let version = entry.version.try_clone()?;
+        match self.accept(alloc, Source::Copy, entry.key.as_slice(), version) {
             Ok(_) => Ok(true),
-            Err(Refusal::NoMemory) => Err(AllocError),
+            Err(Refusal::NoMemory) => Err(Refusal::NoMemory),
             Err(_) => Ok(false),
         }
-    }
-
-    /// Accepts a copy of an entry's version, unless it is known.
-    #[tactic(auto, unfolding(crate::specs::Acts::copied_to))]
-    fn take_copy(&mut self, alloc: Global, entry: &Receipt) -> Result<Accepted, Refusal>
-        ensures copies { DoesOrNoMemory result self.old self.new (copied_to entry.now self.old) }
-        ensures config { self.new.range.config ≡ self.old.range.config }
-    {
-        let version = entry.version.try_clone()?;
-        self.accept(alloc, Source::Copy, entry.key.as_slice(), version)
     }
 
     /// Accepts a version of another node, unless it is known.

@@ -1,11 +1,10 @@
 //! The replicas of a range, in the order of its preference list.
 ghost use Rattle.std.specs.Prelude.{◌≡◌, ◌≢◌, ◌<◌, ◌^◌, length, filter, map, option_map, IfOk, IfErr, IfSome, IfNone, OnOk, None};
 ghost use Rattle.std.specs.Result.{result_map_both};
-ghost use Rattle.vclock.specs.Answer.{AnswersOrNoMemory};
+ghost use Rattle.vclock.specs.Answer.{Answers, AnswersAtOnce, AnswersOrNoMemory};
 ghost use Rattle.vclock.specs.Outcome.{DoesOrNoMemory, DoesOrBreaksOff};
 ghost use Rattle.vclock.specs.Clock.{clock_of};
-ghost use Rattle.outage_cluster.specs.Acts.{takes, after_copy, clean_at, gets_hint, put_into, value_kind, value_bytes};
-ghost use Rattle.outage_commands.specs.Orders.{put_ask};
+ghost use Rattle.outage_cluster.specs.Acts.{takes, after_copy, clean_at, gets_hint, kept_fault, put_into};
 ghost use Rattle.outage_cluster.specs.State.{at_home, home, replica_at, at_node, replicas_made};
 ghost use Rattle.outage_cluster.specs.Homes.{AreOf, IsHome};
 ghost use Rattle.outage_cluster.specs.Syncs.{IsReported, walk_fault, synced_with};
@@ -14,6 +13,7 @@ ghost use Rattle.outage_cluster.specs.Handoff.{owners_of};
 ghost use Rattle.range_journal.specs.declared.journal.Source.{Source};
 ghost use Rattle.range_state.specs.State.{rows_now, accept};
 
+use crate::home::Home;
 use crate::replica::{Replica, gets_hint};
 use key_ring::Ring;
 use outage_commands::Put;
@@ -22,8 +22,8 @@ use range_state::{Accepted, RangeConfig, Receipt, Synced};
 use std::alloc::{AllocError, Global};
 use std::marker::Model;
 use std::thread::Threads;
-use vclock::{Bytes, Clock, Refusal};
-use version_set::{Kind, Version};
+use vclock::{Clock, Refusal};
+use version_set::Version;
 
 /// The replicas of a range.
 pub(crate) struct Replicas {
@@ -82,48 +82,54 @@ impl Replicas {
         Some(&self.replicas[place])
     }
 
-    /// Makes every node of the tree of a node's replica clean, and returns the number of those that were dirty.
+    /// Finds the home of a node's replica, if these are the replicas of the range of that number.
+    pub(crate) fn home_of(&self, node: u64, range: usize) -> Result<Home, Refusal>
+        ensures { AnswersAtOnce result (kept_fault (home node self.now))
+            (λ h. (h.node ≡ node) × (h.range ≡ range) × IsHome h.node self.now h.place) }
+    {
+        let Some(place) = place_of(&self.replicas, node) else {
+            return Err(Refusal::OtherRange);
+        };
+        let node = self.replicas[place].node();
+        Ok(Home { node, range, place })
+    }
+
+    /// Makes every node of the tree of a replica clean, and returns the number of those that were dirty.
     pub(crate) fn rehash(
         &mut self,
         rt: &(impl Threads + Sync),
         alloc: Global,
-        node: u64,
+        at: Home,
     ) -> Result<u64, Refusal>
-        ensures { DoesOrBreaksOff result self.old self.new (at_home node clean_at self.old) }
+        requires { IsHome at.node self.old at.place }
+        ensures { DoesOrBreaksOff result self.old self.new (at_home at.node clean_at self.old) }
     {
-        let Some(place) = place_of(&self.replicas, node) else {
-            return Err(Refusal::OtherRange);
-        };
-        self.replicas[place].rehash(rt, alloc)
+        self.replicas[at.place].rehash(rt, alloc)
     }
 
     /// Makes a node fetch the versions that another has, in a session with it.
-    pub(crate) fn sync(&mut self, alloc: Global, node: u64, from: u64) -> Result<Synced, Refusal>
+    pub(crate) fn sync(&mut self, alloc: Global, own: Home, from: Home) -> Result<Synced, Refusal>
+        requires own { IsHome own.node self.old own.place }
+        requires from { IsHome from.node self.old from.place }
         ensures answers { AnswersOrNoMemory result
-            (walk_fault (home from self.old) (replica_at node self.old))
-            (λ a. IfSome (home from self.old) (λ h. IfSome (replica_at node self.old) (λ r. IsReported r (rows_now h) a))) }
-        ensures ok { OnOk result (IfSome (home from self.old) (λ h.
-            self.new ≡ at_node node (synced_with (rows_now h)) self.old)) }
+            (walk_fault (home from.node self.old) (replica_at own.node self.old))
+            (λ a. IfSome (home from.node self.old) (λ h. IfSome (replica_at own.node self.old) (λ r. IsReported r (rows_now h) a))) }
+        ensures ok { OnOk result (IfSome (home from.node self.old) (λ h.
+            self.new ≡ at_node own.node (synced_with (rows_now h)) self.old)) }
         ensures err { IfErr result (λ e. e ≢ Refusal.NoMemory → self.new ≡ self.old) }
     {
-        let Some(partner) = self.find(from) else {
-            return Err(Refusal::OtherRange);
-        };
-        let (partner, other) = (partner.node(), partner.snapshot(alloc)?);
-        let Some(place) = place_of(&self.replicas, node) else {
-            return Err(Refusal::OtherRange);
-        };
-        self.replicas[place].sync_with(alloc, partner, &other)
+        let other = self.replicas[from.place].snapshot(alloc)?;
+        self.replicas[own.place].sync_with(alloc, from.node, &other)
     }
 
     /// Lists the nodes that are to have a hint of a put, since they are down, in the order of the preference list.
     fn owners(&self, alloc: Global, down: &[u64], put: &Put) -> Result<Vec<u16>, AllocError>
-        ensures { IfOk result (λ owners. owners.items ≡ owners_of (gets_hint down.now put.now.node put.now.lose.items) self.now) }
+        ensures { IfOk result (λ owners. owners.items ≡ owners_of (gets_hint down.now put.now.node put.now.lose) self.now) }
     {
         self.replicas
             .iter()
             .map(|replica| replica.node())
-            .filter(|other| gets_hint(down, put.node, &put.lose, *other))
+            .filter(|other| gets_hint(down, put.node, put.lose.as_slice(), *other))
             .collect(alloc)
     }
 
@@ -153,26 +159,27 @@ impl Replicas {
         down: &[u64],
         put: Put,
     ) -> Result<Sent, Refusal>
-        requires { context.now ≡ clock_of put.context.items }
+        requires { context.now ≡ clock_of put.context }
         ensures puts { DoesOrBreaksOff (result_map_both (λ done. (done.receipt, done.copied)) (λ e. e) result)
-            self.old self.new (put_into down.now (put_ask put) self.old) }
+            self.old self.new (put_into down.now put self.old) }
         ensures owners { IfOk result (λ done. done.owners.items
-            ≡ owners_of (gets_hint down.now put.node put.lose.items) self.old) }
+            ≡ owners_of (gets_hint down.now put.node put.lose) self.old) }
     {
         let Some(place) = place_of(&self.replicas, put.node) else {
             return Err(Refusal::OtherRange);
         };
         let owners = self.owners(alloc, down, &put)?;
-        let (kind, value) = payload(put.value);
-        let receipt = self.replicas[place].put(alloc, put.key.as_slice(), context, kind, value)?;
-        let copied = send_to(
-            alloc,
-            &mut self.replicas,
-            down,
-            put.node,
-            &put.lose,
-            &receipt,
-        )?;
+        let Put {
+            node,
+            key,
+            kind,
+            value,
+            lose,
+            ..
+        } = put;
+        let receipt = self.replicas[place].put(alloc, key.as_slice(), context, kind, value)?;
+        let lose = lose.as_slice();
+        let copied = send_to(alloc, &mut self.replicas, down, node, lose, &receipt)?;
         Ok(Sent {
             receipt,
             copied,
@@ -189,8 +196,8 @@ fn send_to(
     node: u64,
     lose: &[u64],
     entry: &Receipt,
-) -> Result<u64, AllocError>
-    ensures count { IfOk result (λ n. n ≡ length (filter (takes down.now node lose.now entry.now) replicas.old)) }
+) -> Result<u64, Refusal>
+    ensures count { Answers result None (λ n. n ≡ length (filter (takes down.now node lose.now entry.now) replicas.old)) }
     ensures all { OnOk result (replicas.new ≡ map (after_copy down.now node lose.now entry.now) replicas.old) }
     ensures config { (config : Config) → AreOf config replicas.old → AreOf config replicas.new }
 {
@@ -212,17 +219,6 @@ fn place_of(replicas: &[Replica], node: u64) -> Option<usize>
         }
     }
     None
-}
-
-/// Returns the kind and the value of a put: a tombstone's value is empty.
-fn payload(value: Option<Bytes>) -> (Kind, Bytes)
-    ensures kind { result.0 ≡ value_kind value }
-    ensures bytes { result.1 ≡ value_bytes value }
-{
-    match value {
-        Some(value) => (Kind::Live, value),
-        None => (Kind::Tombstone, Bytes::new()),
-    }
 }
 
 impl Drop for Replicas {

@@ -3,7 +3,6 @@ ghost use Rattle.std.specs.Prelude.{◌≡◌, None, IsTrue};
 ghost use Rattle.vclock.specs.Answer.{Answers};
 ghost use Rattle.vclock.specs.Outcome.{Does, DoesOrBreaksOff};
 ghost use Rattle.admission.specs.Admission.{lend};
-ghost use Rattle.outage_commands.specs.Orders.{sample_ask, slot_ask};
 ghost use Rattle.outage_cluster.specs.Slots.{given_back, is_target, sample_act, slot_act};
 ghost use Rattle.outage_cluster.specs.State.{first_slots};
 
@@ -57,7 +56,7 @@ impl<L: Ledger> Slots<L> {
 
     /// Returns true if the controller may have the target.
     pub(crate) fn is_target(&self, command: &SlotCommand) -> bool
-        ensures { result ≡ is_target self.now (slot_ask command.now) }
+        ensures { result ≡ is_target self.now command.now }
     {
         // Read for the proof alone: the controller has this floor and this ceiling.
         let _bounds = &self.controller;
@@ -114,8 +113,8 @@ impl<L: Ledger> Slots<L> {
     /// Acts on a command for the slots.
     #[tactic(auto, unfolding(crate::specs::Slots::slot_act))]
     pub(crate) fn act(&mut self, command: SlotCommand) -> Result<CommandAnswer, Refusal>
-        requires { IsTrue (is_target self.old (slot_ask command)) }
-        ensures { DoesOrBreaksOff result self.old self.new (slot_act (slot_ask command) self.old) }
+        requires { IsTrue (is_target self.old command) }
+        ensures { DoesOrBreaksOff result self.old self.new (slot_act command self.old) }
     {
         match command {
             SlotCommand::Lend => self.lend()?,
@@ -132,7 +131,7 @@ impl<L: Ledger> Slots<L> {
     /// Takes a sample, and returns the number that are kept.
     #[tactic(auto, unfolding(crate::specs::Slots::sample_act))]
     pub(crate) fn sample(&mut self, sample: NewSample) -> Result<CommandAnswer, Refusal>
-        ensures { DoesOrBreaksOff result self.old self.new (sample_act (sample_ask sample) self.old) }
+        ensures { DoesOrBreaksOff result self.old self.new (sample_act sample self.old) }
     {
         let kept = self.controller.sample(sample.moment, sample.micros)?;
         Ok(CommandAnswer::Sample(kept))

@@ -1,8 +1,8 @@
 //! The world that a script changes: a cluster, and the slots for background work.
-ghost use Rattle.std.specs.Prelude.{◌≡◌, ◌≢◌, IsTrue, IfOk, IfErr, OnOk};
+ghost use Rattle.std.specs.Prelude.{◌≡◌, ◌≢◌, None, IsTrue, IfOk, IfErr, OnOk};
 ghost use Rattle.outage_cluster.specs.Acts.{act, deliver_act, rehash_act, ring_act, ring_config, suits, sync_act, replied};
-ghost use Rattle.outage_commands.specs.Orders.{ask_of, rehash_ask, ring_ask, sync_ask};
 ghost use Rattle.outage_cluster.specs.State.{left, start};
+ghost use Rattle.vclock.specs.Answer.{Answers};
 ghost use Rattle.vclock.specs.Outcome.{DoesOrBreaksOff};
 
 use crate::answer::CommandAnswer;
@@ -17,6 +17,7 @@ use std::mem::forget;
 use std::sync::ledger::{Blank, Ledger};
 use std::thread::Threads;
 use vclock::{Format, Refusal};
+use version_set::Kind;
 
 /// The treatment of the replicas' memory at the end of a run.
 #[derive(Clone, Copy, Debug, PartialEq, Eq)]
@@ -42,16 +43,14 @@ impl<L: Ledger> Model for World<L> {
 }
 
 impl<L: Ledger> World<L> {
-    /// Makes the world at the start of a script: a ring of node 1 with one range, and no slot lent.
-    pub fn start(blank: Blank, alloc: Global) -> Result<World<L>, AllocError>
+    /// Makes the world at the start of a script: a ring of node 1 with one range, and no slot lent. Refused: NoMemory.
+    pub fn start(blank: Blank, alloc: Global) -> Result<World<L>, Refusal>
         requires ledger { (blank.name ≡ L.name) × (blank.parts ≡ L.parts) × (blank.parts ≡ 1024) }
-        ensures { IfOk result (λ world. world ≡ start) }
+        ensures { Answers result None (λ world. world ≡ start) }
     {
         let cluster = Cluster::start(alloc)?;
-        match Slots::new(blank, alloc) {
-            Ok(slots) => Ok(World { cluster, slots }),
-            Err(_) => Err(AllocError),
-        }
+        let slots = Slots::new(blank, alloc)?;
+        Ok(World { cluster, slots })
     }
 
     /// Takes all slots back, and frees the memory of the replicas or leaves it.
@@ -64,13 +63,13 @@ impl<L: Ledger> World<L> {
         }
     }
 
-    /// Returns true if the ring in force has such a command: in format 1 no value is null, the tree has the node, and
-    /// the controller may have the target.
+    /// Returns true if the ring in force has such a command: its format has puts of the kind, the tree has the node,
+    /// and the controller may have the target. Format 1 has no tombstones.
     pub fn suits(&self, command: &Command) -> bool
-        ensures { result ≡ suits self.now (ask_of command.now) }
+        ensures { result ≡ suits self.now command.now }
     {
         match command {
-            Command::Put(put) => self.cluster.format() == Format::Two || put.value.is_some(),
+            Command::Put(put) => self.cluster.format() == Format::Two || put.kind == Kind::Live,
             Command::Node(ask) => tree_node(self.cluster.format(), ask.depth, ask.index).is_some(),
             Command::Slot(command) => self.slots.is_target(command),
             _ => true,
@@ -85,9 +84,9 @@ impl<L: Ledger> World<L> {
         alloc: Global,
         command: Command,
     ) -> Result<CommandAnswer, AllocError>
-        requires { IsTrue (suits self.old (ask_of command)) }
-        ensures reply { IfOk result (λ answer. answer ≡ replied (act (ask_of command) self.old)) }
-        ensures after { OnOk result (self.new ≡ left (act (ask_of command) self.old) self.old) }
+        requires { IsTrue (suits self.old command) }
+        ensures reply { IfOk result (λ answer. answer ≡ replied (act command self.old)) }
+        ensures after { OnOk result (self.new ≡ left (act command self.old) self.old) }
     {
         let answer = self.perform(rt, alloc, command);
         answered(answer)
@@ -101,8 +100,8 @@ impl<L: Ledger> World<L> {
         alloc: Global,
         command: Command,
     ) -> Result<CommandAnswer, Refusal>
-        requires { IsTrue (suits self.old (ask_of command)) }
-        ensures { DoesOrBreaksOff result self.old self.new (act (ask_of command) self.old) }
+        requires { IsTrue (suits self.old command) }
+        ensures { DoesOrBreaksOff result self.old self.new (act command self.old) }
     {
         match command {
             Command::Ring(ring) => self.renew(alloc, &ring),
@@ -122,12 +121,12 @@ impl<L: Ledger> World<L> {
 
     /// Makes a new cluster, with new slots.
     fn renew(&mut self, alloc: Global, ask: &NewRing) -> Result<CommandAnswer, Refusal>
-        ensures { DoesOrBreaksOff result self.old self.new (ring_act (ring_ask ask.now) (ring_config (ring_ask ask.now))) }
+        ensures { DoesOrBreaksOff result self.old self.new (ring_act ask.now (ring_config ask.now)) }
     {
         let Some(config) = RangeConfig::new(ask.format, ask.bits, 0, ask.limit) else {
             return Err(Refusal::BadRing);
         };
-        let ring = Ring::new(alloc, ask.bits, &ask.nodes, ask.copies)?;
+        let ring = Ring::new(alloc, ask.bits, ask.nodes.as_slice(), ask.copies)?;
         let (nodes, ranges) = (ring.nodes().len() as u64, u64::from(ring.ranges()));
         self.cluster = Cluster::new(alloc, ring, config)?;
         self.slots.renew();
@@ -143,7 +142,7 @@ impl<L: Ledger> World<L> {
         self.slots.lend()?;
         let answer = self.cluster.deliver(alloc, node);
         self.slots.give_back();
-        Ok(answer?)
+        answer
     }
 
     /// Rehashes a range at a node, with a slot that is given back.
@@ -154,11 +153,11 @@ impl<L: Ledger> World<L> {
         alloc: Global,
         ask: &Rehash,
     ) -> Result<CommandAnswer, Refusal>
-        ensures { DoesOrBreaksOff result self.old self.new (rehash_act (rehash_ask ask.now) self.old) }
+        ensures { DoesOrBreaksOff result self.old self.new (rehash_act ask.now self.old) }
     {
-        self.cluster.check_range(ask.node, ask.range)?;
+        let home = self.cluster.home_of(ask)?;
         self.slots.lend()?;
-        let answer = self.cluster.rehash(rt, alloc, ask);
+        let answer = self.cluster.rehash(rt, alloc, home);
         self.slots.give_back();
         answer
     }
@@ -166,11 +165,11 @@ impl<L: Ledger> World<L> {
     /// Makes a node fetch the versions of a range that another has, with a slot that is given back.
     #[tactic(auto, unfolding(crate::specs::Acts::sync_act))]
     fn sync(&mut self, alloc: Global, ask: &SyncFrom) -> Result<CommandAnswer, Refusal>
-        ensures { DoesOrBreaksOff result self.old self.new (sync_act (sync_ask ask.now) self.old) }
+        ensures { DoesOrBreaksOff result self.old self.new (sync_act ask.now self.old) }
     {
-        self.cluster.check_sync(ask)?;
+        let (own, from) = self.cluster.homes_of(ask)?;
         self.slots.lend()?;
-        let answer = self.cluster.sync(alloc, ask);
+        let answer = self.cluster.sync(alloc, own, from);
         self.slots.give_back();
         answer
     }

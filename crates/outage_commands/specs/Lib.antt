@@ -1,6 +1,4 @@
-pub mod Asks
 pub mod Reading
 pub mod Trees
 pub mod Commands
 pub mod Faults
-pub mod Orders

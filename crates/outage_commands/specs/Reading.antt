@@ -7,6 +7,8 @@ use Rattle.hex.specs.declared.error.FromHexError.{FromHexError}
 use Rattle.serde_json.specs.Data.{Data, Items, no_items, item, Members, no_members, member}
 use Rattle.serde_json.specs.Find.{get, as_null, as_number, as_u64, as_str, as_array, as_object}
 use Rattle.serde_json.specs.Read.{read}
+use Rattle.version_set.specs.declared.kind.Kind.{Kind}
+use Rattle.version_set.specs.declared.kind.Kind.TheVariants.{Live, Tombstone}
 
 -- the second step, if the first has a value
 infixl 10 ◌>>=◌
@@ -78,9 +80,9 @@ pairs_of d = list_of pair_of d
 abbrev pub member_of : {A : Type 0} → (Data → Option A) → List ℕ → Data → Option A
 member_of f name d = option_and_then f (get name d)
 
--- null, or what f reads
-abbrev pub nullable : {A : Type 0} → (Data → Option A) → Data → Option (Option A)
-nullable f d = if is_some (as_null d) then Some None else option_map Some (f d)
+-- the kind and the bytes of a put's value: null is a tombstone, which has no bytes
+abbrev pub payload_of : Data → Option (Kind × List ℕ)
+payload_of d = if is_some (as_null d) then Some (Tombstone, []) else option_map (λ value. (Live, value)) (bytes_of d)
 
 -- the value read by f, or absent if there is no value
 abbrev pub read_or : {A : Type 0} → A → (Data → Option A) → Option Data → Option A

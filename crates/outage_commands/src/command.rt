@@ -1,18 +1,19 @@
 //! Commands, and how they are read from lines.
-ghost use Rattle.std.specs.Prelude.{◌≡◌, IfOk, option_map, option_and_then};
+ghost use Rattle.std.specs.Prelude.{◌≡◌, IfOk, option_and_then};
 ghost use Rattle.outage_commands.specs.Commands.{ring_of, put_of, get_of, rehash_of, sync_of, node_of, named, other_forms, sole_node_of, slot_of, plain_slot, numbered_slot, sample_of, command_of};
 ghost use Rattle.outage_commands.specs.Reading.{value_of};
-ghost use Rattle.outage_commands.specs.Orders.{ask_of, ring_ask, put_ask, get_ask, rehash_ask, sync_ask, node_ask, slot_ask, sample_ask};
 ghost use Rattle.outage_commands.specs.Trees.{seen};
 
+use crate::items::Items;
 use crate::tree::{
-    has_only, list_at, list_or_none, maybe_number_at, member_at, number_at, number_or,
-    short_number_at, sole_member, text_at, tree_in,
+    has_only, items_or_none, maybe_number_at, member_at, number_at, number_or, short_number_at,
+    sole_member, text_at, tree_in,
 };
 use json::{Scratch, Value};
 use std::alloc::{AllocError, Global};
 use vclock::Bytes;
 use vclock::limits::ENTRIES_MAX;
+use version_set::Kind;
 
 /// The number of the format of a ring that doesn't name one.
 const FIRST_FORMAT: u64 = 1;
@@ -25,7 +26,7 @@ pub struct NewRing {
     /// The number of nodes that keep a range.
     pub copies: u64,
     /// The nodes in order.
-    pub nodes: Vec<u64>,
+    pub nodes: Items<u64>,
     /// The limit of each journal, in entries.
     pub limit: u64,
     /// The number of the format.
@@ -40,11 +41,13 @@ pub struct Put {
     /// The key.
     pub key: Bytes,
     /// The pairs of the put's context.
-    pub context: Vec<(u64, u64)>,
-    /// The value, or `None` for a tombstone.
-    pub value: Option<Bytes>,
+    pub context: Items<(u64, u64)>,
+    /// The kind of the value.
+    pub kind: Kind,
+    /// The value. A tombstone has no bytes.
+    pub value: Bytes,
     /// The nodes that get no copy.
-    pub lose: Vec<u64>,
+    pub lose: Items<u64>,
 }
 
 /// A get of the versions that are held at a node for a key.
@@ -146,8 +149,7 @@ pub fn command_in(
     line: &[u8],
     scratch: &mut Scratch,
 ) -> Result<Option<Command>, AllocError>
-    ensures { IfOk result (λ o. option_map ask_of o
-        ≡ option_and_then command_of (value_of line.now)) }
+    ensures { IfOk result (λ o. o ≡ option_and_then command_of (value_of line.now)) }
 {
     match tree_in(alloc, line, scratch)? {
         Some(tree) => named_in(alloc, &tree),
@@ -158,7 +160,7 @@ pub fn command_in(
 /// Reads the command that the one member of an object names.
 #[tactic(auto, unfolding(crate::specs::Commands::command_of))]
 fn named_in(alloc: Global, value: &Value<'_>) -> Result<Option<Command>, AllocError>
-    ensures { IfOk result (λ o. option_map ask_of o ≡ command_of (seen value.now)) }
+    ensures { IfOk result (λ o. o ≡ command_of (seen value.now)) }
 {
     let Some((name, inner)) = sole_member(value) else {
         return Ok(None);
@@ -178,7 +180,7 @@ fn named_in(alloc: Global, value: &Value<'_>) -> Result<Option<Command>, AllocEr
 
 /// Reads the command of that name, of those that touch no key.
 fn other_in(name: &str, members: &Value<'_>) -> Option<Command>
-    ensures { option_map ask_of result ≡ named other_forms (name.now, seen members.now) }
+    ensures { result ≡ named other_forms (name.now, seen members.now) }
 {
     if name == "down" {
         sole_node_in(members).map(Command::Down)
@@ -204,7 +206,7 @@ fn other_in(name: &str, members: &Value<'_>) -> Option<Command>
 /// Reads the ring of these members.
 #[tactic(auto, unfolding(crate::specs::Commands::ring_of))]
 fn ring_in(alloc: Global, members: &Value<'_>) -> Result<Option<NewRing>, AllocError>
-    ensures { IfOk result (λ o. option_map ring_ask o ≡ ring_of (seen members.now)) }
+    ensures { IfOk result (λ o. o ≡ ring_of (seen members.now)) }
 {
     if !has_only(members, &["bits", "copies", "nodes", "limit", "format"]) {
         return Ok(None);
@@ -215,7 +217,7 @@ fn ring_in(alloc: Global, members: &Value<'_>) -> Result<Option<NewRing>, AllocE
     let Some(copies) = number_at(members, "copies") else {
         return Ok(None);
     };
-    let Some(nodes) = list_at(alloc, members, "nodes")? else {
+    let Some(nodes) = member_at(alloc, members, "nodes")? else {
         return Ok(None);
     };
     let Some(limit) = number_or(members, "limit", ENTRIES_MAX) else {
@@ -234,7 +236,7 @@ fn ring_in(alloc: Global, members: &Value<'_>) -> Result<Option<NewRing>, AllocE
 /// Reads the put of these members.
 #[tactic(auto, unfolding(crate::specs::Commands::put_of))]
 fn put_in(alloc: Global, members: &Value<'_>) -> Result<Option<Put>, AllocError>
-    ensures { IfOk result (λ o. option_map put_ask o ≡ put_of (seen members.now)) }
+    ensures { IfOk result (λ o. o ≡ put_of (seen members.now)) }
 {
     if !has_only(members, &["node", "key", "context", "value", "lose"]) {
         return Ok(None);
@@ -245,17 +247,18 @@ fn put_in(alloc: Global, members: &Value<'_>) -> Result<Option<Put>, AllocError>
     let Some(key) = member_at(alloc, members, "key")? else {
         return Ok(None);
     };
-    let Some(context) = list_at(alloc, members, "context")? else {
+    let Some(context) = member_at(alloc, members, "context")? else {
         return Ok(None);
     };
-    let Some(value) = member_at(alloc, members, "value")? else {
+    let Some((kind, value)) = member_at(alloc, members, "value")? else {
         return Ok(None);
     };
-    let lose = list_or_none(alloc, members, "lose")?;
+    let lose = items_or_none(alloc, members, "lose")?;
     Ok(lose.map(|lose| Put {
         node,
         key,
         context,
+        kind,
         value,
         lose,
     }))
@@ -264,7 +267,7 @@ fn put_in(alloc: Global, members: &Value<'_>) -> Result<Option<Put>, AllocError>
 /// Reads the get of these members.
 #[tactic(auto, unfolding(crate::specs::Commands::get_of))]
 fn get_in(alloc: Global, members: &Value<'_>) -> Result<Option<Get>, AllocError>
-    ensures { IfOk result (λ o. option_map get_ask o ≡ get_of (seen members.now)) }
+    ensures { IfOk result (λ o. o ≡ get_of (seen members.now)) }
 {
     if !has_only(members, &["node", "key"]) {
         return Ok(None);
@@ -279,7 +282,7 @@ fn get_in(alloc: Global, members: &Value<'_>) -> Result<Option<Get>, AllocError>
 /// Reads the rehash of these members.
 #[tactic(auto, unfolding(crate::specs::Commands::rehash_of))]
 fn rehash_in(members: &Value<'_>) -> Option<Rehash>
-    ensures { option_map rehash_ask result ≡ rehash_of (seen members.now) }
+    ensures { result ≡ rehash_of (seen members.now) }
 {
     if !has_only(members, &["node", "range"]) {
         return None;
@@ -293,7 +296,7 @@ fn rehash_in(members: &Value<'_>) -> Option<Rehash>
 /// Reads the sync of these members.
 #[tactic(auto, unfolding(crate::specs::Commands::sync_of))]
 fn sync_in(members: &Value<'_>) -> Option<SyncFrom>
-    ensures { option_map sync_ask result ≡ sync_of (seen members.now) }
+    ensures { result ≡ sync_of (seen members.now) }
 {
     if !has_only(members, &["from", "node", "range"]) {
         return None;
@@ -308,7 +311,7 @@ fn sync_in(members: &Value<'_>) -> Option<SyncFrom>
 /// Reads the node of a tree of these members.
 #[tactic(auto, unfolding(crate::specs::Commands::node_of))]
 fn node_in(members: &Value<'_>) -> Option<ShowNode>
-    ensures { option_map node_ask result ≡ node_of (seen members.now) }
+    ensures { result ≡ node_of (seen members.now) }
 {
     if !has_only(members, &["node", "range", "depth", "index"]) {
         return None;
@@ -336,7 +339,7 @@ fn sole_node_in(members: &Value<'_>) -> Option<u64>
 /// the others.
 #[tactic(auto, unfolding(crate::specs::Commands::slot_of))]
 fn slot_in(members: &Value<'_>) -> Option<SlotCommand>
-    ensures { option_map slot_ask result ≡ slot_of (seen members.now) }
+    ensures { result ≡ slot_of (seen members.now) }
 {
     if !has_only(members, &["do", "n"]) {
         return None;
@@ -350,7 +353,7 @@ fn slot_in(members: &Value<'_>) -> Option<SlotCommand>
 
 /// Returns the command for the slots of a word without a number.
 fn plain_slot(word: &str) -> Option<SlotCommand>
-    ensures { option_map slot_ask result ≡ plain_slot word.now }
+    ensures { result ≡ plain_slot word.now }
 {
     match word {
         "lend" => Some(SlotCommand::Lend),
@@ -361,7 +364,7 @@ fn plain_slot(word: &str) -> Option<SlotCommand>
 
 /// Returns the command for the slots of a word and a number.
 fn numbered_slot(word: &str, n: u64) -> Option<SlotCommand>
-    ensures { option_map slot_ask result ≡ numbered_slot n word.now }
+    ensures { result ≡ numbered_slot n word.now }
 {
     match word {
         "target" => Some(SlotCommand::Target(n)),
@@ -373,7 +376,7 @@ fn numbered_slot(word: &str, n: u64) -> Option<SlotCommand>
 /// Reads the sample of these members.
 #[tactic(auto, unfolding(crate::specs::Commands::sample_of))]
 fn sample_in(members: &Value<'_>) -> Option<NewSample>
-    ensures { option_map sample_ask result ≡ sample_of (seen members.now) }
+    ensures { result ≡ sample_of (seen members.now) }
 {
     if !has_only(members, &["at", "micros"]) {
         return None;

@@ -2,6 +2,7 @@
 //! line's author why it isn't one.
 //!
 //! - [`command`]: the commands, and how they are read.
+//! - [`items`]: the items of a list in a command.
 //! - [`fault`]: the reason why a line isn't a command.
 //!
 //! ```
@@ -14,6 +15,7 @@
 pub mod command;
 mod digits;
 pub mod fault;
+pub mod items;
 mod member;
 mod tree;
 
@@ -21,3 +23,4 @@ pub use command::{
     Command, Get, NewRing, NewSample, Put, Rehash, ShowNode, SlotCommand, SyncFrom, command_in,
 };
 pub use fault::{LineFault, fault_of};
+pub use items::Items;

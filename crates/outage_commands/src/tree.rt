@@ -7,16 +7,18 @@ ghost use Rattle.serde_json.specs.Data.{no_members};
 ghost use Rattle.serde_json.specs.Find.{get, as_array, as_null, as_object, as_str, as_u64};
 ghost use Rattle.serde_json.specs.Read.{number_from};
 ghost use Rattle.outage_commands.specs.Commands.{short_number_of};
-ghost use Rattle.outage_commands.specs.Reading.{has_only, number_of, bytes_of, pair_of, list_of, nullable, member_of, default_of, maybe_of, sole_member, value_of};
+ghost use Rattle.outage_commands.specs.Reading.{has_only, number_of, bytes_of, pair_of, list_of, payload_of, member_of, default_of, maybe_of, sole_member, value_of};
 ghost use Rattle.outage_commands.specs.Trees.{is_whole, items_are_whole, members_are_whole, items_data, members_data, seen, whole_of};
 
 use crate::digits::spelled;
+use crate::items::Items;
 use fast_float::Numeral;
 use json::{Error, Reader, Scratch, Value};
 use serde_json::Value as OwnedValue;
 use std::alloc::{AllocError, Global};
 use std::str::from_utf8;
 use vclock::Bytes;
+use version_set::Kind;
 
 /// The maximum depth of nested arrays and objects, that of `serde_json`.
 const MAX_DEPTH: usize = 127;
@@ -159,15 +161,15 @@ impl FromValue for Bytes {
     }
 }
 
-impl FromValue for Option<Bytes> {
-    ghost reads = { nullable bytes_of };
+impl FromValue for (Kind, Bytes) {
+    ghost reads = { payload_of };
 
-    /// Reads null, or bytes.
-    fn from_value(alloc: Global, value: &Value<'_>) -> Result<Option<Option<Bytes>>, AllocError> {
+    /// Reads null as a tombstone, which has no bytes, and a text as the bytes of a live value.
+    fn from_value(alloc: Global, value: &Value<'_>) -> Result<Option<(Kind, Bytes)>, AllocError> {
         if is_null(value) {
-            return Ok(Some(None));
+            return Ok(Some((Kind::Tombstone, Bytes::new())));
         }
-        Ok(Bytes::from_value(alloc, value)?.map(Some))
+        Ok(Bytes::from_value(alloc, value)?.map(|bytes| (Kind::Live, bytes)))
     }
 }
 
@@ -177,6 +179,25 @@ impl FromValue for (u64, u64) {
     /// Reads a list of two numbers.
     fn from_value(_alloc: Global, value: &Value<'_>) -> Result<Option<(u64, u64)>, AllocError> {
         Ok(pair_in(value))
+    }
+}
+
+impl<T: FromValue> FromValue for Items<T> {
+    ghost reads = { list_of T.reads };
+
+    /// Reads each item of a list.
+    fn from_value(alloc: Global, value: &Value<'_>) -> Result<Option<Items<T>>, AllocError> {
+        let Some(items) = items_in(value) else {
+            return Ok(None);
+        };
+        let mut list = Vec::new(alloc);
+        for item in items {
+            let Some(read) = T::from_value(alloc, item)? else {
+                return Ok(None);
+            };
+            list.push(read)?;
+        }
+        Ok(Some(Items::new(list)))
     }
 }
 
@@ -236,27 +257,6 @@ fn members_in<'v, 'a>(value: &'v Value<'a>) -> Option<&'v Vec<(&'a str, Value<'a
         Value::Object(members) => Some(members),
         _ => None,
     }
-}
-
-/// Reads each item of a list. `None` if one isn't of the type.
-pub(crate) fn list_in<T: FromValue>(
-    alloc: Global,
-    value: &Value<'_>,
-) -> Result<Option<Vec<T>>, AllocError>
-    ensures { IfOk result (λ o. option_map (λ list. list.items) o
-        ≡ list_of T.reads (seen value.now)) }
-{
-    let Some(items) = items_in(value) else {
-        return Ok(None);
-    };
-    let mut list = Vec::new(alloc);
-    for item in items {
-        let Some(read) = T::from_value(alloc, item)? else {
-            return Ok(None);
-        };
-        list.push(read)?;
-    }
-    Ok(Some(list))
 }
 
 /// Returns true if the value is an object with no other members than these.
@@ -361,32 +361,16 @@ pub(crate) fn member_at<T: FromValue>(
     }
 }
 
-/// Reads the items of the member of that name. `None` if one isn't of the type.
-pub(crate) fn list_at<T: FromValue>(
-    alloc: Global,
-    value: &Value<'_>,
-    name: &str,
-) -> Result<Option<Vec<T>>, AllocError>
-    ensures { IfOk result (λ o. option_map (λ list. list.items) o
-        ≡ member_of (list_of T.reads) name.now (seen value.now)) }
-{
-    match member(value, name) {
-        Some(inner) => list_in(alloc, inner),
-        None => Ok(None),
-    }
-}
-
 /// Reads the items of the member of that name, or returns no item if it is missing.
-pub(crate) fn list_or_none<T: FromValue>(
+pub(crate) fn items_or_none<T: FromValue>(
     alloc: Global,
     value: &Value<'_>,
     name: &str,
-) -> Result<Option<Vec<T>>, AllocError>
-    ensures { IfOk result (λ o. option_map (λ list. list.items) o
-        ≡ default_of [] (list_of T.reads) name.now (seen value.now)) }
+) -> Result<Option<Items<T>>, AllocError>
+    ensures { IfOk result (λ o. o ≡ default_of [] (list_of T.reads) name.now (seen value.now)) }
 {
     match member(value, name) {
-        Some(inner) => list_in(alloc, inner),
-        None => Ok(Some(Vec::new(alloc))),
+        Some(inner) => Items::from_value(alloc, inner),
+        None => Ok(Some(Items::new(Vec::new(alloc)))),
     }
 }

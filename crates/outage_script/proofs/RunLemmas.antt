@@ -1,14 +1,15 @@
 -- A whole run, from what the reader gave and the writer took.
 use Rattle.std.proofs.Common.{◌≡◌, ◌⊎◌, inl, inr, ℕ, List, [], ◌++◌, refl, sym, ap, ◌∙◌, false, Option, Some, None, append_assoc, append-nil, length, take, drop, arith}
 use Rattle.std.proofs.lemmas.Grind.{common_steps}
+use Rattle.std.specs.Prelude.{unwrap_or}
 use Rattle.std.specs.Io.KnownBytes.{Appends, Keeps, Consumes, IsAtEnd}
 use Rattle.outage_script.specs.declared.ScriptEnd.{ScriptEnd}
 use Rattle.outage_script.specs.declared.ScriptEnd.TheVariants.{Done, BadLine, Device, NoMemory}
 use Rattle.outage_script.specs.Script.{script_outcome, preceded}
 use Rattle.outage_cluster.specs.State.{start}
 use Rattle.outage_script.specs.Ends.{Begins, IsRightEnd, IsAnswer, Runs}
-use Rattle.outage_script.specs.Moves.{Place, script_place, to_come, Moves, Ends, Spoils, Holds, Feeds, Finishes}
-use Rattle.outage_script.proofs.Known.{appends_both, appends_none}
+use Rattle.outage_script.specs.Moves.{Place, script_place, to_come, Moves, Ends, Spoils, Holds, HasRun, Feeds, Finishes}
+use Rattle.outage_script.proofs.Known.{appends_both, appends_none, appends_nothing}
 use Rattle.outage_script.proofs.LineLemmas.{ends_later, stops_later, moves_both}
 
 -- a run begins with the whole script to come
@@ -93,6 +94,14 @@ runs end None left before after bytes written c a r = tt
 runs end (Some input) None before after bytes written c a r = absurd c
 runs end (Some input) (Some left) before after bytes written c a r = (bytes, written, c, a, r left refl)
 
+-- memory ran out before the reader was asked
+pub nothing_run : (found before : Option (List ℕ)) → Runs NoMemory found found before before
+nothing_run None before = tt
+nothing_run (Some input) before = ([], [], refl, appends_nothing before, (((script_outcome []).text, refl), ((script_outcome input).text, refl)))
+
+pub nothing_read : (found before : Option (List ℕ)) (p : Place) → HasRun NoMemory found found before before p
+nothing_read found before p = record { runs = nothing_run found before; holds = tt }
+
 -- the reader failed, or gave no more turns
 pub runs_cut : (found left left' before after : Option (List ℕ)) (p : Place) → Progress found left before after p → Keeps left left' → Runs Device found left' before after
 runs_cut found left left' before after p old kept = runs Device found left' before after old.bytes old.written (consumes_none found left left' old.bytes old.reads kept) old.writes
@@ -114,8 +123,7 @@ runs_stopped found left left' before after after' after'' p q piece end result o
 
 -- how a run ends, once the end of the input was answered
 abbrev pub end_of : Option ScriptEnd → ScriptEnd
-end_of None = Done
-end_of (Some end) = end
+end_of end = unwrap_or end Done
 
 -- the outcome of what was read, at the end of the input
 at_end_of : (found left before after : Option (List ℕ)) (p : Place) (old : Progress found left before after p) → script_outcome old.bytes ≡ preceded old.written (to_come p [])

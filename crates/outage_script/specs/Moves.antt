@@ -7,7 +7,7 @@ use Rattle.outage_script.specs.Lines.{lines_of}
 use Rattle.outage_cluster.specs.State.{ClusterState}
 use Rattle.outage_commands.specs.Faults.{line_limit}
 use Rattle.outage_script.specs.Script.{ScriptOutcome, outcome_of, preceded, script_outcome}
-use Rattle.outage_script.specs.Ends.{Begins, IsBadAt}
+use Rattle.outage_script.specs.Ends.{Begins, IsBadAt, Runs}
 
 -- the place of a run: the number of the line that it reads, the state, the part of that line that was read, and true if
 -- the run ended since the line is too long
@@ -58,6 +58,11 @@ Holds (BadLine n) p None = ⊤
 Holds (BadLine n) p (Some input) = KeepsLine p (script_outcome input).spoiled
 Holds Device p input = ⊤
 Holds NoMemory p input = ⊤
+
+-- a run over a whole reader: it found and left these, and the place keeps the bad line that ended it, if one did
+pub record HasRun (end : ScriptEnd) (found left before after : Option (List ℕ)) (p : Place) : Type 0 where
+  pub runs : Runs end found left before after
+  pub holds : Holds end p found
 
 -- the run ended in this piece, for any bytes after it
 pub record Stops (old : Place) (piece : List ℕ) (new : Place) (end : ScriptEnd) (some : List ℕ) : Type 0 where

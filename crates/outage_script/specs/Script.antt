@@ -3,7 +3,7 @@ use Rattle.std.specs.Prelude.{◌≡◌, ℕ, ◌+◌, List, [], ◌∷◌, ◌+
 use Rattle.std.specs.List.{list_all}
 use Rattle.outage_script.specs.Lines.{lines_of, is_space}
 use Rattle.outage_cluster.specs.State.{ClusterState, start, left}
-use Rattle.outage_commands.specs.Asks.{Ask}
+use Rattle.outage_commands.specs.declared.command.Command.{Command}
 use Rattle.outage_cluster.specs.Acts.{act, suits, replied}
 use Rattle.outage_script.specs.Answers.{answer_line}
 use Rattle.outage_cluster.specs.declared.answer.CommandAnswer.TheVariants.{BadLine}
@@ -15,12 +15,12 @@ use Rattle.outage_commands.specs.Faults.{line_limit}
 abbrev pub Turn : Type 0
 Turn = Option (List ℕ × ClusterState)
 
-abbrev pub turn_of : ClusterState → Ask → List ℕ × ClusterState
-turn_of s ask = (answer_line (replied (act ask s)), left (act ask s) s)
+abbrev pub turn_of : ClusterState → Command → List ℕ × ClusterState
+turn_of s command = (answer_line (replied (act command s)), left (act command s) s)
 
 -- the command, if the ring in force has such a command
-abbrev pub suited : ClusterState → Ask → Option Ask
-suited s ask = if suits s ask then Some ask else None
+abbrev pub suited : ClusterState → Command → Option Command
+suited s command = if suits s command then Some command else None
 
 unfoldable pub step : ClusterState → List ℕ → Turn
 step s line = if nat_lt line_limit (length line) then None else if list_all is_space line then Some ([], s) else option_map (turn_of s) (option_and_then (suited s) (option_and_then command_of (value_of line)))

@@ -2,7 +2,7 @@
 ghost use Rattle.std.specs.Prelude.{false, ◌≡◌, ◌⊎◌, ◌+◌, [], vec_len, IfOk};
 ghost use Rattle.std.specs.Io.KnownBytes.{Keeps};
 ghost use Rattle.outage_script.specs.Ends.{Explains, Runs};
-ghost use Rattle.outage_script.specs.Moves.{Holds, script_place};
+ghost use Rattle.outage_script.specs.Moves.{HasRun, script_place};
 ghost use Rattle.outage_cluster.specs.State.{start};
 
 use crate::ScriptEnd;
@@ -56,6 +56,7 @@ pub fn run_last_script<T: Threads + Sync, R: Read, W: Write>(
 }
 
 /// Runs a reader's script, with slots that are parts of that ledger, and frees the memory of the replicas.
+#[tactic(auto, using(crate::proofs::RunLemmas::nothing_run))]
 fn run_freed<L: Ledger, T: Threads + Sync, R: Read, W: Write>(
     blank: Blank,
     rt: &T,
@@ -77,6 +78,7 @@ fn run_freed<L: Ledger, T: Threads + Sync, R: Read, W: Write>(
 
 /// Runs a reader's script, with slots that are parts of that ledger, explains the bad line that ended it, if any, and
 /// leaves the memory of the replicas.
+#[tactic(auto, using(crate::proofs::RunLemmas::nothing_run))]
 fn run_left<L: Ledger, T: Threads + Sync, R: Read, W: Write>(
     blank: Blank,
     rt: &T,
@@ -99,6 +101,7 @@ fn run_left<L: Ledger, T: Threads + Sync, R: Read, W: Write>(
 }
 
 /// Runs a reader's script from its first line.
+#[tactic(auto, using(crate::proofs::RunLemmas::nothing_read))]
 fn run_in<L: Ledger, T: Threads + Sync, R: Read, W: Write>(
     rt: &T,
     alloc: Global,
@@ -108,11 +111,9 @@ fn run_in<L: Ledger, T: Threads + Sync, R: Read, W: Write>(
 ) -> ScriptEnd
     requires new { script_place script.old.number script.old.world script.old.line.items script.old.too_long
         ≡ script_place 1 start [] false }
-    ensures runs { Runs result (R.remaining reader.old) (R.remaining reader.new)
-        (W.contents writer.old) (W.contents writer.new) }
-    ensures holds { Holds result
-        (script_place script.new.number script.new.world script.new.line.items script.new.too_long)
-        (R.remaining reader.old) }
+    ensures { HasRun result (R.remaining reader.old) (R.remaining reader.new)
+        (W.contents writer.old) (W.contents writer.new)
+        (script_place script.new.number script.new.world script.new.line.items script.new.too_long) }
 {
     let Ok(buffer) = zeros(alloc, READ_SIZE) else {
         return ScriptEnd::NoMemory;
@@ -133,19 +134,15 @@ fn drive<L: Ledger, T: Threads + Sync, R: Read, W: Write>(
     requires new { script_place script.old.number script.old.world script.old.line.items script.old.too_long
         ≡ script_place 1 start [] false }
     requires room { vec_len buffer ≡ 65536 }
-    ensures runs { Runs result (R.remaining reader.old) (R.remaining reader.new)
-        (W.contents writer.old) (W.contents writer.new) }
-    ensures holds { Holds result
-        (script_place script.new.number script.new.world script.new.line.items script.new.too_long)
-        (R.remaining reader.old) }
+    ensures { HasRun result (R.remaining reader.old) (R.remaining reader.new)
+        (W.contents writer.old) (W.contents writer.new)
+        (script_place script.new.number script.new.world script.new.line.items script.new.too_long) }
 {
     for calls in 0..READ_CALLS {
         let count = match reader.read(buffer.as_mut_slice()) {
             Ok(0) => {
-                return match script.finish(rt, alloc, writer) {
-                    Some(end) => flushed(writer, end),
-                    None => flushed(writer, ScriptEnd::Done),
-                };
+                let last = script.finish(rt, alloc, writer);
+                return flushed(writer, last.unwrap_or(ScriptEnd::Done));
             }
             Ok(count) => count,
             Err(_) => return ScriptEnd::Device,

@@ -1,5 +1,5 @@
 //! A run in progress: the world, and the line that isn't complete yet.
-ghost use Rattle.std.specs.Prelude.{Some, Option, ◌≡◌, ◌≤◌, ◌+◌, ◌^◌, ◌<◌, ◌∷◌, ◌++◌, [], ℕ, List, IsTrue, length, vec_len, false, IfOk, IfNone, option_map};
+ghost use Rattle.std.specs.Prelude.{None, Some, Option, ◌≡◌, ◌≤◌, ◌+◌, ◌^◌, ◌<◌, ◌∷◌, ◌++◌, [], ℕ, List, IsTrue, length, vec_len, false, IfOk, IfNone, option_map};
 ghost use Rattle.std.specs.List.{list_all};
 ghost use Rattle.std.specs.Io.KnownBytes.{Appends};
 ghost use Rattle.outage_script.specs.Ends.{Explains};
@@ -7,6 +7,7 @@ ghost use Rattle.outage_script.specs.Lines.{is_inside, is_space};
 ghost use Rattle.outage_script.specs.Moves.{Ends, Feeds, Finishes, Holds, script_place, to_come};
 ghost use Rattle.outage_script.specs.Script.{step, IsTurn, bad_line};
 ghost use Rattle.outage_cluster.specs.State.{start};
+ghost use Rattle.vclock.specs.Answer.{Answers};
 
 use crate::ScriptEnd;
 use crate::answer::answer_line;
@@ -19,6 +20,7 @@ use std::alloc::{AllocError, Global};
 use std::io::Write;
 use std::sync::ledger::{Blank, Ledger};
 use std::thread::Threads;
+use vclock::Refusal;
 
 /// The maximum length of a line, in bytes.
 const LINE_LIMIT: usize = 1_048_576;
@@ -37,9 +39,9 @@ pub(crate) struct ScriptRun<L: Ledger> {
 
 impl<L: Ledger> ScriptRun<L> {
     /// Makes a run that has read nothing.
-    pub(crate) fn new(blank: Blank, alloc: Global) -> Result<ScriptRun<L>, AllocError>
+    pub(crate) fn new(blank: Blank, alloc: Global) -> Result<ScriptRun<L>, Refusal>
         requires ledger { (blank.name ≡ L.name) × (blank.parts ≡ L.parts) × (blank.parts ≡ 1024) }
-        ensures { IfOk result (λ script.
+        ensures { Answers result None (λ script.
             script_place script.number script.world script.line.items script.too_long ≡ script_place 1 start [] false) }
     {
         Ok(ScriptRun {

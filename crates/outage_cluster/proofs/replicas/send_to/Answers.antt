@@ -15,7 +15,7 @@ loop-i-preserved c =
     let long = ap length inv.all ∙ changed_length f xs i in
     let lt : i < length xs = omega (arith, c.loop-i-test.true, long) in
     let here : get_or c.loop-i.replicas i r ≡ get_or xs i r = ap (λ t. get_or t i r) inv.all ∙ changed_get f xs i r lt in
-    let one : c.from.result ≡ cond (p (get_or xs i r)) 1 0 = c.from.ensures ∙ ap bool_byte (c.in_ok-send.ensures.taken ∙ ap p here) ∙ byte_is (p (get_or xs i r)) in
+    let one : c.from.result ≡ cond (p (get_or xs i r)) 1 0 = c.from.ensures ∙ ap bool_byte (c.in_ok-send.ensures.taken.1 ∙ ap p here) ∙ byte_is (p (get_or xs i r)) in
     record {
       all = ap (λ t. set t i c.send.new.self) inv.all ∙ changed_next f xs i c.send.new.self r lt (c.in_ok-send.ensures.after ∙ ap f here);
       count = (λ k. inv.count k + one k) ∙ sym (counted_more p xs i r lt);

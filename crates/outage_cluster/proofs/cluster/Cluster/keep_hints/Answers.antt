@@ -38,7 +38,7 @@ returns-in-None-clause-count c =
     let s = c.args.self.now in
     let is : carrier_of s c.args.range ≡ Some c.in-Some.carrier = search rules in
     let p : position (λ m. m == c.in-Some.carrier) s.ring.nodes ≡ None = search rules in
-    rw (hinted_none c.args.entry.now c.args.owners.now s (carrier_of s c.args.range) c.in-Some.carrier is p) refl
+    (refl, rw (hinted_none c.args.entry.now c.args.owners.now s (carrier_of s c.args.range) c.in-Some.carrier is p) refl)
 
 pub returns-in-None-clause-kept : goal.returns-in-None-clause-kept
 returns-in-None-clause-kept c =

@@ -6,7 +6,6 @@ use Rattle.key_ring.specs.Places.{range_at}
 use Rattle.vclock.specs.Outcome.{gives}
 use Rattle.outage_cluster.specs.Acts.{put_fault, gets_hint, put_into}
 use Rattle.outage_cluster.specs.Handoff.{carrier_of, hinted, owners_of}
-use Rattle.outage_commands.specs.Orders.{put_ask}
 use Rattle.outage_cluster.specs.State.{Replica, replicas_of, with_replicas}
 use Rattle.outage_cluster.proofs.DeliveryLaws.{put_refused, put_result, put_unasked}
 use Rattle.outage_cluster.proofs.cluster.Cluster.put.Goals as goal
@@ -16,13 +15,13 @@ returns-in_err-context c =
     let p = err_from_is_err_and c.from_residual.result c.from_residual.ensures.1 in
     rw (p.1, p.2) (elim c.in_err-context.ensures [
       | inl memory ↦ inl memory
-      | inr cause ↦ inr (refl, put_unasked (put_ask c.args.put) c.args.self.now c.in_err-context.field-0.0 cause)
+      | inr cause ↦ inr (refl, put_unasked c.args.put c.args.self.now c.in_err-context.field-0.0 cause)
     ])
 
 pub returns-in_err-sent : goal.returns-in_err-sent
 returns-in_err-sent c =
     let s = c.args.self.now in
-    let ask = put_ask c.args.put in
+    let ask = c.args.put in
     let reps = c.index_mut.result.now in
     let items = c.self.inside.ranges.items in
     let i = c.from.result in
@@ -48,7 +47,7 @@ returns-in_err-sent c =
 pub returns : goal.returns
 returns c =
     let s = c.args.self.now in
-    let p = put_ask c.args.put in
+    let p = c.args.put in
     let reps = c.index_mut.result.now in
     let new = c.put.new.self in
     let receipt = c.in_ok-sent.sent.receipt in
@@ -64,7 +63,7 @@ returns c =
     let down : c.deref.result.now ≡ s.down = search rules in
     let made : put_into s.down p (replicas_of s p.key) ≡ gives (receipt, c.in_ok-sent.sent.copied) new = ap (λ d. put_into d p (replicas_of s p.key)) (sym down) ∙ ap (put_into c.deref.result.now p) (sym at) ∙ c.in_ok-sent.ensures.puts in
     let own : owners ≡ owners_of (gets_hint s.down p.node p.lose) (replicas_of s p.key) = c.deref-2.ensures.value ∙ c.in_ok-sent.ensures.owners ∙ ap (λ d. owners_of (gets_hint d p.node p.lose) reps) down ∙ ap (owners_of (gets_hint s.down p.node p.lose)) at in
-    let told_count : c.in_ok-hinted.hinted ≡ (hinted receipt owners (record s { replicas = slice_set s.replicas i new }) (carrier_of s r)).0 = rw (← c.self.view_is) c.in_ok-hinted.ensures.count in
+    let told_count : c.in_ok-hinted.hinted ≡ (hinted receipt owners (record s { replicas = slice_set s.replicas i new }) (carrier_of s r)).0 = rw (← c.self.view_is) c.in_ok-hinted.ensures.count.1 in
     let told_after : after ≡ (hinted receipt owners (record s { replicas = slice_set s.replicas i new }) (carrier_of s r)).1 = rw (← c.self.view_is) c.in_ok-hinted.ensures.kept in
     let same : hinted receipt owners (record s { replicas = slice_set s.replicas i new }) (carrier_of s r) ≡ hinted receipt owners (with_replicas s p.key new) (carrier_of s (range_at s.ring.bits p.key)) = ap (λ j. hinted receipt owners (record s { replicas = slice_set s.replicas j new }) (carrier_of s r)) index ∙ ap (λ j. hinted receipt owners (with_replicas s p.key new) (carrier_of s j)) place in
     put_result p s receipt c.in_ok-sent.sent.copied c.in_ok-hinted.hinted owners new after c.in_ok-context.ensures.0 made own (told_count ∙ ap (λ d. d.0) same) (told_after ∙ ap (λ d. d.1) same)

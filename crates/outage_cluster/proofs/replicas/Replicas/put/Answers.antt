@@ -4,7 +4,6 @@ use Rattle.vclock.specs.Outcome.{DoesOrNoMemory, gives}
 use Rattle.vclock.specs.declared.refusal.Refusal.TheVariants.{OtherRange}
 use Rattle.outage_cluster.specs.Acts.{after_copy, put_by, takes}
 use Rattle.outage_cluster.specs.Homes.{AreOf, IsHome}
-use Rattle.outage_commands.specs.Orders.{put_ask}
 use Rattle.outage_cluster.specs.State.{Replica, at_home, in_replica, replica_at}
 use Rattle.outage_cluster.proofs.DeliveryLaws.{nobody_home, put_copied, put_parts, put_uncopied}
 use Rattle.outage_cluster.proofs.ListSteps.{front}
@@ -36,13 +35,13 @@ invariant_of-self-2 c =
 
 pub returns-in_default-clause-puts : goal.returns-in_default-clause-puts
 returns-in_default-clause-puts c =
-    let ask = put_ask c.args.put in
+    let ask = c.args.put in
     let none : replica_at ask.node c.args.self.now ≡ None = search rules in
     inr (refl, put_uncopied c.args.down.now ask c.args.self.now OtherRange (nobody_home ask.node c.args.self.now (put_by ask) none))
 
 pub returns-in_err-receipt-clause-puts : goal.returns-in_err-receipt-clause-puts
 returns-in_err-receipt-clause-puts c =
-    let ask = put_ask c.args.put in
+    let ask = c.args.put in
     let reps = c.self.inside.replicas.items in
     let i = c.in-Some.place in
     let own = c.index_mut.result.now in
@@ -51,7 +50,7 @@ returns-in_err-receipt-clause-puts c =
     let here = subst (λ (rs : List Replica). IsHome ask.node rs i) c.deref.ensures.value c.in-Some.ensures.some in
     let is : own ≡ get_or reps i own = search rules in
     let node : own.node ≡ ask.node = ap (λ (r : Replica). r.node) is ∙ here.node own in
-    let asked = put_parts ask own.range own.node c.as_slice.result.now c.args.context.now c.payload-kind.result.0 c.payload-kind.result.1 node (search rules) (search rules) c.payload-kind.ensures.kind c.payload-kind.ensures.bytes in
+    let asked = put_parts ask own.range own.node c.as_slice.result.now c.args.context.now ask.kind ask.value node (search rules) (search rules) refl refl in
     let did = homed ask.node reps i own new (put_by ask) (Err e) here is (subst (λ o. DoesOrNoMemory (Err e) own new (in_replica own o)) asked c.in_err-receipt.ensures.puts) in
     let p = err_from_is_err_and c.from_residual-in_err-receipt.result c.from_residual-in_err-receipt.ensures.1 in
     rw (p.1, p.2) (elim did.1 [
@@ -61,7 +60,7 @@ returns-in_err-receipt-clause-puts c =
 
 pub returns-clause-puts : goal.returns-clause-puts
 returns-clause-puts c =
-    let ask = put_ask c.args.put in
+    let ask = c.args.put in
     let reps = c.self.inside.replicas.items in
     let i = c.in-Some.place in
     let own = c.index_mut.result.now in
@@ -70,7 +69,7 @@ returns-clause-puts c =
     let here = subst (λ (rs : List Replica). IsHome ask.node rs i) c.deref.ensures.value c.in-Some.ensures.some in
     let is : own ≡ get_or reps i own = search rules in
     let node : own.node ≡ ask.node = ap (λ (r : Replica). r.node) is ∙ here.node own in
-    let asked = put_parts ask own.range own.node c.as_slice.result.now c.args.context.now c.payload-kind.result.0 c.payload-kind.result.1 node (search rules) (search rules) c.payload-kind.ensures.kind c.payload-kind.ensures.bytes in
+    let asked = put_parts ask own.range own.node c.as_slice.result.now c.args.context.now ask.kind ask.value node (search rules) (search rules) refl refl in
     let did = homed ask.node reps i own new (put_by ask) (Ok receipt) here is (subst (λ o. DoesOrNoMemory (Ok receipt) own new (in_replica own o)) asked c.in_ok-receipt.ensures.puts) in
     let mid = slice_set reps i new in
     let made = put_copied c.args.down.now ask c.args.self.now mid receipt (ap (at_home ask.node (put_by ask)) (sym c.self.view_is) ∙ did) in

@@ -2,7 +2,7 @@ use Rattle.std.proofs.Common.{◌≡◌, ◌++◌, drop, option_map}
 use Rattle.json.specs.Value.{items_view}
 use Rattle.outage_commands.specs.Reading.{each_of}
 use Rattle.outage_commands.specs.Trees.{items_data}
-use Rattle.outage_commands.proofs.tree.list_in.Given as goal
+use Rattle.outage_commands.proofs.tree.ItemsFromValue.from_value.Given as goal
 
 -- what was read so far, and what is left, is what all items are
 abbrev pub invariant-loop-item : goal.invariant-loop-item
