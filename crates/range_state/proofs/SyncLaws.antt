@@ -103,7 +103,7 @@ still_going [] (inr e) = let clash : Finished ≡ Cancelled = e in cc
 still_going (n ∷ nodes) (inl e) = let clash : Open ≡ Failed = e in cc
 still_going (n ∷ nodes) (inr e) = let clash : Open ≡ Cancelled = e in cc
 
-pub true_walk : (s now : State) (seat known : ℕ) (other : RowMap) (u : IsUnderWay s seat other known now) → IsRight now → IsOfRange s.config other → IsRowMap other → IsTrueWalk s now other u.r
+true_walk : (s now : State) (seat known : ℕ) (other : RowMap) (u : IsUnderWay s seat other known now) → IsRight now → IsOfRange s.config other → IsRowMap other → IsTrueWalk s now other u.r
 true_walk s now seat known other u ok here map =
     let kept = all_last (IsKept now.config now.entries) s.records u.r (subst (λ (rs : List Record). AllByRecursion (IsKept now.config now.entries) rs) u.records ok.records) in
     record {
@@ -134,7 +134,7 @@ known_session s now seat known id other u at = ap unknown_for (here_is s now sea
 first_has : (nodes : List Node) (n : Node) (rest : List Node) → nodes ≡ n ∷ rest → contains_node n nodes ≡ true
 first_has nodes n rest is = ap (contains_node n) is ∙ has_head n rest
 
-pub first_is : (s now : State) (seat known id : ℕ) (other : RowMap) (u : IsUnderWay s seat other known now) → id ≡ length s.records → (o : Option NodeAt) → MatchOption (slice_get now.records id) ⊥ (λ r. IsFirstOf r.session.outstanding o) → IsFirstOf u.r.session.outstanding o
+first_is : (s now : State) (seat known id : ℕ) (other : RowMap) (u : IsUnderWay s seat other known now) → id ≡ length s.records → (o : Option NodeAt) → MatchOption (slice_get now.records id) ⊥ (λ r. IsFirstOf r.session.outstanding o) → IsFirstOf u.r.session.outstanding o
 first_is s now seat known id other u at o h = subst (λ (x : Option Record). MatchOption x ⊥ (λ r. IsFirstOf r.session.outstanding o)) (here_is s now seat known id other u at) h
 
 -- the next node of a session on its way: the first outstanding one
@@ -143,11 +143,20 @@ pub record IsNext (s now : State) (seat known : ℕ) (other : RowMap) (u : IsUnd
   pub rest : List Node
   pub first : u.r.session.outstanding ≡ n ∷ rest
 
-pub next_is : (s now : State) (seat known id : ℕ) (other : RowMap) (u : IsUnderWay s seat other known now) → id ≡ length s.records → IsTrueWalk s now other u.r → (o : Option NodeAt) (node : NodeAt) → MatchOption (slice_get now.records id) ⊥ (λ r. IsFirstOf r.session.outstanding o) → o ≡ Some node
+pub next_is : (s now : State) (seat known id : ℕ) (other : RowMap) (u : IsUnderWay s seat other known now) → id ≡ length s.records → IsRight now → IsOfRange s.config other → IsRowMap other → (o : Option NodeAt) (node : NodeAt) → MatchOption (slice_get now.records id) ⊥ (λ r. IsFirstOf r.session.outstanding o) → o ≡ Some node
     → IsNext s now seat known other u (as_node node)
-next_is s now seat known id other u at is o node h some =
+next_is s now seat known id other u at ok here map o node h some =
     let first : IsFirstOf u.r.session.outstanding (Some node) = subst (λ (x : Option NodeAt). IsFirstOf u.r.session.outstanding x) some (first_is s now seat known id other u at o h) in
-    record { is = is; rest = first.0; first = first.1 }
+    record { is = true_walk s now seat known other u ok here map; rest = first.0; first = first.1 }
+
+-- a session on its way that has no next node
+pub record IsDone (s now : State) (seat known : ℕ) (other : RowMap) (u : IsUnderWay s seat other known now) : Type 0 where
+  pub is : IsTrueWalk s now other u.r
+  pub none : u.r.session.outstanding ≡ []
+
+pub done_is : (s now : State) (seat known id : ℕ) (other : RowMap) (u : IsUnderWay s seat other known now) → id ≡ length s.records → IsRight now → IsOfRange s.config other → IsRowMap other → MatchOption (slice_get now.records id) ⊥ (λ r. IsFirstOf r.session.outstanding None)
+    → IsDone s now seat known other u
+done_is s now seat known id other u at ok here map h = record { is = true_walk s now seat known other u ok here map; none = first_is s now seat known id other u at None h }
 
 -- the first outstanding node is due, and its true text is one that it can have
 pub first_due : (s now : State) (other : RowMap) (r : Record) (n : Node) (rest : List Node) → IsTrueWalk s now other r → IsHonest r.session other → r.session.outstanding ≡ n ∷ rest

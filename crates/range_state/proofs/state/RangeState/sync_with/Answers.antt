@@ -5,7 +5,7 @@ use Rattle.sync_session.specs.Differing.{differ}
 use Rattle.range_state.specs.State.{State, rows_now}
 use Rattle.range_state.specs.Syncs.{IsPartWay}
 use Rattle.range_state.specs.Sessions.{unknown_fault}
-use Rattle.range_state.proofs.SyncLaws.{still_with, open_ok, begun, part_way, taken_first, moved_first, all_asked, all_asked_at, IsTold, taken_count, count_of, true_walk, known_session, here_is, first_is, next_is, shallow, answered, stopped, unchanged, finished, refused_at, room_left}
+use Rattle.range_state.proofs.SyncLaws.{still_with, open_ok, begun, part_way, taken_first, moved_first, all_asked, all_asked_at, IsTold, taken_count, count_of, known_session, here_is, next_is, done_is, shallow, answered, stopped, unchanged, finished, refused_at, room_left}
 use Rattle.range_state.proofs.state.RangeState.sync_with.Goals as goal
 
 on_err : {T E : Type 0} (r : Result T E) (P : Type 0) → P → OnErr r P
@@ -34,9 +34,8 @@ answer_from-requires c =
     let s = c.args.self.now in
     let other = c.args.other.now in
     let u = at.invariant.under in
-    let is = true_walk s at.self c.args.seat at.known other u c.outstanding.ensures.valid c.requires c.format-format.ensures.valid in
-    let next = next_is s at.self c.args.seat at.known c.in_ok-id.id other u at.invariant.at is _ c.in-Some.node c.in_ok-node.ensures.first.1 c.in-Some.is in
-    shallow s at.self c.args.seat at.known other u (as_node c.in-Some.node) next.rest is next.first
+    let next = next_is s at.self c.args.seat at.known c.in_ok-id.id other u at.invariant.at c.outstanding.ensures.valid c.requires c.format-format.ensures.valid _ c.in-Some.node c.in_ok-node.ensures.first.1 c.in-Some.is in
+    shallow s at.self c.args.seat at.known other u (as_node c.in-Some.node) next.rest next.is next.first
 
 pub loop-node-smaller : goal.loop-node-smaller
 loop-node-smaller c =
@@ -46,11 +45,10 @@ loop-node-smaller c =
     let id = c.in_ok-id.id in
     let n = as_node c.in-Some.node in
     let u = at.invariant.under in
-    let is = true_walk s at.self c.args.seat at.known other u c.outstanding.ensures.valid c.requires c.format-format.ensures.valid in
-    let next = next_is s at.self c.args.seat at.known id other u at.invariant.at is _ c.in-Some.node c.in_ok-node.ensures.first.1 c.in-Some.is in
+    let next = next_is s at.self c.args.seat at.known id other u at.invariant.at c.outstanding.ensures.valid c.requires c.format-format.ensures.valid _ c.in-Some.node c.in_ok-node.ensures.first.1 c.in-Some.is in
     let moved = answered s at.self c.answer_from.new.self c.args.seat id at.known other u n c.in-Ok.taken c.in_ok-known-in-Ok.known next c.in_ok-known-in-Ok.ensures.1 at.invariant.at c.in-Ok.ensures in
     let small : length (differ (rows_now s) other) - taken_count c.answer_from.new.self.records id < length (differ (rows_now s) other) - taken_count at.self.records id =
-    omega (arith, moved.more, ap count_of (here_is s at.self c.args.seat at.known id other u at.invariant.at), room_left s at.self c.args.seat at.known other u n next.rest is next.first) in
+    omega (arith, moved.more, ap count_of (here_is s at.self c.args.seat at.known id other u at.invariant.at), room_left s at.self c.args.seat at.known other u n next.rest next.is next.first) in
     small
 
 pub loop-node-preserved : goal.loop-node-preserved
@@ -61,8 +59,7 @@ loop-node-preserved c =
     let id = c.in_ok-id.id in
     let n = as_node c.in-Some.node in
     let u = at.invariant.under in
-    let is = true_walk s at.self c.args.seat at.known other u c.outstanding.ensures.valid c.requires c.format-format.ensures.valid in
-    let next = next_is s at.self c.args.seat at.known id other u at.invariant.at is _ c.in-Some.node c.in_ok-node.ensures.first.1 c.in-Some.is in
+    let next = next_is s at.self c.args.seat at.known id other u at.invariant.at c.outstanding.ensures.valid c.requires c.format-format.ensures.valid _ c.in-Some.node c.in_ok-node.ensures.first.1 c.in-Some.is in
     let moved = answered s at.self c.answer_from.new.self c.args.seat id at.known other u n c.in-Ok.taken c.in_ok-known-in-Ok.known next c.in_ok-known-in-Ok.ensures.1 at.invariant.at c.in-Ok.ensures in
     record {
       under = moved.under;
@@ -78,8 +75,7 @@ synced-requires c =
     let other = c.args.other.now in
     let id = c.in_ok-id.id in
     let u = at.invariant.under in
-    let is = true_walk s at.self c.args.seat at.known other u c.outstanding.ensures.valid c.requires c.format-format.ensures.valid in
-    let next = next_is s at.self c.args.seat at.known id other u at.invariant.at is _ c.in-Some.node c.in_ok-node.ensures.first.1 c.in-Some.is in
+    let next = next_is s at.self c.args.seat at.known id other u at.invariant.at c.outstanding.ensures.valid c.requires c.format-format.ensures.valid _ c.in-Some.node c.in_ok-node.ensures.first.1 c.in-Some.is in
     let stop = stopped s at.self c.answer_from.new.self c.args.seat id at.known other u (as_node c.in-Some.node) c.in-Err.fault next at.invariant.at (search rules) c.in-Err.ensures in
     record {
       before = omega (arith, at.invariant.before, u.grown, ap (λ (x : State). length x.entries) stop.1);
@@ -94,8 +90,7 @@ returns-in-Err c =
     let id = c.in_ok-id.id in
     let n = as_node c.in-Some.node in
     let u = at.invariant.under in
-    let is = true_walk s at.self c.args.seat at.known other u c.outstanding.ensures.valid c.requires c.format-format.ensures.valid in
-    let next = next_is s at.self c.args.seat at.known id other u at.invariant.at is _ c.in-Some.node c.in_ok-node.ensures.first.1 c.in-Some.is in
+    let next = next_is s at.self c.args.seat at.known id other u at.invariant.at c.outstanding.ensures.valid c.requires c.format-format.ensures.valid _ c.in-Some.node c.in_ok-node.ensures.first.1 c.in-Some.is in
     let stop = stopped s at.self c.answer_from.new.self c.args.seat id at.known other u n c.in-Err.fault next at.invariant.at (search rules) c.in-Err.ensures in
     let told : IsTold s c.answer_from.new.self id at.known (Some c.in-Err.fault) c.synced.result = record {
       accepted = ap (λ k. k + c.synced.result.accepted) (sym at.invariant.before) ∙ c.synced.ensures.accepted;
@@ -105,8 +100,8 @@ returns-in-Err c =
     } in
     record {
       answers = (search rules, tt);
-      ok = refused_at s at.self c.answer_from.new.self c.args.seat id at.known other c.synced.result u n next.rest c.in-Err.fault is at.invariant.at next.first stop told;
-      session = all_asked_at s at.self c.answer_from.new.self c.args.seat c.args.partner at.known other u n next.rest c.in-Err.fault is next.first stop at.invariant.partner;
+      ok = refused_at s at.self c.answer_from.new.self c.args.seat id at.known other c.synced.result u n next.rest c.in-Err.fault next.is at.invariant.at next.first stop told;
+      session = all_asked_at s at.self c.answer_from.new.self c.args.seat c.args.partner at.known other u n next.rest c.in-Err.fault next.is next.first stop at.invariant.partner;
       err = tt;
       late = tt;
     }
@@ -123,15 +118,14 @@ returns-clause-ok c =
     let other = c.args.other.now in
     let id = c.in_ok-id.id in
     let u = at.invariant.under in
-    let is = true_walk s at.self c.args.seat at.known other u c.outstanding.ensures.valid c.requires c.format-format.ensures.valid in
-    let none = first_is s at.self c.args.seat at.known id other u at.invariant.at None (rw c.in_default.is at c.in_ok-node.ensures.first.1) in
+    let done = done_is s at.self c.args.seat at.known id other u at.invariant.at c.outstanding.ensures.valid c.requires c.format-format.ensures.valid (rw c.in_default.is at c.in_ok-node.ensures.first.1) in
     let told : IsTold s at.self id at.known None c.synced-2.result = record {
       accepted = ap (λ k. k + c.synced-2.result.accepted) (sym at.invariant.before) ∙ c.synced-2.ensures.accepted;
       known = c.synced-2.ensures.known;
       asked = c.synced-2.ensures.asked;
       fault = c.synced-2.ensures.fault;
     } in
-    finished s at.self c.args.seat id at.known other c.synced-2.result u is at.invariant.at none told
+    finished s at.self c.args.seat id at.known other c.synced-2.result u done.is at.invariant.at done.none told
 
 pub returns-clause-session : goal.returns-clause-session
 returns-clause-session c =
@@ -139,9 +133,8 @@ returns-clause-session c =
     let s = c.args.self.now in
     let other = c.args.other.now in
     let u = at.invariant.under in
-    let is = true_walk s at.self c.args.seat at.known other u c.outstanding.ensures.valid c.requires c.format-format.ensures.valid in
-    let none = first_is s at.self c.args.seat at.known c.in_ok-id.id other u at.invariant.at None (rw c.in_default.is at c.in_ok-node.ensures.first.1) in
-    all_asked s at.self c.args.seat c.args.partner at.known other u is none at.invariant.partner
+    let done = done_is s at.self c.args.seat at.known c.in_ok-id.id other u at.invariant.at c.outstanding.ensures.valid c.requires c.format-format.ensures.valid (rw c.in_default.is at c.in_ok-node.ensures.first.1) in
+    all_asked s at.self c.args.seat c.args.partner at.known other u done.is done.none at.invariant.partner
 
 pub returns-in_err-known-in-Ok-clause-late : goal.returns-in_err-known-in-Ok-clause-late
 returns-in_err-known-in-Ok-clause-late c =
@@ -151,11 +144,10 @@ returns-in_err-known-in-Ok-clause-late c =
     let id = c.in_ok-id.id in
     let n = as_node c.in-Some.node in
     let u = at.invariant.under in
-    let is = true_walk s at.self c.args.seat at.known other u c.outstanding.ensures.valid c.requires c.format-format.ensures.valid in
-    let next = next_is s at.self c.args.seat at.known id other u at.invariant.at is _ c.in-Some.node c.in_ok-node.ensures.first.1 c.in-Some.is in
+    let next = next_is s at.self c.args.seat at.known id other u at.invariant.at c.outstanding.ensures.valid c.requires c.format-format.ensures.valid _ c.in-Some.node c.in_ok-node.ensures.first.1 c.in-Some.is in
     let moved = answered s at.self c.answer_from.new.self c.args.seat id at.known other u n c.in-Ok.taken (at.known + c.in-Ok.taken.known) next refl at.invariant.at c.in-Ok.ensures in
     let whom = still_with s at.self c.answer_from.new.self c.args.seat id (at.known + c.in-Ok.taken.known) c.args.partner other u.r n moved at.invariant.partner in
-    let within = moved_first s at.self c.answer_from.new.self c.args.seat id at.known (at.known + c.in-Ok.taken.known) other u n next.rest is next.first moved in
+    let within = moved_first s at.self c.answer_from.new.self c.args.seat id at.known (at.known + c.in-Ok.taken.known) other u n next.rest next.is next.first moved in
     on_err c.from_residual-in_err-known-in-Ok.result _ (inr (part_way s c.answer_from.new.self c.args.seat c.args.partner (at.known + c.in-Ok.taken.known) other moved.under within whom))
 
 pub returns-in-Err-NoMemory-clause-late : goal.returns-in-Err-NoMemory-clause-late
@@ -166,8 +158,7 @@ returns-in-Err-NoMemory-clause-late c =
     let id = c.in_ok-id.id in
     let n = as_node c.in-Some.node in
     let u = at.invariant.under in
-    let is = true_walk s at.self c.args.seat at.known other u c.outstanding.ensures.valid c.requires c.format-format.ensures.valid in
-    let next = next_is s at.self c.args.seat at.known id other u at.invariant.at is _ c.in-Some.node c.in_ok-node.ensures.first.1 c.in-Some.is in
+    let next = next_is s at.self c.args.seat at.known id other u at.invariant.at c.outstanding.ensures.valid c.requires c.format-format.ensures.valid _ c.in-Some.node c.in_ok-node.ensures.first.1 c.in-Some.is in
     let same = unchanged s at.self c.answer_from.new.self c.args.seat id at.known other u n at.invariant.at (rw c.in-Err-NoMemory.field-0-is at c.in-Err-NoMemory.ensures) in
-    let within = taken_first s at.self c.args.seat at.known other u n next.rest is next.first in
+    let within = taken_first s at.self c.args.seat at.known other u n next.rest next.is next.first in
     inr (subst (λ (x : State). IsPartWay s c.args.seat c.args.partner other x) (sym same) (part_way s at.self c.args.seat c.args.partner at.known other u within at.invariant.partner))
