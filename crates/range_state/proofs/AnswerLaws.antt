@@ -26,7 +26,7 @@ use Rattle.hash_tree.specs.Nodes.{tree_depth, dirtied}
 use Rattle.sync_session.specs.Walks.{Walk, TakenText, IsInnerText, AreSpelled, IsCanonical}
 use Rattle.sync_session.specs.Readings.{AreOthers}
 use Rattle.sync_session.specs.declared.news.News.{News}
-use Rattle.sync_session.specs.Steps.{IsDue, after, failed, after_refusal, IsTakeFault}
+use Rattle.sync_session.specs.Steps.{IsDue, after, failed, IsTakeFault}
 use Rattle.sync_session.proofs.StepLaws.{All-weaker}
 use Rattle.range_state.specs.Config.{Config}
 use Rattle.range_state.specs.declared.«record».Record.{Record}
@@ -39,7 +39,7 @@ use Rattle.range_state.specs.Sessions.{offers_of, taken_in, crowded_in, walked_t
 use Rattle.range_state.specs.Batches.{IsRowFor, IsBatch, seen_count}
 use Rattle.range_state.proofs.RowLaws.{leaf-push}
 use Rattle.range_state.proofs.BatchLaws.{Offers}
-use Rattle.range_state.proofs.TakenLaws.{Reached, reached, taken_grown, record_kept, format_now, spelled_offers, spelled_rows, spelled_short, inner_canonical, leaf_right}
+use Rattle.range_state.proofs.TakenLaws.{Reached, reached, taken_grown, record_kept, format_now, spelled_offers, spelled_rows, spelled_short, leaf_right}
 
 -- ---- the record of a number
 
@@ -70,6 +70,17 @@ in_place s id r was =
     let same : set s.records id r ≡ s.records = ap (set s.records id) was ∙ set-get_or s.records id r in
     λ i. record { config = s.config; entries = s.entries; marks = s.marks; records = sym same i }
 
+-- ---- the outcome of a session's call
+
+-- what refuses a call that has no other cause
+pub only_memory : {T S : Type 0} {x : T} {s : S} {e : Refusal} → ((e ≡ NoMemory) × IsTrue (outcome.is_given (outcome.gives x s))) ⊎ (outcome.gives x s ≡ outcome.refuses e) → e ≡ NoMemory
+only_memory (inl memory) = memory.0
+only_memory (inr clash) = cc
+
+-- the state that a call gives
+pub given_state : {T S : Type 0} {x y : T} {s t : S} → outcome.gives x s ≡ outcome.gives y t → t ≡ s
+given_state is = cc
+
 -- ---- a text that is refused
 
 -- a session that stayed as it was
@@ -92,10 +103,32 @@ refused_for_good s new seat id r t here fault is = subst (λ (o : Option Record)
 
 -- ---- a text of a node with children
 
--- which can have it, so the session stays as it was
-pub inner_refused : (s : State) (id : ℕ) (r : Record) (t : TakenText) (e : Refusal) (w : Walk) → IsRight s → id < length s.records → r ≡ get_or s.records id r → IsInnerRead s r t → IsTakeFault r.session t e → w ≡ after_refusal r.session e → (e ≢ NotCanonical) × (w ≡ r.session)
-inner_refused s id r t NotCanonical w ok within was read fault is = absurd (fault.1 (inner_canonical s r t (record_kept s id r ok within was) read))
-inner_refused s id r t e w ok within was read fault is = (λ same. cc, is)
+-- the record of a number, whose session awaits such a text, and its tree has the node
+pub record IsInnerAt (s : State) (id : ℕ) (r : Record) (t : TakenText) : Type 0 where
+  pub within : id < length s.records
+  pub here : slice_get s.records id ≡ Some r
+  pub read : IsInnerRead s r t
+  pub inner : t.node.depth < tree_depth r.session.own.format
+  pub form : IsInnerText r.session.own.format t.text
+
+pub inner_at : (s : State) (id : ℕ) (r : Record) (t : TakenText) → IsRight s → r ≡ get_or s.records id r → MatchOption (slice_get s.records id) ⊥ (λ x. IsInnerRead s x t) → IsInnerAt s id r t
+inner_at s id r t ok was h =
+    let within = has_record s.records id (λ x. IsInnerRead s x t) h in
+    let read = the_record s.records id r (λ x. IsInnerRead s x t) within was h in
+    let format = format_now s.config s.entries r t (record_kept s id r ok within was) read.due in
+    record {
+      within = within;
+      here = got_record s.records id r within was;
+      read = read;
+      inner = omega (arith, read.inner, ap tree_depth format);
+      form = subst (λ (f : Format). IsInnerText f t.text) (sym format) read.form;
+    }
+
+-- no memory for the nodes that it asks
+pub inner_refused : (s : State) (seat id : ℕ) (r : Record) (t : TakenText) (e : Refusal) → IsInnerAt s id r t → e ≡ NoMemory → TakesFor s seat id (slice_get s.records id) t (Err e) s
+inner_refused s seat id r t e at memory =
+    let fault : IsTakeFault r.session t NoMemory = (at.read.due, λ less. at.form) in
+    subst (λ (x : Refusal). TakesFor s seat id (slice_get s.records id) t (Err x) s) (sym memory) (refused s seat id r t NoMemory at.here fault (λ same. cc))
 
 pub inner_taken : (s : State) (seat id : ℕ) (r : Record) (t : TakenText) (a : AnswerTaken) (w : Walk) → slice_get s.records id ≡ Some r → IsInnerRead s r t → a.receipts.items ≡ [] → a.known ≡ 0 → a.state ≡ w.state → w ≡ after r.session t
     → TakesFor s seat id (slice_get s.records id) t (Ok a) (walked_to s id r w)

@@ -1,6 +1,6 @@
 -- A whole session with a partner that answers truly.
 use Rattle.std.proofs.Common.{◌≡◌, ◌≢◌, ℕ, suc, ◌+◌, ◌^◌, ◌<◌, ◌≤◌, ◌⊎◌, true, false, not, Option, Some, None, List, [], ◌∷◌, ◌++◌, length, map, set, refl, sym, ap, subst, ◌∙◌, arith, inl, inr, append_assoc, append-nil, slice_get}
-use Rattle.std.specs.Prelude.{Ok, Err, MatchOption}
+use Rattle.std.specs.Prelude.{Result, Ok, Err, MatchOption}
 use Rattle.std.specs.List.{filter, AllByRecursion}
 use Rattle.std.proofs.lemmas.Bool.{or_right, both_ways, cases_lt}
 use Rattle.std.proofs.lemmas.List.{length-append, map-append}
@@ -14,8 +14,7 @@ use Rattle.row_bytes.specs.declared.row.Row.{Row}
 use Rattle.hash_tree.specs.Nodes.{tree_depth}
 use Rattle.hash_tree.specs.declared.node.NodeAt.{NodeAt}
 use Rattle.snapshot.specs.RowMaps.{RowMap, IsRowMap, root_of}
-use Rattle.walk_messages.specs.declared.message.Offer.{Offer}
-use Rattle.sync_session.specs.TreeNodes.{Node, contains_node, is_same_node, place_of, text_of}
+use Rattle.sync_session.specs.TreeNodes.{as_node, Node, contains_node, is_same_node, place_of, text_of}
 use Rattle.sync_session.specs.Walks.{TakenText, IsPartners, IsCanonical, asks}
 use Rattle.sync_session.specs.Steps.{started, after, state_by, IsDue}
 use Rattle.sync_session.specs.Differing.{nodes_of, differ, AscendByPlace, IsTraced, IsHonest, IsNearlyDone}
@@ -33,7 +32,7 @@ use Rattle.range_state.specs.Records.{IsKept, IsGoing}
 use Rattle.range_state.specs.State.{State, IsRight, dirty_fault, rows_now}
 use Rattle.vclock.specs.Outcome.{gives}
 use Rattle.vclock.proofs.OutcomeLaws.{passed}
-use Rattle.range_state.specs.Sessions.{standings, crowd_fault, foreign_fault, open_session, offers_of, taken_in, leaf_fault, opened, walked_to, IsLeafRead, IsLeafFault, TakesInner, TakesLeaf, TakesText, TakesFor, Refuses}
+use Rattle.range_state.specs.Sessions.{standings, crowd_fault, unknown_for, unknown_fault, open_with, offers_of, taken_in, leaf_fault, opened, walked_to, IsLeafRead, IsLeafFault, TakesInner, TakesLeaf, TakesText, TakesFor, Refuses}
 use Rattle.range_state.specs.Syncs.{IsOfRange, leaves_in, offers_at, known_in, Progress, taken_leaves, synced, ended, HasOneMore, HasAskedAll, IsSyncedTo, IsPartWay, IsFirstOf}
 use Rattle.range_state.proofs.SyncLists.{AreIn, member_of, has_head, all_has, same_nodes, fits, ascends_before, without_first, differ_ascends, differ_inside, as_deep}
 use Rattle.range_state.proofs.SyncStepLaws.{beside, records_stay, config_stays, so_far, taken_more, leaf_came, leaf_refused, leaves-append, leaf_counts, inner_counts, no_leaves, nodes-push, got_last, set_last, all_last, true_rows}
@@ -68,22 +67,21 @@ pub record HasBegun (s : State) (seat partner : ℕ) (other : RowMap) (new : Sta
   pub partner_is : under.r.partner ≡ partner
 
 -- a session that was not refused
-pub open_ok : (s new : State) (partner id : ℕ) (offer : Offer) → open_session s partner offer ≡ gives id new → (id ≡ length s.records) × (new ≡ opened s partner offer)
-open_ok s new partner id offer is =
-    let here = passed (foreign_fault s.config offer) _ id new is in
-    let few = passed (crowd_fault (standings s.records)) _ id new here.1 in
+pub open_ok : (s new : State) (partner id : ℕ) (root : List ℕ) → open_with s partner root ≡ gives id new → (id ≡ length s.records) × (new ≡ opened s partner root)
+open_ok s new partner id root is =
+    let few = passed (crowd_fault (standings s.records)) _ id new is in
     let clean = passed (dirty_fault s) _ id new few.1 in
     let same = clean.1 in
     (cc, cc)
 
-pub begun : (s new : State) (seat partner : ℕ) (offer : Offer) (other : RowMap) → offer.root ≡ root_of other → new ≡ opened s partner offer → HasBegun s seat partner other new
-begun s new seat partner offer other root is = record {
+pub begun : (s new : State) (seat partner : ℕ) (root : List ℕ) (other : RowMap) → root ≡ root_of other → new ≡ opened s partner root → HasBegun s seat partner other new
+begun s new seat partner root other root_is is = record {
   under = record {
-    r = record { partner = partner; session = started (rows_now s) offer.root };
+    r = record { partner = partner; session = started (rows_now s) root };
     records = ap (λ (x : State). x.records) is;
     config = ap (λ (x : State). x.config) is;
     own = refl;
-    root = sym root;
+    root = sym root_is;
     honest = tt;
     turn = refl;
     stands = refl;
@@ -105,7 +103,7 @@ still_going [] (inr e) = let clash : Finished ≡ Cancelled = e in cc
 still_going (n ∷ nodes) (inl e) = let clash : Open ≡ Failed = e in cc
 still_going (n ∷ nodes) (inr e) = let clash : Open ≡ Cancelled = e in cc
 
-pub true_walk : (s now : State) (seat known : ℕ) (other : RowMap) (u : IsUnderWay s seat other known now) → IsRight now → IsOfRange s.config other → IsRowMap other → IsTrueWalk s now other u.r
+true_walk : (s now : State) (seat known : ℕ) (other : RowMap) (u : IsUnderWay s seat other known now) → IsRight now → IsOfRange s.config other → IsRowMap other → IsTrueWalk s now other u.r
 true_walk s now seat known other u ok here map =
     let kept = all_last (IsKept now.config now.entries) s.records u.r (subst (λ (rs : List Record). AllByRecursion (IsKept now.config now.entries) rs) u.records ok.records) in
     record {
@@ -129,11 +127,36 @@ true_walk s now seat known other u ok here map =
 pub here_is : (s now : State) (seat known id : ℕ) (other : RowMap) (u : IsUnderWay s seat other known now) → id ≡ length s.records → slice_get now.records id ≡ Some u.r
 here_is s now seat known id other u at = ap (λ (rs : List Record). slice_get rs id) u.records ∙ ap (slice_get (s.records ++ u.r ∷ [])) at ∙ got_last s.records u.r
 
+-- it has a record
+pub known_session : (s now : State) (seat known id : ℕ) (other : RowMap) (u : IsUnderWay s seat other known now) → id ≡ length s.records → unknown_fault now id ≡ None
+known_session s now seat known id other u at = ap unknown_for (here_is s now seat known id other u at)
+
 first_has : (nodes : List Node) (n : Node) (rest : List Node) → nodes ≡ n ∷ rest → contains_node n nodes ≡ true
 first_has nodes n rest is = ap (contains_node n) is ∙ has_head n rest
 
-pub first_is : (s now : State) (seat known id : ℕ) (other : RowMap) (u : IsUnderWay s seat other known now) → id ≡ length s.records → (o : Option NodeAt) → MatchOption (slice_get now.records id) ⊥ (λ r. IsFirstOf r.session.outstanding o) → IsFirstOf u.r.session.outstanding o
+first_is : (s now : State) (seat known id : ℕ) (other : RowMap) (u : IsUnderWay s seat other known now) → id ≡ length s.records → (o : Option NodeAt) → MatchOption (slice_get now.records id) ⊥ (λ r. IsFirstOf r.session.outstanding o) → IsFirstOf u.r.session.outstanding o
 first_is s now seat known id other u at o h = subst (λ (x : Option Record). MatchOption x ⊥ (λ r. IsFirstOf r.session.outstanding o)) (here_is s now seat known id other u at) h
+
+-- the next node of a session on its way: the first outstanding one
+pub record IsNext (s now : State) (seat known : ℕ) (other : RowMap) (u : IsUnderWay s seat other known now) (n : Node) : Type 0 where
+  pub is : IsTrueWalk s now other u.r
+  pub rest : List Node
+  pub first : u.r.session.outstanding ≡ n ∷ rest
+
+pub next_is : (s now : State) (seat known id : ℕ) (other : RowMap) (u : IsUnderWay s seat other known now) → id ≡ length s.records → IsRight now → IsOfRange s.config other → IsRowMap other → (o : Option NodeAt) (node : NodeAt) → MatchOption (slice_get now.records id) ⊥ (λ r. IsFirstOf r.session.outstanding o) → o ≡ Some node
+    → IsNext s now seat known other u (as_node node)
+next_is s now seat known id other u at ok here map o node h some =
+    let first : IsFirstOf u.r.session.outstanding (Some node) = subst (λ (x : Option NodeAt). IsFirstOf u.r.session.outstanding x) some (first_is s now seat known id other u at o h) in
+    record { is = true_walk s now seat known other u ok here map; rest = first.0; first = first.1 }
+
+-- a session on its way that has no next node
+pub record IsDone (s now : State) (seat known : ℕ) (other : RowMap) (u : IsUnderWay s seat other known now) : Type 0 where
+  pub is : IsTrueWalk s now other u.r
+  pub none : u.r.session.outstanding ≡ []
+
+pub done_is : (s now : State) (seat known id : ℕ) (other : RowMap) (u : IsUnderWay s seat other known now) → id ≡ length s.records → IsRight now → IsOfRange s.config other → IsRowMap other → MatchOption (slice_get now.records id) ⊥ (λ r. IsFirstOf r.session.outstanding None)
+    → IsDone s now seat known other u
+done_is s now seat known id other u at ok here map h = record { is = true_walk s now seat known other u ok here map; none = first_is s now seat known id other u at None h }
 
 -- the first outstanding node is due, and its true text is one that it can have
 pub first_due : (s now : State) (other : RowMap) (r : Record) (n : Node) (rest : List Node) → IsTrueWalk s now other r → IsHonest r.session other → r.session.outstanding ≡ n ∷ rest
@@ -254,7 +277,7 @@ leaf_on s now new seat id known other u n rest a count sum is at first took =
     ∙ leaf_came now s.records seat other known n fits
     ∙ ap (so_far (beside base s.records)) known_is)
 
-pub went_on : (s now new : State) (seat id known : ℕ) (other : RowMap) (u : IsUnderWay s seat other known now) (n : Node) (rest : List Node) (a : AnswerTaken) (count : ℕ) → count ≡ known + a.known → IsTrueWalk s now other u.r → id ≡ length s.records → u.r.session.outstanding ≡ n ∷ rest
+went_on : (s now new : State) (seat id known : ℕ) (other : RowMap) (u : IsUnderWay s seat other known now) (n : Node) (rest : List Node) (a : AnswerTaken) (count : ℕ) → count ≡ known + a.known → IsTrueWalk s now other u.r → id ≡ length s.records → u.r.session.outstanding ≡ n ∷ rest
     → TakesFor now seat id (slice_get now.records id) (entry n (text_of other n)) (Ok a) new → HasMoved s now new seat id count other u.r n
 went_on s now new seat id known other u n rest a count sum is at first answer =
     let took : TakesText now seat id u.r (entry n (text_of other n)) (Ok a) new = subst (λ (o : Option Record). TakesFor now seat id o (entry n (text_of other n)) (Ok a) new) (here_is s now seat known id other u at) answer in
@@ -262,6 +285,12 @@ went_on s now new seat id known other u n rest a count sum is at first answer =
       | inl inner ↦ inner_on s now new seat id known other u n rest a count sum is at first inner
       | inr leaf ↦ leaf_on s now new seat id known other u n rest a count sum is at first leaf
     ]
+
+-- the next node was answered
+pub answered : (s now new : State) (seat id known : ℕ) (other : RowMap) (u : IsUnderWay s seat other known now) (n : Node) (a : AnswerTaken) (count : ℕ) → IsNext s now seat known other u n → count ≡ known + a.known → id ≡ length s.records
+    → (◌≡◌ {A = Result AnswerTaken Refusal} (Ok a) (Err refusals.NoMemory) × (new ≡ now)) ⊎ TakesFor now seat id (slice_get now.records id) (entry n (text_of other n)) (Ok a) new → HasMoved s now new seat id count other u.r n
+answered s now new seat id known other u n a count next sum at (inl memory) = absurd (let clash = memory.0 in cc)
+answered s now new seat id known other u n a count next sum at (inr took) = went_on s now new seat id known other u n next.rest a count sum next.is at next.first took
 
 -- ---- a leaf is refused
 
@@ -274,20 +303,31 @@ refusal_of s new seat id r t refusals.NotCanonical other due can h = absurd (h.0
 refusal_of s new seat id r t refusals.NoMemory other due can h = absurd (other refl)
 refusal_of s new seat id r t e other due can h = absurd h.0
 
-pub stops : (s now new : State) (seat id known : ℕ) (other : RowMap) (u : IsUnderWay s seat other known now) (n : Node) (rest : List Node) (e : Refusal) → IsTrueWalk s now other u.r → id ≡ length s.records → u.r.session.outstanding ≡ n ∷ rest
+stops : (s now new : State) (seat id known : ℕ) (other : RowMap) (u : IsUnderWay s seat other known now) (n : Node) (rest : List Node) (e : Refusal) → IsTrueWalk s now other u.r → id ≡ length s.records → u.r.session.outstanding ≡ n ∷ rest
     → e ≢ refusals.NoMemory → TakesFor now seat id (slice_get now.records id) (entry n (text_of other n)) (Err e) new → IsLeafFault now seat u.r (entry n (text_of other n)) e × (new ≡ now)
 stops s now new seat id known other u n rest e is at first memory answer =
     let took : Refuses now seat id u.r (entry n (text_of other n)) e new = subst (λ (o : Option Record). TakesFor now seat id o (entry n (text_of other n)) (Err e) new) (here_is s now seat known id other u at) answer in
     let due = first_due s now other u.r n rest is u.honest first in
     refusal_of now new seat id u.r (entry n (text_of other n)) e memory due.0 due.1 took
 
+-- the next node is a leaf that was refused
+pub stopped : (s now new : State) (seat id known : ℕ) (other : RowMap) (u : IsUnderWay s seat other known now) (n : Node) (e : Refusal) → IsNext s now seat known other u n → id ≡ length s.records → (e ≡ refusals.NoMemory → ⊥)
+    → (◌≡◌ {A = Result AnswerTaken Refusal} (Err e) (Err refusals.NoMemory) × (new ≡ now)) ⊎ TakesFor now seat id (slice_get now.records id) (entry n (text_of other n)) (Err e) new → IsLeafFault now seat u.r (entry n (text_of other n)) e × (new ≡ now)
+stopped s now new seat id known other u n e next at memory (inl none) = absurd (memory (let same = none.0 in cc))
+stopped s now new seat id known other u n e next at memory (inr took) = stops s now new seat id known other u n next.rest e next.is at next.first memory took
+
 -- where no memory is left, nothing changes
-pub no_memory : (s now new : State) (seat id known : ℕ) (other : RowMap) (u : IsUnderWay s seat other known now) (t : TakenText) → id ≡ length s.records
+no_memory : (s now new : State) (seat id known : ℕ) (other : RowMap) (u : IsUnderWay s seat other known now) (t : TakenText) → id ≡ length s.records
     → TakesFor now seat id (slice_get now.records id) t (Err refusals.NoMemory) new → new ≡ now
 no_memory s now new seat id known other u t at answer =
     let here = here_is s now seat known id other u at in
     let took : Refuses now seat id u.r t refusals.NoMemory new = subst (λ (o : Option Record). TakesFor now seat id o t (Err refusals.NoMemory) new) here answer in
     took.1
+
+pub unchanged : (s now new : State) (seat id known : ℕ) (other : RowMap) (u : IsUnderWay s seat other known now) (n : Node) → id ≡ length s.records
+    → (◌≡◌ {A = Result AnswerTaken Refusal} (Err refusals.NoMemory) (Err refusals.NoMemory) × (new ≡ now)) ⊎ TakesFor now seat id (slice_get now.records id) (entry n (text_of other n)) (Err refusals.NoMemory) new → new ≡ now
+unchanged s now new seat id known other u n at (inl none) = none.1
+unchanged s now new seat id known other u n at (inr took) = no_memory s now new seat id known other u (entry n (text_of other n)) at took
 
 -- ---- the end
 

@@ -38,17 +38,22 @@ standings records = map (λ (r : Record). r.session.state) records
 abbrev pub crowd_fault : List SessionState → Option Refusal
 crowd_fault states = if nat_le 64 (length (filter is_open_state states)) || nat_le 1024 (length states) then Some refusals.SessionsFull else None
 
--- the state with one more record: a session that compares the rows now with those of an offered root
-abbrev pub opened : State → ℕ → Offer → State
-opened s partner offer = record s { records = s.records ++ (record { partner = partner; session = started (rows_now s) offer.root }) ∷ [] }
+-- the state with one more record: a session that compares the rows now with those of a partner's root
+abbrev pub opened : State → ℕ → List ℕ → State
+opened s partner root = record s { records = s.records ++ (record { partner = partner; session = started (rows_now s) root }) ∷ [] }
 
--- the number of a new session, and the state with its record
+-- the number of a new session with a partner's root, and the state with its record
+abbrev pub open_with : State → ℕ → List ℕ → Outcome ℕ State
+open_with s partner root = do
+  crowd_fault (standings s.records)
+  dirty_fault s
+  gives (length s.records) (opened s partner root)
+
+-- the number of a new session with a partner's offer, and the state with its record
 abbrev pub open_session : State → ℕ → Offer → Outcome ℕ State
 open_session s partner offer = do
   foreign_fault s.config offer
-  crowd_fault (standings s.records)
-  dirty_fault s
-  gives (length s.records) (opened s partner offer)
+  open_with s partner offer.root
 
 -- ---- changing a record
 

@@ -4,9 +4,9 @@
 //!
 //! - [`config`]: the number of a range, its format, and the limit of its journal.
 //! - [`state`]: the state and its calls: `put`, `accept`, `get`, `versions` and `rows`; for the tree `take_job`,
-//!   `take_jobs`, `install`, `digest_at`, `rehash` and `snapshot`; for sessions with partners `open_session`,
-//!   `take_answer`, `cancel_session` and `records`, and `sync_with` for a whole session; `reconcile` for a session each
-//!   way; `migrate` to format 2.
+//!   `take_jobs`, `install`, `digest_at`, `dirty_count`, `rehash`, `rehash_here` and `snapshot`; for sessions with
+//!   partners `open_session`, `take_answer`, `cancel_session`, `records` and `open_sessions`, and `sync_with` for a whole
+//!   session; `reconcile` for a session each way; `migrate` to format 2.
 //! - [`record`]: a session of a range, and its partner.
 //! - [`replay`]: the rows that a range had at each length of its journal.
 //! - [`event`], [`run`]: the calls as events, and lists of events.

@@ -34,6 +34,18 @@ pub fn hash_all(
     Ok(hashed)
 }
 
+/// Runs `run_job` for each job in the caller's thread, and returns the results in order. Refused: NoMemory; the jobs are
+/// then lost.
+pub fn hash_here(alloc: Global, jobs: Vec<Job>) -> Result<Vec<Hashed>, Refusal>
+    ensures { Answers result None (λ hashed. hashed.items ≡ map (λ j. j.text) jobs.items) }
+{
+    let mut hashed = Vec::with_capacity(alloc, jobs.len())?;
+    for job in jobs {
+        hashed.push(run_job(job))?;
+    }
+    Ok(hashed)
+}
+
 /// Returns the least number of jobs that a thread runs: as many as have `PIECE_LEN` bytes, by their mean.
 fn least_piece(jobs: &[Job]) -> usize {
     let bytes = jobs

@@ -2,7 +2,7 @@
 //! one at a time or in several threads.
 //!
 //! - [`job`]: a node and the source of its text; hashing one job.
-//! - [`bulk`]: hashing many jobs in several threads.
+//! - [`bulk`]: hashing many jobs, in several threads or in the caller's.
 //!
 //! ```
 //! let node = job.node();
@@ -14,5 +14,5 @@ pub mod bulk;
 pub mod job;
 mod source;
 
-pub use bulk::hash_all;
+pub use bulk::{hash_all, hash_here};
 pub use job::{Job, run_job};

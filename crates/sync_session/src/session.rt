@@ -1,7 +1,8 @@
 //! A walk of two trees.
-ghost use Rattle.std.specs.Prelude.{◌≡◌, ◌<◌, ◌↔◌, ⊤, None, [], IsTrue, OnOk, OnErr, map};
+ghost use Rattle.std.specs.Prelude.{◌≡◌, ◌<◌, ◌↔◌, None, [], IsTrue, map};
 ghost use Rattle.std.specs.Arc.{arc_value};
 ghost use Rattle.vclock.specs.Answer.{Answers};
+ghost use Rattle.vclock.specs.Outcome.{Does, gives};
 ghost use Rattle.hash_tree.specs.Nodes.{tree_depth};
 ghost use Rattle.sync_session.specs.TreeNodes.{as_node};
 ghost use Rattle.sync_session.specs.Walks.{TakenText, asks, IsCanonical, IsInnerText};
@@ -33,7 +34,7 @@ pub enum Answered {
 /// known at first. It asks for the root's text, then for the children whose digests differ, down to the leaves that
 /// differ, and no others. The partner isn't trusted: each text must have the digest that is expected at its node.
 ///
-/// Only `start`, `rows_of`, `news_of`, `take` and `take_leaf` allocate. On error a session is unchanged, unless `take`
+/// Only `start`, `rows_of`, `news_of`, `take`, `take_inner` and `take_leaf` allocate. On error a session is unchanged, unless `take`
 /// refuses a text as NotCanonical: then the session has failed.
 ///
 /// ```
@@ -208,8 +209,7 @@ impl Session {
         match self.rows_of(alloc, node, &text) {
             Ok(rows) => {
                 if node.depth < tree_depth(self.own.format()) {
-                    let new = node_list::differing(alloc, &self.own, node, text.text())?;
-                    self.record(node, text, &new)?;
+                    self.take_inner(alloc, node, text)?;
                     Ok(Answered::Inner)
                 } else {
                     self.take_leaf(node, text)?;
@@ -224,15 +224,28 @@ impl Session {
         }
     }
 
+    /// Takes the text of an inner node that `rows_of` or `news_of` has judged, without judging it again: each child
+    /// whose digest differs from the local one is asked, by ascending index. If nothing is outstanding afterwards, the
+    /// session is finished. Refused: NoMemory.
+    pub fn take_inner(&mut self, alloc: Global, node: NodeAt, text: Hashed) -> Result<(), Refusal>
+        requires due { IsDue self.old (record { node = as_node node; text = text }) }
+        requires inner { node.depth < tree_depth self.old.own.format }
+        requires form { IsInnerText self.old.own.format text }
+        ensures { Does result self.old self.new
+            (gives tt (after self.old (record { node = as_node node; text = text }))) }
+    {
+        let new = node_list::differing(alloc, &self.own, node, text.text())?;
+        self.record(node, text, &new)
+    }
+
     /// Takes the text of a leaf that `rows_of` or `news_of` has read, without reading it again. If nothing is
     /// outstanding afterwards, the session is finished. Refused: NoMemory.
     pub fn take_leaf(&mut self, node: NodeAt, text: Hashed) -> Result<(), Refusal>
         requires due { IsDue self.old (record { node = as_node node; text = text }) }
         requires leaf { node.depth ≡ tree_depth self.old.own.format }
         requires canonical { IsCanonical self.old.own (as_node node) text }
-        ensures answers { Answers result None (λ _. ⊤) }
-        ensures ok { OnOk result (self.new ≡ after self.old (record { node = as_node node; text = text })) }
-        ensures err { OnErr result (self.new ≡ self.old) }
+        ensures { Does result self.old self.new
+            (gives tt (after self.old (record { node = as_node node; text = text }))) }
     {
         self.record(node, text, &[])
     }
@@ -240,9 +253,8 @@ impl Session {
     /// Records a text, and asks these nodes.
     fn record(&mut self, node: NodeAt, text: Hashed, new: &[NodeAt]) -> Result<(), Refusal>
         requires { map as_node new.now ≡ asks self.old.own (record { node = as_node node; text = text }) }
-        ensures answers { Answers result None (λ _. ⊤) }
-        ensures ok { OnOk result (self.new ≡ after self.old (record { node = as_node node; text = text })) }
-        ensures err { OnErr result (self.new ≡ self.old) }
+        ensures { Does result self.old self.new
+            (gives tt (after self.old (record { node = as_node node; text = text }))) }
     {
         self.asked.reserve(new.len())?;
         self.outstanding.reserve(new.len())?;

@@ -99,7 +99,10 @@ fn expect_64_open(alloc: Global, state: &mut RangeState) -> Result<(), Fail> {
     expect_not_opened(alloc, state, offer(root), Refusal::SessionsFull)?;
     state.cancel_session(0)?;
     let is_cancelled = state_of(state, 0)? == SessionState::Cancelled;
-    expect(is_cancelled, "session 0 is cancelled")?;
+    expect(
+        is_cancelled && state.open_sessions() == 63,
+        "session 0 is cancelled",
+    )?;
     let id = open_session(alloc, state, offer(root))?;
     expect(
         id == 64 && state.records().len() == 65,

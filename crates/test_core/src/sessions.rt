@@ -2,7 +2,7 @@
 use crate::calls::{abc, clean_range, hashed_at, node_at, snapshot, snapshot_of_a};
 use crate::checks::expect;
 use crate::refusals::expect_refused;
-use hash_tree::{Digest, Hashed, NodeAt};
+use hash_tree::{Digest, Hashed, NodeAt, tree_depth};
 use snapshot::Snapshot;
 use std::alloc::Global;
 use std::test::Fail;
@@ -74,6 +74,37 @@ fn a_session_ends_with_the_partners_rows(rt: HostRuntime) -> Result<(), Fail> {
     let alloc = rt.alloc();
     let partner = snapshot_of_a(&rt, alloc)?;
     expect_row(alloc, &mut start(&rt, alloc, partner.root())?, &partner)
+}
+
+/// Takes the partner's text of the first outstanding node, an inner one, by `take_inner` once `news_of` has judged it.
+fn take_inner(alloc: Global, session: &mut Session, partner: &Snapshot) -> Result<(), Fail> {
+    let outstanding = session.outstanding().first();
+    let node = *outstanding.ok_or("nothing is outstanding")?;
+    let text = hashed_at(alloc, partner, node)?;
+    session.news_of(alloc, node, &text)?;
+    if node.depth == tree_depth(session.own().format()) {
+        return Err("it is a leaf".into());
+    }
+    session.take_inner(alloc, node, text)?;
+    Ok(())
+}
+
+/// Asserts that two inner texts that were judged before are taken, and ask the path to the partner's row.
+fn expect_path(alloc: Global, session: &mut Session, partner: &Snapshot) -> Result<(), Fail> {
+    take_inner(alloc, session, partner)?;
+    take_inner(alloc, session, partner)?;
+    let leaf = node_at(2, 12)?;
+    expect(
+        session.asked().len() == 3 && session.outstanding() == [leaf].as_slice(),
+        "the leaf of the row is asked",
+    )
+}
+
+#[test]
+fn an_inner_text_is_taken_once_it_is_judged(rt: HostRuntime) -> Result<(), Fail> {
+    let alloc = rt.alloc();
+    let partner = snapshot_of_a(&rt, alloc)?;
+    expect_path(alloc, &mut start(&rt, alloc, partner.root())?, &partner)
 }
 
 /// Asserts that the text `abc` of the root fails a session, and that a session that failed isn't cancelled.

@@ -1,13 +1,14 @@
 //! Trees: node texts, marks, jobs and rehashes. Another program made the digests from the definition.
 use crate::calls::{
-    abc, accept, install, new_range, next_job, node_at, put_a, rehash, take_job, take_jobs,
+    abc, accept, install, new_range, next_job, node_at, put_a, range_of_a, rehash, take_job,
+    take_jobs,
 };
 use crate::checks::expect;
 use crate::refusals::expect_refused;
 use crate::versions::version;
 use hash_tree::{Digest, Hashed, Marks, NodeAt, Text, hash, inner_text, is_inner_text, leaf_text};
 use range_state::RangeState;
-use rehash::{Job, hash_all, run_job};
+use rehash::{Job, hash_all, hash_here, run_job};
 use std::alloc::Global;
 use std::test::Fail;
 use std::thread::Threads;
@@ -131,6 +132,30 @@ fn a_late_digest_is_not_installed(rt: HostRuntime) -> Result<(), Fail> {
     expect_rehash(&rt, alloc, &mut new_range(alloc, 1, 1_000)?)
 }
 
+/// Asserts that the caller's thread hashes all nodes of a new range, which then has the root that `rehash` makes.
+fn expect_rehash_here(
+    rt: &(impl Threads + Sync),
+    alloc: Global,
+    state: &mut RangeState,
+) -> Result<(), Fail> {
+    put_a(alloc, state, &[])?;
+    let dirty = state.dirty_count();
+    let hashed = state.rehash_here(alloc)?;
+    expect(dirty == 273 && hashed == 273, "all nodes are hashed")?;
+    let root = node_at(0, 0)?;
+    let other = range_of_a(rt, alloc)?.digest_at(root);
+    expect(
+        state.dirty_count() == 0 && state.digest_at(root) == other,
+        "it has the same root",
+    )
+}
+
+#[test]
+fn a_range_is_rehashed_in_the_callers_thread(rt: HostRuntime) -> Result<(), Fail> {
+    let alloc = rt.alloc();
+    expect_rehash_here(&rt, alloc, &mut new_range(alloc, 1, 1_000)?)
+}
+
 /// Asserts that two workers take different jobs.
 fn expect_different(alloc: Global, state: &RangeState) -> Result<(), Fail> {
     let first = state.take_job(alloc, 0)?.ok_or("no job")?;
@@ -190,8 +215,13 @@ fn expect_hashed(
     count: usize,
 ) -> Result<(), Fail> {
     let hashed = hash_all(rt, alloc, take_jobs(alloc, state, count)?)?;
-    expect(hashed.len() == count, "each job is hashed")?;
-    expect_run(&hashed, take_jobs(alloc, state, count)?)
+    let here = hash_here(alloc, take_jobs(alloc, state, count)?)?;
+    expect(
+        hashed.len() == count && here.len() == count,
+        "each job is hashed",
+    )?;
+    expect_run(&hashed, take_jobs(alloc, state, count)?)?;
+    expect_run(&here, take_jobs(alloc, state, count)?)
 }
 
 /// Asserts that jobs of a range with three rows are hashed in order.

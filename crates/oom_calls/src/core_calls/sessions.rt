@@ -21,6 +21,7 @@ pub(crate) fn show_all<R: Print + AllocGlobal>(rt: &R, both: &Snapshots) -> io::
     show(rt, "Session::rows_of", rows_of(alloc, both))?;
     show(rt, "Session::news_of", news_of(alloc, both))?;
     show(rt, "Session::take", take(alloc, both))?;
+    show(rt, "Session::take_inner", take_inner(alloc, both))?;
     show(rt, "Session::take_leaf", take_leaf(alloc, both))
 }
 
@@ -95,6 +96,29 @@ fn take(alloc: Global, both: &Snapshots) -> Result<u64, Refusal> {
         }
     }
     Ok(session.asked().len() as u64)
+}
+
+/// Returns the number of nodes that a session has asked after the text of the root was taken by `take_inner`.
+fn take_inner(alloc: Global, both: &Snapshots) -> Result<u64, Refusal> {
+    let mut session = new_session(alloc, both)?;
+    match take_inner_first(alloc, &mut session, &both.partner) {
+        Ok(()) => Ok(session.asked().len() as u64),
+        Err(refusal) => Err(unchanged(refusal, is_after(alloc, &session, both, 0))),
+    }
+}
+
+/// Answers the first node that is outstanding, an inner one, by `take_inner`.
+fn take_inner_first(
+    alloc: Global,
+    session: &mut Session,
+    partner: &Snapshot,
+) -> Result<(), Refusal> {
+    let (node, text) = first_text(alloc, session, partner)?;
+    let _news = session.news_of(alloc, node, &text)?;
+    if node.depth == tree_depth(session.own().format()) {
+        return Err(Refusal::Stale);
+    }
+    session.take_inner(alloc, node, text)
 }
 
 /// Returns the number of texts that a finished session took, with the last one taken by `take_leaf`.

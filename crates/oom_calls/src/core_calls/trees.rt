@@ -5,7 +5,7 @@ use crate::lines::{show, unchanged};
 use crate::states::is_between;
 use hash_tree::{Digest, Marks, NodeAt, Text, hash, inner_text, leaf_text, put_inner_text};
 use range_state::RangeState;
-use rehash::{Job, hash_all, run_job};
+use rehash::{Job, hash_all, hash_here, run_job};
 use std::alloc::Global;
 use std::io;
 use std::thread::Threads;
@@ -25,7 +25,9 @@ pub(crate) fn show_all<R: Print + AllocGlobal + Threads + Sync>(rt: &R) -> io::R
     show(rt, "RangeState::take_job", take_job(alloc))?;
     show(rt, "RangeState::take_jobs", take_jobs(alloc))?;
     show(rt, "hash_all", hash_some(rt, alloc))?;
-    show(rt, "RangeState::rehash", rehash(rt, alloc))
+    show(rt, "hash_here", hash_some_here(alloc))?;
+    show(rt, "RangeState::rehash", rehash(rt, alloc))?;
+    show(rt, "RangeState::rehash_here", rehash_here(rt, alloc))
 }
 
 fn marks(alloc: Global) -> Result<u64, Refusal> {
@@ -85,16 +87,43 @@ fn hash_some(rt: &(impl Threads + Sync), alloc: Global) -> Result<u64, Refusal> 
     Ok(hash_all(rt, alloc, jobs)?.len() as u64)
 }
 
-/// Rehashes a range. A refused rehash leaves some of the nodes clean, and all else unchanged.
+/// Hashes some jobs in the caller's thread, and returns their number. After a refusal the jobs are lost, and can be taken
+/// again.
+fn hash_some_here(alloc: Global) -> Result<u64, Refusal> {
+    let state = range(alloc)?;
+    let jobs = state.take_jobs(alloc, 20)?;
+    Ok(hash_here(alloc, jobs)?.len() as u64)
+}
+
+/// Rehashes a range in several threads.
 fn rehash(rt: &(impl Threads + Sync), alloc: Global) -> Result<u64, Refusal> {
     let mut state = range(alloc)?;
-    match state.rehash(rt, alloc) {
+    let hashed = state.rehash(rt, alloc);
+    count_clean(rt, alloc, &state, hashed)
+}
+
+/// Rehashes a range in the caller's thread.
+fn rehash_here(rt: &(impl Threads + Sync), alloc: Global) -> Result<u64, Refusal> {
+    let mut state = range(alloc)?;
+    let hashed = state.rehash_here(alloc);
+    count_clean(rt, alloc, &state, hashed)
+}
+
+/// Returns the number of nodes that a rehash has hashed, plus one if the root is clean. A refused rehash leaves some of
+/// the nodes clean, and all else unchanged.
+fn count_clean(
+    rt: &(impl Threads + Sync),
+    alloc: Global,
+    state: &RangeState,
+    hashed: Result<u64, Refusal>,
+) -> Result<u64, Refusal> {
+    match hashed {
         Ok(hashed) => {
             let root = NodeAt::new(0, 0).ok_or(Refusal::Stale)?;
             let clean = state.digest_at(root).is_some();
             Ok(hashed.saturating_add(u64::from(clean)))
         }
-        Err(refusal) => Err(unchanged(refusal, is_on_the_way(rt, alloc, &state))),
+        Err(refusal) => Err(unchanged(refusal, is_on_the_way(rt, alloc, state))),
     }
 }
 

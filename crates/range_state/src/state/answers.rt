@@ -58,10 +58,7 @@ impl RangeState {
         ensures room { IfOk result (λ taken. (told.new.items ≡ [])
             ⊎ (vec_len told.new + vec_len taken.receipts ≤ vec_capacity told.new)) }
     {
-        let Some(record) = self.records.get(id as usize) else {
-            return Err(Refusal::UnknownSession);
-        };
-        match record.session.news_of(alloc, node, &text) {
+        match self.record(id)?.session.news_of(alloc, node, &text) {
             Ok(news) => {
                 if node.depth == tree_depth(self.config.format()) {
                     self.take_leaf(alloc, told, seat, id, node, text, &news)
@@ -92,7 +89,7 @@ impl RangeState {
         ensures none { IfOk result (λ taken. vec_len taken.receipts ≡ 0) }
     {
         let session = &mut self.records[id as usize].session;
-        session.take(alloc, node, text)?;
+        session.take_inner(alloc, node, text)?;
         Ok(AnswerTaken {
             receipts: Vec::new(alloc),
             known: 0,

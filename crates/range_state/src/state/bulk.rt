@@ -1,5 +1,5 @@
 //! Rehashing a whole tree.
-ghost use Rattle.std.specs.Prelude.{◌≡◌, ◌<◌, ⊤, ℕ, List, length, map, slice_index_or, false, IsTrue, IfOk, OnOk, OnErr, None};
+ghost use Rattle.std.specs.Prelude.{◌≡◌, ◌<◌, ⊤, ℕ, List, length, map, slice_index_or, false, IsTrue, IfOk, OnOk, None};
 ghost use Rattle.vclock.specs.Answer.{Answers};
 ghost use Rattle.hash_tree.specs.Nodes.{are_clean, dirty_count, kept_digest};
 ghost use Rattle.hash_tree.specs.declared.node.NodeAt.{NodeAt};
@@ -8,12 +8,19 @@ ghost use Rattle.range_state.specs.Trees.{rehashed, IsSameRange};
 
 use crate::state::RangeState;
 use hash_tree::{Hashed, NodeAt};
-use rehash::{Job, hash_all};
+use rehash::{Job, hash_all, hash_here};
 use std::alloc::{AllocError, Global};
 use std::thread::Threads;
 use vclock::Refusal;
 
 impl RangeState {
+    /// Returns the number of nodes of the tree that have no digest. Doesn't allocate.
+    pub fn dirty_count(&self) -> usize
+        ensures { result ≡ dirty_count self.now.marks }
+    {
+        self.marks.dirty_count()
+    }
+
     /// Hashes every dirty node, installs the digests, and returns the number of nodes that were dirty. Each round
     /// hashes the nodes whose children are clean, in several threads if there is enough to hash.
     ///
@@ -21,17 +28,57 @@ impl RangeState {
     pub fn rehash(&mut self, rt: &(impl Threads + Sync), alloc: Global) -> Result<u64, Refusal>
         ensures count { Answers result None (λ hashed. hashed ≡ dirty_count self.old.marks) }
         ensures ok { OnOk result (self.new ≡ rehashed self.old) }
-        ensures err { OnErr result (IsSameRange self.old self.new) }
+        ensures same { IsSameRange self.old self.new }
     {
-        let dirty = self.marks.dirty_count() as u64;
-        while self.rehash_ready(rt, alloc)? {}
+        let hash = |jobs: Vec<Job>| -> Result<Vec<Hashed>, Refusal>
+            ensures { Answers result None (λ all. all.items ≡ map (λ j. j.text) jobs.items) }
+        { hash_all(rt, alloc, jobs) };
+        self.rehash_by(&hash, alloc)
+    }
+
+    /// Hashes every dirty node as `rehash` does, in the caller's thread alone.
+    ///
+    /// Refused: NoMemory. Then some of the dirty nodes may be clean, and everything else is unchanged.
+    pub fn rehash_here(&mut self, alloc: Global) -> Result<u64, Refusal>
+        ensures count { Answers result None (λ hashed. hashed ≡ dirty_count self.old.marks) }
+        ensures ok { OnOk result (self.new ≡ rehashed self.old) }
+        ensures same { IsSameRange self.old self.new }
+    {
+        let hash = |jobs: Vec<Job>| -> Result<Vec<Hashed>, Refusal>
+            ensures { Answers result None (λ all. all.items ≡ map (λ j. j.text) jobs.items) }
+        { hash_here(alloc, jobs) };
+        self.rehash_by(&hash, alloc)
+    }
+
+    /// Hashes every dirty node by a function that hashes jobs.
+    fn rehash_by<F: Fn(Vec<Job>) -> Result<Vec<Hashed>, Refusal>>(
+        &mut self,
+        hash: &F,
+        alloc: Global,
+    ) -> Result<u64, Refusal>
+        requires callable { F.IsAlwaysCallable hash.now }
+        requires hashes { (jobs : _) (hashed : _) → F.post hash.now jobs hashed
+            → Answers hashed None (λ all. all.items ≡ map (λ j. j.text) jobs.items) }
+        ensures count { Answers result None (λ hashed. hashed ≡ dirty_count self.old.marks) }
+        ensures ok { OnOk result (self.new ≡ rehashed self.old) }
+        ensures same { IsSameRange self.old self.new }
+    {
+        let dirty = self.dirty_count() as u64;
+        while self.rehash_ready(hash, alloc)? {}
         // Called for its clause alone: the state is right.
         let _right = self.journal();
         Ok(dirty)
     }
 
     /// Hashes each dirty node whose children are clean, and makes it clean. Returns true if there was any.
-    fn rehash_ready(&mut self, rt: &(impl Threads + Sync), alloc: Global) -> Result<bool, Refusal>
+    fn rehash_ready<F: Fn(Vec<Job>) -> Result<Vec<Hashed>, Refusal>>(
+        &mut self,
+        hash: &F,
+        alloc: Global,
+    ) -> Result<bool, Refusal>
+        requires callable { F.IsAlwaysCallable hash.now }
+        requires hashes { (jobs : _) (hashed : _) → F.post hash.now jobs hashed
+            → Answers hashed None (λ all. all.items ≡ map (λ j. j.text) jobs.items) }
         ensures memory { Answers result None (λ _. ⊤) }
         ensures more { IfOk result (λ any. IsTrue any → dirty_count self.new.marks < dirty_count self.old.marks) }
         ensures none { IfOk result (λ any. any ≡ false → IsTrue (are_clean self.new.marks)) }
@@ -39,7 +86,7 @@ impl RangeState {
     {
         let jobs = self.take_jobs(alloc, usize::MAX)?;
         let nodes = nodes_of(alloc, &jobs)?;
-        let hashed = hash_all(rt, alloc, jobs)?;
+        let hashed = hash(jobs)?;
         self.make_all_clean(&nodes, &hashed);
         Ok(!nodes.is_empty())
     }

@@ -91,21 +91,14 @@ fn run_both(
     })
 }
 
-/// The number of nodes that a session asked, and of versions that it journaled.
-#[derive(Clone, Copy)]
-struct CaughtUp {
-    asked: u64,
-    accepted: u64,
-}
-
 /// Tests that both replicas can begin.
 fn check_pair(a: &RangeState, b: &RangeState) -> Result<(), Refusal>
     ensures { AnswersAtOnce result (pair_fault a.now b.now) (λ _. ⊤) }
 {
     a.check_clean()?;
     b.check_clean()?;
-    a.check_room()?;
-    b.check_room()
+    check_crowd(a.records())?;
+    check_crowd(b.records())
 }
 
 impl RangeState {
@@ -116,7 +109,7 @@ impl RangeState {
         seat: u16,
         partner: u16,
         other: &Snapshot,
-    ) -> Result<CaughtUp, Refusal>
+    ) -> Result<Synced, Refusal>
         requires range { IsOfRange self.old.config other.now }
         requires free { first_fault (crowd_fault (standings self.old.records)) (dirty_fault self.old) ≡ None }
         ensures { MatchResult result
@@ -125,15 +118,8 @@ impl RangeState {
     {
         let id = self.records.len() as u64;
         match self.sync_with(alloc, seat, partner, other) {
-            Ok(
-                Synced {
-                    accepted,
-                    asked,
-                    fault,
-                    ..
-                },
-            ) => match fault {
-                None => Ok(CaughtUp { asked, accepted }),
+            Ok(synced) => match synced.fault {
+                None => Ok(synced),
                 Some(refusal) => {
                     let _cancelled = self.cancel_session(id);
                     Err(refusal)
@@ -151,16 +137,9 @@ impl RangeState {
     fn check_clean(&self) -> Result<(), Refusal>
         ensures { AnswersAtOnce result (dirty_fault self.now) (λ _. ⊤) }
     {
-        if self.marks.dirty_count() > 0 {
+        if self.dirty_count() > 0 {
             return Err(Refusal::Dirty);
         }
         Ok(())
-    }
-
-    /// Tests that a session can be opened.
-    fn check_room(&self) -> Result<(), Refusal>
-        ensures { AnswersAtOnce result (crowd_fault (standings self.now.records)) (λ _. ⊤) }
-    {
-        check_crowd(&self.records)
     }
 }

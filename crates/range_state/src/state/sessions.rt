@@ -1,15 +1,15 @@
 //! Sessions of a range with its partners.
-ghost use Rattle.std.specs.Prelude.{◌≡◌, ◌<◌, ⊤, length, slice_get, MatchOption};
+ghost use Rattle.std.specs.Prelude.{◌≡◌, ⊤, Some, slice_get, MatchOption};
 ghost use Rattle.vclock.specs.Answer.{AnswersAtOnce};
 ghost use Rattle.vclock.specs.Outcome.{Does, DoesAtOnce};
 ghost use Rattle.range_state.specs.State.{IsRight};
 ghost use Rattle.range_state.specs.Records.{is_open, open_count};
-ghost use Rattle.range_state.specs.Sessions.{foreign_fault, standings, crowd_fault, unknown_fault, open_session, cancel_session};
+ghost use Rattle.range_state.specs.Sessions.{foreign_fault, standings, crowd_fault, unknown_fault, open_with, open_session, cancel_session};
 ghost use Rattle.range_state.specs.Syncs.{IsFirstOf};
 
 use crate::record::Record;
 use crate::state::RangeState;
-use hash_tree::NodeAt;
+use hash_tree::{Digest, NodeAt};
 use std::alloc::Global;
 use sync_session::{Session, SessionState};
 use vclock::Refusal;
@@ -23,6 +23,13 @@ impl RangeState {
         ensures valid { IsRight self.now }
     {
         &self.records
+    }
+
+    /// Returns the number of open sessions. Doesn't allocate.
+    pub fn open_sessions(&self) -> usize
+        ensures { result ≡ open_count self.now.records }
+    {
+        open_count(&self.records)
     }
 
     /// Opens a session with a partner's offer: the rows now are compared with those under the offered root. Returns the
@@ -39,9 +46,22 @@ impl RangeState {
         ensures { Does result self.old self.new (open_session self.old partner offer) }
     {
         self.check_offer(&offer)?;
+        self.open_with(alloc, partner, offer.root)
+    }
+
+    /// Opens a session that compares the rows now with those under a partner's root. Returns the number of the session.
+    /// Refused, in order: SessionsFull, Dirty, NoMemory.
+    pub(super) fn open_with(
+        &mut self,
+        alloc: Global,
+        partner: u16,
+        root: Digest,
+    ) -> Result<u64, Refusal>
+        ensures { Does result self.old self.new (open_with self.old partner root) }
+    {
         check_crowd(&self.records)?;
         let own = self.snapshot(alloc)?;
-        let session = Session::start(alloc, own, offer.root)?;
+        let session = Session::start(alloc, own, root)?;
         let id = self.records.len() as u64;
         self.records.push(Record { partner, session })?;
         Ok(id)
@@ -62,28 +82,21 @@ impl RangeState {
     /// The first outstanding node of a session, if any. Doesn't allocate. Refused: UnknownSession (there is no record
     /// of that number).
     pub fn outstanding(&self, id: u64) -> Result<Option<NodeAt>, Refusal>
-        ensures { AnswersAtOnce result (unknown_fault self.now id)
+        ensures first { AnswersAtOnce result (unknown_fault self.now id)
             (λ first. MatchOption (slice_get self.now.records id) ⊥
             (λ r. IsFirstOf r.session.outstanding first)) }
-    {
-        if id >= self.records.len() as u64 {
-            return Err(Refusal::UnknownSession);
-        }
-        Ok(self.first_outstanding(id))
-    }
-
-    /// The first outstanding node of a session that has a record.
-    pub(super) fn first_outstanding(&self, id: u64) -> Option<NodeAt>
-        requires { id < length self.now.records }
-        ensures first { MatchOption (slice_get self.now.records id) ⊥ (λ r. IsFirstOf r.session.outstanding result) }
         ensures valid { IsRight self.now }
     {
-        let outstanding = self.records[id as usize].session.outstanding();
-        if outstanding.is_empty() {
-            None
-        } else {
-            Some(outstanding[0])
-        }
+        Ok(self.record(id)?.session.outstanding().first().copied())
+    }
+
+    /// Returns the record of a session. Refused: UnknownSession (there is no record of that number).
+    pub(super) fn record(&self, id: u64) -> Result<&Record, Refusal>
+        ensures found { AnswersAtOnce result (unknown_fault self.now id)
+            (λ r. slice_get self.now.records id ≡ Some r.now) }
+        ensures valid { IsRight self.now }
+    {
+        self.records.get(id as usize).ok_or(Refusal::UnknownSession)
     }
 
     /// Tests that an offer is of this range, in its format.

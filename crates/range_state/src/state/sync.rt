@@ -1,10 +1,10 @@
 //! Whole sessions with a partner that answers truly.
-ghost use Rattle.std.specs.Prelude.{◌≡◌, ◌≢◌, ◌⊎◌, ◌+◌, ◌<◌, ◌≤◌, ⊤, None, length, slice_get, MatchOption, IfOk, IfErr, OnOk, OnErr, Err};
+ghost use Rattle.std.specs.Prelude.{◌≡◌, ◌≢◌, ◌⊎◌, ◌+◌, ◌≤◌, ⊤, None, length, slice_get, MatchOption, IfOk, IfErr, OnOk, OnErr, Err};
 ghost use Rattle.vclock.specs.Answer.{Answers, AnswersOrNoMemory, first_fault};
 ghost use Rattle.hash_tree.specs.Nodes.{tree_depth};
 ghost use Rattle.sync_session.specs.TreeNodes.{as_node, text_of};
 ghost use Rattle.range_state.specs.State.{dirty_fault};
-ghost use Rattle.range_state.specs.Sessions.{standings, crowd_fault, TakesFor};
+ghost use Rattle.range_state.specs.Sessions.{standings, crowd_fault, unknown_fault, TakesFor};
 ghost use Rattle.range_state.specs.Syncs.{IsOfRange, HasAskedAll, IsSyncedTo, IsPartWay};
 
 use crate::event::AnswerTaken;
@@ -51,10 +51,12 @@ impl RangeState {
         ensures err { IfErr result (λ e. e ≢ Refusal.NoMemory → self.new ≡ self.old) }
         ensures late { OnErr result ((self.new ≡ self.old) ⊎ IsPartWay self.old seat partner other.now self.new) }
     {
+        // Called for its clause alone: the rows have a tree.
+        let _format = other.format();
         let before = self.journal.len();
-        let id = self.open_session(alloc, partner, other.offer(0))?;
+        let id = self.open_with(alloc, partner, other.root())?;
         let mut known = 0;
-        while let Some(node) = self.first_outstanding(id) {
+        while let Some(node) = self.outstanding(id)? {
             match self.answer_from(alloc, seat, id, node, other) {
                 Ok(taken) => known = sum(known, taken.known)?,
                 Err(Refusal::NoMemory) => return Err(Refusal::NoMemory),
@@ -82,19 +84,20 @@ impl RangeState {
         self.take_answer(alloc, seat, id, node, text)
     }
 
-    /// Makes the report of a session.
+    /// Makes the report of a session that has a record.
     fn synced(&self, before: u64, id: u64, known: u64, fault: Option<Refusal>) -> Synced
         requires before { before ≤ length self.now.entries }
-        requires id { id < length self.now.records }
+        requires id { unknown_fault self.now id ≡ None }
         ensures accepted { before + result.accepted ≡ length self.now.entries }
         ensures known { result.known ≡ known }
         ensures asked { MatchOption (slice_get self.now.records id) ⊥ (λ r. result.asked ≡ length r.session.asked) }
         ensures fault { result.fault ≡ fault }
     {
+        let session = &self.record(id).unwrap().session;
         Synced {
             accepted: self.journal.len() - before,
             known,
-            asked: self.records[id as usize].session.asked().len() as u64,
+            asked: session.asked().len() as u64,
             fault,
         }
     }

@@ -7,8 +7,8 @@ use Rattle.range_state.proofs.state.RangeState.catch_up.Goals as goal
 pub returns-in-Some : goal.returns-in-Some
 returns-in-Some c =
     let at : c.len-id.result ≡ length c.args.self.now.records = omega (arith, c.len-id.ensures, ap (λ (t : State). length t.records) c.self.view_is) in
-    inl (given_up c.args.self.now c.sync_with.new.self c.cancel_session-cancelled.new.self c.args.seat c.args.partner c.len-id.result c.args.other.now c.in-Ok.field-0 c.in-Some.refusal c.cancel_session-cancelled.result
-    c.in-Ok.ensures.ok c.in-Ok.ensures.session c.in-Some.is at c.cancel_session-cancelled.ensures)
+    rw c.in-Some.is (inl (given_up c.args.self.now c.sync_with.new.self c.cancel_session-cancelled.new.self c.args.seat c.args.partner c.len-id.result c.args.other.now c.in-Ok.synced c.in-Some.refusal c.cancel_session-cancelled.result
+    c.in-Ok.ensures.ok c.in-Ok.ensures.session c.in-Some.is at c.cancel_session-cancelled.ensures))
 
 pub returns-in-Err : goal.returns-in-Err
 returns-in-Err c =

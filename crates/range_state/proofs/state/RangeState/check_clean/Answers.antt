@@ -1,13 +1,12 @@
-use Rattle.std.proofs.Common.{sym, ap, ◌∙◌, cond, Some, None, arith}
+use Rattle.std.proofs.Common.{ap, cond, Some, None, arith}
 use Rattle.vclock.specs.declared.refusal.Refusal.TheVariants.{Dirty}
-use Rattle.range_state.specs.State.{dirty_fault}
 use Rattle.range_state.proofs.ReconcileLaws.{none_dirty, some_dirty}
 use Rattle.range_state.proofs.state.RangeState.check_clean.Goals as goal
 
 pub returns-then-dirty_count-gt0 : goal.returns-then-dirty_count-gt0
 returns-then-dirty_count-gt0 c =
-    ap dirty_fault (sym c.self.view_is) ∙ ap (λ b. cond b None (Some Dirty)) (some_dirty c.self.inside.marks.digests (omega (arith, c.dirty_count.ensures)))
+    ap (λ b. cond b None (Some Dirty)) (some_dirty c.args.self.now.marks (omega (arith, c.dirty_count.ensures)))
 
 pub returns : goal.returns
 returns c =
-    (ap dirty_fault (sym c.self.view_is) ∙ ap (λ b. cond b None (Some Dirty)) (none_dirty c.self.inside.marks.digests (omega (arith, c.dirty_count.ensures))), tt)
+    (ap (λ b. cond b None (Some Dirty)) (none_dirty c.args.self.now.marks (omega (arith, c.dirty_count.ensures))), tt)

@@ -1,4 +1,4 @@
-use Rattle.std.proofs.Common.{rules, ◌≡◌, ◌<◌, ◌+◌, ℕ, List, ◌++◌, length, cond, set, get_or, refl, sym, ap, subst, ◌∙◌, arith, slice_get, Ok, Err}
+use Rattle.std.proofs.Common.{◌≡◌, ◌<◌, ◌+◌, ℕ, List, ◌++◌, length, cond, set, get_or, refl, sym, ap, subst, ◌∙◌, arith, slice_get, Ok, Err}
 use Rattle.std.specs.Prelude.{nat_eq}
 use Rattle.std.proofs.lemmas.Result.{err_from_is_err_and}
 use Rattle.std.proofs.lemmas.List.{length-append}
@@ -13,7 +13,7 @@ use Rattle.range_state.specs.declared.event.AnswerTaken.{AnswerTaken}
 use Rattle.range_state.specs.State.{State, IsRight, AreLeaves}
 use Rattle.range_state.specs.Batches.{IsRowFor}
 use Rattle.range_state.specs.Sessions.{offers_of, IsLeafRead, TakesFor, taken_in}
-use Rattle.range_state.proofs.AnswerLaws.{IsAccepted, rows_ready, not_prepared, no_memory, no_room, has_record, the_record, stayed, accepted_right, accepted_leaves, leaf_taken, leaf_inside, leaf_due}
+use Rattle.range_state.proofs.AnswerLaws.{only_memory, given_state, IsAccepted, rows_ready, not_prepared, no_memory, no_room, has_record, the_record, stayed, accepted_right, accepted_leaves, leaf_taken, leaf_inside, leaf_due}
 use Rattle.range_state.proofs.NewsLaws.{NewsRead, news_read, news_all, news_stand}
 use Rattle.range_state.proofs.state.RangeState.take_leaf.Goals as goal
 
@@ -105,7 +105,7 @@ invariant_of-self-in_err-take_leaf c =
     let r : Record = c.index_mut.result.now in
     let log = (reserve_ok c.self.inside.journal _ _ c.in_ok-reserve.ensures.reserves).is in
     let es : s.entries ≡ c.reserve.new.self.entries = ap (λ (l : Log). l.entries) (sym log) in
-    let right = subst IsRight (stayed s c.args.id r c.take_leaf.new.self c.index_mut.ensures.value c.in_err-take_leaf.ensures.err) c.self.invariant.0 in (
+    let right = subst IsRight (stayed s c.args.id r c.take_leaf.new.self c.index_mut.ensures.value c.in_err-take_leaf.ensures.0) c.self.invariant.0 in (
       subst (λ (xs : List Entry). IsRight (record { config = s.config; entries = xs; marks = s.marks; records = set s.records c.args.id (record { partner = r.partner; session = c.take_leaf.new.self }) })) es right,
       subst (λ (xs : List Entry). AreLeaves s.config xs c.self.inside.leaves.items) es c.self.invariant.1,
       ap (λ (l : Log). l.limit) log ∙ c.self.invariant.2,
@@ -124,9 +124,9 @@ returns-in_err-take_leaf-clause-answers c =
     let records = set s.records c.args.id (record { partner = r.partner; session = c.take_leaf.new.self }) in
     let new : State = record { config = s.config; entries = c.reserve.new.self.entries; marks = s.marks; records = records } in
     let same : now ≡ new =
-    sym c.self.view_is ∙ stayed s c.args.id r c.take_leaf.new.self c.index_mut.ensures.value c.in_err-take_leaf.ensures.err
+    sym c.self.view_is ∙ stayed s c.args.id r c.take_leaf.new.self c.index_mut.ensures.value c.in_err-take_leaf.ensures.0
     ∙ ap (λ (l : Log). record { config = s.config; entries = l.entries; marks = s.marks; records = records }) (sym (reserve_ok c.self.inside.journal _ _ c.in_ok-reserve.ensures.reserves).is) in
-    let told = no_memory now c.args.seat c.args.id t seen.rows e (subst IsRight c.self.view_is c.self.invariant.0) seen.read (search rules) in
+    let told = no_memory now c.args.seat c.args.id t seen.rows e (subst IsRight c.self.view_is c.self.invariant.0) seen.read (only_memory c.in_err-take_leaf.ensures.1) in
     rw (p.1, p.2) (subst (λ (u : State). TakesFor now c.args.seat c.args.id (slice_get now.records c.args.id) t (Err e) u) same told)
 
 pub append_all-requires-clause-numbered : goal.append_all-requires-clause-numbered
@@ -174,7 +174,7 @@ is_accepted c =
       seen = (c.in_ok-batch.ensures.answers seen.own seen.rows seen.held seen.parted).1.2;
       entries_are = es;
       marks_are = marks;
-      walk = c.in_ok-take_leaf.ensures.ok;
+      walk = given_state c.in_ok-take_leaf.ensures;
     }
 
 pub invariant_of-self-2 : goal.invariant_of-self-2

@@ -1,6 +1,6 @@
 use Rattle.std.proofs.Common.{rules, ◌≡◌, false}
 use Rattle.range_state.proofs.BulkLaws.{all_rehashed, same_trans}
-use Rattle.range_state.proofs.state.RangeState.rehash.Goals as goal
+use Rattle.range_state.proofs.state.RangeState.rehash_by.Goals as goal
 
 pub returns-clause-ok : goal.returns-clause-ok
 returns-clause-ok g c =

@@ -1,7 +1,7 @@
 use Rattle.std.proofs.Common.{◌≡◌}
 use Rattle.hash_tree.specs.Nodes.{dirty_count}
 use Rattle.range_state.specs.Trees.{IsSameRange}
-use Rattle.range_state.proofs.state.RangeState.rehash.Given as goal
+use Rattle.range_state.proofs.state.RangeState.rehash_by.Given as goal
 
 abbrev pub invariant-loop : goal.invariant-loop
 invariant-loop g l = record {

@@ -7,7 +7,7 @@ use Rattle.range_state.specs.Records.{open_count}
 use Rattle.range_state.specs.State.{State, IsRight, rows_now}
 use Rattle.range_state.specs.Sessions.{standings, crowd_fault}
 use Rattle.range_state.proofs.SessionLaws.{opened_right, room_of}
-use Rattle.range_state.proofs.state.RangeState.open_session.Goals as goal
+use Rattle.range_state.proofs.state.RangeState.open_with.Goals as goal
 
 pub invariant_of-self-2 : goal.invariant_of-self-2
 invariant_of-self-2 c =
@@ -15,6 +15,6 @@ invariant_of-self-2 c =
     let r : Record = record { partner = c.args.partner; session = c.in_ok-session.session } in
     let room : (length s.records < 1024) × (open_count s.records < 64) = room_of s.records (subst (λ (rs : List Record). crowd_fault (standings rs) ≡ None) c.deref.ensures.value c.in_ok-check_crowd.ensures.0) in
     let own = c.in_ok-own.ensures.1 ∙ ap rows_now (sym c.self.view_is) in
-    let begun = c.in_ok-session.ensures.1 ∙ ap (λ (m : RowMap). started m c.args.offer.root) own in
-    let right = opened_right s c.args.partner c.args.offer.root r c.self.invariant.0 room (ap (λ (w : Walk). record { partner = c.args.partner; session = w }) begun) in
+    let begun = c.in_ok-session.ensures.1 ∙ ap (λ (m : RowMap). started m c.args.root) own in
+    let right = opened_right s c.args.partner c.args.root r c.self.invariant.0 room (ap (λ (w : Walk). record { partner = c.args.partner; session = w }) begun) in
     (subst (λ (rs : List Record). IsRight (record { config = s.config; entries = s.entries; marks = s.marks; records = rs })) (sym c.in_ok-push.ensures.items) right, c.self.invariant.1, c.self.invariant.2, c.self.invariant.3)
