@@ -11,7 +11,7 @@ use Rattle.vclock.specs.declared.format.Format.{Format}
 use Rattle.version_set.specs.declared.version.Version.{Version}
 use Rattle.version_set.specs.Order.{place_by}
 use Rattle.version_set.specs.Version.{offered}
-use Rattle.version_set.proofs.ListLaws.{all-append}
+use Rattle.version_set.proofs.ListLaws.{all-append, all-rest}
 use Rattle.row_bytes.specs.declared.row.Row.{Row}
 use Rattle.hash_tree.specs.Leaves.{key_cmp, Bucket, IsBucket, AscendByKey, IsAt, IsBetween, IsRun, FindsRow, with_offer, versions_in}
 use Rattle.hash_tree.specs.Chunks.{all_rows, chunk_rows, begin_by, place_in, IsSpot, IsRowSpot, row_versions, offered_at}
@@ -26,10 +26,6 @@ use Rattle.hash_tree.proofs.ChunkPlaces.{three_parts, rows_read}
 all_front : {X : Type 0} (P : X → Type 0) (xs ys : List X) → AllByRecursion P (xs ++ ys) → AllByRecursion P xs
 all_front P [] ys all = tt
 all_front P (x ∷ xs) ys all = (all.0, all_front P xs ys all.1)
-
-all_back : {X : Type 0} (P : X → Type 0) (xs ys : List X) → AllByRecursion P (xs ++ ys) → AllByRecursion P ys
-all_back P [] ys all = all
-all_back P (x ∷ xs) ys all = all_back P xs ys all.1
 
 ascend_front : (xs ys : List Row) → AscendByKey (xs ++ ys) → AscendByKey xs
 ascend_front [] ys a = tt
@@ -64,13 +60,13 @@ less_first x k (c ∷ chunks) zero d all h begins = first c.rows all begins
     first : (rows : List Row) → AllByRecursion (λ (y : Row). key_cmp x y.key ≡ Less) (rows ++ all_rows chunks) → begin_by k rows ≡ true → key_cmp k x ≡ Greater
     first [] less t = absurd (cc t)
     first (y ∷ rows) less t = less_through x y.key k less.0 t
-less_first x k (c ∷ chunks) (suc j) d all h begins = less_first x k chunks j d (all_back (λ (y : Row). key_cmp x y.key ≡ Less) c.rows (all_rows chunks) all) (omega arith) begins
+less_first x k (c ∷ chunks) (suc j) d all h begins = less_first x k chunks j d (all-rest (λ (y : Row). key_cmp x y.key ≡ Less) c.rows (all_rows chunks) all) (omega arith) begins
 
 -- rows before all chunks are less than a key by which one of these begins
 less_rows_first : (k : List ℕ) (rows : List Row) (chunks : List Bucket) (j : ℕ) (d : Bucket) → AscendByKey (rows ++ all_rows chunks) → j < length chunks → begin_by k (get_or chunks j d).rows ≡ true → AllByRecursion (λ (y : Row). key_cmp k y.key ≡ Greater) rows
 less_rows_first k [] chunks j d a h begins = tt
 less_rows_first k (r ∷ rows) chunks j d a h begins =
-    (less_first r.key k chunks j d (all_back (λ (y : Row). key_cmp r.key y.key ≡ Less) rows (all_rows chunks) a.0) h begins, less_rows_first k rows chunks j d a.1 h begins)
+    (less_first r.key k chunks j d (all-rest (λ (y : Row). key_cmp r.key y.key ≡ Less) rows (all_rows chunks) a.0) h begins, less_rows_first k rows chunks j d a.1 h begins)
 
 -- the rows of all chunks before one that begins by a key are less than the key
 before_less : (k : List ℕ) (chunks : List Bucket) (n : ℕ) (d : Bucket) → AscendByKey (all_rows chunks) → n < length chunks → begin_by k (get_or chunks n d).rows ≡ true → AllByRecursion (λ (y : Row). key_cmp k y.key ≡ Greater) (all_rows (take n chunks))
@@ -115,7 +111,7 @@ chunks_parted k (c ∷ chunks) a some zero (suc j) d le within begins = first c.
 
     first : (rows : List Row) → AscendByKey (rows ++ all_rows chunks) → 1 ≤ length rows → begin_by k rows ≡ true
     first [] ascend none = absurd (omega arith)
-    first (r ∷ rows) ascend one = at_most r (less_first r.key k chunks j d (all_back (λ (y : Row). key_cmp r.key y.key ≡ Less) rows (all_rows chunks) ascend.0) (omega arith) begins)
+    first (r ∷ rows) ascend one = at_most r (less_first r.key k chunks j d (all-rest (λ (y : Row). key_cmp r.key y.key ≡ Less) rows (all_rows chunks) ascend.0) (omega arith) begins)
 chunks_parted k (c ∷ chunks) a some (suc i) zero d le within begins = absurd (omega arith)
 chunks_parted k (c ∷ chunks) a some (suc i) (suc j) d le within begins = chunks_parted k chunks (ascend_back c.rows (all_rows chunks) a) some.1 i j d (omega arith) (omega arith) begins
 

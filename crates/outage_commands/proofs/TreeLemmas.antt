@@ -17,6 +17,7 @@ use Rattle.serde_json.specs.Data.{Num, unsigned, negative, float, Data, null, bo
 use Rattle.serde_json.specs.Find.{get, get_member, as_null, as_object, as_str, as_u64}
 use Rattle.serde_json.specs.Read as serde
 use Rattle.serde_json.proofs.Views.{get_member-put, get_member-put_other}
+use Rattle.vclock.proofs.BoolLaws.{and-true, or-false}
 use Rattle.outage_commands.specs.Reading.{all_named, is_among, only_named, has_only, sole_member, number_of, two_of, each_of, sole}
 use Rattle.outage_commands.specs.Trees.{data_of, items_data, members_data, whole_of, is_whole, items_are_whole, members_are_whole, seen}
 
@@ -128,10 +129,6 @@ and_joins true false c = refl
 and_joins false true c = refl
 and_joins false false c = refl
 
-and_true : (a : Bool) → (a && true) ≡ a
-and_true true = refl
-and_true false = refl
-
 -- the names fit if that of a member which is put in fits too
 put_named : (fits : List ℕ → Bool) (k : List ℕ) (d : Data) (ms : Members) → all_named fits (put k d ms) ≡ (fits k && all_named fits ms)
 put_named fits k d no_members = refl
@@ -158,7 +155,7 @@ all_named_with {A} fits (m ∷ ms) before =
 
 -- the names of the value are those of the tree
 pub all_named_of : {A : Type 0} → (fits : List ℕ → Bool) (ms : List (Member A)) → all_named fits (members_data (members_view ms) no_members) ≡ list_all (λ (m : Member A). fits m.0.now) ms
-all_named_of {A} fits ms = all_named_with fits ms no_members ∙ and_true (list_all (λ (m : Member A). fits m.0.now) ms)
+all_named_of {A} fits ms = all_named_with fits ms no_members ∙ and-true (list_all (λ (m : Member A). fits m.0.now) ms)
 
 -- one of several borrowed texts
 pub any_of : (fits : List ℕ → Bool) (names : List (Bor (List ℕ))) → list_any fits (map (λ (n : Bor (List ℕ)). n.now) names) ≡ list_any (λ (n : Bor (List ℕ)). fits n.now) names
@@ -185,13 +182,9 @@ and_second : (a b : Bool) → (a && b) ≡ true → b ≡ true
 and_second true b e = e
 and_second false b e = absurd (true≢false (sym e))
 
-or_false : (a : Bool) → (a || false) ≡ a
-or_false true = refl
-or_false false = refl
-
 -- one of one name is that name
 among_one : (name other : List ℕ) → is_among (name ∷ []) other ≡ true → name ≡ other
-among_one name other e = (bytes_eq-Decides name other).0 (sym (or_false (bytes_eq name other)) ∙ e)
+among_one name other e = (bytes_eq-Decides name other).0 (sym (or-false (bytes_eq name other)) ∙ e)
 
 abbrev Sole : List ℕ → Members → Type 0
 Sole name ms = (d : Data) × (ms ≡ member name d no_members)
@@ -235,10 +228,10 @@ other_names m ms other = by_members (members_data (members_view (m ∷ ms)) no_m
   where
     by_members : (found : Members) → all_named (is_among (m.0.now ∷ [])) found ≡ false → is_some (get_member m.0.now found) ≡ true → sole found ≡ None
     by_members no_members e there = refl
-    by_members (member n d no_members) e there = by_order (bytes_eq m.0.now n) refl (sym (and_true (is_among (m.0.now ∷ []) n)) ∙ e)
+    by_members (member n d no_members) e there = by_order (bytes_eq m.0.now n) refl (sym (and-true (is_among (m.0.now ∷ []) n)) ∙ e)
       where
         by_order : (b : Bool) → bytes_eq m.0.now n ≡ b → is_among (m.0.now ∷ []) n ≡ false → sole (member n d no_members) ≡ None
-        by_order true h e = absurd (true≢false (sym h ∙ sym (or_false (bytes_eq m.0.now n)) ∙ e))
+        by_order true h e = absurd (true≢false (sym h ∙ sym (or-false (bytes_eq m.0.now n)) ∙ e))
         by_order false h e = absurd (true≢false (sym there ∙ ap is_some (skipped m.0.now n d h)))
     by_members (member n d (member k f more)) e there = refl
 

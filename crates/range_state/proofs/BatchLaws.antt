@@ -23,7 +23,7 @@ use Rattle.range_state.specs.State.{State, leaf_in, bucket_of, knows, entry_of, 
 use Rattle.range_state.specs.Sessions.{offers_in, offers_of, taken_in, crowded_in}
 use Rattle.range_state.specs.Batches.{ahead, IsBatch, IsPrepared}
 use Rattle.range_state.proofs.RowLaws.{leaf_holds, leaf-push}
-use Rattle.range_state.proofs.StateLaws.{knows_held}
+use Rattle.range_state.proofs.StateLaws.{eq_itself, knows_held}
 
 abbrev pub Offers : Type 0
 Offers = List (List ℕ × Version)
@@ -178,9 +178,6 @@ news_next s seat leaf key v w a b e x is at fresh fits copy made same leaf_now e
       },
     )
   where
-    eq_itself : (n : ℕ) → nat_eq n n ≡ true
-    eq_itself n = grind (arith, nat_tests)
-
     bucket_next : (c : Config) (es : List Entry) (e : Entry) (leaf : ℕ) (old : Bucket) (key : List ℕ) (w : Version) → old ≡ bucket_of c es leaf → e.key ≡ key → w ≡ e.version → leaf ≡ leaf_in c key
         → record { format = old.format; rows = with_offer key w old.rows } ≡ bucket_of c (es ++ e ∷ []) leaf
     bucket_next c es e leaf old key w was k ver at =

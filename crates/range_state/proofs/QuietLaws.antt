@@ -38,14 +38,13 @@ use Rattle.range_state.specs.Syncs.{IsOfRange, leaves_between, synced}
 use Rattle.range_state.specs.Unions.{union_of}
 use Rattle.range_state.proofs.RowLaws.{rows_of-ascend, rows_of-entries, versions_in-rows_of}
 use Rattle.range_state.proofs.OfferLaws.{row_map_now}
+use Rattle.range_state.proofs.SessionResults.{all_of}
+use Rattle.range_state.proofs.StateLaws.{eq_itself}
 use Rattle.range_state.proofs.SessionLaws.{covered-itself}
 use Rattle.range_state.proofs.SyncLists.{member_of}
 use Rattle.range_state.proofs.UnionLaws.{offers_unite, union_alike, union_swap, held-Ascends, held_own, for_leaves, leaves_hold, leaves_any}
 
 -- ---- a leaf where the trees differ is among those that are taken
-
-eq_itself : (n : ℕ) → nat_eq n n ≡ true
-eq_itself n = eq-eqb n n refl
 
 level_has : (d k i : ℕ) → i < k → contains_node (at_node d i) (first_of_level d k) ≡ true
 unfolding first_of_level
@@ -195,10 +194,6 @@ holds_both s seat other pair fits key =
 
 -- ---- rows by what is held
 
-all_contained : {X : Type 0} (P : X → Type 0) (xs : List X) (x : X) → AllByRecursion P xs → Contains xs x → P x
-all_contained P [] x all c = absurd (omega (arith, c.1))
-all_contained P (y ∷ ys) x all c = elim (contains_cons y ys x c) [ inl e ↦ subst P e all.0 | inr later ↦ all_contained P ys x all.1 later ]
-
 not_both : (a b : List ℕ) → key_cmp a b ≡ Less → key_cmp b a ≡ Less → ⊥
 not_both a b h k = let clash : Less ≡ Greater = sym k ∙ turned a b Less h in cc
 
@@ -215,16 +210,16 @@ same_ascending (x ∷ xs) (y ∷ ys) a b f g =
       | inl e ↦ sym e
       | inr above ↦ elim (contains_cons x xs y (g y (first_in y ys))) [
         | inl e ↦ e
-        | inr below ↦ absurd (not_both x.key y.key (all_contained (λ (r : Row). key_cmp x.key r.key ≡ Less) xs y a.0 below) (all_contained (λ (r : Row). key_cmp y.key r.key ≡ Less) ys x b.0 above))
+        | inr below ↦ absurd (not_both x.key y.key (all_of (λ (r : Row). key_cmp x.key r.key ≡ Less) xs y a.0 below) (all_of (λ (r : Row). key_cmp y.key r.key ≡ Less) ys x b.0 above))
       ]
     ] in
     let rest = same_ascending xs ys a.1 b.1
     (λ r c. elim (contains_cons y ys r (f r (contains_later x xs r c))) [
-      | inl e ↦ absurd (again x r (sym (same ∙ e)) (all_contained (λ (z : Row). key_cmp x.key z.key ≡ Less) xs r a.0 c))
+      | inl e ↦ absurd (again x r (sym (same ∙ e)) (all_of (λ (z : Row). key_cmp x.key z.key ≡ Less) xs r a.0 c))
       | inr later ↦ later
     ])
     (λ r c. elim (contains_cons x xs r (g r (contains_later y ys r c))) [
-      | inl e ↦ absurd (again y r (sym e ∙ same) (all_contained (λ (z : Row). key_cmp y.key z.key ≡ Less) ys r b.0 c))
+      | inl e ↦ absurd (again y r (sym e ∙ same) (all_of (λ (z : Row). key_cmp y.key z.key ≡ Less) ys r b.0 c))
       | inr later ↦ later
     ]) in
     λ i. same i ∷ rest i

@@ -20,7 +20,7 @@ use Rattle.range_state.specs.Records.{IsOver, IsGoing, IsKept}
 use Rattle.range_state.specs.State.{State, IsRight, IsFromPartner}
 use Rattle.range_state.proofs.TakenLaws.{not_open}
 
-all_of : {X : Type 0} (P : X → Type 0) (xs : List X) (x : X) → AllByRecursion P xs → Contains xs x → P x
+pub all_of : {X : Type 0} (P : X → Type 0) (xs : List X) (x : X) → AllByRecursion P xs → Contains xs x → P x
 all_of P xs x all has = subst P has.2 (all_get P xs has.0 x all has.1)
 
 kept_of : (s : State) (r : Record) → IsRight s → Contains s.records r → IsKept s.config s.entries r

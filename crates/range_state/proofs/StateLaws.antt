@@ -134,6 +134,9 @@ fresh_leaves c leaves is = record {
       ∙ ap (λ (rows : List Row). record { format = c.format; rows = rows }) (leaf_of_none (leaf_in c) i);
 }
 
+pub eq_itself : (n : ℕ) → nat_eq n n ≡ true
+eq_itself n = grind (arith, nat_tests)
+
 abbrev pub Marks : Type 0
 Marks = List (Option (List ℕ))
 
@@ -263,9 +266,6 @@ grown-leaves s leaves e new ok is = record {
   each = λ i d lt. each_leaf i d lt;
 }
   where
-    eq_itself : (n : ℕ) → nat_eq n n ≡ true
-    eq_itself n = grind (arith, nat_tests)
-
     apart : (a b : ℕ) → a ≢ b → nat_eq a b ≡ false
     apart a b h = grind (arith, nat_tests)
 

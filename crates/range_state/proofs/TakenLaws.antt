@@ -44,7 +44,7 @@ use Rattle.range_state.specs.Records.{IsOver, IsHere, IsGoing, IsKept, is_open_s
 use Rattle.range_state.specs.State.{State, IsRight, IsLeafWith, HasTaken, leaf_in, place_fault, knows, entry_of, journaled, accept_step}
 use Rattle.range_state.specs.Sessions.{offers_in, offers_of, taken_in, crowded_in, walked_to, IsInnerRead, IsLeafRead}
 use Rattle.range_state.specs.Batches.{IsRowFor}
-use Rattle.range_state.proofs.StateLaws.{IsSound, sound_of, grown_sound, knows_held, first_none, later_none}
+use Rattle.range_state.proofs.StateLaws.{IsSound, eq_itself, sound_of, grown_sound, knows_held, first_none, later_none}
 use Rattle.range_state.proofs.RecordLaws.{grows}
 use Rattle.range_state.proofs.SessionLaws.{Keeps, covered-itself, any-append, replaced_right, stepped_right, none_left}
 use Rattle.range_state.proofs.BatchLaws.{Offers}
@@ -226,9 +226,6 @@ unfolding leaf_text
 spelled_short m n text rows spelled = omega (arith, ap length spelled.text_is, offers_short m.format rows)
 
 -- ---- rows that a text spells
-
-eq_itself : (n : ℕ) → nat_eq n n ≡ true
-eq_itself n = grind (arith, nat_tests)
 
 placed : (c : Config) (m : RowMap) (key : List ℕ) (v : Version) → m.format ≡ c.format → m.bits ≡ c.bits → m.range ≡ c.range → key_fault key ≡ None → value_fault m.format v.kind v.value ≡ None → range_at m.bits key ≡ m.range → place_fault c key v.kind v.value ≡ None
 placed c m key v f b g k value range =

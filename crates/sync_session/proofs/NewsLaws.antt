@@ -13,7 +13,7 @@ use Rattle.std.proofs.lemmas.Option.{slice_get-get_or}
 use Rattle.vclock.specs.declared.format.Format.{Format}
 use Rattle.version_set.specs.declared.version.Version.{Version}
 use Rattle.version_set.specs.Version.{version_text}
-use Rattle.version_set.proofs.ListLaws.{all-push, Pairwise-filter}
+use Rattle.version_set.proofs.ListLaws.{all-inner, all-push, all-rest, Pairwise-filter}
 use Rattle.key_ring.specs.Places.{range_at}
 use Rattle.row_bytes.specs.declared.row.Row.{Row}
 use Rattle.row_bytes.specs.Rows.{is_before, row_text, IsRow, KeysAscend, AreRows, BeginsWithKey}
@@ -50,10 +50,6 @@ ascend-push last (x ∷ rows) r a next = (a.0, ascend-push x.key rows r a.1 next
 ascend-next : (last : List ℕ) (rows : List Row) (r : Row) (more : List Row) → KeysAscend last (rows ++ r ∷ more) → is_before (end_key last rows) r.key ≡ true
 ascend-next last [] r more a = a.0
 ascend-next last (x ∷ rows) r more a = ascend-next x.key rows r more a.1
-
-all-inner : {X : Type 0} (P : X → Type 0) (xs : List X) (y : X) (ys : List X) → AllByRecursion P (xs ++ y ∷ ys) → P y
-all-inner P [] y ys h = h.0
-all-inner P (x ∷ xs) y ys h = all-inner P xs y ys h.1
 
 -- ---- one row more among the news
 
@@ -111,10 +107,6 @@ next_is format [] r rest after each is e begins = absurd (omega (arith, ap lengt
 next_is format (x ∷ more) r rest after each is e begins =
     let one = one_row format x r (flat_map (row_text format) more) after each.0 is (sym e ∙ begins) in
     (more, ap (λ (y : Row). y ∷ more) one.0, sym one.1)
-
-all-rest : {X : Type 0} (P : X → Type 0) (xs ys : List X) → AllByRecursion P (xs ++ ys) → AllByRecursion P ys
-all-rest P [] ys h = h
-all-rest P (x ∷ xs) ys h = all-rest P xs ys h.1
 
 -- one row more
 way_more : (m : RowMap) (n : Node) (text body last rest : List ℕ) (others : List Row) (known : ℕ) (r : Row) (after : List ℕ) (others_now : List Row) (known_now : ℕ) (way : OnTheWay m n text body last rest others known)
