@@ -116,8 +116,8 @@ impl Cluster {
     /// kept.
     fn keep_hints(&mut self, range: u16, owners: &[u16], entry: &Receipt) -> Result<u64, Refusal>
         requires { range < 2 ^ self.old.ring.bits }
-        ensures count { Answers result None (λ n. n ≡ (hinted entry.now owners.now self.old (carrier_of self.old range)).0) }
-        ensures kept { OnOk result (self.new ≡ (hinted entry.now owners.now self.old (carrier_of self.old range)).1) }
+        ensures { Answers result None
+            (λ n. (n, self.new) ≡ hinted entry.now owners.now self.old (carrier_of self.old range)) }
     {
         let Some(carrier) = self.carrier_of(range) else {
             return Ok(0);

@@ -49,8 +49,8 @@ pub(crate) fn keep_all(
     owners: &[u16],
     entry: &Receipt,
 ) -> Result<u64, Refusal>
-    ensures count { Answers result None (λ n. n ≡ length (kept_all entry.now owners.now hints.old) - length hints.old) }
-    ensures kept { OnOk result (hints.new ≡ kept_all entry.now owners.now hints.old) }
+    ensures { Answers result None (λ n. (hints.new ≡ kept_all entry.now owners.now hints.old)
+        × (n ≡ length hints.new - length hints.old)) }
 {
     let mut kept = 0;
     for i in 0..owners.len() {
