@@ -44,17 +44,17 @@ pub record IsRowSpot (chunks : List Bucket) (s : Spot) : Type 0 where
   pub chunk : s.chunk < length chunks
   pub within : s.at < length (chunk_rows chunks s.chunk)
 
--- a row can be inserted at the spot, into one of the chunks
+-- a row can be inserted at the spot
 pub record IsGapSpot (chunks : List Bucket) (s : Spot) : Type 0 where
   pub chunk : s.chunk < length chunks
   pub within : s.at ≤ length (chunk_rows chunks s.chunk)
 
--- and the chunk isn't full
+-- a row can be inserted at the spot, and its chunk has fewer than 15 rows
 pub record IsRoomySpot (chunks : List Bucket) (s : Spot) : Type 0 where
   pub gap : IsGapSpot chunks s
   pub room : length (chunk_rows chunks s.chunk) < 15
 
--- the spot of the row of a key, or the spot at which one would be inserted, if there are chunks
+-- the spot of the row of a key, or the spot at which one would be inserted if there are chunks
 abbrev pub IsSpot : List ℕ → List Bucket → Result Spot Spot → Type 0
 IsSpot k chunks (Ok s) = IsRowSpot chunks s × IsAt k (all_rows chunks) (place_in chunks s)
 IsSpot k chunks (Err s) = (1 ≤ length chunks → IsGapSpot chunks s) × IsBetween k (all_rows chunks) (place_in chunks s)

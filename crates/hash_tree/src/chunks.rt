@@ -30,7 +30,8 @@ pub(crate) struct Spot {
     pub(crate) at: usize,
 }
 
-/// Returns the spot of the row of a key, or the spot at which to insert one, by a binary search.
+/// Returns the spot of the row of a key, or the spot at which to insert one, by a binary search. If there is no chunk,
+/// that is place 0 of chunk 0.
 pub(crate) fn spot_of(chunks: &[Chunk], key: &[u8]) -> Result<Spot, Spot>
     requires each { AllByRecursion (λ (c : Bucket). 1 ≤ length c.rows) chunks.now }
     requires ascending { AscendByKey (all_rows chunks.now) }

@@ -181,7 +181,7 @@ pub room_left : (s : State) (log new : Log) → log.entries ≡ s.entries → lo
 room_left s log new entries limit h =
     rw (lt-ltb (length s.entries) s.config.limit (omega (arith, h.within, ap length entries, limit))) refl
 
--- an offer that fits is refused for want of memory alone
+-- an entry that fits is admitted if the journal has room
 pub admit_given : (s : State) (x : Entry) → full_fault s ≡ None → IsTrue (is_given (admit s x))
 admit_given s x room = rw room refl
 
