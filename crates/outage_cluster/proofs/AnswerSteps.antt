@@ -1,5 +1,5 @@
 -- What follows from an answer.
-use Rattle.std.proofs.Common.{Option, Result, Ok, Err, inl, inr}
+use Rattle.std.proofs.Common.{Option, Result, Ok, Err}
 use Rattle.vclock.specs.Answer.{Answers}
 use Rattle.vclock.specs.declared.refusal.Refusal.{Refusal}
 

@@ -3,22 +3,21 @@ use Rattle.std.proofs.Common.{◌≡◌, ℕ, ◌-◌, Bool, true, false, cond, 
 use Rattle.std.specs.Prelude.{◌&&◌, ◌==◌, position, slice_get}
 use Rattle.vclock.specs.Answer.{first_fault}
 use Rattle.vclock.specs.declared.refusal.Refusal.{Refusal}
-use Rattle.vclock.specs.declared.refusal.Refusal.TheVariants.{BadRing, Down, OtherRange}
+use Rattle.vclock.specs.declared.refusal.Refusal.TheVariants.{BadRing, Down}
 use Rattle.hint_store.specs.Hints.{pending_count}
 use Rattle.hint_store.specs.declared.hint.Kept.{Kept}
 use Rattle.key_ring.specs.Places.{range_at}
 use Rattle.range_journal.specs.declared.journal.Entry.{Entry}
 use Rattle.vclock.specs.Clock.{Pairs, clock_of}
 use Rattle.vclock.specs.Outcome.{Outcome, gives, refuses, ◌>>◌}
-use Rattle.version_set.specs.declared.kind.Kind.{Kind}
 use Rattle.range_state.specs.State as range
 use Rattle.range_state.specs.Sessions.{crowd_fault}
 use Rattle.outage_cluster.specs.declared.answer.CommandAnswer.{CommandAnswer}
 use Rattle.outage_commands.specs.declared.command.Put.{Put}
-use Rattle.outage_cluster.specs.Acts.{after_copy, put_fault, gets_hint, range_on, nodes_fault, put_act, put_by, put_into, replica_in, sync_at, synced_in, takes}
+use Rattle.outage_cluster.specs.Acts.{after_copy, put_fault, gets_hint, kept_fault, range_on, nodes_fault, put_act, put_by, put_into, replica_in, sync_at, synced_in, takes}
 use Rattle.outage_cluster.specs.declared.answer.CommandAnswer.TheVariants as Answers
 use Rattle.outage_cluster.specs.Handoff.{Round, carrier_of, deliver_at, hinted, kept_all, owners_of, round_of}
-use Rattle.outage_cluster.specs.State.{Cluster, Replica, at_home, hints_of, is_down, is_member, replica_at, replicas_of, with_replicas}
+use Rattle.outage_cluster.specs.State.{Cluster, Replica, at_home, home, in_home, hints_of, is_down, is_member, replicas_of, with_replicas}
 use Rattle.outage_cluster.specs.Syncs.{walk_fault}
 use Rattle.outage_cluster.proofs.ListSteps.{placed}
 
@@ -56,10 +55,10 @@ pub put_unasked : (p : Put) (s : Cluster) (e : Refusal) → put_fault p s ≡ So
 unfolding put_act
 put_unasked p s e cause = rw cause refl
 
--- a put with what a node keeps, said part by part
-pub put_parts : (p : Put) (h : range.State) (node : ℕ) (key : List ℕ) (context : Pairs) (kind : Kind) (value : List ℕ) → node ≡ p.node → key ≡ p.key → context ≡ clock_of p.context → kind ≡ p.kind → value ≡ p.value → range.put h 0 node key context kind value ≡ put_by p h
+-- a put at its node, said part by part
+pub put_parts : (p : Put) (reps : List Replica) (node : ℕ) (key : List ℕ) (context : Pairs) → node ≡ p.node → key ≡ p.key → context ≡ clock_of p.context → at_home p.node (put_by p) reps ≡ at_home node (λ h. range.put h 0 node key context p.kind p.value) reps
 unfolding put_by
-put_parts p h node key context kind value a b c d e = rw (a, b, c, d, e) refl
+put_parts p reps node key context a b c = rw (a, b, c) refl
 
 -- the copies of a put that its node took
 pub put_copied : (down : List ℕ) (p : Put) (reps mid : List Replica) (e : Entry) → at_home p.node (put_by p) reps ≡ gives e mid → put_into down p reps ≡ gives (e, length (filter (takes down p.node p.lose e) mid)) (map (after_copy down p.node p.lose e) mid)
@@ -71,8 +70,12 @@ unfolding put_into
 put_uncopied down p reps e is = rw is refl
 
 -- a node that keeps nothing
-pub nobody_home : {T : Type 0} (n : ℕ) (reps : List Replica) (call : range.State → Outcome T range.State) → replica_at n reps ≡ None → at_home n call reps ≡ refuses OtherRange
-nobody_home n reps call none = rw none refl
+pub nobody_home : {T : Type 0} (n : ℕ) (reps : List Replica) (call : range.State → Outcome T range.State) (e : Refusal) → kept_fault (home n reps) ≡ Some e → at_home n call reps ≡ refuses e
+nobody_home n reps call e cause = pick (home n reps) cause
+  where
+    pick : (o : Option range.State) → kept_fault o ≡ Some e → in_home n reps call o ≡ refuses e
+    pick None is = cc
+    pick (Some h) is = cc
 
 -- a sync that is refused
 pub sync_refused : (node from r : ℕ) (s : Cluster) (e : Refusal) → walk_fault (range_on s from r) (replica_in s node r) ≡ Some e → sync_at node from r s ≡ refuses e

@@ -11,7 +11,7 @@ ghost use Rattle.outage_cluster.specs.Syncs.{IsReported, walk_fault, synced_with
 ghost use Rattle.range_state.specs.Config.{Config};
 ghost use Rattle.outage_cluster.specs.Handoff.{owners_of};
 ghost use Rattle.range_journal.specs.declared.journal.Source.{Source};
-ghost use Rattle.range_state.specs.State.{rows_now, accept};
+ghost use Rattle.range_state.specs.State.{rows_now, accept, put};
 
 use crate::home::Home;
 use crate::replica::{Replica, gets_hint};
@@ -22,8 +22,8 @@ use range_state::{Accepted, RangeConfig, Receipt, Synced};
 use std::alloc::{AllocError, Global};
 use std::marker::Model;
 use std::thread::Threads;
-use vclock::{Clock, Refusal};
-use version_set::Version;
+use vclock::{Bytes, Clock, Refusal};
+use version_set::{Kind, Version};
 
 /// The replicas of a range.
 pub(crate) struct Replicas {
@@ -150,6 +150,23 @@ impl Replicas {
         self.replicas[place].accept(alloc, Source::Hint, key, version)
     }
 
+    /// Puts a value at a replica's node.
+    fn enter(
+        &mut self,
+        alloc: Global,
+        at: Home,
+        key: &[u8],
+        context: &Clock,
+        kind: Kind,
+        value: Bytes,
+    ) -> Result<Receipt, Refusal>
+        requires { IsHome at.node self.old at.place }
+        ensures { DoesOrNoMemory result self.old self.new (at_home at.node
+            (λ h. put h 0 at.node key.now context.now kind value) self.old) }
+    {
+        self.replicas[at.place].put(alloc, key, context, kind, value)
+    }
+
     /// Puts a value at a node, and sends a copy to each other replica that is up and is to get one. A replica that
     /// refuses its copy is passed over.
     pub(crate) fn put(
@@ -165,9 +182,7 @@ impl Replicas {
         ensures owners { IfOk result (λ done. done.owners.items
             ≡ owners_of (gets_hint down.now put.node put.lose) self.old) }
     {
-        let Some(place) = place_of(&self.replicas, put.node) else {
-            return Err(Refusal::OtherRange);
-        };
+        let at = self.home_of(put.node, usize::from(self.config.range()))?;
         let owners = self.owners(alloc, down, &put)?;
         let Put {
             node,
@@ -177,7 +192,7 @@ impl Replicas {
             lose,
             ..
         } = put;
-        let receipt = self.replicas[place].put(alloc, key.as_slice(), context, kind, value)?;
+        let receipt = self.enter(alloc, at, key.as_slice(), context, kind, value)?;
         let lose = lose.as_slice();
         let copied = send_to(alloc, &mut self.replicas, down, node, lose, &receipt)?;
         Ok(Sent {
