@@ -4,13 +4,13 @@ use Rattle.std.specs.Prelude.{slice_index}
 use Rattle.std.proofs.Math.Nat.{pow-suc, pow-le-pow_right}
 use Rattle.std.proofs.lemmas.Nat.{and_mask, shr-shr, shr_below, mul-add-lt}
 use Rattle.std.specs.Int.Bits.{bit_and}
-use Rattle.std.specs.Int.{w32, to_le_bytes}
+use Rattle.std.specs.Int.{w32, w64, to_le_bytes, from_be_bytes}
 use Rattle.md5.specs.Md5.{md5, digest_bytes}
 use Rattle.md5.proofs.StandardFacts.{length-md5}
 use Rattle.vclock.proofs.ByteLaws.{IsBytes}
 use Rattle.vclock.specs.declared.format.Format.{Format}
 use Rattle.vclock.specs.declared.format.Format.TheVariants.{One, Two}
-use Rattle.key_ring.specs.Places.{number_from, key_number, range_at, leaf_bits, leaf_at}
+use Rattle.key_ring.specs.Places.{number_from, key_number, key_front, range_at, leaf_bits, leaf_at}
 
 -- bytes, and then bytes
 IsBytes-append : (xs ys : List ℕ) → IsBytes xs → IsBytes ys → IsBytes (xs ++ ys)
@@ -45,22 +45,32 @@ number_below (byte ∷ bytes) fits =
     let here : byte * 256 ^ length bytes + number_from bytes < 256 ^ length bytes * 256 = mul-add-lt byte (256 ^ length bytes) (number_from bytes) 256 (fits 0) rest in
     rw (pow-suc 256 (length bytes)) here
 
--- the number without its last 13 bytes
-first_three : (a b c : ℕ) (rest : List ℕ) → length rest ≡ 13 → IsBytes rest → number_from (a ∷ b ∷ c ∷ rest) / 2 ^ 104 ≡ a * 65536 + b * 256 + c
-first_three a b c rest len fits =
-    let low : number_from rest < 256 ^ 13 = subst (λ n. number_from rest < 256 ^ n) len (number_below rest fits) in
+-- the first eight bytes
+abbrev pub first_eight : List ℕ → List ℕ
+first_eight digest = get_or digest 0 0 ∷ get_or digest 1 0 ∷ get_or digest 2 0 ∷ get_or digest 3 0 ∷ get_or digest 4 0 ∷ get_or digest 5 0 ∷ get_or digest 6 0 ∷ get_or digest 7 0 ∷ []
+
+-- the number without its last 8 bytes
+eight_left : (a b c d e f g h : ℕ) (rest : List ℕ) → length rest ≡ 8 → IsBytes rest
+    → number_from (a ∷ b ∷ c ∷ d ∷ e ∷ f ∷ g ∷ h ∷ rest) / 2 ^ 64 ≡ a * 2 ^ 56 + b * 2 ^ 48 + c * 2 ^ 40 + d * 2 ^ 32 + e * 2 ^ 24 + f * 2 ^ 16 + g * 2 ^ 8 + h
+eight_left a b c d e f g h rest len fits =
+    let low : number_from rest < 256 ^ 8 = subst (λ n. number_from rest < 256 ^ n) len (number_below rest fits) in
     rw len (omega (arith, low))
 
--- the first 24 bits of 16 bytes
-first_bits : (digest : List ℕ) → length digest ≡ 16 → IsBytes digest → number_from digest / 2 ^ 104 ≡ get_or digest 0 0 * 65536 + get_or digest 1 0 * 256 + get_or digest 2 0
+-- the first 64 bits of 16 bytes
+first_bits : (digest : List ℕ) → length digest ≡ 16 → IsBytes digest → number_from digest / 2 ^ 64 ≡ from_be_bytes w64 (first_eight digest)
 first_bits [] len fits = absurd (omega arith)
 first_bits (a ∷ []) len fits = absurd (omega arith)
 first_bits (a ∷ b ∷ []) len fits = absurd (omega arith)
-first_bits (a ∷ b ∷ c ∷ rest) len fits = first_three a b c rest (omega arith) (λ i. fits (suc (suc (suc i))))
+first_bits (a ∷ b ∷ c ∷ []) len fits = absurd (omega arith)
+first_bits (a ∷ b ∷ c ∷ d ∷ []) len fits = absurd (omega arith)
+first_bits (a ∷ b ∷ c ∷ d ∷ e ∷ []) len fits = absurd (omega arith)
+first_bits (a ∷ b ∷ c ∷ d ∷ e ∷ f ∷ []) len fits = absurd (omega arith)
+first_bits (a ∷ b ∷ c ∷ d ∷ e ∷ f ∷ g ∷ []) len fits = absurd (omega arith)
+first_bits (a ∷ b ∷ c ∷ d ∷ e ∷ f ∷ g ∷ h ∷ rest) len fits = omega (arith, eight_left a b c d e f g h rest (omega arith) (λ i. fits (suc (suc (suc (suc (suc (suc (suc (suc i))))))))))
 
--- the first three bytes of a key's digest are the first 24 bits of its number
-pub front_is : (key digest : List ℕ) → digest ≡ md5 key → key_number key / 2 ^ 104 ≡ get_or digest 0 0 * 65536 + get_or digest 1 0 * 256 + get_or digest 2 0
-unfolding key_number
+-- the first eight bytes of a key's digest are the first 64 bits of its number
+pub front_is : (key digest : List ℕ) → digest ≡ md5 key → key_front key ≡ from_be_bytes w64 (first_eight digest)
+unfolding key_front key_number
 front_is key digest e = rw (← e) (first_bits digest (ap length e ∙ length-md5 key) (subst IsBytes (sym e) (md5_fits key)))
 
 -- a key's number has 128 bits

@@ -14,6 +14,10 @@ number_from (byte ∷ bytes) = byte * 256 ^ length bytes + number_from bytes
 unfoldable pub key_number : List ℕ → ℕ
 key_number key = number_from (md5 key)
 
+-- the first 64 bits of a key's number
+unfoldable pub key_front : List ℕ → ℕ
+key_front key = key_number key / 2 ^ 64
+
 -- the range of a key in a ring of 2^bits equal ranges: the first bits of its number
 unfoldable pub range_at : ℕ → List ℕ → ℕ
 range_at bits key = key_number key / 2 ^ (128 - bits)

@@ -1,9 +1,9 @@
 //! The range and the leaf of a key (the paper of 2007, sections 4.2, 4.7 and 6.2), by the 128 bits of its MD5 digest
 //! (RFC 1321), the first byte of the digest highest.
-ghost use Rattle.std.specs.Prelude.{◌≡◌, ◌-◌, ◌/◌, ◌<◌, ◌≤◌, ◌^◌};
-ghost use Rattle.key_ring.specs.Places.{key_number, leaf_at, leaf_bits, range_at};
+ghost use Rattle.std.specs.Prelude.{◌≡◌, ◌<◌, ◌≤◌, ◌^◌};
+ghost use Rattle.key_ring.specs.Places.{leaf_at, leaf_bits, range_at};
 
-use md5::{Digest, Md5};
+use crate::hashed_key::HashedKey;
 use vclock::Format;
 
 /// The range and the leaf of a key.
@@ -26,30 +26,5 @@ pub fn place(format: Format, bits: u8, key: &[u8]) -> KeyPlace
     ensures in_ring { result.range < 2 ^ bits }
     ensures in_tree { result.leaf < 2 ^ leaf_bits format }
 {
-    let front = front(key);
-    let below_range = 24 - u32::from(bits);
-    let leaf_bits = leaf_bits(format);
-    let leaf_mask = (1 << leaf_bits) - 1;
-    let range = (front >> below_range) as u16;
-    let leaf = ((front >> (below_range - leaf_bits)) & leaf_mask) as u16;
-    KeyPlace { range, leaf }
-}
-
-/// Returns the first three bytes of a key's digest as a number: a range and a leaf have at most 20 bits.
-fn front(key: &[u8]) -> u32
-    ensures front { result ≡ key_number key.now / 2 ^ 104 }
-    ensures short { result < 2 ^ 24 }
-{
-    let digest = Md5::digest(key);
-    u32::from_be_bytes([0, digest[0], digest[1], digest[2]])
-}
-
-/// Returns the number of bits of a leaf.
-fn leaf_bits(format: Format) -> u32
-    ensures { result ≡ leaf_bits format }
-{
-    match format {
-        Format::One => 8,
-        Format::Two => 12,
-    }
+    HashedKey::new(key).place(format, bits)
 }

@@ -108,7 +108,7 @@ impl VersionSet {
     pub fn try_clone(&self, alloc: Global) -> Result<VersionSet, Refusal>
         ensures { Answers result None (λ copy. copy ≡ self.now) }
     {
-        let mut versions = Vec::new(alloc);
+        let mut versions = Vec::with_capacity(alloc, self.versions.len())?;
         for version in &self.versions {
             versions.push(version.try_clone()?)?;
         }
