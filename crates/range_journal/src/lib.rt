@@ -2,6 +2,7 @@
 //! passes against the accepted versions.
 //!
 //! - [`journal`]: journals, and the versions that entries hold for a key.
+//! - [`replay`]: the versions that a journal held when it was shorter.
 //! - [`laws`]: laws proved from the definitions.
 //!
 //! ```
@@ -18,5 +19,7 @@
 
 pub mod journal;
 pub mod laws;
+pub mod replay;
 
 pub use journal::{Entry, Journal, Source, held_in};
+pub use replay::Replay;
