@@ -2,8 +2,8 @@
 use crate::core_calls::versions::version;
 use crate::lines::{show, unchanged};
 use crate::states::is_same;
-use range_journal::Source;
-use range_state::{Accepted, RangeConfig, RangeState, Receipt, Replay};
+use range_journal::{Replay, Source};
+use range_state::{Accepted, RangeConfig, RangeState, Receipt};
 use std::alloc::Global;
 use std::io;
 use vclock::{Bytes, Clock, Refusal};
@@ -21,7 +21,7 @@ pub(crate) fn show_all<R: Print + AllocGlobal>(rt: &R) -> io::Result<()> {
     show(rt, "RangeState::accept", accept(alloc))?;
     show(rt, "RangeState::get", get(alloc))?;
     show(rt, "RangeState::migrate", migrate(alloc))?;
-    show(rt, "Replay::new and Replay::advance", replay(alloc))
+    show(rt, "Replay::advance", replay(alloc))
 }
 
 /// Returns a range of a ring with one range.
@@ -136,7 +136,7 @@ fn migrate(alloc: Global) -> Result<u64, Refusal> {
 /// Replays the journal of a range, and returns 1 if the replay then has the versions that the range holds.
 fn replay(alloc: Global) -> Result<u64, Refusal> {
     let state = range_before(alloc, 6)?;
-    let mut replay = Replay::new(alloc, &state)?;
+    let mut replay = Replay::new(alloc, state.journal().entries());
     replay.advance(alloc, state.journal().len())?;
     let held = state.get(alloc, b"a")?;
     Ok(u64::from(replay.holds(b"a", &held)))

@@ -6,6 +6,7 @@ use crate::core_calls::snapshots::{Snapshots, clean_range};
 use crate::core_calls::versions::version;
 use crate::lines::{show, unchanged};
 use crate::states::begins;
+use key_ring::HashedKey;
 use range_journal::Source;
 use range_state::{Accepted, RangeState, Receipt};
 use snapshot::Snapshot;
@@ -44,7 +45,8 @@ fn put_at(
     node: u64,
 ) -> Result<Receipt, Refusal> {
     let (context, value) = put_parts(alloc, node)?;
-    state.put_into(alloc, told, 0, 1, b"a", &context, Kind::Live, value)
+    let key = HashedKey::new(b"a");
+    state.put_into(alloc, told, 0, 1, &key, &context, Kind::Live, value)
 }
 
 /// Puts until the journal, the set and the list have had to grow.
@@ -86,7 +88,7 @@ fn accept_of(
     key: u8,
 ) -> Result<Accepted, Refusal> {
     let copy = version(alloc, 2)?;
-    state.accept_into(alloc, told, 0, Source::Copy, &[key], copy)
+    state.accept_into(alloc, told, 0, Source::Copy, &HashedKey::new(&[key]), copy)
 }
 
 /// Answers a session of a range until it is finished, and returns the number of its receipts.

@@ -7,6 +7,7 @@ use crate::thread_calls::partner::Partner;
 use crate::thread_calls::versions::{put_parts, version};
 use caller_pass::{LockedRange, Pass, open_passes};
 use hash_tree::{Text, hash};
+use key_ring::HashedKey;
 use range_journal::Source;
 use range_state::{Accepted, RangeConfig, RangeState};
 use rehash::run_job;
@@ -137,7 +138,7 @@ impl<L: Ledger> Locked<L> {
     /// Returns the number of versions of a key, by `read`.
     fn read(&mut self, alloc: Global, key: u8) -> Result<u64, Refusal> {
         let pass = self.passes.get_mut(0).ok_or(Refusal::Stranger)?;
-        match self.range.read(alloc, pass, &[key]) {
+        match self.range.read(alloc, pass, &HashedKey::new(&[key])) {
             Ok(versions) => Ok(versions.len() as u64),
             Err(unread) => Err(unread.into_refusal()),
         }

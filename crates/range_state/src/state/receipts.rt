@@ -38,15 +38,8 @@ impl RangeState {
         ensures told { receipts.new.items ≡ with_put receipts.old.items result }
     {
         let (leaf, version) = self.make_put(alloc, at, key, context, kind, value)?;
-        self.admit_into(
-            alloc,
-            receipts,
-            leaf,
-            seat,
-            Source::Client,
-            key.bytes(),
-            version,
-        )
+        let key = key.bytes();
+        self.admit_into(alloc, receipts, leaf, seat, Source::Client, key, version)
     }
 
     /// Accepts a version as `accept` does, for a key that was hashed before, and appends a copy of the receipt, if any,
@@ -67,7 +60,8 @@ impl RangeState {
         let Some(leaf) = self.home_of_news(key, &version)? else {
             return Ok(Accepted::Known);
         };
-        let receipt = self.admit_into(alloc, receipts, leaf, seat, source, key.bytes(), version)?;
+        let key = key.bytes();
+        let receipt = self.admit_into(alloc, receipts, leaf, seat, source, key, version)?;
         Ok(Accepted::Taken(receipt))
     }
 
