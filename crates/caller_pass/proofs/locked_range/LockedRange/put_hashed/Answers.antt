@@ -6,7 +6,7 @@ use Rattle.caller_pass.proofs.GrowthLaws.{put_gives, grown_by_one}
 use Rattle.caller_pass.proofs.LockLaws.{locked_grown}
 use Rattle.caller_pass.proofs.PassLaws.{pass_after}
 use Rattle.caller_pass.proofs.IndexLaws.{grown}
-use Rattle.caller_pass.proofs.locked_range.LockedRange.put.Goals as goal
+use Rattle.caller_pass.proofs.locked_range.LockedRange.put_hashed.Goals as goal
 
 pub invariant_of-self-2 : goal.invariant_of-self-2
 invariant_of-self-2 g c =

@@ -10,7 +10,7 @@ use Rattle.caller_pass.proofs.GrowthLaws.{accept_gives, grown_by_one}
 use Rattle.caller_pass.proofs.LockLaws.{locked_grown}
 use Rattle.caller_pass.proofs.PassLaws.{pass_after}
 use Rattle.caller_pass.proofs.IndexLaws.{grown}
-use Rattle.caller_pass.proofs.locked_range.LockedRange.accept.Goals as goal
+use Rattle.caller_pass.proofs.locked_range.LockedRange.accept_hashed.Goals as goal
 
 pub invariant_of-self-in-Known : goal.invariant_of-self-in-Known
 invariant_of-self-in-Known g c =
