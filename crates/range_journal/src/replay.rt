@@ -1,15 +1,17 @@
 //! Replays of journals.
-ghost use Rattle.std.specs.Prelude.{◌≡◌, ◌+◌, ◌<◌, ◌≤◌, ◌↔◌, List, ℕ, length, take, None, IsTrue};
+ghost use Rattle.std.specs.Prelude.{◌≡◌, ◌+◌, ◌<◌, ◌≤◌, ◌↔◌, List, ℕ, length, take, ⊤, None, IsTrue, OnOk, OnErr, bytes_eq, if◌then◌else◌};
 ghost use Rattle.vclock.specs.Answer.{Answers};
 ghost use Rattle.vclock.specs.Outcome.{Does, DoesOrBreaksOff, gives};
+ghost use Rattle.version_set.specs.Version.{offer_fault, offered};
 ghost use Rattle.range_journal.specs.Journal.{held, NeverCrowded};
+ghost use Rattle.range_journal.specs.Replays.{set_at};
 
 use crate::journal::Entry;
 use std::alloc::Global;
 use std::collections::HashMap;
 use std::marker::Model;
 use vclock::Refusal;
-use version_set::VersionSet;
+use version_set::{Version, VersionSet};
 
 /// The versions that a journal held when it was shorter. A replay begins with no entry, and takes in entries on demand.
 pub struct Replay<'a> {
@@ -20,17 +22,16 @@ pub struct Replay<'a> {
 }
 
 impl<'a> Model for Replay<'a> {
-    ghost use Rattle.std.specs.Prelude.{◌≡◌, List, ℕ, [], take, unwrap_or, bytes_eq};
-    ghost use Rattle.std.specs.HashMap.{get_by};
+    ghost use Rattle.std.specs.Prelude.{◌≡◌, List, ℕ, take};
     ghost use Rattle.range_journal.specs.Journal.{held};
-    ghost use Rattle.range_journal.specs.Replays.{Replayed, IsReplay};
+    ghost use Rattle.range_journal.specs.Replays.{Replayed, IsReplay, set_at};
 
     ghost Value = { Replayed };
 
     ghost view = { λ r. record { entries = r.entries.now; front = r.front } };
 
     ghost invariant = { λ r. IsReplay (record { entries = r.entries.now; front = r.front })
-        × ((key : List ℕ) → unwrap_or (get_by (λ k. bytes_eq key k.now) r.sets) [] ≡ held (take r.front r.entries.now) key) };
+        × ((key : List ℕ) → set_at (λ k. k.now) r.sets key ≡ held (take r.front r.entries.now) key) };
 }
 
 impl<'a> Replay<'a> {
@@ -75,21 +76,38 @@ impl<'a> Replay<'a> {
     {
         let entries = self.entries;
         let entry = &entries[self.front as usize];
-        let version = entry.version.try_clone()?;
-        let key = entry.key.as_slice();
-        match self.sets.get_mut(key) {
-            Some(set) => {
-                set.offer(version)?;
-            }
-            None => {
-                let mut set = VersionSet::empty(alloc);
-                set.offer(version)?;
-                self.sets.insert(key, set)?;
-            }
-        }
+        offer_to(
+            alloc,
+            &mut self.sets,
+            entry.key.as_slice(),
+            entry.version.try_clone()?,
+        )?;
         self.front += 1;
         Ok(())
     }
+}
+
+/// Offers a version to the set of a key, which has room for it. On error the sets are unchanged. Refused: NoMemory.
+fn offer_to<'a>(
+    alloc: Global,
+    sets: &mut HashMap<&'a [u8], VersionSet>,
+    key: &'a [u8],
+    version: Version,
+) -> Result<(), Refusal>
+    requires room { offer_fault version (set_at (λ k. k.now) sets.old key.now) ≡ None }
+    ensures answers { Answers result None (λ _. ⊤) }
+    ensures ok { OnOk result ((k : List ℕ) → set_at (λ j. j.now) sets.new k
+        ≡ (if bytes_eq key.now k then offered version (set_at (λ j. j.now) sets.old k) else set_at (λ j. j.now) sets.old k)) }
+    ensures err { OnErr result ((k : List ℕ) → set_at (λ j. j.now) sets.new k ≡ set_at (λ j. j.now) sets.old k) }
+{
+    if let Some(set) = sets.get_mut(key) {
+        set.offer(version)?;
+        return Ok(());
+    }
+    let mut set = VersionSet::empty(alloc);
+    set.offer(version)?;
+    sets.insert(key, set)?;
+    Ok(())
 }
 
 impl<'a> Drop for Replay<'a> {

@@ -8,7 +8,6 @@
 //!   partners `open_session`, `take_answer`, `cancel_session`, `records` and `open_sessions`, and `sync_with` for a whole
 //!   session; `reconcile` for a session each way; `migrate` to format 2.
 //! - [`record`]: a session of a range, and its partner.
-//! - [`replay`]: the rows that a range had at each length of its journal.
 //! - [`event`], [`run`]: the calls as events, and lists of events.
 //! - [`laws`]: laws proved from the definitions, such as that a range that finished a session holds the versions that
 //!   its partner had, if no two different texts share a digest.
@@ -25,7 +24,7 @@ pub mod config;
 pub mod event;
 pub mod laws;
 pub mod record;
-pub mod replay;
+mod replay;
 pub mod run;
 pub mod state;
 
@@ -35,7 +34,6 @@ pub use event::{
     PutEvent, Receipt, Reply,
 };
 pub use record::Record;
-pub use replay::Replay;
 pub use state::RangeState;
 pub use state::reconciliation::{Reconciled, reconcile};
 pub use state::sync::Synced;

@@ -1,4 +1,4 @@
-//! Replays of journals.
+//! The leaves of the rows that a journal makes.
 ghost use Rattle.std.specs.Prelude.{◌≡◌, ◌+◌, ◌<◌, ◌≤◌, ◌↔◌, length, take, None, IsTrue};
 ghost use Rattle.vclock.specs.Answer.{Answers};
 ghost use Rattle.vclock.specs.Outcome.{Does, DoesOrBreaksOff, gives};
@@ -16,10 +16,9 @@ use std::marker::Model;
 use vclock::Refusal;
 use version_set::VersionSet;
 
-/// The rows that a range had when its journal was shorter. A replay begins without rows, and takes in entries on
-/// demand.
+/// The leaves of the rows that the first entries of a journal make.
 #[derive(Drop)]
-pub struct Replay<'a> {
+struct Replay<'a> {
     config: RangeConfig,
     entries: &'a [Entry],
     front: u64,
@@ -40,22 +39,8 @@ impl<'a> Model for Replay<'a> {
 }
 
 impl<'a> Replay<'a> {
-    /// Makes the replay of a range's journal, with no entry replayed. Refused: NoMemory.
-    pub fn new(alloc: Global, state: &'a RangeState) -> Result<Replay<'a>, Refusal>
-        ensures { Answers result None (λ replay. replay
-            ≡ record { config = state.now.config; entries = state.now.entries; front = 0 }) }
-    {
-        let config = state.config();
-        Ok(Replay {
-            config,
-            entries: state.journal().entries(),
-            front: 0,
-            leaves: empty_leaves(alloc, config.format())?,
-        })
-    }
-
     /// Replays entries until `front` of them are replayed. Refused: NoMemory, and then fewer may be replayed.
-    pub fn advance(&mut self, alloc: Global, front: u64) -> Result<(), Refusal>
+    fn advance(&mut self, alloc: Global, front: u64) -> Result<(), Refusal>
         requires later { self.old.front ≤ front }
         requires within { front ≤ length self.old.entries }
         ensures advances { DoesOrBreaksOff result self.old self.new (gives tt (record self.old { front = front })) }
@@ -64,16 +49,6 @@ impl<'a> Replay<'a> {
             self.step(alloc)?;
         }
         Ok(())
-    }
-
-    /// Returns true if these versions were held for a key. Doesn't allocate.
-    pub fn holds(&self, key: &[u8], versions: &VersionSet) -> bool
-        ensures { IsTrue result ↔ (held (take self.now.front self.now.entries) key.now ≡ versions.now) }
-    {
-        match self.leaves[self.leaf_of(key)].find(key) {
-            Some(held) => held.same(versions),
-            None => versions.is_empty(),
-        }
     }
 
     /// Replays the next entry.

@@ -18,7 +18,7 @@ use crate::config::RangeConfig;
 use crate::event::{Accepted, Receipt};
 use crate::record::Record;
 use hash_tree::{Marks, SharedLeaf};
-use key_ring::place;
+use key_ring::HashedKey;
 use range_journal::{Journal, Source};
 use std::alloc::Global;
 use std::marker::Model;
@@ -117,7 +117,7 @@ impl RangeState {
         ensures held { result.now ≡ held self.now.entries key.now }
         ensures fit { AllByRecursion (λ v. value_fault self.now.config.format v.kind v.value ≡ None) result.now }
     {
-        match self.find(self.leaf_of(key), key) {
+        match self.find(&HashedKey::new(key)) {
             Some(set) => set.as_slice(),
             None => &[],
         }
@@ -128,10 +128,20 @@ impl RangeState {
         ensures held { Answers result None (λ set. set ≡ held self.now.entries key.now) }
         ensures fit { IfOk result (AllByRecursion (λ v. value_fault self.now.config.format v.kind v.value ≡ None)) }
     {
-        match self.find(self.leaf_of(key), key) {
+        match self.find(&HashedKey::new(key)) {
             Some(set) => set.try_clone(alloc),
             None => Ok(VersionSet::empty(alloc)),
         }
+    }
+
+    /// Returns the versions that are held for a key that was hashed before, or `None` if the key isn't held. Doesn't
+    /// allocate or hash.
+    pub fn find(&self, key: &HashedKey) -> Option<&VersionSet>
+        ensures set { unwrap_or (option_map (λ s. s.now) result) [] ≡ held self.now.entries key.now }
+        ensures fit { AllByRecursion (λ v. value_fault self.now.config.format v.kind v.value ≡ None)
+            (held self.now.entries key.now) }
+    {
+        self.find_in(self.leaf_of(key), key)
     }
 
     /// Accepts a version that another node sent, as a copy or as a hint. A version that is equal to or below one
@@ -151,7 +161,7 @@ impl RangeState {
         requires { IsTrue (is_sent source) }
         ensures { Does result self.old self.new (accept self.old seat source key.now version) }
     {
-        let Some(leaf) = self.home_of_news(key, &version)? else {
+        let Some(leaf) = self.home_of_news(&HashedKey::new(key), &version)? else {
             return Ok(Accepted::Known);
         };
         let receipt = self.admit(alloc, leaf, seat, source, key, version)?;
@@ -182,7 +192,8 @@ impl RangeState {
         ensures early { IfErr result (λ e. e ≡ Refusal.NoMemory
             → ask_fault self.old.config at key.now context.now kind value ≡ None) }
     {
-        let (leaf, version) = self.make_put(alloc, at, key, context, kind, value)?;
+        let hashed = HashedKey::new(key);
+        let (leaf, version) = self.make_put(alloc, at, &hashed, context, kind, value)?;
         self.admit(alloc, leaf, seat, Source::Client, key, version)
     }
 
@@ -191,7 +202,7 @@ impl RangeState {
         &self,
         alloc: Global,
         at: u16,
-        key: &[u8],
+        key: &HashedKey,
         context: &Clock,
         kind: Kind,
         value: Bytes,
@@ -206,7 +217,7 @@ impl RangeState {
         let clock = context.raise(alloc, at)?;
         // Called for its clause alone: the pairs are those of a clock.
         let _valid = clock.pairs();
-        let set = self.find(leaf, key);
+        let set = self.find_in(leaf, key);
         check_context(alloc, set, &clock)?;
         let version = Version { clock, kind, value };
         if crowds(set, &version) {
@@ -216,13 +227,13 @@ impl RangeState {
     }
 
     /// Returns the leaf of a version that another node sent, or `None` if the version is known.
-    fn home_of_news(&self, key: &[u8], version: &Version) -> Result<Option<u16>, Refusal>
+    fn home_of_news(&self, key: &HashedKey, version: &Version) -> Result<Option<u16>, Refusal>
         ensures { AnswersAtOnce result (sent_fault self.now key.now version.now)
             (λ home. MatchOption home (knows self.now key.now version.now ≡ true)
             (λ leaf. IsFitting self.now leaf key.now version.now)) }
     {
         let leaf = self.home(key, version.kind, version.value.as_slice())?;
-        let set = self.find(leaf, key);
+        let set = self.find_in(leaf, key);
         if covers(set, version) {
             return Ok(None);
         }
@@ -233,20 +244,20 @@ impl RangeState {
     }
 
     /// Returns the leaf of a key.
-    fn leaf_of(&self, key: &[u8]) -> u16
+    fn leaf_of(&self, key: &HashedKey) -> u16
         ensures { result ≡ leaf_in self.now.config key.now }
     {
-        place(self.config.format(), self.config.bits(), key).leaf
+        key.place(self.config.format(), self.config.bits()).leaf
     }
 
     /// Returns the leaf of a key, if a version of that kind and value can be in this range.
-    fn home(&self, key: &[u8], kind: Kind, value: &[u8]) -> Result<u16, Refusal>
+    fn home(&self, key: &HashedKey, kind: Kind, value: &[u8]) -> Result<u16, Refusal>
         ensures { AnswersAtOnce result (place_fault self.now.config key.now kind value.now)
             (λ leaf. leaf ≡ leaf_in self.now.config key.now) }
     {
-        check_key(key)?;
+        check_key(key.bytes())?;
         kind.check_value(self.config.format(), value)?;
-        let at = place(self.config.format(), self.config.bits(), key);
+        let at = key.place(self.config.format(), self.config.bits());
         if at.range != self.config.range() {
             return Err(Refusal::OtherRange);
         }
@@ -254,13 +265,13 @@ impl RangeState {
     }
 
     /// Returns the set that is held for a key of that leaf.
-    fn find(&self, leaf: u16, key: &[u8]) -> Option<&VersionSet>
+    fn find_in(&self, leaf: u16, key: &HashedKey) -> Option<&VersionSet>
         requires { leaf ≡ leaf_in self.now.config key.now }
         ensures set { unwrap_or (option_map (λ s. s.now) result) [] ≡ held self.now.entries key.now }
         ensures fit { AllByRecursion (λ v. value_fault self.now.config.format v.kind v.value ≡ None)
             (held self.now.entries key.now) }
     {
-        self.leaves[usize::from(leaf)].find(key)
+        self.leaves[usize::from(leaf)].find(key.bytes())
     }
 
     /// Makes room for an entry. Refused, in order: JournalFull, NoMemory.

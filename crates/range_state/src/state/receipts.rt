@@ -2,39 +2,30 @@
 ghost use Rattle.std.specs.Prelude.{◌≡◌, ◌+◌, ◌≤◌, ◌++◌, ◌⊎◌, [], None, IfErr, IsTrue};
 ghost use Rattle.std.specs.Vec.{vec_len, vec_capacity};
 ghost use Rattle.vclock.specs.Outcome.{Does, DoesOrNoMemory};
-ghost use Rattle.version_set.specs.Version.{covered};
-ghost use Rattle.range_journal.specs.Journal.{held};
 ghost use Rattle.sync_session.specs.TreeNodes.{as_node};
 ghost use Rattle.range_state.specs.State.{is_sent, ask_fault, entry_of, admit, accept, put};
 ghost use Rattle.range_state.specs.Fitting.{IsFitting};
 ghost use Rattle.range_state.specs.Told.{with_put, with_sent, CountsAnswer};
 
 use crate::event::{Accepted, AnswerCounted, AnswerTaken, Receipt};
-use crate::state::{RangeState, covers};
+use crate::state::RangeState;
 use hash_tree::{Hashed, NodeAt};
+use key_ring::HashedKey;
 use range_journal::Source;
 use std::alloc::Global;
 use vclock::{Bytes, Clock, Refusal};
 use version_set::{Kind, Version};
 
 impl RangeState {
-    /// Returns true if the versions that are held for a key cover a version: it is one of them or below one. Doesn't
-    /// allocate.
-    pub fn covers(&self, key: &[u8], version: &Version) -> bool
-        ensures { result ≡ covered version.now (held self.now.entries key.now) }
-    {
-        covers(self.find(self.leaf_of(key), key), version)
-    }
-
-    /// Puts a value as `put` does, and appends a copy of the receipt to a list. Refused as `put` is. On error the list
-    /// is unchanged.
+    /// Puts a value as `put` does, for a key that was hashed before, and appends a copy of the receipt to a list.
+    /// Refused as `put` is. On error the list is unchanged.
     pub fn put_into(
         &mut self,
         alloc: Global,
         receipts: &mut Vec<Receipt>,
         seat: u16,
         at: u16,
-        key: &[u8],
+        key: &HashedKey,
         context: &Clock,
         kind: Kind,
         value: Bytes,
@@ -47,18 +38,26 @@ impl RangeState {
         ensures told { receipts.new.items ≡ with_put receipts.old.items result }
     {
         let (leaf, version) = self.make_put(alloc, at, key, context, kind, value)?;
-        self.admit_into(alloc, receipts, leaf, seat, Source::Client, key, version)
+        self.admit_into(
+            alloc,
+            receipts,
+            leaf,
+            seat,
+            Source::Client,
+            key.bytes(),
+            version,
+        )
     }
 
-    /// Accepts a version as `accept` does, and appends a copy of the receipt, if any, to a list. Refused as `accept`
-    /// is. On error the list is unchanged.
+    /// Accepts a version as `accept` does, for a key that was hashed before, and appends a copy of the receipt, if any,
+    /// to a list. Refused as `accept` is. On error the list is unchanged.
     pub fn accept_into(
         &mut self,
         alloc: Global,
         receipts: &mut Vec<Receipt>,
         seat: u16,
         source: Source,
-        key: &[u8],
+        key: &HashedKey,
         version: Version,
     ) -> Result<Accepted, Refusal>
         requires { IsTrue (is_sent source) }
@@ -68,7 +67,7 @@ impl RangeState {
         let Some(leaf) = self.home_of_news(key, &version)? else {
             return Ok(Accepted::Known);
         };
-        let receipt = self.admit_into(alloc, receipts, leaf, seat, source, key, version)?;
+        let receipt = self.admit_into(alloc, receipts, leaf, seat, source, key.bytes(), version)?;
         Ok(Accepted::Taken(receipt))
     }
 

@@ -10,6 +10,6 @@ returns-in_err-leaf-clause-puts c =
       refl,
       elim c.in_err-leaf.ensures.made [
         | inl none ↦ inl none
-        | inr fault ↦ inr (put_refused c.args.self.now c.args.seat c.args.at c.args.key.now c.args.context.now c.args.kind c.args.value c.in_err-leaf.field-0.0 fault)
+        | inr fault ↦ inr (put_refused c.args.self.now c.args.seat c.args.at c.args.key.now c.args.context.now c.args.kind c.args.value c.in_err-leaf.field-0.0 (rw c.new-hashed.ensures at fault))
       ],
     )
