@@ -99,6 +99,12 @@ grown es fs ns index is are = subst (λ (xs : List Entry). IsIndex xs index) (sy
   fronts = λ i below. is.fronts i below ∙ ap (option_map (λ (e : Entry). key_front e.key)) (sym (got_left es fs i (omega (arith, is.within))));
 })
 
+-- the front of the last entry
+pub last_front : (es ns : List Entry) (e : Entry) (key : List ℕ) (front : ℕ) → ns ≡ es ++ e ∷ [] → e.key ≡ key → front ≡ key_front key → front_at ns (length ns - 1) ≡ Some front
+last_front es ns e key front are of_key is =
+    let place : length ns - 1 ≡ length es = omega (arith, ap length are, length-append es (e ∷ [])) in
+    (λ i. front_at (are i) (place i)) ∙ ap (option_map (λ (x : Entry). key_front x.key)) (got_last es e) ∙ ap (λ k. Some (key_front k)) of_key ∙ ap Some (sym is)
+
 -- the entry at a place is of its front
 entry_of_front : (o : Option Entry) (front q : ℕ) → option_map (λ (e : Entry). key_front e.key) o ≡ Some front → is_entry_of o q ≡ nat_eq front q
 entry_of_front None front q at = absurd (let no : None ≡ Some front = at in cc)
