@@ -8,8 +8,8 @@ ghost use Rattle.caller_pass.specs.Closings.{of_seat, IsTrueReading, IsSettled, 
 use crate::locked_range::LockedRange;
 use crate::pass::Pass;
 use crate::reading::Reading;
-use range_journal::Entry;
-use range_state::{RangeState, Receipt, Replay};
+use range_journal::{Entry, Replay};
+use range_state::{RangeState, Receipt};
 use std::alloc::Global;
 use std::sync::ledger::Ledger;
 use vclock::{PassPart, Refusal};
@@ -220,10 +220,10 @@ fn readings_differ(
     ensures { Answers result None (λ found. MatchOption found (All (IsTrueReading state.now.entries) readings.now)
         (IsFalseAt state.now.entries readings.now)) }
 {
-    let entries = state.journal().len();
-    let mut replay = Replay::new(alloc, state)?;
+    let journal = state.journal();
+    let mut replay = Replay::new(alloc, journal.entries());
     for (i, reading) in readings.iter().enumerate() {
-        if reading.front > entries {
+        if reading.front > journal.len() {
             return Ok(Some(i));
         }
         replay.advance(alloc, reading.front)?;

@@ -26,6 +26,7 @@ pub mod book;
 pub mod close;
 pub mod laws;
 pub mod locked_range;
+mod missing;
 pub mod pass;
 pub mod reading;
 mod receipt_index;

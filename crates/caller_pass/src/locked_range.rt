@@ -1,24 +1,23 @@
 //! The range that a lock keeps.
-ghost use Rattle.std.specs.Prelude.{◌≡◌, ◌≤◌, [], None, IfErr, IsTrue, MatchOption, slice_get};
+ghost use Rattle.std.specs.Prelude.{◌≡◌, ◌≤◌, [], None, IfErr, IsTrue, MatchOption, option_map, slice_get, unwrap_or};
 ghost use Rattle.std.specs.Arc.{arc_value};
 ghost use Rattle.vclock.specs.Answer.{Answers, AnswersAtOnce};
 ghost use Rattle.vclock.specs.Outcome.{Does, DoesAtOnce, DoesOrNoMemory, through};
-ghost use Rattle.range_journal.specs.Journal.{held};
 ghost use Rattle.sync_session.specs.TreeNodes.{as_node};
 ghost use Rattle.range_state.specs.State.{is_sent, GivesJob, ask_fault, install, dirty_fault, rows_now};
 ghost use Rattle.range_state.specs.Sessions.{open_session, cancel_session, unknown_fault};
 ghost use Rattle.range_state.specs.Migrates.{migrate};
 ghost use Rattle.range_state.specs.Syncs.{IsFirstOf};
 ghost use Rattle.caller_pass.specs.Passes.{seen_after};
-ghost use Rattle.caller_pass.specs.Indexes.{IsIndex};
-ghost use Rattle.caller_pass.specs.Locks.{IsLocked, moved, put_in, accept_in, is_missing, first_missing, get_in, plainly, TellsAnswer};
+ghost use Rattle.caller_pass.specs.Locks.{IsLocked, moved, put_in, accept_in, get_in, plainly, TellsAnswer};
 
 use crate::book::Book;
+use crate::missing::find_missing;
 use crate::pass::Pass;
 use crate::reading::Reading;
-use crate::receipt_index::ByKey;
 use crate::unread::Unread;
 use hash_tree::{Hashed, NodeAt};
+use key_ring::HashedKey;
 use range_journal::Source;
 use range_state::{Accepted, AnswerCounted, RangeConfig, RangeState, Receipt, Record};
 use rehash::Job;
@@ -97,16 +96,37 @@ impl<L: Ledger> LockedRange<L> {
         ensures early { IfErr result (λ e. e ≡ Refusal.NoMemory
             → ask_fault self.old.state.config at key.now context.now kind value ≡ None) }
     {
+        self.put_hashed(alloc, pass, at, &HashedKey::new(key), context, kind, value)
+    }
+
+    /// Puts a value as [`LockedRange::put`] does, for a key that was hashed before the lock was taken.
+    pub fn put_hashed(
+        &mut self,
+        alloc: Global,
+        pass: &mut Pass<L>,
+        at: u16,
+        key: &HashedKey,
+        context: &Clock,
+        kind: Kind,
+        value: Bytes,
+    ) -> Result<Receipt, Refusal>
+        requires { 1 ≤ at }
+        ensures puts { DoesOrNoMemory result (self.old, pass.old) (self.new, pass.new)
+            (put_in self.old pass.old at key.now context.now kind value) }
+        ensures early { IfErr result (λ e. e ≡ Refusal.NoMemory
+            → ask_fault self.old.state.config at key.now context.now kind value ≡ None) }
+    {
         let LockedRange { state, book } = self;
         let Pass {
             seat,
             seen,
             receipts,
             readings: _,
-            by_key: _,
+            by_key,
             share,
         } = pass;
         let receipt = state.put_into(alloc, receipts, *seat, at, key, context, kind, value)?;
+        by_key.note(receipts, key.front());
         book.count(share, 1);
         *seen = (*seen).max(state.journal().len());
         Ok(receipt)
@@ -128,19 +148,36 @@ impl<L: Ledger> LockedRange<L> {
         ensures { Does result (self.old, pass.old) (self.new, pass.new)
             (accept_in self.old pass.old source key.now version) }
     {
+        self.accept_hashed(alloc, pass, source, &HashedKey::new(key), version)
+    }
+
+    /// Accepts a version as [`LockedRange::accept`] does, for a key that was hashed before the lock was taken.
+    pub fn accept_hashed(
+        &mut self,
+        alloc: Global,
+        pass: &mut Pass<L>,
+        source: Source,
+        key: &HashedKey,
+        version: Version,
+    ) -> Result<Accepted, Refusal>
+        requires { IsTrue (is_sent source) }
+        ensures { Does result (self.old, pass.old) (self.new, pass.new)
+            (accept_in self.old pass.old source key.now version) }
+    {
         let LockedRange { state, book } = self;
         let Pass {
             seat,
             seen,
             receipts,
             readings: _,
-            by_key: _,
+            by_key,
             share,
         } = pass;
         let receipt = match state.accept_into(alloc, receipts, *seat, source, key, version)? {
             Accepted::Known => return Ok(Accepted::Known),
             Accepted::Taken(receipt) => receipt,
         };
+        by_key.note(receipts, key.front());
         book.count(share, 1);
         *seen = (*seen).max(state.journal().len());
         Ok(Accepted::Taken(receipt))
@@ -155,7 +192,36 @@ impl<L: Ledger> LockedRange<L> {
     pub fn get(&self, alloc: Global, pass: &mut Pass<L>, key: &[u8]) -> Result<VersionSet, Refusal>
         ensures { Does result pass.old pass.new (get_in self.now pass.old key.now) }
     {
-        pass.index(alloc);
+        self.take_reading(alloc, pass, &HashedKey::new(key))
+    }
+
+    /// Reads a key as [`LockedRange::get`] does, for a key that was hashed before the lock was taken, and for a caller
+    /// who has to show that a refusal is that of a read of this range.
+    pub fn read(
+        &self,
+        alloc: Global,
+        pass: &mut Pass<L>,
+        key: &HashedKey,
+    ) -> Result<VersionSet, Unread<L>>
+        ensures reads { Does (plainly result) pass.old pass.new (get_in self.now pass.old key.now) }
+        ensures seat { IfErr result (λ unread. unread.seat ≡ pass.old.seat) }
+    {
+        match self.take_reading(alloc, pass, key) {
+            Ok(versions) => Ok(versions),
+            Err(refusal) => Err(Unread::new(pass.seat(), refusal)),
+        }
+    }
+
+    /// Reads a key as `get` does. The row is found once: its set judges the receipts of the pass, and is copied.
+    fn take_reading(
+        &self,
+        alloc: Global,
+        pass: &mut Pass<L>,
+        key: &HashedKey,
+    ) -> Result<VersionSet, Refusal>
+        ensures { Does result pass.old pass.new (get_in self.now pass.old key.now) }
+    {
+        pass.index();
         let Pass {
             seat: _,
             seen,
@@ -172,7 +238,8 @@ impl<L: Ledger> LockedRange<L> {
                 missing: None,
             });
         }
-        if let Some(number) = self.find_missing(receipts, by_key, key) {
+        let held = self.state.find(key);
+        if let Some(number) = find_missing(receipts, by_key, key, held) {
             return Err(Refusal::Behind {
                 seen: *seen,
                 held: front,
@@ -180,70 +247,15 @@ impl<L: Ledger> LockedRange<L> {
             });
         }
         readings.reserve(1)?;
-        let versions = self.state.get(alloc, key)?;
+        let versions = copy_of(alloc, held)?;
         let reading = Reading {
             front,
-            key: Bytes::copy_of(alloc, key)?,
+            key: Bytes::copy_of(alloc, key.bytes())?,
             versions: versions.try_clone(alloc)?,
         };
         *seen = front;
         readings.push_reserved(reading);
         Ok(versions)
-    }
-
-    /// Reads a key as `get` does, for a caller who has to show that a refusal is that of a read of this range.
-    pub fn read(
-        &self,
-        alloc: Global,
-        pass: &mut Pass<L>,
-        key: &[u8],
-    ) -> Result<VersionSet, Unread<L>>
-        ensures reads { Does (plainly result) pass.old pass.new (get_in self.now pass.old key.now) }
-        ensures seat { IfErr result (λ unread. unread.seat ≡ pass.old.seat) }
-    {
-        match self.get(alloc, pass, key) {
-            Ok(versions) => Ok(versions),
-            Err(refusal) => Err(Unread::new(pass.seat(), refusal)),
-        }
-    }
-
-    /// Finds the number of the first receipt of a key whose version isn't covered by those held. It looks at the
-    /// receipts of the key, from the last one back, and at those that aren't indexed.
-    fn find_missing(&self, receipts: &[Receipt], by_key: &ByKey, key: &[u8]) -> Option<u64>
-        requires { IsIndex receipts.now by_key.now }
-        ensures { result ≡ first_missing receipts.now key.now (held self.now.state.entries key.now) }
-    {
-        let mut found = self.first_missing(&receipts[by_key.len()..], key);
-        let mut next = by_key.last(key);
-        while next > 0 {
-            let place = next - 1;
-            let receipt = &receipts[place];
-            if self.is_missing(receipt, key) {
-                found = Some(receipt.number);
-            }
-            next = by_key.earlier(place);
-        }
-        found
-    }
-
-    /// Finds that number by a walk through all of the receipts.
-    fn first_missing(&self, receipts: &[Receipt], key: &[u8]) -> Option<u64>
-        ensures { result ≡ first_missing receipts.now key.now (held self.now.state.entries key.now) }
-    {
-        for receipt in receipts {
-            if self.is_missing(receipt, key) {
-                return Some(receipt.number);
-            }
-        }
-        None
-    }
-
-    /// Returns true if a receipt is of a key, and its version isn't covered by those held.
-    #[tactic(auto, unfolding(crate::specs::Locks::is_missing))]
-    fn is_missing(&self, receipt: &Receipt, key: &[u8]) -> bool
-        ensures { result ≡ is_missing receipt.now key.now (held self.now.state.entries key.now) }
-    {
-        receipt.key.as_slice() == key && !self.state.covers(key, &receipt.version)
     }
 
     /// Returns a job for a node, as `RangeState::take_job` does. Refused: NoMemory.
@@ -354,6 +366,16 @@ impl<L: Ledger> LockedRange<L> {
             (λ r. IsFirstOf r.session.outstanding first)) }
     {
         self.state.outstanding(id)
+    }
+}
+
+/// Copies a set: an empty set if there is none. Refused: NoMemory.
+fn copy_of(alloc: Global, held: Option<&VersionSet>) -> Result<VersionSet, Refusal>
+    ensures { Answers result None (λ copy. copy ≡ unwrap_or (option_map (λ s. s.now) held.entry) []) }
+{
+    match held {
+        Some(set) => set.try_clone(alloc),
+        None => Ok(VersionSet::empty(alloc)),
     }
 }
 

@@ -5,7 +5,6 @@ ghost use Rattle.caller_pass.specs.Passes.{IsPass};
 use crate::reading::Reading;
 use crate::receipt_index::ByKey;
 use range_state::Receipt;
-use std::alloc::Global;
 use std::marker::Model;
 use std::sync::ledger::{Ledger, Share};
 
@@ -86,10 +85,11 @@ impl<L: Ledger> Pass<L> {
     }
 
     /// Indexes the receipts that are new since the last call, so that the next read of a key looks at the receipts of
-    /// that key alone. If memory runs out, it leaves the others to the reads.
-    pub fn index(&mut self, alloc: Global)
+    /// that key alone, and at those whose keys have an equal front. It hashes the keys that a partner sent; those of
+    /// puts and copies were hashed before. If memory runs out, it leaves the others to the reads.
+    pub fn index(&mut self)
         ensures { self.new ≡ self.old }
     {
-        self.by_key.index(alloc, self.receipts.as_slice());
+        self.by_key.index(self.receipts.as_slice());
     }
 }

@@ -1,18 +1,26 @@
 //! The places of a pass's receipts, by key.
-ghost use Rattle.std.specs.Prelude.{◌≡◌, ◌+◌, ◌<◌, [], Some, length, slice_get, OnOk};
-ghost use Rattle.caller_pass.specs.Indexes.{IsIndex, found_in};
+ghost use Rattle.std.specs.Prelude.{◌≡◌, ◌+◌, ◌-◌, ◌<◌, [], Some, length, slice_get, OnOk};
+ghost use Rattle.caller_pass.specs.Indexes.{IsIndex, found_in, front_at};
 
+use key_ring::HashedKey;
 use range_state::Receipt;
 use std::alloc::{AllocError, Global};
 use std::collections::HashMap;
 
-/// An index, by key, of the first few of a pass's receipts: `earlier.len()` of them. A place is kept plus one, so that
-/// 0 means no receipt.
+/// An index of a pass's receipts by the fronts of their keys, which are the first 64 bits of the keys' digests. It has
+/// the fronts of the first few receipts, `fronts.len()` of them, and links the first few of these, `earlier.len()` of
+/// them, so that the linked receipts of a front are a chain, from the last one back. A place in a chain is kept plus
+/// one, so that 0 means no receipt.
+///
+/// An index only helps a read: a receipt that it doesn't link is looked at by each read. So it takes no memory for a
+/// key, and doesn't refuse.
 pub(crate) struct ByKey {
-    /// By key: its last receipt.
-    last: HashMap<Vec<u8>, usize>,
-    /// By place of a receipt: the receipt before it with an equal key.
+    /// By the front of a key: the last receipt whose key has that front.
+    last: HashMap<u64, usize>,
+    /// By place of a receipt: the receipt before it whose key has an equal front.
     earlier: Vec<usize>,
+    /// By place of a receipt: the front of its key.
+    fronts: Vec<u64>,
 }
 
 impl ByKey {
@@ -23,24 +31,25 @@ impl ByKey {
         ByKey {
             last: HashMap::new(alloc),
             earlier: Vec::new(alloc),
+            fronts: Vec::new(alloc),
         }
     }
 
-    /// The number of receipts that are indexed.
+    /// The number of receipts that are linked.
     pub(crate) fn len(&self) -> usize
         ensures { result ≡ length self.now.earlier.items }
     {
         self.earlier.len()
     }
 
-    /// The place of the last receipt of a key plus one, or 0.
-    pub(crate) fn last(&self, key: &[u8]) -> usize
-        ensures { result ≡ found_in self.now key.now }
+    /// The place, plus one, of the last receipt whose key has that front, or 0.
+    pub(crate) fn last(&self, front: u64) -> usize
+        ensures { result ≡ found_in self.now front }
     {
-        self.last.get(key).copied().unwrap_or(0)
+        self.last.get(&front).copied().unwrap_or(0)
     }
 
-    /// The place, plus one, of the receipt before a receipt with an equal key, or 0.
+    /// The place, plus one, of the receipt before a receipt whose key has an equal front, or 0.
     pub(crate) fn earlier(&self, place: usize) -> usize
         requires { place < length self.now.earlier.items }
         ensures { slice_get self.now.earlier.items place ≡ Some result }
@@ -48,30 +57,58 @@ impl ByKey {
         self.earlier[place]
     }
 
-    /// Indexes the receipts that aren't indexed yet, or the first few of them if memory runs out.
-    pub(crate) fn index(&mut self, alloc: Global, receipts: &[Receipt])
+    /// Keeps the front of the last receipt's key, if it has those of the receipts before it, and has room for one more.
+    pub(crate) fn note(&mut self, receipts: &[Receipt], front: u64)
+        requires index { IsIndex receipts.now self.old }
+        requires last { front_at receipts.now (length receipts.now - 1) ≡ Some front }
+        ensures { IsIndex receipts.now self.new }
+    {
+        if self.fronts.len() + 1 == receipts.len() && self.fronts.reserve(1).is_ok() {
+            self.fronts.push_reserved(front);
+        }
+    }
+
+    /// Links the receipts that aren't linked yet, or the first few of them if memory runs out. It hashes the key of a
+    /// receipt whose front it doesn't have.
+    pub(crate) fn index(&mut self, receipts: &[Receipt])
         requires { IsIndex receipts.now self.old }
         ensures { IsIndex receipts.now self.new }
     {
         while self.earlier.len() < receipts.len() {
-            if self.push(alloc, receipts).is_err() {
+            if self.link(receipts).is_err() {
                 return;
             }
         }
     }
 
-    /// Indexes the first receipt that isn't indexed yet. Allocates before it changes anything.
-    fn push(&mut self, alloc: Global, receipts: &[Receipt]) -> Result<(), AllocError>
+    /// Links the first receipt that isn't linked yet. If memory runs out, nothing is linked.
+    fn link(&mut self, receipts: &[Receipt]) -> Result<(), AllocError>
         requires index { IsIndex receipts.now self.old }
         requires more { length self.old.earlier.items < length receipts.now }
         ensures index { IsIndex receipts.now self.new }
         ensures longer { OnOk result (length self.new.earlier.items ≡ length self.old.earlier.items + 1) }
     {
+        self.know_next(receipts)?;
         self.earlier.reserve(1)?;
         let place = self.earlier.len();
-        let key = Vec::from_slice(alloc, receipts[place].key.as_slice())?;
-        let earlier = self.last.insert(key, place + 1)?;
+        let earlier = self.last.insert(self.fronts[place], place + 1)?;
         self.earlier.push_reserved(earlier.unwrap_or(0));
+        Ok(())
+    }
+
+    /// Has the front of the first receipt that isn't linked yet, by hashing its key if need be.
+    fn know_next(&mut self, receipts: &[Receipt]) -> Result<(), AllocError>
+        requires index { IsIndex receipts.now self.old }
+        requires more { length self.old.earlier.items < length receipts.now }
+        ensures index { IsIndex receipts.now self.new }
+        ensures known { OnOk result (length self.new.earlier.items < length self.new.fronts.items) }
+        ensures same { self.new.earlier ≡ self.old.earlier }
+    {
+        let place = self.fronts.len();
+        if place == self.earlier.len() {
+            let front = HashedKey::new(receipts[place].key.as_slice()).front();
+            self.fronts.push(front)?;
+        }
         Ok(())
     }
 }
@@ -82,6 +119,7 @@ impl Drop for ByKey {
         let ByKey {
             last: _last,
             earlier: _earlier,
+            fronts: _fronts,
         } = self;
     }
 }

@@ -13,6 +13,7 @@ ghost use Rattle.ring_node.specs.Moments.{FoundAtSomeMoment, ChangedAtSomeMoment
 ghost use Rattle.ring_node.specs.Passes.{IsReceiptOf, HasReceiptOf, IsSent, IsPutRefusal, IsSentRefusal, IsReading, IsBehind};
 
 use caller_pass::{Book, Closed, LockedRange, Pass, Unclosed, Unread};
+use key_ring::HashedKey;
 use range_journal::Source;
 use range_state::{Accepted, RangeState, Receipt};
 use snapshot::Snapshot;
@@ -113,10 +114,11 @@ impl<L: Ledger> SharedRange<L> {
             (put_in before pass.old self.now key.now context.now kind value)) }
     {
         let node = self.node();
+        let key = HashedKey::new(key);
         let mut range = self.range.lock(rt);
         // Called for its clause `valid` alone: the range is right.
         let _valid = range.config();
-        range.put(alloc, pass, node, key, context, kind, value)
+        range.put_hashed(alloc, pass, node, &key, context, kind, value)
     }
 
     /// Accepts a version that another node sent, as a copy or as a hint, as [`LockedRange::accept`] does. The pass gets
@@ -141,10 +143,11 @@ impl<L: Ledger> SharedRange<L> {
         ensures moment { ChangedAtSomeMoment (IsLocked L.parts) (λ before after.
             Does result (before, pass.old) (after, pass.new) (accept_in before pass.old source key.now version)) }
     {
+        let key = HashedKey::new(key);
         let mut range = self.range.lock(rt);
         // Called for its clause `valid` alone: the range is right.
         let _valid = range.config();
-        range.accept(alloc, pass, source, key, version)
+        range.accept_hashed(alloc, pass, source, &key, version)
     }
 
     /// Copies the versions that are held for a key, in the order of their texts, as [`LockedRange::read`] does: they
@@ -168,11 +171,12 @@ impl<L: Ledger> SharedRange<L> {
             (λ locked. Does (plainly result) pass.old pass.new (get_in locked pass.old key.now)) }
     {
         // Before the lock is taken, so that nothing is done under it but the search itself.
-        pass.index(alloc);
+        let key = HashedKey::new(key);
+        pass.index();
         let range = self.range.lock(rt);
         // Called for its clause `valid` alone: the range is right.
         let _valid = range.config();
-        range.read(alloc, pass, key)
+        range.read(alloc, pass, &key)
     }
 
     /// Makes a snapshot of the rows at one moment with the digests of their tree, as [`LockedRange::snapshot`] does.

@@ -6,6 +6,6 @@ use Rattle.caller_pass.proofs.close.readings_differ.Given as goal
 abbrev pub invariant-loop-i : goal.invariant-loop-i
 invariant-loop-i l = record {
   before : (d : Reading) (k : ℕ) → k < l.i → IsTrueReading l.state.entries (get_or l.readings k d);
-  replay : l.replay ≡ record { config = l.state.config; entries = l.state.entries; front = l.replay.front };
+  replay : l.replay ≡ record { entries = l.state.entries; front = l.replay.front };
   later : (d : Reading) (k : ℕ) → l.i ≤ k → k < length l.readings → l.replay.front ≤ (get_or l.readings k d).front;
 }

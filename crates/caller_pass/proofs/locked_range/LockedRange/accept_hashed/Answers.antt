@@ -1,16 +1,18 @@
-use Rattle.std.proofs.Common.{rules, ◌≡◌, ◌∷◌, [], max, refl, sym, subst, ◌∙◌}
+use Rattle.std.proofs.Common.{rules, ◌≡◌, ◌∷◌, [], List, max, refl, sym, ap, subst, ◌∙◌}
 use Rattle.std.specs.Prelude.{Ok}
 use Rattle.vclock.specs.Outcome.{gives}
+use Rattle.range_journal.specs.declared.journal.Entry.{Entry}
 use Rattle.range_state.specs.declared.event.Accepted.TheVariants.{Taken, Known}
 use Rattle.range_state.specs.State.{State, entry_of, accept}
 use Rattle.range_state.specs.Told.{with_sent}
+use Rattle.caller_pass.specs.Indexes.{IsIndex}
 use Rattle.caller_pass.specs.Locks.{Locked, IsLocked}
 use Rattle.caller_pass.specs.Passes.{PassView}
 use Rattle.caller_pass.proofs.GrowthLaws.{accept_gives, grown_by_one}
 use Rattle.caller_pass.proofs.LockLaws.{locked_grown}
 use Rattle.caller_pass.proofs.PassLaws.{pass_after}
-use Rattle.caller_pass.proofs.IndexLaws.{grown}
-use Rattle.caller_pass.proofs.locked_range.LockedRange.accept.Goals as goal
+use Rattle.caller_pass.proofs.IndexLaws.{grown, last_front}
+use Rattle.caller_pass.proofs.locked_range.LockedRange.accept_hashed.Goals as goal
 
 pub invariant_of-self-in-Known : goal.invariant_of-self-in-Known
 invariant_of-self-in-Known g c =
@@ -19,6 +21,20 @@ invariant_of-self-in-Known g c =
     let known : accept l.state c.pass.inside.seat c.args.source c.args.key.now c.args.version ≡ gives Known new = cc (c.in_ok-accept_into.ensures.accepts, c.in-Known.is) in
     let same : new ≡ l.state = accept_gives l.state c.pass.inside.seat c.args.source c.args.key.now c.args.version Known new known in
     subst (λ (s : State). IsLocked g.L.Ledger.parts (record { state = s; book = l.book })) (sym same) c.self.invariant
+
+pub note-requires-clause-index : goal.note-requires-clause-index
+note-requires-clause-index g c =
+    let told : c.accept_into.new.receipts.items ≡ with_sent c.pass.inside.receipts.items (Ok (Taken c.in-Taken.receipt)) = cc (c.in_ok-accept_into.ensures.told, c.in-Taken.is) in
+    grown c.pass.inside.receipts.items (c.in-Taken.receipt ∷ []) c.deref.result.now c.pass.inside.by_key c.pass.invariant.2 (c.deref.ensures.value ∙ told)
+
+pub note-requires-clause-last : goal.note-requires-clause-last
+note-requires-clause-last g c =
+    let l : Locked = record { state = c.self.inside.state; book = c.self.inside.book } in
+    let seat = c.pass.inside.seat in
+    let told : c.accept_into.new.receipts.items ≡ with_sent c.pass.inside.receipts.items (Ok (Taken c.in-Taken.receipt)) = cc (c.in_ok-accept_into.ensures.told, c.in-Taken.is) in
+    let taken : accept l.state seat c.args.source c.args.key.now c.args.version ≡ gives (Taken c.in-Taken.receipt) c.accept_into.new.self = cc (c.in_ok-accept_into.ensures.accepts, c.in-Taken.is) in
+    let came = accept_gives l.state seat c.args.source c.args.key.now c.args.version (Taken c.in-Taken.receipt) c.accept_into.new.self taken in
+    last_front c.pass.inside.receipts.items c.deref.result.now c.in-Taken.receipt c.args.key.now c.front.result (c.deref.ensures.value ∙ told) (ap (λ (e : Entry). e.key) came.0) c.front.ensures
 
 pub invariant_of-self-2 : goal.invariant_of-self-2
 invariant_of-self-2 g c =
@@ -36,4 +52,4 @@ invariant_of-pass-2 g c =
     let p : PassView = record { seat = c.pass.inside.seat; seen = c.pass.inside.seen; share = c.pass.inside.share.amount; receipts = c.pass.inside.receipts.items; readings = c.pass.inside.readings.items } in
     let seen : c.max.result ≡ max p.seen c.len.result = search rules in
     let told : c.accept_into.new.receipts.items ≡ with_sent p.receipts (Ok (Taken c.in-Taken.receipt)) = cc (c.in_ok-accept_into.ensures.told, c.in-Taken.is) in
-    (c.count.ensures.parts ∙ c.pass.invariant.0, pass_after g.L.Ledger.parts p c.len.result c.max.result c.count.new.share.amount c.accept_into.new.receipts.items (c.in-Taken.receipt ∷ []) c.pass.invariant.1 seen c.count.ensures.amount told, grown p.receipts (c.in-Taken.receipt ∷ []) c.accept_into.new.receipts.items c.pass.inside.by_key c.pass.invariant.2 told)
+    (c.count.ensures.parts ∙ c.pass.invariant.0, pass_after g.L.Ledger.parts p c.len.result c.max.result c.count.new.share.amount c.accept_into.new.receipts.items (c.in-Taken.receipt ∷ []) c.pass.invariant.1 seen c.count.ensures.amount told, subst (λ (es : List Entry). IsIndex es c.note.new.self) c.deref.ensures.value c.note.ensures)

@@ -2,7 +2,7 @@ use Rattle.std.proofs.Common.{◌≡◌, ◌∷◌, [], ◌++◌, List, ap, subs
 use Rattle.caller_pass.specs.declared.reading.Reading.{Reading}
 use Rattle.caller_pass.specs.Passes.{PassView, IsPass}
 use Rattle.caller_pass.proofs.PassLaws.{pass_read}
-use Rattle.caller_pass.proofs.locked_range.LockedRange.get.Goals as goal
+use Rattle.caller_pass.proofs.locked_range.LockedRange.take_reading.Goals as goal
 
 pub invariant_of-pass-2 : goal.invariant_of-pass-2
 invariant_of-pass-2 g c =
