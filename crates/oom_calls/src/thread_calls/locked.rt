@@ -62,7 +62,7 @@ impl<L: Ledger> Locked<L> {
             LockedCall::Put(key) => self.put(alloc, key),
             LockedCall::StalePut(key) => self.put_stale(alloc, key),
             LockedCall::Accept(key) => self.accept(alloc, key),
-            LockedCall::Index => self.index(alloc),
+            LockedCall::Index => self.index(),
             LockedCall::Get(key) => self.get(alloc, key),
             LockedCall::Read(key) => self.read(alloc, key),
             LockedCall::Migrate => self.migrate(alloc),
@@ -123,9 +123,9 @@ impl<L: Ledger> Locked<L> {
     }
 
     /// Indexes a pass, which is never refused, and returns the number of its receipts.
-    fn index(&mut self, alloc: Global) -> Result<u64, Refusal> {
+    fn index(&mut self) -> Result<u64, Refusal> {
         let pass = self.passes.get_mut(0).ok_or(Refusal::Stranger)?;
-        pass.index(alloc);
+        pass.index();
         Ok(pass.receipts().len() as u64)
     }
 
