@@ -1,7 +1,7 @@
 -- What a pass is told by a call that a lock let through.
-use Rattle.std.proofs.Common.{◌≡◌, inl, inr, ℕ, ◌+◌, ◌≤◌, Bool, true, false, cond, List, [], ◌∷◌, length, Option, Some, None, Result, Ok, Err, refl, sym, ap, subst, ◌∙◌, length-append}
+use Rattle.std.proofs.Common.{◌≡◌, inl, inr, ℕ, ◌+◌, Bool, true, false, cond, List, [], ◌∷◌, length, Option, Some, None, Result, Ok, Err, refl, sym, ap, subst, ◌∙◌, length-append}
 use Rattle.std.specs.Prelude.{IfOk, IfErr, OnOk, OnErr, IsTrue, nat_lt}
-use Rattle.std.proofs.lemmas.Bool.{ltb-false}
+use Rattle.std.proofs.lemmas.Bool.{ltb-true, ltb-false}
 use Rattle.vclock.specs.Clock.{raised, raise_fault, Pairs}
 use Rattle.vclock.specs.Bytes.{key_fault}
 use Rattle.vclock.specs.Outcome.{Outcome, gives, refuses, is_given, Does, DoesOrNoMemory, ◌>>=◌, ◌>>◌}
@@ -20,8 +20,8 @@ use Rattle.range_state.specs.declared.event.Accepted.TheVariants.{Taken, Known}
 use Rattle.range_state.specs.State.{State, place_fault, ask_fault, full_fault, stale_fault, put_entry, put_version, entry_of, journaled, knows, admit, accept, put}
 use Rattle.range_state.proofs.StateLaws.{first_none, later_none}
 use Rattle.caller_pass.specs.Passes.{PassView, with_receipts}
-use Rattle.caller_pass.specs.Locks.{Locked, told, put_in, accept_in, after_sent, missing_fault}
-use Rattle.ring_node.specs.Passes.{IsReceiptOf, HasReceiptOf, IsSent, IsPutRefusal, IsSentRefusal, IsReading, IsBehind}
+use Rattle.caller_pass.specs.Locks.{Locked, UnreadView, told, put_in, accept_in, after_sent, first_missing, missing_fault, behind_fault, get_in, plainly}
+use Rattle.ring_node.specs.Passes.{IsReceiptOf, HasReceiptOf, IsSent, IsPutRefusal, IsSentRefusal, IsBehind}
 use Rattle.ring_node.proofs.OutcomeLaws.{given, refused, first_cause}
 use Rattle.ring_node.proofs.CauseLaws.{of_key, of_value, of_range, place_cause, clock_cause, crowd_cause, where_holds, where_fails}
 
@@ -231,18 +231,29 @@ sent_tells l m p q source key v (Err e) does =
       same = ap (λ (x : Locked × PassView). x.1) does.0;
     }
 
--- what a read says of pass and result
-pub record ReadTells (p q : PassView) (key : List ℕ) (r : Result (List Version) Refusal) : Type 0 where
-  pub reading : IfOk r (IsReading p key q)
-  pub behind : IfErr r (IsBehind p key)
-  pub same : OnErr r (q ≡ p)
+-- why a pass is behind
+behind_by : (p : PassView) (key : List ℕ) (journal : ℕ) (versions : List Version) (e : Refusal) (short : Bool) (missing : Option ℕ) → nat_lt journal p.seen ≡ short → first_missing p.receipts key versions ≡ missing
+    → cond short (Some (Behind p.seen journal None)) (missing_fault p.seen journal missing) ≡ Some e → IsBehind p key e
+behind_by p key journal versions e true missing is what why = subst (IsBehind p key) (let same : Behind p.seen journal None ≡ e = cc in same) (refl, ltb-true journal p.seen is)
+behind_by p key journal versions e false None is what why = absurd (cc)
+behind_by p key journal versions e false (Some number) is what why =
+    subst (IsBehind p key) (let same : Behind p.seen journal (Some number) ≡ e = cc in same) (refl, (ltb-false journal p.seen is, (versions, what)))
 
--- whether a journal of that length is as long as the pass has seen, and covers its receipts
-record Fine (p : PassView) (journal : ℕ) (missing : Option ℕ) : Type 0 where
-  pub seen : p.seen ≤ journal
-  pub covers : missing ≡ None
-
-fine : (p : PassView) (journal : ℕ) (missing : Option ℕ) (short : Bool) → nat_lt journal p.seen ≡ short → cond short (Some (Behind p.seen journal None)) (missing_fault p.seen journal missing) ≡ None → Fine p journal missing
-fine p journal missing true is none = absurd (cc)
-fine p journal (Some number) false is none = absurd (cc)
-fine p journal None false is none = record { seen = ltb-false journal p.seen is; covers = refl }
+-- the refusal of a read
+pub read_refused : (l : Locked) (p q : PassView) (key : List ℕ) (r : Result (List Version) UnreadView) → Does (plainly r) p q (get_in l p key) → IfErr r (λ u. u.seat ≡ p.seat)
+    → IfErr r (λ u. (u.seat ≡ p.seat) × IsBehind p key u.refusal)
+read_refused l p q key (Ok versions) does seat = tt
+read_refused l p q key (Err u) does seat =
+    let e = u.refusal in
+    let journal = length l.state.entries in
+    let versions = held l.state.entries key in (
+      seat,
+      elim does.1 as (λ _. IsBehind p key e) [
+        | inl short ↦ subst (IsBehind p key) (sym short.0) tt
+        | inr is ↦
+            elim (first_cause (behind_fault l.state.entries p key) _ e is) as (λ _. IsBehind p key e) [
+              | inl why ↦ behind_by p key journal versions e (nat_lt journal p.seen) (first_missing p.receipts key versions) refl refl why
+              | inr rest ↦ absurd (let h = rest.1 in cc)
+            ]
+      ],
+    )

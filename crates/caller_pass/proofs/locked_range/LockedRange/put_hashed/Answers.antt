@@ -17,8 +17,8 @@ pub note-requires-clause-last : goal.note-requires-clause-last
 note-requires-clause-last g c =
     let l : Locked = record { state = c.self.inside.state; book = c.self.inside.book } in
     let came = put_gives l.state c.pass.inside.seat c.args.at c.args.key.now c.args.context.now c.args.kind c.args.value c.in_ok-receipt.receipt c.put_into.new.self c.in_ok-receipt.ensures.puts in
-    let told : c.deref.result.now ≡ c.pass.inside.receipts.items ++ c.in_ok-receipt.receipt ∷ [] = c.deref.ensures.value ∙ c.in_ok-receipt.ensures.told in
-    last_front c.pass.inside.receipts.items c.deref.result.now c.in_ok-receipt.receipt c.args.key.now c.front.result told (ap (λ (e : Entry). e.key) came.0) c.front.ensures
+    let told : c.put_into.new.receipts.items ≡ c.pass.inside.receipts.items ++ c.in_ok-receipt.receipt ∷ [] = c.in_ok-receipt.ensures.told in
+    last_front c.pass.inside.receipts.items c.deref.result.now c.in_ok-receipt.receipt c.args.key.now c.front.result (c.deref.ensures.value ∙ told) (ap (λ (e : Entry). e.key) came.0) c.front.ensures
 
 pub invariant_of-self-2 : goal.invariant_of-self-2
 invariant_of-self-2 g c =
