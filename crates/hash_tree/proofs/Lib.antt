@@ -12,3 +12,5 @@ pub mod StripLaws
 pub mod TextLaws
 pub mod TreeLaws
 pub mod ReadyLaws
+pub mod BlockLaws
+pub mod CopyLaws

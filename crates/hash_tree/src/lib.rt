@@ -2,10 +2,12 @@
 //! change leaves, to write the texts of nodes, and to record which nodes are clean.
 //!
 //! - [`shared_leaf`]: the rows of one leaf, in order of key, with any number of owners.
+//! - [`leaves`]: the leaves of a range, in blocks that the range and its snapshots share.
 //! - [`node`]: nodes by depth and index.
 //! - [`text`], [`digest`]: texts, and texts with their digests.
 //! - [`texts`], [`comparison`]: writing the texts of nodes, and comparing them in place.
 //! - [`marks`]: the clean nodes, and their digests.
+//! - [`shared_digests`]: the digests of all nodes, in blocks that marks and snapshots share.
 //! - [`laws`]: laws proved from the definitions.
 //!
 //! ```
@@ -18,10 +20,15 @@
 mod chunk;
 mod chunks;
 pub mod comparison;
+mod copies;
 pub mod digest;
+mod digest_block;
 pub mod laws;
+mod leaf_block;
+pub mod leaves;
 pub mod marks;
 pub mod node;
+pub mod shared_digests;
 pub mod shared_leaf;
 pub mod text;
 pub mod texts;
@@ -29,8 +36,10 @@ mod written_rows;
 
 pub use comparison::is_inner_text;
 pub use digest::{Digest, Hashed, hash};
+pub use leaves::Leaves;
 pub use marks::Marks;
 pub use node::{NodeAt, tree_depth};
+pub use shared_digests::SharedDigests;
 pub use shared_leaf::SharedLeaf;
 pub use text::Text;
 pub use texts::{INNER_LEN, inner_byte, inner_text, leaf_byte, leaf_text, put_inner_text};

@@ -3,28 +3,34 @@ ghost use Rattle.std.specs.Prelude.{◌≡◌, ◌+◌, ◌/◌, ◌<◌, ◌≤
 ghost use Rattle.vclock.specs.Answer.{Answers};
 ghost use Rattle.hash_tree.specs.Nodes.{tree_depth, nodes_above, node_count, place_at, kept_digest, children_of, are_clean, is_ready, ready_from, dirtied, dirty_count, IsTree};
 
+use crate::copies::{drop_block, drop_path, no_blocks, share_blocks};
 use crate::digest::Digest;
+use crate::digest_block::DigestBlock;
 use crate::node::{NodeAt, tree_depth};
+use crate::shared_digests::SharedDigests;
 use std::alloc::Global;
 use std::marker::Model;
 use vclock::{Format, Refusal};
 
 /// The digests of the clean nodes of a tree. The other nodes are dirty and have no digest. A new version makes its leaf
 /// and all nodes above it dirty, and a rehash makes them clean from the leaves up, so the children of a clean node are
-/// clean.
+/// clean. Beside its digests stand copies of some of them, in blocks, which `shared` hands out and a change drops.
 pub struct Marks {
     format: Format,
     digests: Vec<Option<Digest>>,
+    blocks: Vec<Option<DigestBlock>>,
+    whole: Option<SharedDigests>,
 }
 
 impl Model for Marks {
-    ghost use Rattle.hash_tree.specs.Nodes.{Tree, IsTree};
+    ghost use Rattle.hash_tree.specs.Nodes.{Tree};
+    ghost use Rattle.hash_tree.specs.Blocks.{AreMarks};
 
     ghost Value = { Tree };
 
     ghost view = { λ m. record { format = m.format; digests = m.digests.items } };
 
-    ghost invariant = { λ m. IsTree (record { format = m.format; digests = m.digests.items }) };
+    ghost invariant = { λ m. AreMarks m.format m.digests.items m.blocks.items m.whole };
 }
 
 impl Marks {
@@ -38,7 +44,12 @@ impl Marks {
         for _ in 0..count {
             digests.push(None)?;
         }
-        Ok(Marks { format, digests })
+        Ok(Marks {
+            format,
+            digests,
+            blocks: no_blocks(alloc, format)?,
+            whole: None,
+        })
     }
 
     /// Returns the digest of a node, or `None` if the node is dirty or isn't in the tree. Doesn't allocate.
@@ -59,15 +70,7 @@ impl Marks {
             (are_clean (children_of self.now.digests (place_at node.depth node.index)) ≡ false)
             (λ digests. children_of self.now.digests (place_at node.depth node.index) ≡ map Some digests) }
     {
-        let children = children_at(&self.digests, node.place());
-        let mut digests = [[0; 32]; 16];
-        for j in 0..16usize {
-            match children[j] {
-                Some(digest) => digests[j] = digest,
-                None => return None,
-            }
-        }
-        Some(digests)
+        clean_digests(children_at(&self.digests, node.place()))
     }
 
     /// Returns the first node, in order of place from `from` on, that can be hashed: it is dirty, and its children are
@@ -109,22 +112,35 @@ impl Marks {
             .count()
     }
 
-    /// Returns the digests of all nodes, by place. Refused, in order: Dirty (some node has no digest), NoMemory.
-    pub fn digests(&self, alloc: Global) -> Result<Vec<Digest>, Refusal>
-        ensures { Answers result (if are_clean self.now.digests then None else Some Refusal.Dirty)
-            (λ digests. map Some digests.items ≡ self.now.digests) }
+    /// Returns the digests of all nodes, by place. Blocks that haven't changed since the last call are shared with its
+    /// result. Refused, in order: Dirty (some node has no digest), NoMemory.
+    pub fn shared(&mut self, alloc: Global) -> Result<SharedDigests, Refusal>
+        ensures digests { Answers result (if are_clean self.old.digests then None else Some Refusal.Dirty)
+            (λ digests. map Some digests ≡ self.old.digests) }
+        ensures same { self.new ≡ self.old }
     {
-        if !are_clean(&self.digests) {
-            return Err(Refusal::Dirty);
+        // The children of a clean node are clean, so all nodes are if the root is.
+        match self.digests[0] {
+            Some(root) => self.share_clean(alloc, root),
+            None => Err(Refusal::Dirty),
         }
-        let mut digests = Vec::with_capacity(alloc, self.digests.len())?;
-        for place in 0..self.digests.len() {
-            let Some(digest) = self.digests[place] else {
-                unreachable!()
-            };
-            digests.push(digest)?;
+    }
+
+    /// Returns the digests of all nodes, if all are clean. Refused: NoMemory.
+    fn share_clean(&mut self, alloc: Global, root: Digest) -> Result<SharedDigests, Refusal>
+        requires clean { IsTrue (are_clean self.old.digests) }
+        requires root { kept_digest self.old.digests 0 ≡ Some root }
+        ensures digests { Answers result None (λ digests. map Some digests ≡ self.old.digests) }
+        ensures same { self.new ≡ self.old }
+    {
+        if let Some(whole) = &self.whole {
+            return whole.share();
         }
-        Ok(digests)
+        let blocks = share_blocks(alloc, &self.digests, &mut self.blocks)?;
+        let whole = SharedDigests::of_blocks(alloc, root, blocks)?;
+        let shared = whole.share()?;
+        self.whole = Some(whole);
+        Ok(shared)
     }
 
     /// Makes a leaf and every node above it dirty. Doesn't allocate.
@@ -134,6 +150,8 @@ impl Marks {
         ensures valid { IsTree self.new }
     {
         dirty_up(self.format, leaf, &mut self.digests);
+        drop_path(self.format, leaf, &mut self.blocks);
+        self.whole = None;
     }
 
     /// Makes a node of the tree clean whose children are clean. Doesn't allocate.
@@ -144,7 +162,10 @@ impl Marks {
             { digests = slice_set self.old.digests (place_at node.depth node.index) (Some digest) } }
         ensures valid { IsTree self.new }
     {
-        self.digests[node.place()] = Some(digest);
+        let place = node.place();
+        self.digests[place] = Some(digest);
+        drop_block(place, &mut self.blocks);
+        self.whole = None;
     }
 }
 
@@ -159,13 +180,28 @@ fn count_of(format: Format) -> usize
 }
 
 /// Returns the children of the node at a place. A leaf has no children.
-fn children_at(digests: &[Option<Digest>], place: usize) -> &[Option<Digest>]
+pub(crate) fn children_at(digests: &[Option<Digest>], place: usize) -> &[Option<Digest>]
     requires { place < 2 ^ 32 }
     ensures { result.now ≡ children_of digests.now place }
 {
     let first = (16 * place + 1).min(digests.len());
     let behind = &digests[first..];
     &behind[..behind.len().min(16)]
+}
+
+/// Returns 16 digests, if all are there.
+pub(crate) fn clean_digests(nodes: &[Option<Digest>]) -> Option<[Digest; 16]>
+    requires { length nodes.now ≡ 16 }
+    ensures { MatchOption result (are_clean nodes.now ≡ false) (λ digests. nodes.now ≡ map Some digests) }
+{
+    let mut digests = [[0; 32]; 16];
+    for j in 0..16usize {
+        match nodes[j] {
+            Some(digest) => digests[j] = digest,
+            None => return None,
+        }
+    }
+    Some(digests)
 }
 
 /// Returns true if the node at a place can be hashed.
@@ -218,7 +254,7 @@ fn dirty_up(format: Format, leaf: u16, digests: &mut [Option<Digest>])
 }
 
 /// Returns the node above a node, or `None` for the root.
-fn parent_of(node: NodeAt) -> Option<NodeAt>
+pub(crate) fn parent_of(node: NodeAt) -> Option<NodeAt>
     ensures { MatchOption result (node.depth ≡ 0) (λ n. (n.depth + 1 ≡ node.depth) × (n.index ≡ node.index / 16)) }
 {
     if node.depth == 0 {
@@ -236,6 +272,8 @@ impl Drop for Marks {
         let Marks {
             format: _format,
             digests: _digests,
+            blocks: _blocks,
+            whole: _whole,
         } = self;
     }
 }

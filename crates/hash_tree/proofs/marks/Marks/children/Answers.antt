@@ -1,7 +1,6 @@
-use Rattle.std.proofs.Common.{◌≡◌, ℕ, ◌<◌, List, Option, None, false, is_some, arith, sym, ap, subst, ◌∙◌, length}
-use Rattle.std.proofs.lemmas.List.Folds.{list_all_at}
+use Rattle.std.proofs.Common.{◌≡◌, ℕ, ◌<◌, List, Option, sym, ap, subst, ◌∙◌, length}
 use Rattle.hash_tree.specs.declared.node.NodeAt.{NodeAt}
-use Rattle.hash_tree.specs.Nodes.{IsTree, Tree, place_at, children_of, are_clean, tree_depth}
+use Rattle.hash_tree.specs.Nodes.{IsTree, Tree, place_at, children_of, tree_depth}
 use Rattle.hash_tree.proofs.TreeLaws.{sixteen_children}
 use Rattle.hash_tree.proofs.marks.Marks.children.Goals as goal
 
@@ -15,15 +14,8 @@ looked_up t now node digests children place view inner tree whole is are =
       here ∙ ap (λ (s : Tree). children_of s.digests (place_at node.depth node.index)) view,
     )
 
-pub bounds : goal.bounds
-bounds c =
-    let found = looked_up (record { format = c.self.inside.format; digests = c.self.inside.digests.items }) c.args.self.now c.args.node c.deref.result.now c.children_at-children.result.now c.place.result
-    c.self.view_is c.requires c.self.invariant c.deref.ensures.value c.place.ensures.place c.children_at-children.ensures in
-    omega (arith, found.0, c.loop-j-test.true)
-
-pub returns-in-None : goal.returns-in-None
-returns-in-None c =
-    let children = c.children_at-children.result.now in
-    let found = looked_up (record { format = c.self.inside.format; digests = c.self.inside.digests.items }) c.args.self.now c.args.node c.deref.result.now children c.place.result
-    c.self.view_is c.requires c.self.invariant c.deref.ensures.value c.place.ensures.place c.children_at-children.ensures in
-    subst (λ (xs : List (Option (List ℕ))). are_clean xs ≡ false) found.1 (list_all_at is_some children c.loop-j.j None (omega (arith, found.0, c.loop-j-test.true)) (ap is_some c.in-None.is))
+pub clean_digests-requires : goal.clean_digests-requires
+clean_digests-requires c =
+    let found = looked_up (record { format = c.self.inside.format; digests = c.self.inside.digests.items }) c.args.self.now c.args.node c.deref.result.now c.children_at.result.now c.place.result
+    c.self.view_is c.requires c.self.invariant.tree c.deref.ensures.value c.place.ensures.place c.children_at.ensures in
+    found.0

@@ -1,5 +1,6 @@
 use Rattle.std.proofs.Common.{◌≡◌, ℕ, List, Option, None, arith, replicate, sym, ap, subst, ◌∙◌}
-use Rattle.hash_tree.specs.Nodes.{IsTree, node_count}
+use Rattle.hash_tree.specs.Nodes.{node_count}
+use Rattle.hash_tree.specs.Blocks.{AreMarks}
 use Rattle.hash_tree.proofs.TreeLaws.{tree_fresh}
 use Rattle.hash_tree.proofs.marks.Marks.new.Goals as goal
 
@@ -7,4 +8,5 @@ pub invariant_of-result : goal.invariant_of-result
 invariant_of-result c =
     let all : c.loop.counter ≡ node_count c.args.format = omega (arith, c.loop.auto.counter-end, c.loop-test.false, c.count_of-count.ensures) in
     let none : Option (List ℕ) = None in
-    subst (λ (xs : List (Option (List ℕ))). IsTree (record { format = c.args.format; digests = xs })) (sym (c.loop.invariant ∙ ap (λ (n : ℕ). replicate n none) all)) (tree_fresh c.args.format)
+    subst (λ (xs : List (Option (List ℕ))). AreMarks c.args.format xs c.in_ok-no_blocks.field-0.items None) (sym (c.loop.invariant ∙ ap (λ (n : ℕ). replicate n none) all))
+    (record { tree = tree_fresh c.args.format; copies = c.in_ok-no_blocks.ensures.1; whole = tt })

@@ -1,7 +1,17 @@
-use Rattle.std.proofs.Common.{◌≡◌, ℕ, ◌<◌, List, Option, true, length, arith, sym, ap, subst, ◌∙◌}
-use Rattle.hash_tree.specs.Nodes.{Tree, is_ready}
-use Rattle.hash_tree.proofs.ReadyLaws.{ready_here}
+use Rattle.std.proofs.Common.{◌≡◌, ℕ, ◌+◌, ◌<◌, List, Option, true, cond, ◌∷◌, length, arith, sym, ap, subst, ◌∙◌}
+use Rattle.hash_tree.specs.Nodes.{Tree, is_ready, ready_from}
+use Rattle.hash_tree.proofs.ReadyLaws.{ready_here, ready_step}
 use Rattle.hash_tree.proofs.marks.Marks.next_ready.Goals as goal
+
+pub loop-place-preserved : goal.loop-place-preserved
+loop-place-preserved c =
+    let place = c.loop-place.place in
+    let digests = c.args.self.now.digests in
+    let same : c.deref.result.now ≡ digests = c.deref.ensures.value ∙ ap (λ (t : Tree). t.digests) c.self.view_is in
+    let within : place < length digests = subst (λ (xs : List (Option (List ℕ))). place < length xs) same (omega (arith, c.loop-place-test.true, c.len-place-end.ensures, c.deref.ensures.len)) in
+    let found : c.is_ready.result ≡ is_ready digests place = c.is_ready.ensures ∙ ap (λ (xs : List (Option (List ℕ))). is_ready xs place) same in
+    let later : ready_from digests place ≡ ready_from digests (place + 1) = ready_step digests place within ∙ ap (λ b. cond b (place ∷ ready_from digests (place + 1)) (ready_from digests (place + 1))) (sym found ∙ c.if-is_ready.false) in
+    sym later ∙ c.loop-place.invariant
 
 pub returns-then-is_ready : goal.returns-then-is_ready
 returns-then-is_ready c =

@@ -11,7 +11,7 @@ few_nodes One = omega arith
 few_nodes Two = omega arith
 
 pub is_ready-requires-clause-small : goal.is_ready-requires-clause-small
-is_ready-requires-clause-small c = omega (arith, c.loop-place-test.true, c.len-place-end.ensures, c.self.invariant.all, few_nodes c.self.inside.format)
+is_ready-requires-clause-small c = omega (arith, c.loop-place-test.true, c.len-place-end.ensures, c.self.invariant.tree.all, few_nodes c.self.inside.format)
 
 pub loop-place-preserved : goal.loop-place-preserved
 loop-place-preserved c =

@@ -1,0 +1,101 @@
+//! Copies of the digests of siblings, which marks share with the digests that were taken of them.
+ghost use Rattle.std.specs.Prelude.{◌≡◌, ◌+◌, ◌*◌, ◌<◌, ◌≤◌, ◌^◌, ℕ, List, Option, Some, None, ⊤, IsTrue, MatchOption, length, map, drop, replicate, slice_set};
+ghost use Rattle.vclock.specs.Answer.{Answers};
+ghost use Rattle.hash_tree.specs.Nodes.{tree_depth, nodes_above, node_count, are_clean, dirtied};
+ghost use Rattle.hash_tree.specs.Blocks.{joined, AreOf, IsCopy, AreCopies};
+
+use crate::digest::Digest;
+use crate::digest_block::DigestBlock;
+use crate::marks::{children_at, clean_digests, parent_of};
+use crate::node::{NodeAt, tree_depth};
+use crate::shared_digests::block_count;
+use std::alloc::Global;
+use vclock::{Format, Refusal};
+
+/// Returns no copy for each block of a tree. Refused: NoMemory.
+pub(crate) fn no_blocks(alloc: Global, format: Format) -> Result<Vec<Option<DigestBlock>>, Refusal>
+    ensures { Answers result None (λ blocks. AreCopies (replicate (node_count format) None) blocks.items) }
+{
+    let count = block_count(format);
+    let mut blocks = Vec::with_capacity(alloc, count)?;
+    for _ in 0..count {
+        blocks.push(None)?;
+    }
+    Ok(blocks)
+}
+
+/// Drops the copies of the blocks that have a leaf or a node above it.
+pub(crate) fn drop_path(format: Format, leaf: u16, blocks: &mut [Option<DigestBlock>])
+    requires leaf { leaf < 16 ^ tree_depth format }
+    requires all { 16 * length blocks.old + 1 ≡ node_count format }
+    ensures { (digests : List (Option (List ℕ))) → AreCopies digests blocks.old
+        → AreCopies (dirtied format leaf digests) blocks.new }
+{
+    let mut next = parent_of(NodeAt {
+        depth: tree_depth(format),
+        index: leaf,
+    });
+    while let Some(node) = next {
+        blocks[node.place()] = None;
+        next = parent_of(node);
+    }
+}
+
+/// Drops the copy of the block that has the node at a place. The root is in no block.
+pub(crate) fn drop_block(place: usize, blocks: &mut [Option<DigestBlock>])
+    requires { place < 16 * length blocks.old + 1 }
+    ensures { (digests : List (Option (List ℕ))) (d : List ℕ) → AreCopies digests blocks.old
+        → AreCopies (slice_set digests place (Some d)) blocks.new }
+{
+    if let Some(before) = place.checked_sub(1) {
+        blocks[before / 16] = None;
+    }
+}
+
+/// Returns the blocks of the digests of a clean tree, by the place of their parents, as shares of the copies. Makes the
+/// copies that are missing. Refused: NoMemory.
+pub(crate) fn share_blocks(
+    alloc: Global,
+    digests: &[Option<Digest>],
+    blocks: &mut [Option<DigestBlock>],
+) -> Result<Vec<DigestBlock>, Refusal>
+    requires few { length digests.now < 2 ^ 32 }
+    requires clean { IsTrue (are_clean digests.now) }
+    requires copies { AreCopies digests.now blocks.old }
+    ensures blocks { Answers result None
+        (λ shared. AreOf 16 shared.items × (map Some (joined shared.items) ≡ drop 1 digests.now)) }
+    ensures copies { AreCopies digests.now blocks.new }
+{
+    let mut shared = Vec::with_capacity(alloc, blocks.len())?;
+    for place in 0..blocks.len() {
+        shared.push(share_block(alloc, digests, place, &mut blocks[place])?)?;
+    }
+    Ok(shared)
+}
+
+/// Returns the block of the digests of the children of the node at a place, as a share of its copy. Makes the copy if it
+/// is missing. Refused: NoMemory.
+fn share_block(
+    alloc: Global,
+    digests: &[Option<Digest>],
+    place: usize,
+    copy: &mut Option<DigestBlock>,
+) -> Result<DigestBlock, Refusal>
+    requires small { place < 2 ^ 32 }
+    requires within { 16 * place + 17 ≤ length digests.now }
+    requires clean { IsTrue (are_clean digests.now) }
+    requires copy { MatchOption copy.old ⊤ (IsCopy digests.now place) }
+    ensures block { Answers result None (IsCopy digests.now place) }
+    ensures copy { MatchOption copy.new ⊤ (IsCopy digests.now place) }
+{
+    if let Some(block) = copy {
+        return block.share();
+    }
+    let Some(digests) = clean_digests(children_at(digests, place)) else {
+        unreachable!()
+    };
+    let block = DigestBlock::new(alloc, digests)?;
+    let shared = block.share()?;
+    *copy = Some(block);
+    Ok(shared)
+}

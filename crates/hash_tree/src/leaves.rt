@@ -1,0 +1,185 @@
+//! The leaves of a range, in blocks that a range and its snapshots share.
+ghost use Rattle.std.specs.Prelude.{◌≡◌, ◌*◌, ◌<◌, ◌^◌, [], None, length, replicate, slice_index_or, slice_set};
+ghost use Rattle.vclock.specs.Answer.{Answers};
+ghost use Rattle.vclock.specs.Bytes.{key_fault};
+ghost use Rattle.vclock.specs.Outcome.{Does, gives};
+ghost use Rattle.version_set.specs.Kind.{value_fault};
+ghost use Rattle.version_set.specs.Version.{offer_fault};
+ghost use Rattle.hash_tree.specs.Leaves.{Bucket, versions_in};
+ghost use Rattle.hash_tree.specs.Nodes.{tree_depth};
+ghost use Rattle.hash_tree.specs.Blocks.{joined, AreOf, nth_leaf, leaf_with_offer};
+
+use crate::leaf_block::{BLOCK_LEN, LeafBlock};
+use crate::shared_leaf::SharedLeaf;
+use std::alloc::Global;
+use std::marker::Model;
+use std::sync::Arc;
+use vclock::{Format, Refusal};
+use version_set::Version;
+
+/// The leaves of a range by ascending index, in blocks of 64, with any number of owners: a range and its snapshots share
+/// what neither has changed. A change copies the handles of a block that is shared, at most 64 of blocks and 64 of
+/// leaves, and no row of another leaf. On error the leaves are unchanged.
+#[derive(Debug)]
+pub struct Leaves {
+    blocks: Arc<Vec<LeafBlock>, Global>,
+}
+
+impl Model for Leaves {
+    ghost use Rattle.std.specs.Prelude.{List};
+    ghost use Rattle.std.specs.Arc.{arc_value};
+    ghost use Rattle.std.specs.Vec.{vec_items};
+    ghost use Rattle.hash_tree.specs.Leaves.{Bucket};
+    ghost use Rattle.hash_tree.specs.Blocks.{joined, AreOf};
+
+    ghost Value = { List Bucket };
+
+    ghost view = { λ l. joined (vec_items (arc_value l.blocks)) };
+
+    ghost invariant = { λ l. AreOf 64 (vec_items (arc_value l.blocks)) };
+}
+
+impl Leaves {
+    /// Creates the leaves of a range without rows: 256, or 4,096 in format 2. Refused: NoMemory.
+    pub fn empty(alloc: Global, format: Format) -> Result<Leaves, Refusal>
+        ensures { Answers result None
+            (λ leaves. leaves ≡ replicate (16 ^ tree_depth format) (record { format = format; rows = [] })) }
+    {
+        let count = block_count(format);
+        let block = LeafBlock::empty(alloc, format)?;
+        let mut blocks = Vec::with_capacity(alloc, count)?;
+        for _ in 0..count {
+            blocks.push(block.share()?)?;
+        }
+        Ok(Leaves {
+            blocks: Arc::new(alloc, blocks)?,
+        })
+    }
+
+    /// Creates the leaves of a range from a list of all, by ascending index. Refused: NoMemory. Copies no row.
+    pub fn from_vec(
+        alloc: Global,
+        format: Format,
+        leaves: Vec<SharedLeaf>,
+    ) -> Result<Leaves, Refusal>
+        requires { length leaves.items ≡ 16 ^ tree_depth format }
+        ensures { Answers result None (λ all. all ≡ leaves.items) }
+    {
+        let count = block_count(format);
+        let mut blocks = Vec::with_capacity(alloc, count)?;
+        for number in 0..count {
+            let first = BLOCK_LEN * number;
+            blocks.push(LeafBlock::of(alloc, &leaves[first..first + BLOCK_LEN])?)?;
+        }
+        Ok(Leaves {
+            blocks: Arc::new(alloc, blocks)?,
+        })
+    }
+
+    /// Returns the leaf with an index. Doesn't allocate.
+    pub fn get(&self, leaf: u16) -> &SharedLeaf
+        requires { leaf < length self.now }
+        ensures { (d : Bucket) → result.now ≡ slice_index_or self.now leaf d }
+    {
+        let leaf = usize::from(leaf);
+        self.blocks[leaf / BLOCK_LEN].get(leaf % BLOCK_LEN)
+    }
+
+    /// Adds an owner to the leaves, and returns its handle. Refused: NoMemory. Copies no block.
+    pub fn share(&self) -> Result<Leaves, Refusal>
+        ensures { Answers result None (λ shared. shared ≡ self.now) }
+    {
+        Ok(Leaves {
+            blocks: Arc::try_clone(&self.blocks)?,
+        })
+    }
+
+    /// Returns the leaves with another one at an index. All else is shared. Refused: NoMemory.
+    pub fn with_leaf(&self, alloc: Global, leaf: u16, new: SharedLeaf) -> Result<Leaves, Refusal>
+        requires { leaf < length self.now }
+        ensures { Answers result None (λ all. all ≡ slice_set self.now leaf new) }
+    {
+        let leaf = usize::from(leaf);
+        let number = leaf / BLOCK_LEN;
+        let mut blocks = share_blocks(alloc, &self.blocks)?;
+        blocks[number] = self.blocks[number].with_leaf(alloc, leaf % BLOCK_LEN, new)?;
+        Ok(Leaves {
+            blocks: Arc::new(alloc, blocks)?,
+        })
+    }
+
+    /// Offers a version to the set of a key in the leaf with an index, which has room for it. What has other owners is
+    /// copied first, by handles; if nothing has, the leaf is changed in place. Refused: NoMemory.
+    pub fn offer(
+        &mut self,
+        alloc: Global,
+        leaf: u16,
+        key: &[u8],
+        version: Version,
+    ) -> Result<(), Refusal>
+        requires leaf { leaf < length self.old }
+        requires key { key_fault key.now ≡ None }
+        requires value { value_fault (nth_leaf self.old leaf).format version.kind version.value ≡ None }
+        requires room { offer_fault version (versions_in key.now (nth_leaf self.old leaf).rows) ≡ None }
+        ensures { Does result self.old self.new
+            (gives tt (slice_set self.old leaf (leaf_with_offer key.now version (nth_leaf self.old leaf)))) }
+    {
+        if let Some(blocks) = Arc::get_mut(&mut self.blocks) {
+            return offer_to_leaf(alloc, blocks, leaf, key, version);
+        }
+        let mut blocks = share_blocks(alloc, &self.blocks)?;
+        offer_to_leaf(alloc, &mut blocks, leaf, key, version)?;
+        self.blocks = Arc::new(alloc, blocks)?;
+        Ok(())
+    }
+}
+
+/// Returns the number of blocks: 4, or 64 in format 2.
+fn block_count(format: Format) -> usize
+    ensures { 64 * result ≡ 16 ^ tree_depth format }
+{
+    match format {
+        Format::One => 4,
+        Format::Two => 64,
+    }
+}
+
+/// Adds an owner to each block, and returns the blocks. Refused: NoMemory. Copies no leaf.
+fn share_blocks(alloc: Global, blocks: &[LeafBlock]) -> Result<Vec<LeafBlock>, Refusal>
+    ensures { Answers result None (λ copy. copy.items ≡ blocks.now) }
+{
+    let mut copy = Vec::with_capacity(alloc, blocks.len())?;
+    for block in blocks {
+        copy.push(block.share()?)?;
+    }
+    Ok(copy)
+}
+
+/// Offers a version to the set of a key in the leaf with an index, which has room for it. On error the leaves are
+/// unchanged. Refused: NoMemory.
+fn offer_to_leaf(
+    alloc: Global,
+    blocks: &mut Vec<LeafBlock>,
+    leaf: u16,
+    key: &[u8],
+    version: Version,
+) -> Result<(), Refusal>
+    requires blocks { AreOf 64 blocks.old.items }
+    requires leaf { leaf < length (joined blocks.old.items) }
+    requires key { key_fault key.now ≡ None }
+    requires value { value_fault (nth_leaf (joined blocks.old.items) leaf).format version.kind version.value ≡ None }
+    requires room { offer_fault version (versions_in key.now (nth_leaf (joined blocks.old.items) leaf).rows) ≡ None }
+    ensures leaves { Does result (joined blocks.old.items) (joined blocks.new.items) (gives tt
+        (slice_set (joined blocks.old.items) leaf (leaf_with_offer key.now version (nth_leaf (joined blocks.old.items) leaf)))) }
+    ensures blocks { AreOf 64 blocks.new.items }
+{
+    let leaf = usize::from(leaf);
+    blocks[leaf / BLOCK_LEN].offer(alloc, leaf % BLOCK_LEN, key, version)
+}
+
+impl Drop for Leaves {
+    /// Keeps the fields out of the proofs of callers that drop leaves.
+    fn drop(self) {
+        let Leaves { blocks: _blocks } = self;
+    }
+}
