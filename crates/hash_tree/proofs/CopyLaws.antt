@@ -8,7 +8,7 @@ use Rattle.std.proofs.lemmas.List.Sums.{AllPass-from_list_all, list_all-from_All
 use Rattle.vclock.specs.declared.format.Format.{Format}
 use Rattle.hash_tree.specs.declared.node.NodeAt.{NodeAt}
 use Rattle.hash_tree.specs.Nodes.{tree_depth, nodes_above, node_count, place_at, path_of, kept_digest, children_of, are_clean, is_on_path, dirtied, Tree, IsTree, AreCleanBelow}
-use Rattle.hash_tree.specs.Blocks.{joined, AreOf, IsCopy, AreCopies}
+use Rattle.hash_tree.specs.Blocks.{joined, AreOf, IsCopy, AreCopies, AreMarks}
 use Rattle.hash_tree.proofs.PlaceLaws.{Digests, above_below, node_count_is, on_path_up}
 use Rattle.hash_tree.proofs.PathLaws.{path_left, steps_left, path_step, path_shorter}
 use Rattle.hash_tree.proofs.TreeLaws.{length-dirtied, dirtied-at, child_at}
@@ -224,3 +224,9 @@ root_clean t d tree root =
     some : (o : Option (List ℕ)) → (o ≡ None → ⊥) → is_some o ≡ true
     some None h = absurd (h refl)
     some (Some x) h = refl
+
+-- all nodes are clean where a read of the first gives a digest
+pub all_clean : (t now : Tree) (blocks : Copies) (all : Option (List (List ℕ))) (first : Option (List ℕ)) (root : List ℕ) → t ≡ now → AreMarks t.format t.digests blocks all → first ≡ get_or t.digests 0 first → first ≡ Some root → are_clean now.digests ≡ true
+all_clean t now blocks all first root view are read is =
+    let here = get_or_default t.digests 0 None first (omega (arith, are.copies.all)) ∙ sym read ∙ is in
+    subst (λ (s : Tree). are_clean s.digests ≡ true) view (root_clean t root are.tree here)

@@ -52,50 +52,97 @@ pub(crate) fn drop_block(place: usize, blocks: &mut [Option<DigestBlock>])
     }
 }
 
-/// Returns the blocks of the digests of a clean tree, by the place of their parents, as shares of the copies. Makes the
-/// copies that are missing. Refused: NoMemory.
-pub(crate) fn share_blocks(
+/// Makes the copies that are missing, of the digests of a clean tree. Refused: NoMemory.
+pub(crate) fn fill_blocks(
     alloc: Global,
     digests: &[Option<Digest>],
     blocks: &mut [Option<DigestBlock>],
-) -> Result<Vec<DigestBlock>, Refusal>
+) -> Result<(), Refusal>
     requires few { length digests.now < 2 ^ 32 }
     requires clean { IsTrue (are_clean digests.now) }
     requires copies { AreCopies digests.now blocks.old }
-    ensures blocks { Answers result None
-        (λ shared. AreOf 16 shared.items × (map Some (joined shared.items) ≡ drop 1 digests.now)) }
+    ensures answers { Answers result None (λ _. ⊤) }
     ensures copies { AreCopies digests.now blocks.new }
 {
-    let mut shared = Vec::with_capacity(alloc, blocks.len())?;
     for place in 0..blocks.len() {
-        shared.push(share_block(alloc, digests, place, &mut blocks[place])?)?;
+        fill_block(alloc, digests, place, &mut blocks[place])?;
     }
-    Ok(shared)
+    Ok(())
 }
 
-/// Returns the block of the digests of the children of the node at a place, as a share of its copy. Makes the copy if it
-/// is missing. Refused: NoMemory.
-fn share_block(
+/// Makes the copy of the digests of the children of the node at a place, if it is missing. Refused: NoMemory.
+fn fill_block(
     alloc: Global,
     digests: &[Option<Digest>],
     place: usize,
     copy: &mut Option<DigestBlock>,
-) -> Result<DigestBlock, Refusal>
+) -> Result<(), Refusal>
     requires small { place < 2 ^ 32 }
     requires within { 16 * place + 17 ≤ length digests.now }
     requires clean { IsTrue (are_clean digests.now) }
     requires copy { MatchOption copy.old ⊤ (IsCopy digests.now place) }
-    ensures block { Answers result None (IsCopy digests.now place) }
+    ensures answers { Answers result None (λ _. ⊤) }
     ensures copy { MatchOption copy.new ⊤ (IsCopy digests.now place) }
 {
-    if let Some(block) = copy {
-        return block.share();
+    if copy.is_none() {
+        *copy = Some(new_block(alloc, digests, place)?);
     }
+    Ok(())
+}
+
+/// Returns the blocks of the digests of a clean tree, by the place of their parents: shares of the copies, and new blocks
+/// for those that are missing. Refused: NoMemory.
+pub(crate) fn share_blocks(
+    alloc: Global,
+    digests: &[Option<Digest>],
+    blocks: &[Option<DigestBlock>],
+) -> Result<Vec<DigestBlock>, Refusal>
+    requires few { length digests.now < 2 ^ 32 }
+    requires clean { IsTrue (are_clean digests.now) }
+    requires copies { AreCopies digests.now blocks.now }
+    ensures { Answers result None
+        (λ shared. AreOf 16 shared.items × (map Some (joined shared.items) ≡ drop 1 digests.now)) }
+{
+    let mut shared = Vec::with_capacity(alloc, blocks.len())?;
+    for place in 0..blocks.len() {
+        shared.push(share_block(alloc, digests, place, &blocks[place])?)?;
+    }
+    Ok(shared)
+}
+
+/// Returns the block of the digests of the children of the node at a place: a share of the copy, or a new block if it is
+/// missing. Refused: NoMemory.
+fn share_block(
+    alloc: Global,
+    digests: &[Option<Digest>],
+    place: usize,
+    copy: &Option<DigestBlock>,
+) -> Result<DigestBlock, Refusal>
+    requires small { place < 2 ^ 32 }
+    requires within { 16 * place + 17 ≤ length digests.now }
+    requires clean { IsTrue (are_clean digests.now) }
+    requires copy { MatchOption copy.now ⊤ (IsCopy digests.now place) }
+    ensures { Answers result None (IsCopy digests.now place) }
+{
+    match copy {
+        Some(block) => block.share(),
+        None => new_block(alloc, digests, place),
+    }
+}
+
+/// Makes the block of the digests of the children of the node at a place, in a clean tree. Refused: NoMemory.
+fn new_block(
+    alloc: Global,
+    digests: &[Option<Digest>],
+    place: usize,
+) -> Result<DigestBlock, Refusal>
+    requires small { place < 2 ^ 32 }
+    requires within { 16 * place + 17 ≤ length digests.now }
+    requires clean { IsTrue (are_clean digests.now) }
+    ensures { Answers result None (IsCopy digests.now place) }
+{
     let Some(digests) = clean_digests(children_at(digests, place)) else {
         unreachable!()
     };
-    let block = DigestBlock::new(alloc, digests)?;
-    let shared = block.share()?;
-    *copy = Some(block);
-    Ok(shared)
+    DigestBlock::new(alloc, digests)
 }

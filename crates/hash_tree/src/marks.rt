@@ -3,7 +3,7 @@ ghost use Rattle.std.specs.Prelude.{◌≡◌, ◌+◌, ◌/◌, ◌<◌, ◌≤
 ghost use Rattle.vclock.specs.Answer.{Answers};
 ghost use Rattle.hash_tree.specs.Nodes.{tree_depth, nodes_above, node_count, place_at, kept_digest, children_of, are_clean, is_ready, ready_from, dirtied, dirty_count, IsTree};
 
-use crate::copies::{drop_block, drop_path, no_blocks, share_blocks};
+use crate::copies::{drop_block, drop_path, fill_blocks, no_blocks, share_blocks};
 use crate::digest::Digest;
 use crate::digest_block::DigestBlock;
 use crate::node::{NodeAt, tree_depth};
@@ -14,7 +14,7 @@ use vclock::{Format, Refusal};
 
 /// The digests of the clean nodes of a tree. The other nodes are dirty and have no digest. A new version makes its leaf
 /// and all nodes above it dirty, and a rehash makes them clean from the leaves up, so the children of a clean node are
-/// clean. Beside its digests stand copies of some of them, in blocks, which `shared` hands out and a change drops.
+/// clean. Beside its digests stand copies of some of them, in blocks, which `keep_digests` makes and a change drops.
 pub struct Marks {
     format: Format,
     digests: Vec<Option<Digest>>,
@@ -112,12 +112,11 @@ impl Marks {
             .count()
     }
 
-    /// Returns the digests of all nodes, by place. Blocks that haven't changed since the last call are shared with its
-    /// result. Refused, in order: Dirty (some node has no digest), NoMemory.
-    pub fn shared(&mut self, alloc: Global) -> Result<SharedDigests, Refusal>
-        ensures digests { Answers result (if are_clean self.old.digests then None else Some Refusal.Dirty)
-            (λ digests. map Some digests ≡ self.old.digests) }
-        ensures same { self.new ≡ self.old }
+    /// Returns the digests of all nodes, by place. Shares the copies of blocks. Refused, in order: Dirty (some node has no
+    /// digest), NoMemory.
+    pub fn digests(&self, alloc: Global) -> Result<SharedDigests, Refusal>
+        ensures { Answers result (if are_clean self.now.digests then None else Some Refusal.Dirty)
+            (λ digests. map Some digests ≡ self.now.digests) }
     {
         // The children of a clean node are clean, so all nodes are if the root is.
         match self.digests[0] {
@@ -126,20 +125,44 @@ impl Marks {
         }
     }
 
+    /// Returns the digests of all nodes as `digests` does, and keeps copies of all blocks, so that the next call shares
+    /// those that don't change until then. Refused, in order: Dirty, NoMemory.
+    pub fn keep_digests(&mut self, alloc: Global) -> Result<SharedDigests, Refusal>
+        ensures digests { Answers result (if are_clean self.old.digests then None else Some Refusal.Dirty)
+            (λ digests. map Some digests ≡ self.old.digests) }
+        ensures same { self.new ≡ self.old }
+    {
+        match self.digests[0] {
+            Some(root) => self.keep_clean(alloc, root),
+            None => Err(Refusal::Dirty),
+        }
+    }
+
     /// Returns the digests of all nodes, if all are clean. Refused: NoMemory.
-    fn share_clean(&mut self, alloc: Global, root: Digest) -> Result<SharedDigests, Refusal>
+    fn share_clean(&self, alloc: Global, root: Digest) -> Result<SharedDigests, Refusal>
+        requires clean { IsTrue (are_clean self.now.digests) }
+        requires root { kept_digest self.now.digests 0 ≡ Some root }
+        ensures { Answers result None (λ digests. map Some digests ≡ self.now.digests) }
+    {
+        if let Some(whole) = &self.whole {
+            return whole.share();
+        }
+        let blocks = share_blocks(alloc, &self.digests, &self.blocks)?;
+        SharedDigests::of_blocks(alloc, root, blocks)
+    }
+
+    /// Returns the digests of all nodes, if all are clean, and keeps copies of all. Refused: NoMemory.
+    fn keep_clean(&mut self, alloc: Global, root: Digest) -> Result<SharedDigests, Refusal>
         requires clean { IsTrue (are_clean self.old.digests) }
         requires root { kept_digest self.old.digests 0 ≡ Some root }
         ensures digests { Answers result None (λ digests. map Some digests ≡ self.old.digests) }
         ensures same { self.new ≡ self.old }
     {
-        if let Some(whole) = &self.whole {
-            return whole.share();
+        if self.whole.is_none() {
+            fill_blocks(alloc, &self.digests, &mut self.blocks)?;
         }
-        let blocks = share_blocks(alloc, &self.digests, &mut self.blocks)?;
-        let whole = SharedDigests::of_blocks(alloc, root, blocks)?;
-        let shared = whole.share()?;
-        self.whole = Some(whole);
+        let shared = self.share_clean(alloc, root)?;
+        self.whole = Some(shared.share()?);
         Ok(shared)
     }
 

@@ -1,5 +1,5 @@
 use Rattle.std.proofs.Common.{◌≡◌, ℕ, ◌<◌, [], length, get_or}
-use Rattle.hash_tree.specs.Blocks.{AreOf, IsCopy, AreCopies}
+use Rattle.hash_tree.specs.Blocks.{AreOf, IsCopy}
 use Rattle.hash_tree.proofs.copies.share_blocks.Given as goal
 
 abbrev pub invariant-loop-place : goal.invariant-loop-place
@@ -7,5 +7,4 @@ invariant-loop-place l = record {
   many : length l.shared.items ≡ l.place;
   each : (p : ℕ) → p < l.place → IsCopy l.digests p (get_or l.shared.items p []);
   sixteen : AreOf 16 l.shared.items;
-  copies : AreCopies l.digests l.blocks;
 }
