@@ -90,8 +90,8 @@ fn fill_block(
     Ok(())
 }
 
-/// Returns the blocks of the digests of a clean tree, by the place of their parents: shares of the copies, and new blocks
-/// for those that are missing. Refused: NoMemory.
+/// Returns the blocks of the digests of a clean tree, by the place of their parents: shares of the copies, and new
+/// blocks for those that are missing. Refused: NoMemory.
 pub(crate) fn share_blocks(
     alloc: Global,
     digests: &[Option<Digest>],
@@ -110,8 +110,8 @@ pub(crate) fn share_blocks(
     Ok(shared)
 }
 
-/// Returns the block of the digests of the children of the node at a place: a share of the copy, or a new block if it is
-/// missing. Refused: NoMemory.
+/// Returns the block of the digests of the children of the node at a place: a share of the copy, or a new block if it
+/// is missing. Refused: NoMemory.
 fn share_block(
     alloc: Global,
     digests: &[Option<Digest>],

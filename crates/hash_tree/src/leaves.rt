@@ -17,8 +17,8 @@ use std::sync::Arc;
 use vclock::{Format, Refusal};
 use version_set::Version;
 
-/// The leaves of a range by ascending index, in blocks of 64, with any number of owners: a range and its snapshots share
-/// what neither has changed. A change copies the handles of a block that is shared, at most 64 of blocks and 64 of
+/// The leaves of a range by ascending index, in blocks of 64, with any number of owners: a range and its snapshots
+/// share what neither has changed. A change copies the handles of what is shared, at most 64 of blocks and 64 of
 /// leaves, and no row of another leaf. On error the leaves are unchanged.
 #[derive(Debug)]
 pub struct Leaves {
@@ -169,8 +169,8 @@ fn offer_to_leaf(
     requires key { key_fault key.now ≡ None }
     requires value { value_fault (nth_leaf (joined blocks.old.items) leaf).format version.kind version.value ≡ None }
     requires room { offer_fault version (versions_in key.now (nth_leaf (joined blocks.old.items) leaf).rows) ≡ None }
-    ensures leaves { Does result (joined blocks.old.items) (joined blocks.new.items) (gives tt
-        (slice_set (joined blocks.old.items) leaf (leaf_with_offer key.now version (nth_leaf (joined blocks.old.items) leaf)))) }
+    ensures leaves { let all = joined blocks.old.items in Does result all (joined blocks.new.items)
+        (gives tt (slice_set all leaf (leaf_with_offer key.now version (nth_leaf all leaf)))) }
     ensures blocks { AreOf 64 blocks.new.items }
 {
     let leaf = usize::from(leaf);

@@ -112,8 +112,8 @@ impl Marks {
             .count()
     }
 
-    /// Returns the digests of all nodes, by place. Shares the copies of blocks. Refused, in order: Dirty (some node has no
-    /// digest), NoMemory.
+    /// Returns the digests of all nodes, by place. Shares the copies of blocks. Refused, in order: Dirty (some node has
+    /// no digest), NoMemory.
     pub fn digests(&self, alloc: Global) -> Result<SharedDigests, Refusal>
         ensures { Answers result (if are_clean self.now.digests then None else Some Refusal.Dirty)
             (λ digests. map Some digests ≡ self.now.digests) }

@@ -10,16 +10,19 @@ ghost use Rattle.hash_tree.specs.Texts.{inner_text, leaf_text};
 ghost use Rattle.snapshot.specs.RowMaps.{IsRowMap, leaf_in, text_at, digest_at, root_of};
 ghost use Rattle.snapshot.specs.Snapshots.{IsSnapshot, map_of, answer_fault};
 
-use hash_tree::{Digest, Hashed, NodeAt, SharedLeaf, Text, inner_text, tree_depth};
+use hash_tree::{
+    Digest, Hashed, Leaves, NodeAt, SharedDigests, SharedLeaf, Text, inner_text, tree_depth,
+};
 use std::alloc::Global;
 use std::marker::Model;
 use std::sync::Arc;
 use vclock::{Format, Refusal};
 use walk_messages::{Ask, Offer};
 
-/// All rows of a range at one moment, with the digest of each node of the tree over them. It shares the leaves with the
-/// range, which copies a shared leaf before changing it, so a snapshot never changes. A node offers a snapshot to its
-/// partners and answers their asks from it while writes continue. Only `new`, `answer` and `hashed_answer` allocate.
+/// All rows of a range at one moment, with the digest of each node of the tree over them. It shares leaves and
+/// digests with the range, which copies what is shared before changing it, so a snapshot never changes. A node offers a
+/// snapshot to its partners and answers their asks from it while writes continue. Only `new`, `of_shared`, `answer` and
+/// `hashed_answer` allocate.
 ///
 /// ```
 /// let snapshot = Snapshot::new(alloc, Format::One, 3, 5, leaves, digests)?;
@@ -30,8 +33,8 @@ pub struct Snapshot {
     format: Format,
     bits: u8,
     range: u16,
-    leaves: Vec<SharedLeaf>,
-    digests: Vec<Digest>,
+    leaves: Leaves,
+    digests: SharedDigests,
 }
 
 impl Model for Snapshot {
@@ -40,9 +43,9 @@ impl Model for Snapshot {
 
     ghost Value = { RowMap };
 
-    ghost view = { λ s. map_of s.format s.bits s.range s.leaves.items };
+    ghost view = { λ s. map_of s.format s.bits s.range s.leaves };
 
-    ghost invariant = { λ s. IsSnapshot (map_of s.format s.bits s.range s.leaves.items) s.leaves.items s.digests.items };
+    ghost invariant = { λ s. IsSnapshot (map_of s.format s.bits s.range s.leaves) s.leaves s.digests };
 }
 
 impl Snapshot {
@@ -58,6 +61,24 @@ impl Snapshot {
     ) -> Result<Arc<Snapshot, Global>, Refusal>
         requires { IsSnapshot (map_of format bits range leaves.items) leaves.items digests.items }
         ensures { Answers result None (λ s. arc_value s ≡ map_of format bits range leaves.items) }
+    {
+        let leaves = Leaves::from_vec(alloc, format, leaves)?;
+        let digests = SharedDigests::from_vec(alloc, format, digests)?;
+        Snapshot::of_shared(alloc, format, bits, range, leaves, digests)
+    }
+
+    /// Creates the snapshot of a range in a ring of 2^bits ranges from its leaves and the digests of all nodes, which
+    /// others may own as well. Refused: NoMemory.
+    pub fn of_shared(
+        alloc: Global,
+        format: Format,
+        bits: u8,
+        range: u16,
+        leaves: Leaves,
+        digests: SharedDigests,
+    ) -> Result<Arc<Snapshot, Global>, Refusal>
+        requires { IsSnapshot (map_of format bits range leaves) leaves digests }
+        ensures { Answers result None (λ s. arc_value s ≡ map_of format bits range leaves) }
     {
         let snapshot = Snapshot {
             format,
@@ -95,7 +116,7 @@ impl Snapshot {
     pub fn root(&self) -> Digest
         ensures { result ≡ root_of self.now }
     {
-        self.digests[0]
+        self.digests.get(NodeAt { depth: 0, index: 0 })
     }
 
     /// Returns the offer of these rows to another replica. The replica's offers differ by `number`.
@@ -119,7 +140,7 @@ impl Snapshot {
         requires { node.depth ≤ tree_depth self.now.format }
         ensures { result ≡ digest_at self.now node.depth node.index }
     {
-        self.digests[node.place()]
+        self.digests.get(node)
     }
 
     /// Returns a leaf: its rows in ascending order of key, and their text.
@@ -127,7 +148,7 @@ impl Snapshot {
         requires { leaf < 2 ^ leaf_bits self.now.format }
         ensures { result.now ≡ record { format = self.now.format; rows = rows_in_leaf (leaf_in self.now) leaf self.now.rows } }
     {
-        &self.leaves[usize::from(leaf)]
+        self.leaves.get(leaf)
     }
 
     /// Returns the text of the node in an ask (this project's profile).
@@ -163,11 +184,7 @@ impl Snapshot {
         requires { node.depth < tree_depth self.now.format }
         ensures { inner_text self.now.format result.now ≡ text_at self.now node.depth node.index }
     {
-        let (_, behind) = self.digests.split_at(16 * node.place() + 1);
-        let Some(children) = behind.first_chunk() else {
-            unreachable!()
-        };
-        children
+        self.digests.children(node)
     }
 }
 

@@ -1,4 +1,4 @@
-use Rattle.std.proofs.Common.{◌≡◌, List, Bool, Some, None, map, cond, sym, subst}
+use Rattle.std.proofs.Common.{◌≡◌, Bool, Some, None, map, cond, sym, subst}
 use Rattle.vclock.specs.declared.refusal.Refusal.TheVariants.{Dirty}
 use Rattle.vclock.specs.Answer.{Answers}
 use Rattle.hash_tree.proofs.CopyLaws.{all_clean}

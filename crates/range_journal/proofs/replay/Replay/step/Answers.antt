@@ -1,11 +1,10 @@
-use Rattle.std.proofs.Common.{◌≡◌, ◌+◌, ◌<◌, ℕ, List, length, take, cond, refl, sym, ap, subst, ◌∙◌, arith}
+use Rattle.std.proofs.Common.{◌≡◌, ◌<◌, length, take, cond, refl, sym, ap, subst, ◌∙◌, arith}
 use Rattle.std.specs.Prelude.{bytes_eq}
 use Rattle.std.proofs.lemmas.Slice.Eq.{bytes_eq-Decides}
-use Rattle.version_set.specs.declared.version.Version.{Version}
 use Rattle.version_set.specs.Version.{offered}
 use Rattle.range_journal.specs.declared.journal.Entry.{Entry}
 use Rattle.range_journal.specs.Journal.{held}
-use Rattle.range_journal.specs.Replays.{Replayed, set_at}
+use Rattle.range_journal.specs.Replays.{Replayed}
 use Rattle.range_journal.proofs.JournalLaws.{held_more, never_refused}
 use Rattle.range_journal.proofs.replay.Replay.step.Goals as goal
 
@@ -27,8 +26,7 @@ invariant_of-self-2 c =
     let e : Entry = c.index-entries-self.result in
     let below : r.front < length r.entries = subst (λ (x : Replayed). x.front < length x.entries) (sym c.self.view_is) c.requires in
     let same : c.as_slice.result.now ≡ e.key = c.as_slice.ensures in
-    let copy : c.in_ok-try_clone.field-0 ≡ e.version = c.in_ok-try_clone.ensures.1 in
-    (
+    let copy : c.in_ok-try_clone.field-0 ≡ e.version = c.in_ok-try_clone.ensures.1 in (
       record { short = c.self.invariant.0.short; within = omega (arith, below) },
       λ key.
           c.in_ok-offer_to.ensures.ok key
