@@ -1,5 +1,5 @@
 -- What a replay keeps.
-use Rattle.std.proofs.Common.{◌≡◌, ℕ, ◌+◌, ◌<◌, List, [], ◌∷◌, ◌++◌, length, get_or, take, set, replicate, None, refl, sym, ap, subst, ◌∙◌, arith}
+use Rattle.std.proofs.Common.{◌≡◌, ℕ, ◌+◌, ◌<◌, List, [], ◌∷◌, ◌++◌, length, get_or, take, set, None, refl, sym, ap, subst, ◌∙◌}
 use Rattle.std.proofs.lemmas.List.{take_more}
 use Rattle.std.proofs.lemmas.List.Elements.{All-from_recursion}
 use Rattle.std.proofs.lemmas.Slice.Eq.{bytes_eq-Decides}
@@ -10,19 +10,14 @@ use Rattle.range_journal.specs.Journal.{held}
 use Rattle.range_journal.proofs.JournalLaws.{never_refused}
 use Rattle.hash_tree.specs.Leaves.{Bucket, with_offer, versions_in, rows_in_leaf}
 use Rattle.range_state.specs.Config.{Config}
-use Rattle.range_state.specs.State.{State, IsRight, IsOwn, AreLeaves, leaf_in, leaf_count, bucket_of}
+use Rattle.range_state.specs.State.{State, IsOwn, AreLeaves, leaf_in, bucket_of}
 use Rattle.range_state.specs.Rows.{rows_of}
 use Rattle.range_state.specs.Replays.{Replayed, IsReplay}
-use Rattle.range_state.proofs.StateLaws.{no_bucket, fresh_leaves, grown-leaves, leaf_within, rows_here, set_here}
+use Rattle.range_state.proofs.StateLaws.{grown-leaves, leaf_within, rows_here, set_here}
 
 -- a state that has these entries
 abbrev of_entries : Config → List Entry → State
 of_entries c es = record { config = c; entries = es; marks = []; records = [] }
-
--- nothing is replayed yet
-pub replay_new : (s : State) (c : Config) (es : List Entry) (leaves : List Bucket) → IsRight s → c ≡ s.config → es ≡ s.entries → leaves ≡ replicate (leaf_count c) (no_bucket c)
-    → IsReplay (record { config = c; entries = es; front = 0 }) × AreLeaves c [] leaves
-replay_new s c es leaves ok config entries fresh = (subst IsReplay (λ i. record { config = sym config i; entries = sym entries i; front = 0 }) (record { config = ok.config; own = ok.own; short = ok.short; within = omega arith }), fresh_leaves c leaves fresh)
 
 -- the leaf of a key
 pub leaf_there : (c : Config) (es : List Entry) (leaves : List Bucket) (leaf : ℕ) (key : List ℕ) → AreLeaves c es leaves → leaf ≡ leaf_in c key → leaf < length leaves

@@ -5,7 +5,7 @@ use Rattle.std.specs.Cmp.Lexicographic.{pointwise}
 use Rattle.std.proofs.lemmas.Bool.{cases_eq, cases_Bool, cases_lt, lt-ltb, or_parts, both_ways, eqb-true}
 use Rattle.std.proofs.lemmas.Bool.Decides.{nat_tests}
 use Rattle.std.proofs.lemmas.Slice.Eq.{bytes_eq-Decides}
-use Rattle.std.proofs.lemmas.List.{take_all, take-append-le, length-append, get_or-set_same, get_or-set_other, set-get_or, get_or-replicate, length-replicate}
+use Rattle.std.proofs.lemmas.List.{take_all, take-append-le, length-append, get_or-set_same, get_or-set_other, get_or_default, get_or-replicate, length-replicate}
 use Rattle.std.specs.List.{AllByRecursion, list_any}
 use Rattle.vclock.specs.Answer.{first_fault}
 use Rattle.vclock.specs.Clock.{at_most, Pairs, Rises, IsClock}
@@ -32,6 +32,7 @@ use Rattle.row_bytes.proofs.LimitLaws.{no_fault, no_fault_else}
 use Rattle.row_bytes.specs.declared.row.Row.{Row}
 use Rattle.key_ring.specs.Places.{leaf_at, leaf_bits, range_at}
 use Rattle.hash_tree.specs.Leaves.{Bucket, rows_in_leaf, with_offer, versions_in}
+use Rattle.hash_tree.specs.Blocks.{nth_leaf}
 use Rattle.hash_tree.specs.Nodes.{Tree, tree_depth, node_count, dirtied}
 use Rattle.hash_tree.specs.Texts.{AreTrue, IsTreeFor}
 use Rattle.hash_tree.proofs.TreeLaws.{true_kept, true_fresh, tree_fresh, tree_dirtied}
@@ -57,6 +58,15 @@ leaf_below c key = below c.format _
 -- the leaf of a key is one of the leaves
 pub leaf_within : (s : State) (leaves : List Bucket) (leaf : ℕ) (key : List ℕ) → AreLeaves s.config s.entries leaves → leaf ≡ leaf_in s.config key → leaf < length leaves
 leaf_within s leaves leaf key ok at = omega (arith, ok.all, at, leaf_below s.config key)
+
+-- the leaf at an index is there
+pub nth_is : (leaves : List Bucket) (leaf : ℕ) → leaf < length leaves → nth_leaf leaves leaf ≡ get_or leaves leaf (nth_leaf leaves leaf)
+nth_is leaves leaf within = get_or_default leaves leaf (record { format = One; rows = [] }) (nth_leaf leaves leaf) within
+
+-- a tree has a leaf for each of the range
+pub leaves_of_tree : (format : Format) → 16 ^ tree_depth format ≡ 2 ^ leaf_bits format
+leaves_of_tree One = refl
+leaves_of_tree Two = refl
 
 -- the rows of the leaf of a key
 pub rows_here : (s : State) (leaves : List Bucket) (leaf : ℕ) (key : List ℕ) (b : Bucket) → AreLeaves s.config s.entries leaves → leaf ≡ leaf_in s.config key → b ≡ get_or leaves leaf b → b ≡ bucket_of s.config s.entries leaf
@@ -309,13 +319,12 @@ admitted s leaves leaf e entries marks b new key w ok are other at here news clo
     )
 
 -- a range where a leaf was offered a version in vain
-pub in_vain : (s : State) (leaves : List Bucket) (leaf : ℕ) (entries : List Entry) (b new : Bucket) → IsRight s → AreLeaves s.config s.entries leaves → b ≡ get_or leaves leaf b → new ≡ b → entries ≡ s.entries
-    → IsRight (record { config = s.config; entries = entries; marks = s.marks; records = s.records }) × AreLeaves s.config entries (set leaves leaf new)
-in_vain s leaves leaf entries b new ok are was same es =
-    let back : set leaves leaf new ≡ leaves = ap (set leaves leaf) (same ∙ was) ∙ set-get_or leaves leaf b in (
-      subst (λ (t : List Entry). IsRight (record { config = s.config; entries = t; marks = s.marks; records = s.records })) (sym es) ok,
-      subst (AreLeaves s.config entries) (sym back) (subst (λ (t : List Entry). AreLeaves s.config t leaves) (sym es) are),
-    )
+pub in_vain : (s : State) (leaves new : List Bucket) (entries : List Entry) → IsRight s → AreLeaves s.config s.entries leaves → new ≡ leaves → entries ≡ s.entries
+    → IsRight (record { config = s.config; entries = entries; marks = s.marks; records = s.records }) × AreLeaves s.config entries new
+in_vain s leaves new entries ok are same es = (
+  subst (λ (t : List Entry). IsRight (record { config = s.config; entries = t; marks = s.marks; records = s.records })) (sym es) ok,
+  subst (AreLeaves s.config entries) (sym same) (subst (λ (t : List Entry). AreLeaves s.config t leaves) (sym es) are),
+)
 
 -- ---- what is known
 

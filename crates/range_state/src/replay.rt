@@ -1,20 +1,17 @@
 //! The leaves of the rows that a journal makes.
-ghost use Rattle.std.specs.Prelude.{◌≡◌, ◌+◌, ◌<◌, ◌≤◌, ◌↔◌, length, take, None, IsTrue};
+ghost use Rattle.std.specs.Prelude.{◌≡◌, ◌+◌, ◌<◌, ◌≤◌, length, take, None};
 ghost use Rattle.vclock.specs.Answer.{Answers};
 ghost use Rattle.vclock.specs.Outcome.{Does, DoesOrBreaksOff, gives};
-ghost use Rattle.range_journal.specs.Journal.{held};
 ghost use Rattle.range_state.specs.State.{leaf_in, AreLeaves};
 ghost use Rattle.range_state.specs.Replays.{IsReplay};
 
 use crate::config::RangeConfig;
-use crate::state::{RangeState, empty_leaves};
-use hash_tree::SharedLeaf;
+use hash_tree::Leaves;
 use key_ring::place;
 use range_journal::Entry;
 use std::alloc::Global;
 use std::marker::Model;
 use vclock::Refusal;
-use version_set::VersionSet;
 
 /// The leaves of the rows that the first entries of a journal make.
 #[derive(Drop)]
@@ -22,7 +19,7 @@ struct Replay<'a> {
     config: RangeConfig,
     entries: &'a [Entry],
     front: u64,
-    leaves: Vec<SharedLeaf>,
+    leaves: Leaves,
 }
 
 impl<'a> Model for Replay<'a> {
@@ -35,7 +32,7 @@ impl<'a> Model for Replay<'a> {
     ghost view = { λ r. record { config = r.config; entries = r.entries.now; front = r.front } };
 
     ghost invariant = { λ r. IsReplay (record { config = r.config; entries = r.entries.now; front = r.front })
-        × AreLeaves r.config (take r.front r.entries.now) r.leaves.items };
+        × AreLeaves r.config (take r.front r.entries.now) r.leaves };
 }
 
 impl<'a> Replay<'a> {
@@ -60,16 +57,16 @@ impl<'a> Replay<'a> {
         let version = entry.version.try_clone()?;
         let key = entry.key.as_slice();
         let leaf = self.leaf_of(key);
-        self.leaves[leaf].offer(alloc, key, version)?;
+        self.leaves.offer(alloc, leaf, key, version)?;
         self.front += 1;
         Ok(())
     }
 
     /// Returns the leaf of a key.
-    fn leaf_of(&self, key: &[u8]) -> usize
+    fn leaf_of(&self, key: &[u8]) -> u16
         ensures { result ≡ leaf_in self.now.config key.now }
     {
-        usize::from(place(self.config.format(), self.config.bits(), key).leaf)
+        place(self.config.format(), self.config.bits(), key).leaf
     }
 }
 
@@ -78,15 +75,15 @@ pub(crate) fn leaves_of(
     alloc: Global,
     config: RangeConfig,
     entries: &[Entry],
-) -> Result<Vec<SharedLeaf>, Refusal>
+) -> Result<Leaves, Refusal>
     requires { IsReplay (record { config = config; entries = entries.now; front = 0 }) }
-    ensures { Answers result None (λ leaves. AreLeaves config entries.now leaves.items) }
+    ensures { Answers result None (λ leaves. AreLeaves config entries.now leaves) }
 {
     let mut replay = Replay {
         config,
         entries,
         front: 0,
-        leaves: empty_leaves(alloc, config.format())?,
+        leaves: Leaves::empty(alloc, config.format())?,
     };
     replay.advance(alloc, entries.len() as u64)?;
     let Replay { leaves, .. } = replay;

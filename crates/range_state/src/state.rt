@@ -17,7 +17,7 @@ ghost use Rattle.range_state.specs.Fitting.{IsFitting, made_fault, sent_fault};
 use crate::config::RangeConfig;
 use crate::event::{Accepted, Receipt};
 use crate::record::Record;
-use hash_tree::{Marks, SharedLeaf};
+use hash_tree::{Leaves, Marks, SharedLeaf};
 use key_ring::HashedKey;
 use range_journal::{Journal, Source};
 use std::alloc::Global;
@@ -52,7 +52,7 @@ mod tree;
 pub struct RangeState {
     config: RangeConfig,
     journal: Journal,
-    leaves: Vec<SharedLeaf>,
+    leaves: Leaves,
     marks: Marks,
     records: Vec<Record>,
 }
@@ -66,7 +66,7 @@ impl Model for RangeState {
     ghost view = { λ r. record { config = r.config; entries = r.journal.entries; marks = r.marks.digests; records = r.records.items } };
 
     ghost invariant = { λ r. IsRight (record { config = r.config; entries = r.journal.entries; marks = r.marks.digests; records = r.records.items })
-        × AreLeaves r.config r.journal.entries r.leaves.items
+        × AreLeaves r.config r.journal.entries r.leaves
         × (r.journal.limit ≡ r.config.limit)
         × (r.marks.format ≡ r.config.format) };
 }
@@ -80,7 +80,7 @@ impl RangeState {
         Ok(RangeState {
             config,
             journal: Journal::new(alloc, config.limit()),
-            leaves: empty_leaves(alloc, format)?,
+            leaves: Leaves::empty(alloc, format)?,
             marks: Marks::new(alloc, format)?,
             records: Vec::new(alloc),
         })
@@ -108,7 +108,7 @@ impl RangeState {
         requires { leaf < leaf_count self.now.config }
         ensures { result.now ≡ record { format = self.now.config.format; rows = rows_in_leaf (leaf_in self.now.config) leaf (rows_of self.now.entries) } }
     {
-        &self.leaves[usize::from(leaf)]
+        self.leaves.get(leaf)
     }
 
     /// The versions that are held for a key, in the order of their texts: empty if the key isn't held. Doesn't
@@ -271,7 +271,7 @@ impl RangeState {
         ensures fit { AllByRecursion (λ v. value_fault self.now.config.format v.kind v.value ≡ None)
             (held self.now.entries key.now) }
     {
-        self.leaves[usize::from(leaf)].find(key.bytes())
+        self.leaves.get(leaf).find(key.bytes())
     }
 
     /// Makes room for an entry. Refused, in order: JournalFull, NoMemory.
@@ -310,28 +310,12 @@ impl RangeState {
         };
         let entry_key = receipt.key.try_clone()?;
         let row_version = version.try_clone()?;
-        self.leaves[usize::from(leaf)].offer(alloc, key, row_version)?;
+        self.leaves.offer(alloc, leaf, key, row_version)?;
         self.journal
             .append_reserved(seat, source, entry_key, version);
         self.marks.dirty(leaf);
         Ok(receipt)
     }
-}
-
-/// Makes the leaves of a range without rows.
-pub(crate) fn empty_leaves(alloc: Global, format: Format) -> Result<Vec<SharedLeaf>, Refusal>
-    ensures { Answers result None (λ leaves. leaves.items
-        ≡ replicate (2 ^ leaf_bits format) (record { format = format; rows = [] })) }
-{
-    let count = match format {
-        Format::One => 256,
-        Format::Two => 4_096,
-    };
-    let mut leaves = Vec::with_capacity(alloc, count)?;
-    for _ in 0..count {
-        leaves.push(SharedLeaf::empty(format))?;
-    }
-    Ok(leaves)
 }
 
 /// Returns true if a set, if any, covers the version: it has the version as a member, or a member above it.

@@ -121,17 +121,18 @@ impl RangeState {
         let _bytes = text.text();
         let batch = self.prepare_beside(alloc, told, seat, node.index, news)?;
         self.journal.reserve(batch.entries.len() as u64)?;
-        let session = &mut self.records[id as usize].session;
-        session.take_leaf(node, text)?;
-        let state = session.state();
         let Batch {
             leaf,
             entries,
             receipts,
             known,
         } = batch;
+        let leaves = self.leaves.with_leaf(alloc, node.index, leaf)?;
+        let session = &mut self.records[id as usize].session;
+        session.take_leaf(node, text)?;
+        let state = session.state();
         mark_news(&mut self.marks, node.index, &entries);
-        self.leaves[usize::from(node.index)] = leaf;
+        self.leaves = leaves;
         append_all(&mut self.journal, entries);
         Ok(AnswerTaken {
             receipts,

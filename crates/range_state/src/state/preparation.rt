@@ -54,7 +54,7 @@ impl RangeState {
             × (seen_count batch ≡ length (offers_of rows.now))) }
     {
         let mut batch = Batch {
-            leaf: self.leaves[usize::from(leaf)].share()?,
+            leaf: self.leaves.get(leaf).share()?,
             entries: Vec::new(alloc),
             receipts: Vec::new(alloc),
             known: 0,

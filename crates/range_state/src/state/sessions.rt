@@ -60,7 +60,7 @@ impl RangeState {
         ensures { Does result self.old self.new (open_with self.old partner root) }
     {
         check_crowd(&self.records)?;
-        let own = self.snapshot(alloc)?;
+        let own = self.kept_snapshot(alloc)?;
         let session = Session::start(alloc, own, root)?;
         let id = self.records.len() as u64;
         self.records.push(Record { partner, session })?;

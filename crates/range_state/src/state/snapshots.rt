@@ -1,43 +1,53 @@
 //! The snapshot that a range offers to another replica.
-ghost use Rattle.std.specs.Prelude.{◌≡◌, None};
+ghost use Rattle.std.specs.Prelude.{◌≡◌, None, Some, map};
 ghost use Rattle.std.specs.Arc.{arc_value};
 ghost use Rattle.vclock.specs.Answer.{Answers};
 ghost use Rattle.range_state.specs.State.{rows_now, dirty_fault};
 
 use crate::state::RangeState;
-use hash_tree::SharedLeaf;
+use hash_tree::SharedDigests;
 use snapshot::Snapshot;
 use std::alloc::Global;
 use std::sync::Arc;
 use vclock::Refusal;
 
 impl RangeState {
-    /// Makes a snapshot of the rows now with the digests of the whole tree, to offer to another replica. Copies no row:
-    /// it has a pointer for each leaf, and a digest for each node. Refused, in order: Dirty (some node has no digest),
-    /// NoMemory.
+    /// Makes a snapshot of the rows now with the digests of the whole tree, to offer to another replica. Copies no row,
+    /// and shares with the range the leaves, and the digests that haven't changed since a session was opened. Refused,
+    /// in order: Dirty (some node has no digest), NoMemory.
     pub fn snapshot(&self, alloc: Global) -> Result<Arc<Snapshot, Global>, Refusal>
         ensures { Answers result (dirty_fault self.now) (λ snapshot. arc_value snapshot ≡ rows_now self.now) }
     {
         let digests = self.marks.digests(alloc)?;
-        let leaves = share_all(alloc, &self.leaves)?;
-        Snapshot::new(
+        self.snapshot_with(alloc, digests)
+    }
+
+    /// Makes a snapshot as `snapshot` does, and keeps copies of all digests, which later snapshots share. Refused, in
+    /// order: Dirty, NoMemory.
+    pub(super) fn kept_snapshot(&mut self, alloc: Global) -> Result<Arc<Snapshot, Global>, Refusal>
+        ensures snapshot { Answers result (dirty_fault self.old) (λ snapshot. arc_value snapshot ≡ rows_now self.old) }
+        ensures same { self.new ≡ self.old }
+    {
+        let digests = self.marks.keep_digests(alloc)?;
+        self.snapshot_with(alloc, digests)
+    }
+
+    /// Makes a snapshot of the rows now with these digests. Refused: NoMemory.
+    fn snapshot_with(
+        &self,
+        alloc: Global,
+        digests: SharedDigests,
+    ) -> Result<Arc<Snapshot, Global>, Refusal>
+        requires { map Some digests ≡ self.now.marks }
+        ensures { Answers result None (λ snapshot. arc_value snapshot ≡ rows_now self.now) }
+    {
+        Snapshot::of_shared(
             alloc,
             self.config.format(),
             self.config.bits(),
             self.config.range(),
-            leaves,
+            self.leaves.share()?,
             digests,
         )
     }
-}
-
-/// Makes one more owner of each leaf.
-fn share_all(alloc: Global, leaves: &[SharedLeaf]) -> Result<Vec<SharedLeaf>, Refusal>
-    ensures { Answers result None (λ shared. shared.items ≡ leaves.now) }
-{
-    let mut shared = Vec::with_capacity(alloc, leaves.len())?;
-    for leaf in leaves {
-        shared.push(leaf.share()?)?;
-    }
-    Ok(shared)
 }

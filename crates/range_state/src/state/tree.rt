@@ -79,7 +79,7 @@ impl RangeState {
     {
         let format = self.config.format();
         if node.depth == tree_depth(format) {
-            return self.leaves[usize::from(node.index)].is_text(text);
+            return self.leaves.get(node.index).is_text(text);
         }
         node.depth < tree_depth(format)
             && match self.marks.children(node) {
@@ -123,7 +123,7 @@ impl RangeState {
     {
         let format = self.config.format();
         if node.depth == tree_depth(format) {
-            let leaf = self.leaves[usize::from(node.index)].share()?;
+            let leaf = self.leaves.get(node.index).share()?;
             return Job::of_leaf(alloc, node, leaf);
         }
         let Some(digests) = self.marks.children(node) else {

@@ -1,10 +1,10 @@
-use Rattle.std.proofs.Common.{◌^◌, [], replicate, ap, ◌∙◌}
+use Rattle.std.proofs.Common.{ℕ, ◌^◌, [], replicate, ap, ◌∙◌}
 use Rattle.vclock.specs.declared.format.Format.{Format}
-use Rattle.key_ring.specs.Places.{leaf_bits}
-use Rattle.range_state.proofs.StateLaws.{fresh_leaves}
+use Rattle.hash_tree.specs.Nodes.{tree_depth}
+use Rattle.range_state.proofs.StateLaws.{fresh_leaves, leaves_of_tree}
 use Rattle.range_state.proofs.replay.leaves_of.Goals as goal
 
 pub invariant_of-replay : goal.invariant_of-replay
 invariant_of-replay c =
-    let fresh = c.in_ok-empty_leaves.ensures.1 ∙ ap (λ (f : Format). replicate (2 ^ leaf_bits f) (record { format = f; rows = [] })) c.format.ensures in
-    (c.requires, fresh_leaves c.args.config c.in_ok-empty_leaves.field-0.items fresh)
+    let fresh = c.in_ok-empty.ensures.1 ∙ ap (λ (f : Format). replicate (16 ^ tree_depth f) (record { format = f; rows = [] })) c.format.ensures ∙ ap (λ (n : ℕ). replicate n (record { format = c.args.config.format; rows = [] })) (leaves_of_tree c.args.config.format) in
+    (c.requires, fresh_leaves c.args.config c.in_ok-empty.field-0 fresh)

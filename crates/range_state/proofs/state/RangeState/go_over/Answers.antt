@@ -26,7 +26,7 @@ invariant_of-self c =
     let marks = c.in_ok-marks.ensures.1 in
     let over = went_over s c.in_format_2-config.result c.in_ok-marks.marks c.cancel_all.new.records.items c.self.invariant.0 one config marks c.cancel_all.ensures in (
       over.0,
-      subst (λ (es : List Entry). AreLeaves c.in_format_2-config.result es c.in_ok-leaves.leaves.items) c.entries.ensures.value c.in_ok-leaves.ensures.1,
+      subst (λ (es : List Entry). AreLeaves c.in_format_2-config.result es c.in_ok-leaves.leaves) c.entries.ensures.value c.in_ok-leaves.ensures.1,
       c.self.invariant.2 ∙ ap (λ (x : Config). x.limit) (sym config),
       ap (λ (t : Tree). t.format) marks ∙ ap (λ (x : Config). x.format) (sym config),
     )

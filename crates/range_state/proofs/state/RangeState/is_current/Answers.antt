@@ -1,4 +1,4 @@
-use Rattle.std.proofs.Common.{◌≡◌, ◌↔◌, ◌<◌, List, ℕ, get_or, sym, subst, ap, ◌∙◌}
+use Rattle.std.proofs.Common.{◌≡◌, ◌↔◌, ◌<◌, List, ℕ, sym, subst, ap, ◌∙◌}
 use Rattle.std.specs.Prelude.{IsTrue}
 use Rattle.vclock.specs.declared.format.Format.{Format}
 use Rattle.hash_tree.specs.Nodes.{tree_depth, children_of}
@@ -10,13 +10,13 @@ use Rattle.range_state.proofs.state.RangeState.is_current.Goals as goal
 pub returns-then-node-tree_depth : goal.returns-then-node-tree_depth
 returns-then-node-tree_depth c =
     let s = c.args.self.now in
-    let leaf = c.index.result.now in
+    let leaf = c.get.result.now in
     let ok = subst IsRight c.self.view_is c.self.invariant.0 in
-    let are = subst (λ (t : State). AreLeaves t.config t.entries c.self.inside.leaves.items) c.self.view_is c.self.invariant.1 in
+    let are = subst (λ (t : State). AreLeaves t.config t.entries c.self.inside.leaves) c.self.view_is c.self.invariant.1 in
     let format = c.format-format.ensures ∙ ap (λ (t : State). t.config.format) c.self.view_is in
     let deep = c.if-node-tree_depth.true ∙ c.tree_depth.ensures ∙ ap (λ (f : Format). tree_depth f) format in
-    let is = c.index.ensures ∙ ap (λ (n : ℕ). get_or c.self.inside.leaves.items n leaf) c.from.ensures in
-    leaf_current s c.self.inside.leaves.items c.args.node c.args.text.now leaf c.is_text.result ok are deep is c.is_text.ensures
+    let is = c.get.ensures leaf in
+    leaf_current s c.self.inside.leaves c.args.node c.args.text.now leaf c.is_text.result ok are deep is c.is_text.ensures
 
 pub returns-in-Some : goal.returns-in-Some
 returns-in-Some c =

@@ -1,4 +1,4 @@
-use Rattle.std.proofs.Common.{◌≡◌, ◌<◌, List, ℕ, None, get_or, sym, subst, ap, ◌∙◌, arith}
+use Rattle.std.proofs.Common.{◌≡◌, ◌<◌, List, ℕ, None, sym, subst, ap, ◌∙◌, arith}
 use Rattle.vclock.specs.Answer.{Answers}
 use Rattle.vclock.specs.declared.format.Format.{Format}
 use Rattle.hash_tree.specs.Leaves.{Bucket}
@@ -13,12 +13,12 @@ use Rattle.range_state.proofs.state.RangeState.job_of.Goals as goal
 pub returns-then-node-tree_depth : goal.returns-then-node-tree_depth
 returns-then-node-tree_depth c =
     let s = c.args.self.now in
-    let leaf = c.index.result.now in
-    let are = subst (λ (t : State). AreLeaves t.config t.entries c.self.inside.leaves.items) c.self.view_is c.self.invariant.1 in
+    let leaf = c.get.result.now in
+    let are = subst (λ (t : State). AreLeaves t.config t.entries c.self.inside.leaves) c.self.view_is c.self.invariant.1 in
     let format = c.format-format.ensures ∙ ap (λ (t : State). t.config.format) c.self.view_is in
     let deep = c.if-node-tree_depth.true ∙ c.tree_depth.ensures ∙ ap (λ (f : Format). tree_depth f) format in
-    let is = c.index.ensures ∙ ap (λ (n : ℕ). get_or c.self.inside.leaves.items n leaf) c.from.ensures in
-    let text = ap (λ (b : Bucket). leaf_text b.format b.rows) c.in_ok-leaf.ensures.1 ∙ (leaf_text_here s c.self.inside.leaves.items c.args.node leaf are deep is).1 in
+    let is = c.get.ensures leaf in
+    let text = ap (λ (b : Bucket). leaf_text b.format b.rows) c.in_ok-leaf.ensures.1 ∙ (leaf_text_here s c.self.inside.leaves c.args.node leaf are deep is).1 in
     subst (λ (t : List ℕ). Answers c.of_leaf.result None (λ (job : NodeText). job ≡ record { node = c.args.node; text = t })) text c.of_leaf.ensures
 
 pub returns : goal.returns

@@ -1,8 +1,11 @@
-use Rattle.std.proofs.Common.{◌≡◌, ◌+◌, ◌++◌, ◌∙◌, length, take, drop, ap, arith}
+use Rattle.std.proofs.Common.{◌≡◌, ◌+◌, ◌++◌, ◌∙◌, List, length, take, drop, append-nil, refl, sym, subst, ap, arith}
 use Rattle.std.proofs.lemmas.Result.{err_from_is_err_and}
 use Rattle.std.proofs.lemmas.List.Folds.{length-flat_map-take}
 use Rattle.row_bytes.specs.declared.row.Row.{Row}
 use Rattle.range_state.specs.declared.state.preparation.Batch.{Batch}
+use Rattle.range_journal.specs.declared.journal.Entry.{Entry}
+use Rattle.range_journal.specs.Log.{AreNumberedFrom}
+use Rattle.range_state.specs.State.{State, AreLeaves, bucket_of}
 use Rattle.range_state.specs.Sessions.{offers_in, offers_of}
 use Rattle.range_state.proofs.BatchLaws.{Offers, going_err, going_more, from_none, offers_next, offers_split}
 use Rattle.range_state.proofs.state.RangeState.prepare_rows.Goals as goal
@@ -39,3 +42,22 @@ loop-row-preserved c =
     let r = c.row-item.result in
     let a : Batch = record { leaf = c.in_ok-share.field-0; entries = c.new.result; receipts = c.new-2.result; known = 0 } in
     going_more s c.args.seat c.args.leaf (offers_of (take i rows)) (offers_in r) (offers_of (take (i + 1) rows)) a c.loop-row.batch c.prepare_row.new.batch c.loop-row.invariant (offers_next rows i r c.loop-row-test.true c.row-item.is) c.in_ok-prepare_row.ensures.answers.0 c.in_ok-prepare_row.ensures.ok
+
+pub loop-row-init : goal.loop-row-init
+loop-row-init c =
+    let s = c.args.self.now in
+    let are = subst (λ (u : State). AreLeaves u.config u.entries c.self.inside.leaves) c.self.view_is c.self.invariant.1 in
+    let leaf = c.in_ok-share.ensures.1 ∙ c.get.ensures c.get.result.now ∙ are.each c.args.leaf c.get.result.now c.requires.inside in
+    let whole : s.entries ++ c.new.result.items ≡ s.entries = ap (λ (es : List Entry). s.entries ++ es) c.new.ensures.items ∙ append-nil s.entries in
+    record {
+      prepared = record {
+        batch = record {
+          leaf_is = leaf ∙ ap (λ (es : List Entry). bucket_of s.config es c.args.leaf) (sym whole);
+          numbered = subst (AreNumberedFrom (length s.entries)) (sym c.new.ensures.items) tt;
+          receipts = c.new-2.ensures.items ∙ sym c.new.ensures.items;
+        };
+        entries = refl;
+        count = omega arith;
+      };
+      none = refl;
+    }

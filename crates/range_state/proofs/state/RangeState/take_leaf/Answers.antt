@@ -1,7 +1,8 @@
-use Rattle.std.proofs.Common.{◌≡◌, ◌<◌, ◌+◌, ℕ, List, ◌++◌, length, cond, set, get_or, refl, sym, ap, subst, ◌∙◌, arith, slice_get, Ok, Err}
+use Rattle.std.proofs.Common.{◌≡◌, ◌<◌, ◌+◌, ℕ, List, ◌++◌, length, cond, set, get_or, refl, sym, ap, subst, ◌∙◌, arith, slice_get, Ok, Err, inl, inr}
 use Rattle.std.specs.Prelude.{nat_eq}
 use Rattle.std.proofs.lemmas.Result.{err_from_is_err_and}
 use Rattle.std.proofs.lemmas.List.{length-append}
+use Rattle.vclock.specs.declared.refusal.Refusal.TheVariants.{NoMemory}
 use Rattle.range_journal.specs.declared.journal.Entry.{Entry}
 use Rattle.range_journal.proofs.JournalLaws.{Reserved, reserve_ok}
 use Rattle.range_journal.specs.Log.{Log, AreNumberedFrom}
@@ -60,6 +61,20 @@ returns-in_err-reserve-clause-answers c =
     sym c.self.view_is ∙ ap (λ (l : Log). record { config = s.config; entries = l.entries; marks = s.marks; records = s.records }) (sym c.in_err-reserve.ensures.reserves.0) in
     rw (p.1, p.2) (subst (λ (u : State). TakesFor now c.args.seat c.args.id (slice_get now.records c.args.id) t (Err c.in_err-reserve.field-0.0) u) same told)
 
+pub returns-in_err-leaves-clause-answers : goal.returns-in_err-leaves-clause-answers
+returns-in_err-leaves-clause-answers c =
+    let s : State = record { config = c.self.inside.config; entries = c.self.inside.journal.entries; marks = c.self.inside.marks.digests; records = c.self.inside.records.items } in
+    let now = c.args.self.now in
+    let t : TakenText = record { node = as_node c.args.node; text = c.args.text } in
+    let seen = news_read c.args.self.now c.args.id t c.args.news.now (subst IsRight c.self.view_is c.self.invariant.0) c.requires in
+    let e = c.in_err-leaves.field-0.0 in
+    let p = err_from_is_err_and c.from_residual-in_err-leaves.result c.from_residual-in_err-leaves.ensures.1 in
+    let same : now ≡ record { config = s.config; entries = c.reserve.new.self.entries; marks = s.marks; records = s.records } =
+    sym c.self.view_is ∙ ap (λ (l : Log). record { config = s.config; entries = l.entries; marks = s.marks; records = s.records }) (sym (reserve_ok c.self.inside.journal _ _ c.in_ok-reserve.ensures.reserves).is) in
+    let memory : e ≡ NoMemory = elim c.in_err-leaves.ensures [ inl refused ↦ refused.1 | inr clash ↦ absurd cc ] in
+    let told = no_memory now c.args.seat c.args.id t seen.rows e (subst IsRight c.self.view_is c.self.invariant.0) seen.read memory in
+    rw (p.1, p.2) (subst (λ (u : State). TakesFor now c.args.seat c.args.id (slice_get now.records c.args.id) t (Err e) u) same told)
+
 pub index_mut-requires : goal.index_mut-requires
 index_mut-requires c =
     let t : TakenText = record { node = as_node c.args.node; text = c.args.text } in
@@ -107,7 +122,7 @@ invariant_of-self-in_err-take_leaf c =
     let es : s.entries ≡ c.reserve.new.self.entries = ap (λ (l : Log). l.entries) (sym log) in
     let right = subst IsRight (stayed s c.args.id r c.take_leaf.new.self c.index_mut.ensures.value c.in_err-take_leaf.ensures.0) c.self.invariant.0 in (
       subst (λ (xs : List Entry). IsRight (record { config = s.config; entries = xs; marks = s.marks; records = set s.records c.args.id (record { partner = r.partner; session = c.take_leaf.new.self }) })) es right,
-      subst (λ (xs : List Entry). AreLeaves s.config xs c.self.inside.leaves.items) es c.self.invariant.1,
+      subst (λ (xs : List Entry). AreLeaves s.config xs c.self.inside.leaves) es c.self.invariant.1,
       ap (λ (l : Log). l.limit) log ∙ c.self.invariant.2,
       c.self.invariant.3,
     )
@@ -186,13 +201,13 @@ invariant_of-self-2 c =
     let seen = seen_in c in
     let is = is_accepted c in
     let ok = subst IsRight c.self.view_is c.self.invariant.0 in
-    let are = subst (λ (u : State). AreLeaves u.config u.entries c.self.inside.leaves.items) c.self.view_is c.self.invariant.1 in
+    let are = subst (λ (u : State). AreLeaves u.config u.entries c.self.inside.leaves) c.self.view_is c.self.invariant.1 in
     let inside = leaf_inside now.config c.args.node.depth c.args.node.index is.read.leaf c.args.node.within in
     let right = accepted_right now c.args.seat c.args.id r t seen.rows b c.append_all.new.journal.entries c.mark_news.new.marks.digests c.take_leaf.new.self ok is in
-    let leaves = accepted_leaves now c.args.seat c.args.id r t seen.rows b c.append_all.new.journal.entries c.mark_news.new.marks.digests c.take_leaf.new.self c.self.inside.leaves.items ok are is inside in (
+    let leaves = accepted_leaves now c.args.seat c.args.id r t seen.rows b c.append_all.new.journal.entries c.mark_news.new.marks.digests c.take_leaf.new.self c.self.inside.leaves ok are is inside in (
       subst (λ (u : State). IsRight (record { config = u.config; entries = c.append_all.new.journal.entries; marks = c.mark_news.new.marks.digests; records = set u.records c.args.id (record { partner = r.partner; session = c.take_leaf.new.self }) })) (sym c.self.view_is) right,
-      subst (λ (u : State). AreLeaves u.config c.append_all.new.journal.entries (set c.self.inside.leaves.items c.from.result b.leaf)) (sym c.self.view_is)
-          (subst (λ (n : ℕ). AreLeaves now.config c.append_all.new.journal.entries (set c.self.inside.leaves.items n b.leaf)) (sym c.from.ensures) leaves),
+      subst (λ (u : State). AreLeaves u.config c.append_all.new.journal.entries c.in_ok-leaves.leaves) (sym c.self.view_is)
+          (subst (AreLeaves now.config c.append_all.new.journal.entries) (sym c.in_ok-leaves.ensures.1) leaves),
       c.append_all.ensures.limit ∙ ap (λ (l : Log). l.limit) (reserve_ok c.self.inside.journal _ _ c.in_ok-reserve.ensures.reserves).is ∙ c.self.invariant.2,
       ap (λ (x : Tree). x.format) c.mark_news.ensures ∙ c.self.invariant.3,
     )
