@@ -265,13 +265,13 @@ impl RangeState {
     }
 
     /// Returns the set that is held for a key of that leaf.
-    fn find_in(&self, leaf: u16, key: &HashedKey) -> Option<&VersionSet>
-        requires { leaf ≡ leaf_in self.now.config key.now }
+    fn find_in(&self, at: u16, key: &HashedKey) -> Option<&VersionSet>
+        requires { at ≡ leaf_in self.now.config key.now }
         ensures set { unwrap_or (option_map (λ s. s.now) result) [] ≡ held self.now.entries key.now }
         ensures fit { AllByRecursion (λ v. value_fault self.now.config.format v.kind v.value ≡ None)
             (held self.now.entries key.now) }
     {
-        self.leaves.get(leaf).find(key.bytes())
+        self.leaves.get(at).find(key.bytes())
     }
 
     /// Makes room for an entry. Refused, in order: JournalFull, NoMemory.

@@ -3,7 +3,7 @@ ghost use Rattle.std.specs.Prelude.{◌<◌, ◌≤◌};
 
 use crate::checks::expect;
 use crate::refusals::expect_refused;
-use key_ring::{Ring, place};
+use key_ring::{HashedKey, KeyPlace, Ring, place};
 use std::alloc::Global;
 use std::test::Fail;
 use vclock::{Format, Refusal};
@@ -27,6 +27,29 @@ fn keys_lie_where_their_digests_say(_rt: HostRuntime) -> Result<(), Fail> {
     expect_place(Format::One, 4, b"a", 0, 204)?;
     expect_place(Format::One, 4, b"abc", 9, 0)?;
     expect_place(Format::One, 4, b"message digest", 15, 150)
+}
+
+/// Returns the places of a key in both formats, which hashes it once.
+fn places(bits: u8, key: &[u8]) -> (KeyPlace, KeyPlace)
+    requires { bits ≤ 8 }
+{
+    let key = HashedKey::new(key);
+    let (one, two) = (key.place(Format::One, bits), key.place(Format::Two, bits));
+    (one, two)
+}
+
+#[test]
+fn a_key_that_is_hashed_has_its_places(_rt: HostRuntime) -> Result<(), Fail> {
+    let (one, two) = places(4, b"abc");
+    expect(
+        (one.range, one.leaf, two.range, two.leaf) == (9, 0, 9, 1),
+        "a key has its places in both formats",
+    )?;
+    let front = HashedKey::new(b"abc").front();
+    expect(
+        front == 0x9001_5098_3cd2_4fb0,
+        "a key has the front of its digest",
+    )
 }
 
 #[test]

@@ -20,12 +20,12 @@ pub(crate) fn show_all<R: Print + AllocGlobal + Threads + Sync>(
     let (alloc, partner) = (rt.alloc(), &both.partner);
     show(
         rt,
-        "RangeState::open_session",
+        "RangeState::open_session and Marks::keep_digests",
         open_session(rt, alloc, partner),
     )?;
     show(
         rt,
-        "RangeState::take_answer",
+        "RangeState::take_answer and Leaves::with_leaf",
         take_answer(rt, alloc, partner),
     )?;
     show(rt, "RangeState::sync_with", sync_with(rt, alloc, partner))

@@ -15,8 +15,8 @@ pub(crate) const KEYS: &[u8] = b"abcdee";
 /// Shows the calls on range states.
 pub(crate) fn show_all<R: Print + AllocGlobal>(rt: &R) -> io::Result<()> {
     let alloc = rt.alloc();
-    show(rt, "RangeState::new", new(alloc))?;
-    show(rt, "RangeState::put", put(alloc))?;
+    show(rt, "RangeState::new and Leaves::empty", new(alloc))?;
+    show(rt, "RangeState::put and Leaves::offer", put(alloc))?;
     show(rt, "RangeState::put, stale", stale_put(alloc))?;
     show(rt, "RangeState::accept", accept(alloc))?;
     show(rt, "RangeState::get", get(alloc))?;

@@ -26,7 +26,7 @@ pub(crate) fn show_both<R: Print + AllocGlobal + Threads + Sync>(
     rt: &R,
 ) -> io::Result<Option<Snapshots>> {
     let alloc = rt.alloc();
-    let name = "RangeState::snapshot, Marks::digests and Snapshot::new";
+    let name = "RangeState::snapshot, Marks::digests, Leaves::share and Snapshot::of_shared";
     match Snapshots::new(rt, alloc) {
         Ok(both) => {
             show(rt, name, Ok(u64::from(both.partner.bits())))?;

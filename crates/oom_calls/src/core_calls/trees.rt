@@ -3,7 +3,10 @@ use crate::core_calls::leaves::leaf_of;
 use crate::core_calls::ranges::range_of;
 use crate::lines::{show, unchanged};
 use crate::states::is_between;
-use hash_tree::{Digest, Marks, NodeAt, Text, hash, inner_text, leaf_text, put_inner_text};
+use hash_tree::{
+    Digest, Leaves, Marks, NodeAt, SharedDigests, SharedLeaf, Text, hash, inner_text, leaf_text,
+    put_inner_text,
+};
 use range_state::RangeState;
 use rehash::{Job, hash_all, hash_here, run_job};
 use std::alloc::Global;
@@ -18,6 +21,12 @@ const DIGEST: Digest = [7; 32];
 pub(crate) fn show_all<R: Print + AllocGlobal + Threads + Sync>(rt: &R) -> io::Result<()> {
     let alloc = rt.alloc();
     show(rt, "Marks::new", marks(alloc))?;
+    show(rt, "Leaves::from_vec, for Snapshot::new", leaves(alloc))?;
+    show(
+        rt,
+        "SharedDigests::from_vec and SharedDigests::share, for Snapshot::new",
+        digests(alloc),
+    )?;
     show(rt, "leaf_text and inner_text", texts(alloc))?;
     show(rt, "put_inner_text", put_text(alloc))?;
     show(rt, "Job::of_leaf", leaf_job(alloc))?;
@@ -32,6 +41,27 @@ pub(crate) fn show_all<R: Print + AllocGlobal + Threads + Sync>(rt: &R) -> io::R
 
 fn marks(alloc: Global) -> Result<u64, Refusal> {
     Ok(Marks::new(alloc, Format::One)?.dirty_count() as u64)
+}
+
+/// Makes the leaves of a range from a list, and returns the length of the text of the last one, in bytes.
+fn leaves(alloc: Global) -> Result<u64, Refusal> {
+    let mut all = Vec::new(alloc);
+    for _ in 0..256 {
+        all.push(SharedLeaf::empty(Format::One))?;
+    }
+    let leaves = Leaves::from_vec(alloc, Format::One, all)?;
+    Ok(leaves.get(255).text_len() as u64)
+}
+
+/// Makes the digests of a tree from a list, and returns the first byte of the digest of the root.
+fn digests(alloc: Global) -> Result<u64, Refusal> {
+    let mut all = Vec::new(alloc);
+    for _ in 0..273 {
+        all.push(DIGEST)?;
+    }
+    let digests = SharedDigests::from_vec(alloc, Format::One, all)?;
+    let root = NodeAt::new(0, 0).ok_or(Refusal::Stale)?;
+    Ok(u64::from(digests.share()?.get(root)[0]))
 }
 
 fn texts(alloc: Global) -> Result<u64, Refusal> {

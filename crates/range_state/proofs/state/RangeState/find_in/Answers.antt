@@ -6,12 +6,12 @@ use Rattle.range_state.proofs.state.RangeState.find_in.Goals as goal
 pub get-requires : goal.get-requires
 get-requires c =
     let ok = subst (λ (s : State). AreLeaves s.config s.entries c.self.inside.leaves) c.self.view_is c.self.invariant.1 in
-    leaf_within c.args.self.now c.self.inside.leaves c.args.leaf c.args.key.now ok c.requires
+    leaf_within c.args.self.now c.self.inside.leaves c.args.at c.args.key.now ok c.requires
 
 pub returns-clause-set : goal.returns-clause-set
 returns-clause-set c =
     let ok = subst (λ (s : State). AreLeaves s.config s.entries c.self.inside.leaves) c.self.view_is c.self.invariant.1 in
-    (rw c.bytes.ensures at c.find.ensures.found) ∙ set_here c.args.self.now c.self.inside.leaves c.args.leaf c.args.key.now c.get.result.now ok c.requires (c.get.ensures c.get.result.now)
+    (rw c.bytes.ensures at c.find.ensures.found) ∙ set_here c.args.self.now c.self.inside.leaves c.args.at c.args.key.now c.get.result.now ok c.requires (c.get.ensures c.get.result.now)
 
 pub returns-clause-fit : goal.returns-clause-fit
 returns-clause-fit c =
