@@ -1,13 +1,16 @@
 /* Measures how many calls of the C library one thread makes in a second, for bench/c. The word is the number of
- * keys, 20000 by default. Prints a line of JSON, with members named as in the yardstick's `calls`. */
+ * keys, 20000 by default. Prints a line of JSON, with members named as in the yardstick's `calls`.
+ *
+ * With a format as a second word, 1 or 2, it measures the memory that sessions keep, for bench/sessions. */
 #include "antientropy.h"
 
+#include <malloc.h>
 #include <stdio.h>
 #include <stdlib.h>
 #include <string.h>
 #include <time.h>
 
-enum { ROOM = 1 << 20, TURNS = 200, VALUE = 32 };
+enum { ROOM = 1 << 20, TURNS = 200, VALUE = 32, SESSIONS = 500 };
 
 static uint8_t offer[64], ask[64], answer[ROOM];
 
@@ -63,9 +66,9 @@ static void get(struct antientropy *replica, unsigned long i)
     must("get", antientropy_get(replica, key, len, answer, sizeof answer, &need));
 }
 
-static void copy(struct antientropy *replica, unsigned long i, unsigned long of)
+static void copy(struct antientropy *replica, unsigned long i, unsigned long of, uint64_t counter)
 {
-    static const struct antientropy_pair clock[] = {{1, 2}};
+    const struct antientropy_pair clock[] = {{1, counter}};
     uint8_t key[32], value[VALUE];
     uint64_t taken;
     size_t len = key_of(i, key);
@@ -91,9 +94,70 @@ static void sync_one(struct antientropy *replica, struct antientropy_snapshot *s
         must("one key", 1);
 }
 
+static size_t used(void)
+{
+    struct mallinfo2 now = mallinfo2();
+    return now.uordblks + now.hblkhd;
+}
+
+/* Puts a key at one replica, and brings it to the other, by a session or as a copy. Both are rehashed. */
+static void bring(struct antientropy *a, struct antientropy *b, unsigned long i, int by_session)
+{
+    struct antientropy_snapshot snapshot = {0};
+    put(a, i, i, 0);
+    must("rehash", antientropy_rehash(a));
+    must("snapshot", antientropy_snapshot(a, &snapshot));
+    if (by_session)
+        sync_one(b, &snapshot);
+    else
+        copy(b, i, i, 1);
+    must("rehash", antientropy_rehash(b));
+    antientropy_snapshot_free(&snapshot);
+}
+
+/* Prints the bytes that a session keeps: one whose roots are equal, and one that takes a key, in addition to the
+ * entries and rows of that key. Sessions of each kind follow one another. */
+static void sessions(unsigned long keys, uint64_t format)
+{
+    struct antientropy a = {0}, b = {0};
+    struct antientropy_snapshot snapshot = {0};
+    uint64_t len, session;
+    must("new", antientropy_new(&a, format, 0, 0, 1000000));
+    must("new", antientropy_new(&b, format, 0, 0, 1000000));
+    for (unsigned long i = 0; i < keys; i++) {
+        put(&a, i, i, 0);
+        copy(&b, i, i, 1);
+    }
+    must("rehash", antientropy_rehash(&a));
+    must("rehash", antientropy_rehash(&b));
+    must("snapshot", antientropy_snapshot(&a, &snapshot));
+    must("offer", antientropy_offer(&snapshot, 1, offer, sizeof offer, &len));
+    size_t before = used();
+    for (int i = 0; i < SESSIONS; i++)
+        must("open", antientropy_open(&b, 1, offer, len, &session));
+    size_t equal = used() - before;
+    antientropy_snapshot_free(&snapshot);
+    before = used();
+    for (unsigned long i = keys; i < keys + SESSIONS; i++)
+        bring(&a, &b, i, 0);
+    size_t copies = used() - before;
+    before = used();
+    for (unsigned long i = keys + SESSIONS; i < keys + 2 * SESSIONS; i++)
+        bring(&a, &b, i, 1);
+    size_t taken = used() - before;
+    antientropy_free(&a);
+    antientropy_free(&b);
+    printf("{\"keys\":%lu,\"format\":%lu,\"equal_bytes\":%ld,\"taken_bytes\":%ld}\n", keys, (unsigned long)format,
+           (long)(equal / SESSIONS), ((long)taken - (long)copies) / SESSIONS);
+}
+
 int main(int argc, char **argv)
 {
     unsigned long keys = argc > 1 ? strtoul(argv[1], NULL, 10) : 20000;
+    if (argc > 2) {
+        sessions(keys, strtoul(argv[2], NULL, 10));
+        return 0;
+    }
     struct antientropy a = {0}, b = {0};
     double parts[4] = {0, 0, 0, 0}, at[5];
     must("new", antientropy_new(&a, 1, 0, 0, 1000000));
@@ -109,7 +173,7 @@ int main(int argc, char **argv)
         put(&a, i, keys + i, 1);
     at[3] = now();
     for (unsigned long i = 0; i < keys; i++)
-        copy(&b, i, keys + i);
+        copy(&b, i, keys + i, 2);
     at[4] = now();
     must("rehash", antientropy_rehash(&a));
     must("rehash", antientropy_rehash(&b));
