@@ -46,7 +46,7 @@ fn marks(alloc: Global) -> Result<u64, Refusal> {
 /// Makes the leaves of a range from a list, and returns the length of the text of the last one, in bytes.
 fn leaves(alloc: Global) -> Result<u64, Refusal> {
     let mut all = Vec::new(alloc);
-    for _ in 0..256 {
+    for _ in 0..256usize {
         all.push(SharedLeaf::empty(Format::One))?;
     }
     let leaves = Leaves::from_vec(alloc, Format::One, all)?;
@@ -56,7 +56,7 @@ fn leaves(alloc: Global) -> Result<u64, Refusal> {
 /// Makes the digests of a tree from a list, and returns the first byte of the digest of the root.
 fn digests(alloc: Global) -> Result<u64, Refusal> {
     let mut all = Vec::new(alloc);
-    for _ in 0..273 {
+    for _ in 0..273usize {
         all.push(DIGEST)?;
     }
     let digests = SharedDigests::from_vec(alloc, Format::One, all)?;
