@@ -43,14 +43,14 @@ fn marks(alloc: Global) -> Result<u64, Refusal> {
     Ok(Marks::new(alloc, Format::One)?.dirty_count() as u64)
 }
 
-/// Makes the leaves of a range from a list, and returns the length of the text of the last one, in bytes.
+/// Makes the leaves of a range from a list, and returns the number of the format of the last one.
 fn leaves(alloc: Global) -> Result<u64, Refusal> {
     let mut all = Vec::new(alloc);
     for _ in 0..256usize {
         all.push(SharedLeaf::empty(Format::One))?;
     }
     let leaves = Leaves::from_vec(alloc, Format::One, all)?;
-    Ok(leaves.get(255).text_len() as u64)
+    Ok(u64::from(leaves.get(255).format().number()))
 }
 
 /// Makes the digests of a tree from a list, and returns the first byte of the digest of the root.
