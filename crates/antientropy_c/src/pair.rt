@@ -4,8 +4,12 @@ ghost use Rattle.vclock.specs.Answer.{AnswersOrNoMemory};
 ghost use Rattle.vclock.specs.Clock.{pairs_fault, clock_of};
 ghost use Rattle.antientropy_c.specs.Pairs.{clock_pairs};
 
+use smallvec::SmallVec;
 use std::alloc::{AllocError, Global};
 use vclock::{Clock, Refusal};
+
+/// The number of pairs that are copied to the stack: for more, the copy takes memory.
+const FEW_PAIRS: usize = 4;
 
 /// A node with its counter.
 #[repr(C)]
@@ -27,10 +31,10 @@ pub(crate) fn clock_of(alloc: Global, pairs: &[Pair]) -> Result<Clock, Refusal>
 }
 
 /// Copies the pairs. It fails if memory runs out.
-fn numbers_of(alloc: Global, pairs: &[Pair]) -> Result<Vec<(u64, u64)>, AllocError>
+fn numbers_of(alloc: Global, pairs: &[Pair]) -> Result<SmallVec<(u64, u64), FEW_PAIRS>, AllocError>
     ensures { IfOk result (λ numbers. numbers.items ≡ clock_pairs pairs.now) }
 {
-    let mut numbers = Vec::with_capacity(alloc, pairs.len())?;
+    let mut numbers = SmallVec::with_capacity(alloc, pairs.len())?;
     for pair in pairs {
         numbers.push((pair.node, pair.counter))?;
     }

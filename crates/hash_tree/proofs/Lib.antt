@@ -14,3 +14,4 @@ pub mod TreeLaws
 pub mod ReadyLaws
 pub mod BlockLaws
 pub mod CopyLaws
+pub mod RewriteLaws

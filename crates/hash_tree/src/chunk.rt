@@ -46,7 +46,7 @@ impl Chunk {
     {
         let first = row.key.try_clone()?;
         let mut held = WrittenRows::none(alloc, format);
-        held.insert(alloc, 0, row)?;
+        held.insert(0, row)?;
         Ok(Chunk {
             first,
             held: Arc::new(alloc, held)?,
@@ -110,24 +110,19 @@ impl Chunk {
 
     /// Offers a version to the set of the row at a place, which has room for it. If the rows have other owners, a copy
     /// of them is changed. Refused: NoMemory.
-    pub(crate) fn offer(
-        &mut self,
-        alloc: Global,
-        at: usize,
-        version: Version,
-    ) -> Result<(), Refusal>
+    pub(crate) fn offer(&mut self, at: usize, version: Version) -> Result<(), Refusal>
         requires at { at < length self.old.rows }
         requires value { value_fault self.old.format version.kind version.value ≡ None }
         requires room { offer_fault version (row_versions self.old.rows at) ≡ None }
         ensures { Does result self.old self.new
             (gives tt (record self.old { rows = offered_at self.old.rows at version })) }
     {
-        Arc::make_mut(&mut self.held)?.offer(alloc, at, version)
+        Arc::make_mut(&mut self.held)?.offer(at, version)
     }
 
     /// Inserts a row at a place among the rows. If the rows have other owners, a copy of them is changed. Refused:
     /// NoMemory.
-    pub(crate) fn insert(&mut self, alloc: Global, at: usize, row: Row) -> Result<(), Refusal>
+    pub(crate) fn insert(&mut self, at: usize, row: Row) -> Result<(), Refusal>
         requires at { at ≤ length self.old.rows }
         requires fits { FitsText self.old.format row }
         ensures { Does result self.old self.new (gives tt (record self.old { rows = insert self.old.rows at row })) }
@@ -137,7 +132,7 @@ impl Chunk {
         } else {
             None
         };
-        Arc::make_mut(&mut self.held)?.insert(alloc, at, row)?;
+        Arc::make_mut(&mut self.held)?.insert(at, row)?;
         if let Some(first) = first {
             self.first = first;
         }

@@ -1,5 +1,5 @@
 //! The rows of a leaf in chunks: finding a row, and offering a version.
-ghost use Rattle.std.specs.Prelude.{◌≡◌, ◌+◌, ◌<◌, ◌≤◌, ◌^◌, [], None, length, take, drop, OnErr};
+ghost use Rattle.std.specs.Prelude.{◌≡◌, ◌+◌, ◌<◌, ◌≤◌, ◌^◌, [], None, length, take, drop, OnErr, IsTrue};
 ghost use Rattle.std.specs.List.{AllByRecursion, flat_map, insert};
 ghost use Rattle.std.specs.declared.cmp.Ordering.TheVariants.{Less, Greater};
 ghost use Rattle.vclock.specs.Answer.{Answers};
@@ -9,7 +9,7 @@ ghost use Rattle.version_set.specs.Kind.{value_fault};
 ghost use Rattle.version_set.specs.Version.{offer_fault, offered};
 ghost use Rattle.row_bytes.specs.Rows.{FitsText};
 ghost use Rattle.hash_tree.specs.Leaves.{Bucket, key_cmp, AscendByKey, IsPlace, versions_in, with_offer};
-ghost use Rattle.hash_tree.specs.Chunks.{all_rows, chunk_rows, chunk_text, AreChunks, place_in, IsSpot, IsRowSpot, IsGapSpot, IsRoomySpot, IsSplit, row_versions, offered_at};
+ghost use Rattle.hash_tree.specs.Chunks.{all_rows, chunk_rows, chunk_text, AreChunks, Follows, Precedes, place_in, IsSpot, IsRowSpot, IsGapSpot, IsRoomySpot, IsSplit, row_versions, offered_at};
 
 use crate::chunk::Chunk;
 use crate::written_rows::MOST_ROWS;
@@ -21,9 +21,10 @@ use version_set::{Version, VersionSet};
 /// The maximum number of chunks of a leaf: more than any memory holds, and few enough to count the bytes of its text.
 const MOST_CHUNKS: usize = 1 << 56;
 
-/// The place of a row, or a place at which to insert one.
-#[derive(Clone, Copy)]
-pub(crate) struct Spot {
+/// The place of a row in a leaf, or a place at which to insert one. A search returns it; an offer looks there first, and
+/// searches only if the leaf has changed since. The default is the first place.
+#[derive(Clone, Copy, Debug, Default)]
+pub struct Spot {
     /// The index of the chunk.
     pub(crate) chunk: usize,
     /// The index among the rows of the chunk.
@@ -44,6 +45,70 @@ pub(crate) fn spot_of(chunks: &[Chunk], key: &[u8]) -> Result<Spot, Spot>
     match find_place(chunks[chunk].rows(), key) {
         Ok(at) => Ok(Spot { chunk, at }),
         Err(at) => Err(Spot { chunk, at }),
+    }
+}
+
+/// Returns the spot of a key as `spot_of` does. Looks first at a spot that may be right.
+fn spot_near(chunks: &[Chunk], near: Spot, key: &[u8]) -> Result<Spot, Spot>
+    requires each { AllByRecursion (λ (c : Bucket). 1 ≤ length c.rows) chunks.now }
+    requires ascending { AscendByKey (all_rows chunks.now) }
+    ensures { IsSpot key.now chunks.now result }
+{
+    if is_row_of(chunks, near, key) {
+        return Ok(near);
+    }
+    if is_gap_of(chunks, near, key) {
+        return Err(near);
+    }
+    spot_of(chunks, key)
+}
+
+/// Returns true if the row of a key is at a spot.
+fn is_row_of(chunks: &[Chunk], spot: Spot, key: &[u8]) -> bool
+    requires { AscendByKey (all_rows chunks.now) }
+    ensures { IsTrue result → IsSpot key.now chunks.now (Ok spot) }
+{
+    let Some(chunk) = chunks.get(spot.chunk) else {
+        return false;
+    };
+    match chunk.rows().get(spot.at) {
+        Some(row) => row.key.as_slice() == key,
+        None => false,
+    }
+}
+
+/// Returns true if the row of a key would be inserted at a gap. Returns false for a gap between two chunks.
+fn is_gap_of(chunks: &[Chunk], gap: Spot, key: &[u8]) -> bool
+    requires { AscendByKey (all_rows chunks.now) }
+    ensures { IsTrue result → IsSpot key.now chunks.now (Err gap) }
+{
+    let Some(chunk) = chunks.get(gap.chunk) else {
+        return false;
+    };
+    follows(chunk.rows(), gap, key) && precedes(chunk.rows(), chunks.len(), gap, key)
+}
+
+/// Returns true if a key is greater than that of the row before a gap, or the gap is before all rows.
+fn follows(rows: &[Row], gap: Spot, key: &[u8]) -> bool
+    ensures { IsTrue result → Follows key.now rows.now gap }
+{
+    if gap.at == 0 {
+        return gap.chunk == 0;
+    }
+    match rows.get(gap.at - 1) {
+        Some(row) => row.key.as_slice().cmp(key).is_lt(),
+        None => false,
+    }
+}
+
+/// Returns true if a key is less than that of the row after a gap, or the gap is after all rows of `count` chunks.
+fn precedes(rows: &[Row], count: usize, gap: Spot, key: &[u8]) -> bool
+    requires { gap.chunk < count }
+    ensures { IsTrue result → Precedes key.now rows.now count gap }
+{
+    match rows.get(gap.at) {
+        Some(row) => row.key.as_slice().cmp(key).is_gt(),
+        None => gap.at == rows.len() && gap.chunk + 1 == count,
     }
 }
 
@@ -93,13 +158,14 @@ pub(crate) fn share_chunks(alloc: Global, chunks: &[Chunk]) -> Result<Vec<Chunk>
     Ok(copy)
 }
 
-/// Offers a version to the set of a key, which has room for it. If the key has no row, one is added. On error the rows
-/// are unchanged. Refused: NoMemory.
+/// Offers a version to the set of a key, which has room for it. If the key has no row, one is added. Looks for the row
+/// at a spot first. On error the rows are unchanged. Refused: NoMemory.
 pub(crate) fn offer_to_key(
     alloc: Global,
     format: Format,
     chunks: &mut Vec<Chunk>,
-    key: &[u8],
+    near: Spot,
+    key: &Bytes,
     version: Version,
 ) -> Result<(), Refusal>
     requires ascending { AscendByKey (all_rows chunks.old.items) }
@@ -111,8 +177,8 @@ pub(crate) fn offer_to_key(
         (gives tt (with_offer key.now version (all_rows chunks.old.items))) }
     ensures chunks { AreChunks format chunks.new.items }
 {
-    match spot_of(chunks, key) {
-        Ok(spot) => offer_at(alloc, chunks, spot, version),
+    match spot_near(chunks, near, key.as_slice()) {
+        Ok(spot) => offer_at(chunks, spot, version),
         Err(gap) => {
             let row = row_of_one(alloc, key, version)?;
             insert_at(alloc, format, chunks, gap, row)
@@ -121,22 +187,17 @@ pub(crate) fn offer_to_key(
 }
 
 /// Returns the row of a key with one version. Refused: NoMemory.
-fn row_of_one(alloc: Global, key: &[u8], version: Version) -> Result<Row, Refusal>
+fn row_of_one(alloc: Global, key: &Bytes, version: Version) -> Result<Row, Refusal>
     ensures { Answers result None (λ row. row ≡ record { key = key.now; versions = offered version [] }) }
 {
-    let key = Bytes::copy_of(alloc, key)?;
+    let key = key.try_clone()?;
     let mut versions = VersionSet::empty(alloc);
     versions.offer(version)?;
     Ok(Row { key, versions })
 }
 
 /// Offers a version to the set of a row, which has room for it. On error the rows are unchanged. Refused: NoMemory.
-fn offer_at(
-    alloc: Global,
-    chunks: &mut Vec<Chunk>,
-    spot: Spot,
-    version: Version,
-) -> Result<(), Refusal>
+fn offer_at(chunks: &mut Vec<Chunk>, spot: Spot, version: Version) -> Result<(), Refusal>
     requires spot { IsRowSpot chunks.old.items spot }
     requires value { AllByRecursion (λ (c : Bucket). value_fault c.format version.kind version.value ≡ None) chunks.old.items }
     requires room { offer_fault version (row_versions (all_rows chunks.old.items) (place_in chunks.old.items spot)) ≡ None }
@@ -144,7 +205,7 @@ fn offer_at(
         (gives tt (offered_at (all_rows chunks.old.items) (place_in chunks.old.items spot) version)) }
     ensures chunks { (format : Format) → AreChunks format chunks.old.items → AreChunks format chunks.new.items }
 {
-    chunks[spot.chunk].offer(alloc, spot.at, version)
+    chunks[spot.chunk].offer(spot.at, version)
 }
 
 /// Inserts a row among the others, after splitting its chunk if that is full. If there is no chunk, it makes one. On
@@ -168,7 +229,7 @@ fn insert_at(
         return Ok(());
     }
     let spot = roomy_gap(alloc, chunks, gap)?;
-    chunks[spot.chunk].insert(alloc, spot.at, row)
+    chunks[spot.chunk].insert(spot.at, row)
 }
 
 /// Makes room at a gap, by splitting a full chunk, and returns the spot of the gap. The rows are unchanged, even on

@@ -8,11 +8,12 @@ ghost use Rattle.version_set.specs.Version.{offer_fault};
 ghost use Rattle.hash_tree.specs.Leaves.{Bucket, versions_in};
 ghost use Rattle.hash_tree.specs.Blocks.{nth_leaf, leaf_with_offer};
 
+use crate::chunks::Spot;
 use crate::shared_leaf::SharedLeaf;
 use std::alloc::Global;
 use std::marker::Model;
 use std::sync::Arc;
-use vclock::{Format, Refusal};
+use vclock::{Bytes, Format, Refusal};
 use version_set::Version;
 
 /// The number of leaves of a block.
@@ -104,7 +105,8 @@ impl LeafBlock {
         &mut self,
         alloc: Global,
         at: usize,
-        key: &[u8],
+        near: Spot,
+        key: &Bytes,
         version: Version,
     ) -> Result<(), Refusal>
         requires at { at < 64 }
@@ -115,10 +117,10 @@ impl LeafBlock {
             (gives tt (slice_set self.old at (leaf_with_offer key.now version (nth_leaf self.old at)))) }
     {
         if let Some(leaves) = Arc::get_mut(&mut self.leaves) {
-            return leaves[at].offer(alloc, key, version);
+            return leaves[at].offer(alloc, near, key, version);
         }
         let mut leaves = share_leaves(alloc, &self.leaves)?;
-        leaves[at].offer(alloc, key, version)?;
+        leaves[at].offer(alloc, near, key, version)?;
         self.leaves = Arc::new(alloc, leaves)?;
         Ok(())
     }

@@ -9,12 +9,13 @@ ghost use Rattle.hash_tree.specs.Leaves.{Bucket, versions_in};
 ghost use Rattle.hash_tree.specs.Nodes.{tree_depth};
 ghost use Rattle.hash_tree.specs.Blocks.{joined, AreOf, nth_leaf, leaf_with_offer};
 
+use crate::chunks::Spot;
 use crate::leaf_block::{BLOCK_LEN, LeafBlock};
 use crate::shared_leaf::SharedLeaf;
 use std::alloc::Global;
 use std::marker::Model;
 use std::sync::Arc;
-use vclock::{Format, Refusal};
+use vclock::{Bytes, Format, Refusal};
 use version_set::Version;
 
 /// The leaves of a range by ascending index, in blocks of 64, with any number of owners: a range and its snapshots
@@ -108,13 +109,15 @@ impl Leaves {
         })
     }
 
-    /// Offers a version to the set of a key in the leaf with an index, which has room for it. What has other owners is
-    /// copied first, by handles; if nothing has, the leaf is changed in place. Refused: NoMemory.
+    /// Offers a version to the set of a key in the leaf with an index, which has room for it. Looks for the row at the
+    /// spot `near` first. What has other owners is copied first, by handles; if nothing has, the leaf is changed in
+    /// place. Refused: NoMemory.
     pub fn offer(
         &mut self,
         alloc: Global,
         leaf: u16,
-        key: &[u8],
+        near: Spot,
+        key: &Bytes,
         version: Version,
     ) -> Result<(), Refusal>
         requires leaf { leaf < length self.old }
@@ -125,10 +128,10 @@ impl Leaves {
             (gives tt (slice_set self.old leaf (leaf_with_offer key.now version (nth_leaf self.old leaf)))) }
     {
         if let Some(blocks) = Arc::get_mut(&mut self.blocks) {
-            return offer_to_leaf(alloc, blocks, leaf, key, version);
+            return offer_to_leaf(alloc, blocks, leaf, near, key, version);
         }
         let mut blocks = share_blocks(alloc, &self.blocks)?;
-        offer_to_leaf(alloc, &mut blocks, leaf, key, version)?;
+        offer_to_leaf(alloc, &mut blocks, leaf, near, key, version)?;
         self.blocks = Arc::new(alloc, blocks)?;
         Ok(())
     }
@@ -161,7 +164,8 @@ fn offer_to_leaf(
     alloc: Global,
     blocks: &mut Vec<LeafBlock>,
     leaf: u16,
-    key: &[u8],
+    near: Spot,
+    key: &Bytes,
     version: Version,
 ) -> Result<(), Refusal>
     requires blocks { AreOf 64 blocks.old.items }
@@ -174,7 +178,7 @@ fn offer_to_leaf(
     ensures blocks { AreOf 64 blocks.new.items }
 {
     let leaf = usize::from(leaf);
-    blocks[leaf / BLOCK_LEN].offer(alloc, leaf % BLOCK_LEN, key, version)
+    blocks[leaf / BLOCK_LEN].offer(alloc, leaf % BLOCK_LEN, near, key, version)
 }
 
 impl Drop for Leaves {

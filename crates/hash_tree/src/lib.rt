@@ -34,6 +34,7 @@ pub mod text;
 pub mod texts;
 mod written_rows;
 
+pub use chunks::Spot;
 pub use comparison::is_inner_text;
 pub use digest::{Digest, Hashed, hash};
 pub use leaves::Leaves;

@@ -14,14 +14,14 @@ ghost use Rattle.hash_tree.specs.Chunks.{all_rows, AreChunks};
 ghost use Rattle.hash_tree.specs.Texts.{leaf_text};
 
 use crate::chunk::Chunk;
-use crate::chunks::{offer_to_key, share_chunks, spot_of, text_len};
+use crate::chunks::{Spot, offer_to_key, share_chunks, spot_of, text_len};
 use crate::comparison::is_chunked_text;
 use crate::texts::put_chunks;
 use row_bytes::Row;
 use std::alloc::{AllocError, Global};
 use std::marker::Model;
 use std::sync::Arc;
-use vclock::{Format, Refusal};
+use vclock::{Bytes, Format, Refusal};
 use version_set::{Version, VersionSet};
 
 /// The rows of one leaf, in ascending order of key, with any number of owners: a range, its snapshots and its jobs
@@ -117,11 +117,20 @@ impl SharedLeaf {
         ensures found { unwrap_or (option_map (λ s. s.now) result) [] ≡ versions_in key.now self.now.rows }
         ensures valid { IsBucket self.now }
     {
+        let (versions, _) = self.search(key);
+        versions
+    }
+
+    /// Finds the versions of a key as `find` does. Returns also the place of the row, or where it would be inserted.
+    pub fn search(&self, key: &[u8]) -> (Option<&VersionSet>, Spot)
+        ensures found { unwrap_or (option_map (λ s. s.now) result.0) [] ≡ versions_in key.now self.now.rows }
+        ensures valid { IsBucket self.now }
+    {
         let chunks = self.chunks();
-        let Ok(spot) = spot_of(chunks, key) else {
-            return None;
-        };
-        Some(&chunks[spot.chunk].row(spot.at).versions)
+        match spot_of(chunks, key) {
+            Ok(spot) => (Some(&chunks[spot.chunk].row(spot.at).versions), spot),
+            Err(gap) => (None, gap),
+        }
     }
 
     /// Returns the row of a key, if it has one: its versions and its text. Searches by a binary search. Doesn't
@@ -154,9 +163,16 @@ impl SharedLeaf {
         Some((rows, chunk.texts_from(spot.at)))
     }
 
-    /// Offers a version to the set of a key, which has room for it. If the key has no row, one is added. If the leaf has
-    /// other owners, a copy of it is changed. Refused: NoMemory.
-    pub fn offer(&mut self, alloc: Global, key: &[u8], version: Version) -> Result<(), Refusal>
+    /// Offers a version to the set of a key, which has room for it. If the key has no row, one is added. Looks for the
+    /// row at the spot `near`, and searches if it isn't there. If the leaf has other owners, a copy of it is changed.
+    /// Refused: NoMemory.
+    pub fn offer(
+        &mut self,
+        alloc: Global,
+        near: Spot,
+        key: &Bytes,
+        version: Version,
+    ) -> Result<(), Refusal>
         requires key { key_fault key.now ≡ None }
         requires value { value_fault self.old.format version.kind version.value ≡ None }
         requires room { offer_fault version (versions_in key.now self.old.rows) ≡ None }
@@ -164,10 +180,10 @@ impl SharedLeaf {
             (gives tt (record self.old { rows = with_offer key.now version self.old.rows })) }
     {
         match &mut self.chunks {
-            Some(chunks) => offer_to(alloc, self.format, chunks, key, version),
+            Some(chunks) => offer_to(alloc, self.format, chunks, near, key, version),
             None => {
                 let mut chunks = Vec::new(alloc);
-                offer_to_key(alloc, self.format, &mut chunks, key, version)?;
+                offer_to_key(alloc, self.format, &mut chunks, near, key, version)?;
                 self.chunks = Some(Arc::new(alloc, chunks)?);
                 Ok(())
             }
@@ -193,7 +209,8 @@ fn offer_to(
     alloc: Global,
     format: Format,
     shared: &mut Arc<Vec<Chunk>, Global>,
-    key: &[u8],
+    near: Spot,
+    key: &Bytes,
     version: Version,
 ) -> Result<(), Refusal>
     requires ascending { AscendByKey (all_rows (arc_value shared.old).items) }
@@ -206,10 +223,10 @@ fn offer_to(
     ensures chunks { AreChunks format (arc_value shared.new).items }
 {
     if let Some(chunks) = Arc::get_mut(shared) {
-        return offer_to_key(alloc, format, chunks, key, version);
+        return offer_to_key(alloc, format, chunks, near, key, version);
     }
     let mut copy = share_chunks(alloc, shared)?;
-    offer_to_key(alloc, format, &mut copy, key, version)?;
+    offer_to_key(alloc, format, &mut copy, near, key, version)?;
     *shared = Arc::new(alloc, copy)?;
     Ok(())
 }

@@ -1,5 +1,5 @@
 //! Consecutive rows of a leaf with their texts.
-ghost use Rattle.std.specs.Prelude.{◌≡◌, ◌++◌, ◌+◌, ◌-◌, ◌<◌, ◌≤◌, ◌^◌, [], None, length, take, drop, slice_index_or, OnOk};
+ghost use Rattle.std.specs.Prelude.{◌≡◌, ◌++◌, ◌+◌, ◌-◌, ◌<◌, ◌≤◌, ◌^◌, List, ℕ, [], None, length, take, drop, slice_index_or, OnOk};
 ghost use Rattle.std.specs.List.{AllByRecursion, flat_map, insert, sum_by};
 ghost use Rattle.std.specs.Vec.{vec_capacity};
 ghost use Rattle.vclock.specs.Answer.{Answers};
@@ -129,12 +129,7 @@ impl WrittenRows {
     }
 
     /// Offers a version to the set of the row at a place, which has room for it. Refused: NoMemory.
-    pub(crate) fn offer(
-        &mut self,
-        alloc: Global,
-        at: usize,
-        version: Version,
-    ) -> Result<(), Refusal>
+    pub(crate) fn offer(&mut self, at: usize, version: Version) -> Result<(), Refusal>
         requires at { at < length self.old.rows }
         requires value { value_fault self.old.format version.kind version.value ≡ None }
         requires room { offer_fault version (row_versions self.old.rows at) ≡ None }
@@ -143,20 +138,18 @@ impl WrittenRows {
     {
         let more = version_len(self.format, &version) as usize;
         let start = total(&self.lens[..at]);
-        let end = start + self.lens[at] as usize;
-        let mut tail = Vec::with_capacity(alloc, self.text.len() - start + more)?;
+        let len = self.lens[at] as usize;
         let spare = self.spare_bytes();
         make_room(&mut self.text, more, spare)?;
         let row = &mut self.rows[at];
         row.versions.offer(version)?;
-        put_row(&mut tail, self.format, row).unwrap();
-        replace(&mut self.text, start, end, tail);
+        rewrite(&mut self.text, start, len, self.format, row);
         self.lens[at] = row_len(self.format, row) as u32;
         Ok(())
     }
 
     /// Inserts a row at a place among the rows. Refused: NoMemory.
-    pub(crate) fn insert(&mut self, alloc: Global, at: usize, row: Row) -> Result<(), Refusal>
+    pub(crate) fn insert(&mut self, at: usize, row: Row) -> Result<(), Refusal>
         requires at { at ≤ length self.old.rows }
         requires fits { FitsText self.old.format row }
         ensures { Does result self.old self.new (gives tt (record self.old { rows = insert self.old.rows at row })) }
@@ -167,8 +160,7 @@ impl WrittenRows {
         make_room(&mut self.lens, 1, spare_rows)?;
         make_room(&mut self.text, len as usize, spare_bytes)?;
         let start = total(&self.lens[..at]);
-        let rest = rest_of(alloc, &self.text, start)?;
-        put_before(&mut self.text, start, self.format, &row, &rest);
+        rewrite(&mut self.text, start, 0, self.format, &row);
         self.rows.insert(at, row).unwrap();
         self.lens.insert(at, len as u32).unwrap();
         Ok(())
@@ -182,9 +174,11 @@ impl WrittenRows {
             .min(MOST_ROWS.saturating_sub(len.saturating_add(1)))
     }
 
-    /// Returns the number of spare bytes of text to reserve: a quarter of the text, and some more.
+    /// Returns the number of spare bytes of text to reserve: those of the spare rows, if they are as long as the present
+    /// ones, and some more.
     fn spare_bytes(&self) -> usize {
-        SPARE_BYTES.saturating_add(self.text.len() / 4)
+        let row = self.text.len() / self.rows.len().max(1);
+        SPARE_BYTES.saturating_add(row.saturating_mul(self.spare_rows()))
     }
 
     /// Splits off the rows from a place on. Refused: NoMemory.
@@ -253,42 +247,28 @@ fn part_of(text: &[u8], start: usize, len: usize) -> &[u8]
     part
 }
 
-/// Copies the bytes of a text from `from` on. Refused: NoMemory.
-fn rest_of(alloc: Global, text: &[u8], from: usize) -> Result<Vec<u8>, Refusal>
-    requires { from ≤ length text.now }
-    ensures { Answers result None (λ rest. rest.items ≡ drop from text.now) }
-{
-    Ok(Vec::from_slice(alloc, &text[from..])?)
-}
-
-/// Replaces the bytes from `start` on by the text of a row and then the rest. There is room for both.
-fn put_before(text: &mut Vec<u8>, start: usize, format: Format, row: &Row, rest: &[u8])
-    requires within { start ≤ length text.old.items }
+/// Replaces the `len` bytes of a text from `start` on by the text of a row, for which there is room.
+fn rewrite(text: &mut Vec<u8>, start: usize, len: usize, format: Format, row: &Row)
+    requires within { start + len ≤ length text.old.items }
     requires fits { FitsText format row.now }
-    requires room { start + length (row_text format row.now) + length rest.now ≤ vec_capacity text.old }
-    ensures { text.new.items ≡ take start text.old.items ++ row_text format row.now ++ rest.now }
+    requires room { length text.old.items + length (row_text format row.now) ≤ vec_capacity text.old + len }
+    ensures { text.new.items ≡ take start text.old.items ++ row_text format row.now ++ drop (start + len) text.old.items }
 {
-    text.truncate(start);
+    let rest = text.len() - start - len;
+    move_to_end(text, start, len);
+    text.truncate(start + rest);
     put_row(text, format, row).unwrap();
-    text.extend_from_slice(rest).unwrap();
+    move_to_end(text, start, rest);
 }
 
-/// Replaces the bytes between two places of a text by others. If the lengths are equal, nothing else moves. The text
-/// and `bytes` have room for `bytes` and for the bytes after the second place.
-fn replace(text: &mut Vec<u8>, start: usize, end: usize, mut bytes: Vec<u8>)
-    requires begins { start ≤ end }
-    requires ends { end ≤ length text.old.items }
-    requires room { start + length bytes.items + (length text.old.items - end) ≤ vec_capacity text.old }
-    requires spare { length bytes.items + (length text.old.items - end) ≤ vec_capacity bytes }
-    ensures { text.new.items ≡ take start text.old.items ++ bytes.items ++ drop end text.old.items }
+/// Moves the `len` bytes of a text from `start` on to its end.
+fn move_to_end(text: &mut [u8], start: usize, len: usize)
+    requires { start + len ≤ length text.old }
+    ensures moved { (front part rest : List ℕ) → text.old ≡ front ++ part ++ rest → length front ≡ start → length part ≡ len
+        → text.new ≡ front ++ rest ++ part }
+    ensures len { length text.new ≡ length text.old }
 {
-    if bytes.len() == end - start {
-        text[start..end].copy_from_slice(&bytes);
-        return;
-    }
-    bytes.extend_from_slice(&text[end..]).unwrap();
-    text.truncate(start);
-    text.extend_from_slice(&bytes).unwrap();
+    text[start..].rotate_left(len);
 }
 
 impl Drop for WrittenRows {

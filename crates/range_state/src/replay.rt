@@ -6,7 +6,7 @@ ghost use Rattle.range_state.specs.State.{leaf_in, AreLeaves};
 ghost use Rattle.range_state.specs.Replays.{IsReplay};
 
 use crate::config::RangeConfig;
-use hash_tree::Leaves;
+use hash_tree::{Leaves, Spot};
 use key_ring::place;
 use range_journal::Entry;
 use std::alloc::Global;
@@ -55,9 +55,9 @@ impl<'a> Replay<'a> {
     {
         let entry = &self.entries[self.front as usize];
         let version = entry.version.try_clone()?;
-        let key = entry.key.as_slice();
-        let leaf = self.leaf_of(key);
-        self.leaves.offer(alloc, leaf, key, version)?;
+        let leaf = self.leaf_of(entry.key.as_slice());
+        self.leaves
+            .offer(alloc, leaf, Spot::default(), &entry.key, version)?;
         self.front += 1;
         Ok(())
     }

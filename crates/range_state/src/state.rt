@@ -17,7 +17,7 @@ ghost use Rattle.range_state.specs.Fitting.{IsFitting, made_fault, sent_fault};
 use crate::config::RangeConfig;
 use crate::event::{Accepted, Receipt};
 use crate::record::Record;
-use hash_tree::{Leaves, Marks, SharedLeaf};
+use hash_tree::{Leaves, Marks, SharedLeaf, Spot};
 use key_ring::HashedKey;
 use range_journal::{Journal, Source};
 use std::alloc::Global;
@@ -69,6 +69,13 @@ impl Model for RangeState {
         × AreLeaves r.config r.journal.entries r.leaves
         × (r.journal.limit ≡ r.config.limit)
         × (r.marks.format ≡ r.config.format) };
+}
+
+/// The leaf of a key, and the place in it at which its row was found, or at which one would be inserted.
+#[derive(Clone, Copy)]
+struct Home {
+    leaf: u16,
+    near: Spot,
 }
 
 impl RangeState {
@@ -141,7 +148,8 @@ impl RangeState {
         ensures fit { AllByRecursion (λ v. value_fault self.now.config.format v.kind v.value ≡ None)
             (held self.now.entries key.now) }
     {
-        self.find_in(self.leaf_of(key), key)
+        let (set, _) = self.search(self.leaf_of(key), key);
+        set
     }
 
     /// Accepts a version that another node sent, as a copy or as a hint. A version that is equal to or below one
@@ -161,10 +169,10 @@ impl RangeState {
         requires { IsTrue (is_sent source) }
         ensures { Does result self.old self.new (accept self.old seat source key.now version) }
     {
-        let Some(leaf) = self.home_of_news(&HashedKey::new(key), &version)? else {
+        let Some(home) = self.home_of_news(&HashedKey::new(key), &version)? else {
             return Ok(Accepted::Known);
         };
-        let receipt = self.admit(alloc, leaf, seat, source, key, version)?;
+        let receipt = self.admit(alloc, home, seat, source, key, version)?;
         Ok(Accepted::Taken(receipt))
     }
 
@@ -193,11 +201,11 @@ impl RangeState {
             → ask_fault self.old.config at key.now context.now kind value ≡ None) }
     {
         let hashed = HashedKey::new(key);
-        let (leaf, version) = self.make_put(alloc, at, &hashed, context, kind, value)?;
-        self.admit(alloc, leaf, seat, Source::Client, key, version)
+        let (home, version) = self.make_put(alloc, at, &hashed, context, kind, value)?;
+        self.admit(alloc, home, seat, Source::Client, key, version)
     }
 
-    /// Makes the version of a put, and finds the leaf of its key. Refused as a put that has room in the journal is.
+    /// Makes the version of a put, and finds the home of its key. Refused as a put that has room in the journal is.
     fn make_put(
         &self,
         alloc: Global,
@@ -206,10 +214,10 @@ impl RangeState {
         context: &Clock,
         kind: Kind,
         value: Bytes,
-    ) -> Result<(u16, Version), Refusal>
+    ) -> Result<(Home, Version), Refusal>
         requires { 1 ≤ at }
         ensures made { AnswersOrNoMemory result (made_fault self.now at key.now context.now kind value)
-            (λ made. IsFitting self.now made.0 key.now made.1 × (made.1 ≡ put_version at context.now kind value)) }
+            (λ made. IsFitting self.now made.0.leaf key.now made.1 × (made.1 ≡ put_version at context.now kind value)) }
         ensures early { IfErr result (λ e. e ≡ Refusal.NoMemory
             → ask_fault self.now.config at key.now context.now kind value ≡ None) }
     {
@@ -217,30 +225,30 @@ impl RangeState {
         let clock = context.raise(alloc, at)?;
         // Called for its clause alone: the pairs are those of a clock.
         let _valid = clock.pairs();
-        let set = self.find_in(leaf, key);
+        let (set, near) = self.search(leaf, key);
         check_context(alloc, set, &clock)?;
         let version = Version { clock, kind, value };
         if crowds(set, &version) {
             return Err(Refusal::Crowded);
         }
-        Ok((leaf, version))
+        Ok((Home { leaf, near }, version))
     }
 
-    /// Returns the leaf of a version that another node sent, or `None` if the version is known.
-    fn home_of_news(&self, key: &HashedKey, version: &Version) -> Result<Option<u16>, Refusal>
+    /// Returns the home of a version that another node sent, or `None` if the version is known.
+    fn home_of_news(&self, key: &HashedKey, version: &Version) -> Result<Option<Home>, Refusal>
         ensures { AnswersAtOnce result (sent_fault self.now key.now version.now)
             (λ home. MatchOption home (knows self.now key.now version.now ≡ true)
-            (λ leaf. IsFitting self.now leaf key.now version.now)) }
+            (λ h. IsFitting self.now h.leaf key.now version.now)) }
     {
         let leaf = self.home(key, version.kind, version.value.as_slice())?;
-        let set = self.find_in(leaf, key);
+        let (set, near) = self.search(leaf, key);
         if covers(set, version) {
             return Ok(None);
         }
         if crowds(set, version) {
             return Err(Refusal::Crowded);
         }
-        Ok(Some(leaf))
+        Ok(Some(Home { leaf, near }))
     }
 
     /// Returns the leaf of a key.
@@ -264,14 +272,14 @@ impl RangeState {
         Ok(at.leaf)
     }
 
-    /// Returns the set that is held for a key of that leaf.
-    fn find_in(&self, at: u16, key: &HashedKey) -> Option<&VersionSet>
+    /// Returns the set that is held for a key of that leaf, and the place of its row, or where one would be inserted.
+    fn search(&self, at: u16, key: &HashedKey) -> (Option<&VersionSet>, Spot)
         requires { at ≡ leaf_in self.now.config key.now }
-        ensures set { unwrap_or (option_map (λ s. s.now) result) [] ≡ held self.now.entries key.now }
+        ensures set { unwrap_or (option_map (λ s. s.now) result.0) [] ≡ held self.now.entries key.now }
         ensures fit { AllByRecursion (λ v. value_fault self.now.config.format v.kind v.value ≡ None)
             (held self.now.entries key.now) }
     {
-        self.leaves.get(at).find(key.bytes())
+        self.leaves.get(at).search(key.bytes())
     }
 
     /// Makes room for an entry. Refused, in order: JournalFull, NoMemory.
@@ -282,38 +290,59 @@ impl RangeState {
         self.journal.reserve(1)
     }
 
-    /// Journals a version that isn't known, whose key is of that leaf. Tests every cause before it allocates, and
-    /// allocates before it changes anything.
+    /// Journals a version that isn't known, whose key is of that leaf.
     fn admit(
         &mut self,
         alloc: Global,
-        leaf: u16,
+        home: Home,
         seat: u16,
         source: Source,
         key: &[u8],
         version: Version,
     ) -> Result<Receipt, Refusal>
         requires own { ¬ (source ≡ Source.Partner) }
-        requires fits { IsFitting self.old leaf key.now version }
+        requires fits { IsFitting self.old home.leaf key.now version }
+        ensures { Does result self.old self.new
+            (admit self.old (entry_of self.old seat source key.now version)) }
+    {
+        self.reserve_entry()?;
+        let key = Bytes::copy_of(alloc, key)?;
+        self.admit_key(alloc, home, seat, source, &key, version)
+    }
+
+    /// Journals a version as `admit` does. Row, entry and receipt share the key. Tests every cause before it allocates,
+    /// and allocates before it changes anything.
+    fn admit_key(
+        &mut self,
+        alloc: Global,
+        home: Home,
+        seat: u16,
+        source: Source,
+        key: &Bytes,
+        version: Version,
+    ) -> Result<Receipt, Refusal>
+        requires own { ¬ (source ≡ Source.Partner) }
+        requires fits { IsFitting self.old home.leaf key.now version }
         ensures { Does result self.old self.new
             (admit self.old (entry_of self.old seat source key.now version)) }
     {
         // Called for its clause alone: the version's clock is valid.
         let _valid = version.clock.pairs();
         self.journal.reserve(1)?;
+        let entry_key = key.try_clone()?;
         let receipt = Receipt {
             number: self.journal.len(),
             seat,
             source,
-            key: Bytes::copy_of(alloc, key)?,
+            key: key.try_clone()?,
             version: version.try_clone()?,
         };
-        let entry_key = receipt.key.try_clone()?;
         let row_version = version.try_clone()?;
-        self.leaves.offer(alloc, leaf, key, row_version)?;
+        self.leaves
+            .offer(alloc, home.leaf, home.near, key, row_version)?;
         self.journal
             .append_reserved(seat, source, entry_key, version);
-        self.marks.dirty(leaf);
+        self.marks.dirty(home.leaf);
         Ok(receipt)
     }
 }

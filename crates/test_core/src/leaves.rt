@@ -5,10 +5,10 @@ ghost use Rattle.hash_tree.specs.Leaves.{versions_in};
 
 use crate::checks::expect;
 use crate::versions::version;
-use hash_tree::{SharedLeaf, Text, hash};
+use hash_tree::{SharedLeaf, Spot, Text, hash};
 use std::alloc::Global;
 use std::test::Fail;
-use vclock::{Format, Refusal, check_key};
+use vclock::{Bytes, Format, Refusal, check_key};
 use version_set::{Kind, Version};
 
 /// The digest of a leaf of format 1 with 300 rows: the keys are the numbers from 0 to 299 as two bytes each, and each
@@ -36,7 +36,8 @@ fn offer(alloc: Global, leaf: &mut SharedLeaf, key: &[u8]) -> Result<(), Fail> {
     if crowds(leaf, key, &version) {
         return Err(Fail::from("the set of a key has no room"));
     }
-    leaf.offer(alloc, key, version)?;
+    let key = Bytes::copy_of(alloc, key)?;
+    leaf.offer(alloc, Spot::default(), &key, version)?;
     Ok(())
 }
 

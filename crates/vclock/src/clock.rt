@@ -136,7 +136,13 @@ impl Clock {
     pub fn try_clone(&self) -> Result<Clock, Refusal>
         ensures { Answers result None (λ copy. copy ≡ self.now) }
     {
-        let pairs = SmallVec::from_slice(*self.pairs.allocator(), self.pairs.as_slice())?;
+        let (alloc, pairs) = (*self.pairs.allocator(), self.pairs.as_slice());
+        // Most clocks have one pair, and versions are cloned by each put and get.
+        let pairs = if pairs.len() == 1 {
+            SmallVec::from_buf(alloc, [pairs[0]])
+        } else {
+            SmallVec::from_slice(alloc, pairs)?
+        };
         Ok(Clock { pairs })
     }
 

@@ -1,3 +1,4 @@
 pub mod Kind
+pub mod Members
 pub mod Order
 pub mod Version

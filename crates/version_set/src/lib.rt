@@ -16,6 +16,7 @@
 
 pub mod kind;
 pub mod laws;
+mod members;
 pub mod set;
 pub mod version;
 

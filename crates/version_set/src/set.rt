@@ -1,13 +1,13 @@
 //! Sets of versions.
-ghost use Rattle.std.specs.Prelude.{◌≡◌, ◌<◌, ◌≤◌, ◌+◌, ◌↔◌, ◌||◌, [], not, filter, map, length, None, Some, IsOk, OnOk, OnErr, IsTrue, if◌then◌else◌};
+ghost use Rattle.std.specs.Prelude.{◌≡◌, ◌↔◌, ◌||◌, [], map, length, None, Some, IsOk, OnOk, OnErr, IsTrue, if◌then◌else◌};
 ghost use Rattle.std.specs.List.{AllByRecursion};
 ghost use Rattle.std.specs.Slice.Iter.{iter_rest};
-ghost use Rattle.std.specs.Vec.{vec_len, vec_capacity};
 ghost use Rattle.vclock.specs.Answer.{Answers};
-ghost use Rattle.version_set.specs.Version.{is_below, is_same, covered, IsCovered, with_version, offered, offer_fault, IsVersionSet, NoneIsBelow, AscendsBy, HasText, IsLive, text_cmp};
+ghost use Rattle.version_set.specs.Version.{is_below, is_same, covered, IsCovered, offered, offer_fault, IsVersionSet, NoneIsBelow, AscendsBy, HasText, IsLive, text_cmp};
 
+use crate::members::{Members, count_kept};
 use crate::version::Version;
-use std::alloc::{AllocError, Global};
+use std::alloc::Global;
 use std::cmp::Ordering;
 use std::marker::Model;
 use std::slice::Iter;
@@ -36,19 +36,20 @@ pub enum Offered {
 /// ```
 #[derive(Debug)]
 pub struct VersionSet {
-    versions: Vec<Version>,
+    members: Members,
 }
 
 impl Model for VersionSet {
     ghost use Rattle.std.specs.Prelude.{List};
     ghost use Rattle.version_set.specs.declared.version.Version.{Version};
     ghost use Rattle.version_set.specs.Version.{IsVersionSet};
+    ghost use Rattle.version_set.specs.Members.{members_of};
 
     ghost Value = { List Version };
 
-    ghost view = { λ s. s.versions.items };
+    ghost view = { λ s. members_of s.members };
 
-    ghost invariant = { λ s. IsVersionSet s.versions.items };
+    ghost invariant = { λ s. IsVersionSet (members_of s.members) };
 }
 
 impl VersionSet {
@@ -57,7 +58,7 @@ impl VersionSet {
         ensures { result ≡ [] }
     {
         VersionSet {
-            versions: Vec::new(alloc),
+            members: Members::Many(Vec::new(alloc)),
         }
     }
 
@@ -67,7 +68,9 @@ impl VersionSet {
         requires { IsVersionSet members.items }
         ensures { result ≡ members.items }
     {
-        VersionSet { versions: members }
+        VersionSet {
+            members: Members::of(members),
+        }
     }
 
     /// Returns an iterator over the members, in ascending order of their texts. No member is below another.
@@ -79,7 +82,7 @@ impl VersionSet {
         ensures live { AllByRecursion HasText self.now → AllByRecursion IsLive self.now
             → AscendsBy (text_cmp Format.One) self.now }
     {
-        self.versions.iter()
+        self.as_slice().iter()
     }
 
     /// Returns the members as a slice, in ascending order of their texts.
@@ -87,32 +90,30 @@ impl VersionSet {
         ensures all { result.now ≡ self.now }
         ensures valid { IsVersionSet self.now }
     {
-        self.versions.as_slice()
+        self.members.as_slice()
     }
 
     /// Returns the number of members, at most 64.
     pub fn len(&self) -> usize
         ensures { result ≡ length self.now }
     {
-        self.versions.len()
+        self.as_slice().len()
     }
 
     /// Returns true if the set is empty.
     pub fn is_empty(&self) -> bool
         ensures { IsTrue result ↔ (self.now ≡ []) }
     {
-        self.versions.is_empty()
+        self.as_slice().is_empty()
     }
 
     /// Returns an equal set. Refused: NoMemory.
     pub fn try_clone(&self, alloc: Global) -> Result<VersionSet, Refusal>
         ensures { Answers result None (λ copy. copy ≡ self.now) }
     {
-        let mut versions = Vec::with_capacity(alloc, self.versions.len())?;
-        for version in &self.versions {
-            versions.push(version.try_clone()?)?;
-        }
-        Ok(VersionSet { versions })
+        Ok(VersionSet {
+            members: self.members.try_clone(alloc)?,
+        })
     }
 
     /// Returns the clocks of the members, one for each, in the order of the members. Refused: NoMemory.
@@ -120,7 +121,7 @@ impl VersionSet {
         ensures { Answers result None (λ clocks. clocks ≡ map (λ v. v.clock) self.now) }
     {
         let mut clocks = Clocks::new(alloc);
-        for version in &self.versions {
+        for version in self.as_slice() {
             clocks.push(version.clock.try_clone()?)?;
         }
         Ok(clocks)
@@ -130,7 +131,7 @@ impl VersionSet {
     pub fn same(&self, other: &VersionSet) -> bool
         ensures { IsTrue result ↔ (self.now ≡ other.now) }
     {
-        are_same(&self.versions, &other.versions)
+        are_same(self.as_slice(), other.as_slice())
     }
 
     /// Returns true if the version is a member or below one.
@@ -140,7 +141,7 @@ impl VersionSet {
     {
         // The call gives the prover the fact that the version's clock is valid.
         let _valid = version.clock.pairs();
-        is_covered(&self.versions, version)
+        is_covered(self.as_slice(), version)
     }
 
     /// Returns true if an offer of the version is refused as Crowded: the set would have over 64 members.
@@ -148,13 +149,13 @@ impl VersionSet {
         ensures { offer_fault version.now self.now ≡ (if result then Some Refusal.Crowded else None) }
     {
         // Most sets have so few members that there is room for any version.
-        if self.versions.len() < VERSIONS_MAX {
+        if self.as_slice().len() < VERSIONS_MAX {
             return false;
         }
-        if is_covered(&self.versions, version) {
+        if is_covered(self.as_slice(), version) {
             return false;
         }
-        count_kept(&self.versions, version) >= VERSIONS_MAX
+        count_kept(self.as_slice(), version) >= VERSIONS_MAX
     }
 
     /// Adds a version to the set and removes the members below it, unless the set covers the version.
@@ -167,16 +168,14 @@ impl VersionSet {
         ensures err { OnErr result (self.new ≡ self.old) }
     {
         let _valid = version.clock.pairs();
-        if is_covered(&self.versions, &version) {
+        if is_covered(self.as_slice(), &version) {
             return Ok(Offered::Known);
         }
-        let kept = count_kept(&self.versions, &version);
+        let kept = count_kept(self.as_slice(), &version);
         if kept >= VERSIONS_MAX {
             return Err(Refusal::Crowded);
         }
-        make_room(&mut self.versions, kept)?;
-        drop_below(&mut self.versions, &version);
-        insert(&mut self.versions, version);
+        self.members.replace_below(version, kept)?;
         Ok(Offered::Added)
     }
 }
@@ -214,59 +213,9 @@ fn is_covered_by(version: &Version, held: &Version) -> bool
     }
 }
 
-/// Counts the versions that aren't below `version`.
-fn count_kept(versions: &[Version], version: &Version) -> usize
-    ensures count { result ≡ length (filter (λ w. not (is_below w version.now)) versions.now) }
-    ensures bound { result ≤ length versions.now }
-{
-    versions
-        .iter()
-        .filter(|held| !held.is_below(version))
-        .count()
-}
-
-/// Reserves room for exactly one more version if all versions are kept: most sets have one version.
-fn make_room(versions: &mut Vec<Version>, kept: usize) -> Result<(), AllocError>
-    requires { kept ≤ length versions.old.items }
-    ensures items { versions.new.items ≡ versions.old.items }
-    ensures room { OnOk result (kept < vec_capacity versions.new) }
-{
-    if kept == versions.len() {
-        versions.reserve_exact(1)?;
-    }
-    Ok(())
-}
-
-/// Keeps the versions that aren't below `version`.
-fn drop_below(versions: &mut Vec<Version>, version: &Version)
-    ensures kept { versions.new.items ≡ filter (λ w. not (is_below w version.now)) versions.old.items }
-    ensures room { vec_capacity versions.new ≡ vec_capacity versions.old }
-    ensures bound { vec_len versions.new ≤ vec_len versions.old }
-{
-    versions.retain(|held| !held.is_below(version));
-}
-
-/// Inserts a version in the order of texts, unless an equal one is there.
-fn insert(versions: &mut Vec<Version>, version: Version)
-    requires { vec_len versions.old < vec_capacity versions.old }
-    ensures { versions.new.items ≡ with_version version versions.old.items }
-{
-    let mut i = 0;
-    while i < versions.len() {
-        match version.text_order(&versions[i]) {
-            Ordering::Less => break,
-            Ordering::Equal => return,
-            Ordering::Greater => i += 1,
-        }
-    }
-    versions.insert(i, version).unwrap();
-}
-
 impl Drop for VersionSet {
     /// Keeps the fields out of the proofs of callers that drop a set.
     fn drop(self) {
-        let VersionSet {
-            versions: _versions,
-        } = self;
+        let VersionSet { members: _members } = self;
     }
 }

@@ -5,10 +5,10 @@ ghost use Rattle.hash_tree.specs.Leaves.{versions_in};
 
 use crate::core_calls::versions::version;
 use crate::lines::{show, unchanged};
-use hash_tree::SharedLeaf;
+use hash_tree::{SharedLeaf, Spot};
 use std::alloc::Global;
 use std::io;
-use vclock::{Format, Refusal, check_key};
+use vclock::{Bytes, Format, Refusal, check_key};
 use version_set::Version;
 
 /// The keys, of one byte each, that are offered a version one after the other.
@@ -53,15 +53,15 @@ fn crowds(leaf: &SharedLeaf, key: &[u8], version: &Version) -> bool
 /// Offers a version to the set of a key.
 fn offer_to(alloc: Global, leaf: &mut SharedLeaf, key: u8) -> Result<(), Refusal> {
     let version = version(alloc, 2)?;
-    let key = [key];
-    check_key(&key)?;
+    let key = Bytes::copy_of(alloc, &[key])?;
+    check_key(key.as_slice())?;
     version
         .kind
         .check_value(leaf.format(), version.value.as_slice())?;
-    if crowds(leaf, &key, &version) {
+    if crowds(leaf, key.as_slice(), &version) {
         return Err(Refusal::Crowded);
     }
-    leaf.offer(alloc, &key, version)
+    leaf.offer(alloc, Spot::default(), &key, version)
 }
 
 /// Returns a leaf in which a version was offered to each of these keys.

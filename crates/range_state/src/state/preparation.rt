@@ -113,7 +113,7 @@ impl RangeState {
         ensures ok { OnOk result (IsPrepared self.now seat leaf (offers_in row.now) batch.old batch.new) }
     {
         for version in row.versions.as_slice() {
-            self.prepare_version(alloc, seat, leaf, row.key.as_slice(), version, batch)?;
+            self.prepare_version(alloc, seat, leaf, &row.key, version, batch)?;
         }
         Ok(())
     }
@@ -124,7 +124,7 @@ impl RangeState {
         alloc: Global,
         seat: u16,
         leaf: u16,
-        key: &[u8],
+        key: &Bytes,
         version: &Version,
         batch: &mut Batch,
     ) -> Result<(), Refusal>
@@ -137,7 +137,7 @@ impl RangeState {
         ensures ok { OnOk result
             (IsPrepared self.now seat leaf ((key.now, version.now) ∷ []) batch.old batch.new) }
     {
-        let set = batch.leaf.find(key);
+        let (set, near) = batch.leaf.search(key.as_slice());
         if covers(set, version) {
             batch.known += 1;
             return Ok(());
@@ -146,10 +146,10 @@ impl RangeState {
             return Err(Refusal::Crowded);
         }
         let number = self.journal.len() + batch.entries.len() as u64;
-        let entry = partners_entry(alloc, number, seat, key, version)?;
-        let receipt = partners_entry(alloc, number, seat, key, version)?;
+        let entry = partners_entry(number, seat, key, version)?;
+        let receipt = partners_entry(number, seat, key, version)?;
         let row_version = version.try_clone()?;
-        batch.leaf.offer(alloc, key, row_version)?;
+        batch.leaf.offer(alloc, near, key, row_version)?;
         batch.entries.push(entry)?;
         batch.receipts.push(receipt)?;
         Ok(())
@@ -157,20 +157,14 @@ impl RangeState {
 }
 
 /// Makes the entry of a version that a partner had.
-fn partners_entry(
-    alloc: Global,
-    number: u64,
-    seat: u16,
-    key: &[u8],
-    version: &Version,
-) -> Result<Entry, Refusal>
+fn partners_entry(number: u64, seat: u16, key: &Bytes, version: &Version) -> Result<Entry, Refusal>
     ensures { Answers result None (λ entry. entry ≡ record { number = number; seat = seat; source = sources.Partner; key = key.now; version = version.now }) }
 {
     Ok(Entry {
         number,
         seat,
         source: Source::Partner,
-        key: Bytes::copy_of(alloc, key)?,
+        key: key.try_clone()?,
         version: version.try_clone()?,
     })
 }

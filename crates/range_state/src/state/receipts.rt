@@ -8,7 +8,7 @@ ghost use Rattle.range_state.specs.Fitting.{IsFitting};
 ghost use Rattle.range_state.specs.Told.{with_put, with_sent, CountsAnswer};
 
 use crate::event::{Accepted, AnswerCounted, AnswerTaken, Receipt};
-use crate::state::RangeState;
+use crate::state::{Home, RangeState};
 use hash_tree::{Hashed, NodeAt};
 use key_ring::HashedKey;
 use range_journal::Source;
@@ -37,9 +37,9 @@ impl RangeState {
             → ask_fault self.old.config at key.now context.now kind value ≡ None) }
         ensures told { receipts.new.items ≡ with_put receipts.old.items result }
     {
-        let (leaf, version) = self.make_put(alloc, at, key, context, kind, value)?;
+        let (home, version) = self.make_put(alloc, at, key, context, kind, value)?;
         let key = key.bytes();
-        self.admit_into(alloc, receipts, leaf, seat, Source::Client, key, version)
+        self.admit_into(alloc, receipts, home, seat, Source::Client, key, version)
     }
 
     /// Accepts a version as `accept` does, for a key that was hashed before, and appends a copy of the receipt, if any,
@@ -57,11 +57,11 @@ impl RangeState {
         ensures accepts { Does result self.old self.new (accept self.old seat source key.now version) }
         ensures told { receipts.new.items ≡ with_sent receipts.old.items result }
     {
-        let Some(leaf) = self.home_of_news(key, &version)? else {
+        let Some(home) = self.home_of_news(key, &version)? else {
             return Ok(Accepted::Known);
         };
         let key = key.bytes();
-        let receipt = self.admit_into(alloc, receipts, leaf, seat, source, key, version)?;
+        let receipt = self.admit_into(alloc, receipts, home, seat, source, key, version)?;
         Ok(Accepted::Taken(receipt))
     }
 
@@ -97,28 +97,29 @@ impl RangeState {
         &mut self,
         alloc: Global,
         receipts: &mut Vec<Receipt>,
-        leaf: u16,
+        home: Home,
         seat: u16,
         source: Source,
         key: &[u8],
         version: Version,
     ) -> Result<Receipt, Refusal>
         requires own { ¬ (source ≡ Source.Partner) }
-        requires fits { IsFitting self.old leaf key.now version }
+        requires fits { IsFitting self.old home.leaf key.now version }
         ensures admits { Does result self.old self.new
             (admit self.old (entry_of self.old seat source key.now version)) }
         ensures told { receipts.new.items ≡ with_put receipts.old.items result }
     {
         self.reserve_entry()?;
         receipts.reserve(1)?;
+        let key = Bytes::copy_of(alloc, key)?;
         let copy = Receipt {
             number: self.journal.len(),
             seat,
             source,
-            key: Bytes::copy_of(alloc, key)?,
+            key: key.try_clone()?,
             version: version.try_clone()?,
         };
-        let receipt = self.admit(alloc, leaf, seat, source, key, version)?;
+        let receipt = self.admit_key(alloc, home, seat, source, &key, version)?;
         receipts.push_reserved(copy);
         Ok(receipt)
     }

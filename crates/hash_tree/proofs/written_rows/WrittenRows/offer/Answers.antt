@@ -18,20 +18,6 @@ total-start-requires c =
     let before = λ (ls : List ℕ). sum_by (λ (n : ℕ). n) (take c.args.at ls) in
     omega (arith, start_within s.format s.rows.items s.lens.items s.text.items c.args.at c.self.invariant, ap before c.deref.ensures.value, s.text.ok.0, s.text.ok.1, s.text.small)
 
-pub overflow_add-end : goal.overflow_add-end
-overflow_add-end c =
-    let s = c.self.inside in
-    let at = c.args.at in
-    let within = within-inside c.args.self.now s.format s.rows.items at c.self.view_is c.requires.at in
-    let begins : c.total-start.result ≡ sum_by (λ (n : ℕ). n) (take at s.lens.items) = c.total-start.ensures ∙ ap (λ (ls : List ℕ). sum_by (λ (n : ℕ). n) (take at ls)) c.deref.ensures.value in
-    omega (arith, end_is s.format s.rows.items s.lens.items s.text.items at c.total-start.result c.index.result.now c.self.invariant within begins c.index.ensures, start_within s.format s.rows.items s.lens.items s.text.items (at + 1) c.self.invariant, s.text.ok.0, s.text.ok.1, s.text.small)
-
-pub overflow_sub-len : goal.overflow_sub-len
-overflow_sub-len c =
-    let s = c.self.inside in
-    let before = λ (ls : List ℕ). sum_by (λ (n : ℕ). n) (take c.args.at ls) in
-    omega (arith, start_within s.format s.rows.items s.lens.items s.text.items c.args.at c.self.invariant, c.total-start.ensures, ap before c.deref.ensures.value, c.len.ensures)
-
 pub returns-in_err-offer : goal.returns-in_err-offer
 returns-in_err-offer c =
     let s = c.self.inside in
@@ -43,65 +29,29 @@ returns-in_err-offer c =
     ap (λ (vs : _). set s.rows.items c.args.at (record { key = old.key; versions = vs })) c.in_err-offer.ensures.err ∙ ap (set s.rows.items c.args.at) c.index_mut-row.ensures.value ∙ set-get_or s.rows.items c.args.at old in
     rw (p.1, p.2) (ap (λ (rs : List Row). record { format = s.format; rows = rs }) same ∙ c.self.view_is, elim c.in_err-offer.ensures.answers [ inl n ↦ inl (n.1, refl) | inr e ↦ absurd (let no : None ≡ Some _ = sym none ∙ e in cc) ])
 
-pub put_row-requires : goal.put_row-requires
-put_row-requires c =
+pub rewrite-requires-clause-within : goal.rewrite-requires-clause-within
+rewrite-requires-clause-within c =
+    let s = c.self.inside in
+    let at = c.args.at in
+    let within = within-inside c.args.self.now s.format s.rows.items at c.self.view_is c.requires.at in
+    let begins : c.total-start.result ≡ sum_by (λ (n : ℕ). n) (take at s.lens.items) = c.total-start.ensures ∙ ap (λ (ls : List ℕ). sum_by (λ (n : ℕ). n) (take at ls)) c.deref.ensures.value in
+    omega (arith, ends_within s.format s.rows.items s.lens.items s.text.items at c.total-start.result c.index.result.now c.self.invariant within begins c.index.ensures, ap length c.make_room.ensures.items)
+
+pub rewrite-requires-clause-fits : goal.rewrite-requires-clause-fits
+rewrite-requires-clause-fits c =
     let s = c.self.inside in
     let within = within-inside c.args.self.now s.format s.rows.items c.args.at c.self.view_is c.requires.at in
     let value = value-inside c.args.self.now s.format s.rows.items c.args.version c.self.view_is c.requires.value in
     rw c.in_ok-offer.ensures.set (fits-at s.format s.rows.items s.lens.items s.text.items c.args.at c.index_mut-row.result.now c.args.version c.self.invariant within c.index_mut-row.ensures.value value)
 
-no_error : {T E P : Type 0} (r : Result T E) → OnErr r P → (P → ⊥) → IsOk r
-no_error (Ok x) h n = refl
-no_error (Err e) h n = absurd (n h)
-
-pub unwrap-requires : goal.unwrap-requires
-unwrap-requires c =
+pub rewrite-requires-clause-room : goal.rewrite-requires-clause-room
+rewrite-requires-clause-room c =
     let s = c.self.inside in
-    let at = c.args.at in
     let len = c.index.result.now in
-    let within = within-inside c.args.self.now s.format s.rows.items at c.self.view_is c.requires.at in
-    let begins : c.total-start.result ≡ sum_by (λ (n : ℕ). n) (take at s.lens.items) = c.total-start.ensures ∙ ap (λ (ls : List ℕ). sum_by (λ (n : ℕ). n) (take at ls)) c.deref.ensures.value in
+    let within = within-inside c.args.self.now s.format s.rows.items c.args.at c.self.view_is c.requires.at in
     let grown : length (row_text s.format (record { key = c.index_mut-row.result.now.key; versions = c.offer.new.self })) ≤ len + c.version_len-more.result =
-    rw c.in_ok-offer.ensures.set (grows-at s.format s.rows.items s.lens.items s.text.items at len c.version_len-more.result c.index_mut-row.result.now c.args.version c.self.invariant within c.index_mut-row.ensures.value c.index.ensures c.version_len-more.ensures.exact) in
-    no_error c.put_row.result c.put_row.ensures.room
-    (λ full. omega (arith, full, grown, ends_within s.format s.rows.items s.lens.items s.text.items at c.total-start.result len c.self.invariant within begins c.index.ensures, c.len.ensures, ap length c.in_ok-tail.ensures.items, c.in_ok-tail.ensures.capacity))
-
-pub replace-requires-clause-ends : goal.replace-requires-clause-ends
-replace-requires-clause-ends c =
-    let s = c.self.inside in
-    let at = c.args.at in
-    let len = c.index.result.now in
-    let within = within-inside c.args.self.now s.format s.rows.items at c.self.view_is c.requires.at in
-    let begins : c.total-start.result ≡ sum_by (λ (n : ℕ). n) (take at s.lens.items) = c.total-start.ensures ∙ ap (λ (ls : List ℕ). sum_by (λ (n : ℕ). n) (take at ls)) c.deref.ensures.value in
-    omega (arith, ends_within s.format s.rows.items s.lens.items s.text.items at c.total-start.result len c.self.invariant within begins c.index.ensures, ap length c.make_room.ensures.items)
-
-pub replace-requires-clause-room : goal.replace-requires-clause-room
-replace-requires-clause-room c =
-    let s = c.self.inside in
-    let at = c.args.at in
-    let len = c.index.result.now in
-    let within = within-inside c.args.self.now s.format s.rows.items at c.self.view_is c.requires.at in
-    let begins : c.total-start.result ≡ sum_by (λ (n : ℕ). n) (take at s.lens.items) = c.total-start.ensures ∙ ap (λ (ls : List ℕ). sum_by (λ (n : ℕ). n) (take at ls)) c.deref.ensures.value in
-    let grown : length (row_text s.format (record { key = c.index_mut-row.result.now.key; versions = c.offer.new.self })) ≤ len + c.version_len-more.result =
-    rw c.in_ok-offer.ensures.set (grows-at s.format s.rows.items s.lens.items s.text.items at len c.version_len-more.result c.index_mut-row.result.now c.args.version c.self.invariant within c.index_mut-row.ensures.value c.index.ensures c.version_len-more.ensures.exact) in
-    let row = row_text s.format (record { key = c.index_mut-row.result.now.key; versions = c.offer.new.self }) in
-    let ok : c.put_row.new.out.items ≡ c.in_ok-tail.tail.items ++ row = rw c.unwrap.ensures at c.put_row.ensures.ok in
-    let written : c.put_row.new.out.items ≡ row = ok ∙ ap (λ (t : List ℕ). t ++ row) c.in_ok-tail.ensures.items in
-    omega (arith, ends_within s.format s.rows.items s.lens.items s.text.items at c.total-start.result len c.self.invariant within begins c.index.ensures, grown, ap length written, ap length c.make_room.ensures.items, c.in_ok-make_room.ensures.room)
-
-pub replace-requires-clause-spare : goal.replace-requires-clause-spare
-replace-requires-clause-spare c =
-    let s = c.self.inside in
-    let at = c.args.at in
-    let len = c.index.result.now in
-    let within = within-inside c.args.self.now s.format s.rows.items at c.self.view_is c.requires.at in
-    let begins : c.total-start.result ≡ sum_by (λ (n : ℕ). n) (take at s.lens.items) = c.total-start.ensures ∙ ap (λ (ls : List ℕ). sum_by (λ (n : ℕ). n) (take at ls)) c.deref.ensures.value in
-    let grown : length (row_text s.format (record { key = c.index_mut-row.result.now.key; versions = c.offer.new.self })) ≤ len + c.version_len-more.result =
-    rw c.in_ok-offer.ensures.set (grows-at s.format s.rows.items s.lens.items s.text.items at len c.version_len-more.result c.index_mut-row.result.now c.args.version c.self.invariant within c.index_mut-row.ensures.value c.index.ensures c.version_len-more.ensures.exact) in
-    let row = row_text s.format (record { key = c.index_mut-row.result.now.key; versions = c.offer.new.self }) in
-    let ok : c.put_row.new.out.items ≡ c.in_ok-tail.tail.items ++ row = rw c.unwrap.ensures at c.put_row.ensures.ok in
-    let written : c.put_row.new.out.items ≡ row = ok ∙ ap (λ (t : List ℕ). t ++ row) c.in_ok-tail.ensures.items in
-    omega (arith, ends_within s.format s.rows.items s.lens.items s.text.items at c.total-start.result len c.self.invariant within begins c.index.ensures, grown, ap length written, ap length c.make_room.ensures.items, c.len.ensures, c.in_ok-tail.ensures.capacity, c.put_row.ensures.grows)
+    rw c.in_ok-offer.ensures.set (grows-at s.format s.rows.items s.lens.items s.text.items c.args.at len c.version_len-more.result c.index_mut-row.result.now c.args.version c.self.invariant within c.index_mut-row.ensures.value c.index.ensures c.version_len-more.ensures.exact) in
+    omega (arith, grown, c.in_ok-make_room.ensures.room)
 
 pub row_len-requires : goal.row_len-requires
 row_len-requires c =
@@ -123,12 +73,9 @@ invariant_of-self-2 c =
     let begins : c.total-start.result ≡ sum_by (λ (n : ℕ). n) (take at s.lens.items) = c.total-start.ensures ∙ ap (λ (ls : List ℕ). sum_by (λ (n : ℕ). n) (take at ls)) c.deref.ensures.value in
     let ends = end_is s.format s.rows.items s.lens.items s.text.items at start c.index.result.now c.self.invariant within begins c.index.ensures in
     let fits : FitsText s.format new = rw c.in_ok-offer.ensures.set (fits-at s.format s.rows.items s.lens.items s.text.items at old c.args.version c.self.invariant within c.index_mut-row.ensures.value value) in
-    let row = row_text s.format (record { key = c.index_mut-row.result.now.key; versions = c.offer.new.self }) in
-    let ok : c.put_row.new.out.items ≡ c.in_ok-tail.tail.items ++ row = rw c.unwrap.ensures at c.put_row.ensures.ok in
-    let written : c.put_row.new.out.items ≡ row = ok ∙ ap (λ (t : List ℕ). t ++ row) c.in_ok-tail.ensures.items in
-    let now : c.replace.new.text.items ≡ take start s.text.items ++ row_text s.format new ++ drop end s.text.items =
-    c.replace.ensures ∙ ap (λ (t : List ℕ). take start t ++ c.put_row.new.out.items ++ drop end t) c.make_room.ensures.items ∙ ap (λ (t : List ℕ). take start s.text.items ++ t ++ drop end s.text.items) written in
-    keeps-set s.format s.rows.items s.lens.items s.text.items at c.row_len.result start end new c.replace.new.text.items c.self.invariant within fits c.row_len.ensures.exact begins ends now
+    let now : c.rewrite.new.text.items ≡ take start s.text.items ++ row_text s.format new ++ drop end s.text.items =
+    c.rewrite.ensures ∙ ap (λ (t : List ℕ). take start t ++ row_text s.format new ++ drop end t) c.make_room.ensures.items in
+    keeps-set s.format s.rows.items s.lens.items s.text.items at c.row_len.result start end new c.rewrite.new.text.items c.self.invariant within fits c.row_len.ensures.exact begins ends now
 
 pub returns : goal.returns
 returns c =

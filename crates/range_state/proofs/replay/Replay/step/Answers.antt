@@ -14,17 +14,17 @@ use Rattle.range_state.proofs.replay.Replay.step.Goals as goal
 
 pub offer-requires-clause-leaf : goal.offer-requires-clause-leaf
 offer-requires-clause-leaf c =
-    let at : c.leaf_of-leaf.result ≡ leaf_in c.self.inside.config c.as_slice-key.result.now = c.leaf_of-leaf.ensures ∙ ap (λ (r : Replayed). leaf_in r.config c.as_slice-key.result.now) (sym c.self.view_is) in
-    leaf_there c.self.inside.config _ c.self.inside.leaves c.leaf_of-leaf.result c.as_slice-key.result.now c.self.invariant.1 at
+    let at : c.leaf_of-leaf.result ≡ leaf_in c.self.inside.config c.as_slice.result.now = c.leaf_of-leaf.ensures ∙ ap (λ (r : Replayed). leaf_in r.config c.as_slice.result.now) (sym c.self.view_is) in
+    leaf_there c.self.inside.config _ c.self.inside.leaves c.leaf_of-leaf.result c.as_slice.result.now c.self.invariant.1 at
 
 pub offer-requires-clause-value : goal.offer-requires-clause-value
 offer-requires-clause-value c =
     let r : Replayed = record { config = c.self.inside.config; entries = c.self.inside.entries.now; front = c.self.inside.front } in
     let e : Entry = c.index-self-self.result in
     let below : r.front < length r.entries = subst (λ (x : Replayed). x.front < length x.entries) (sym c.self.view_is) c.requires in
-    let at : c.leaf_of-leaf.result ≡ leaf_in r.config c.as_slice-key.result.now = c.leaf_of-leaf.ensures ∙ ap (λ (x : Replayed). leaf_in x.config c.as_slice-key.result.now) (sym c.self.view_is) in
-    let is = nth_is c.self.inside.leaves c.leaf_of-leaf.result (leaf_there c.self.inside.config _ c.self.inside.leaves c.leaf_of-leaf.result c.as_slice-key.result.now c.self.invariant.1 at) in
-    let format = leaf_format r.config _ c.self.inside.leaves c.leaf_of-leaf.result c.as_slice-key.result.now (nth_leaf c.self.inside.leaves c.leaf_of-leaf.result) c.self.invariant.1 at is in
+    let at : c.leaf_of-leaf.result ≡ leaf_in r.config c.as_slice.result.now = c.leaf_of-leaf.ensures ∙ ap (λ (x : Replayed). leaf_in x.config c.as_slice.result.now) (sym c.self.view_is) in
+    let is = nth_is c.self.inside.leaves c.leaf_of-leaf.result (leaf_there c.self.inside.config _ c.self.inside.leaves c.leaf_of-leaf.result c.as_slice.result.now c.self.invariant.1 at) in
+    let format = leaf_format r.config _ c.self.inside.leaves c.leaf_of-leaf.result c.as_slice.result.now (nth_leaf c.self.inside.leaves c.leaf_of-leaf.result) c.self.invariant.1 at is in
     let copy : c.in_ok-version.version ≡ e.version = c.in_ok-version.ensures.1 ∙ ap (λ (x : Entry). x.version) (sym c.index-self-self.is) in
     (λ i. value_fault (format i) (copy i).kind (copy i).value) ∙ (next_own r e c.self.invariant.0 below c.index-self-self.is).value
 
@@ -32,12 +32,12 @@ pub offer-requires-clause-room : goal.offer-requires-clause-room
 offer-requires-clause-room c =
     let r : Replayed = record { config = c.self.inside.config; entries = c.self.inside.entries.now; front = c.self.inside.front } in
     let e : Entry = c.index-self-self.result in
-    let key = c.as_slice-key.result.now in
-    let same : key ≡ e.key = c.as_slice-key.ensures ∙ ap (λ (x : Entry). x.key) (sym c.index-self-self.is) in
+    let key = c.as_slice.result.now in
+    let same : key ≡ e.key = c.as_slice.ensures ∙ ap (λ (x : Entry). x.key) (sym c.index-self-self.is) in
     let copy : c.in_ok-version.version ≡ e.version = c.in_ok-version.ensures.1 ∙ ap (λ (x : Entry). x.version) (sym c.index-self-self.is) in
     let below : r.front < length r.entries = subst (λ (x : Replayed). x.front < length x.entries) (sym c.self.view_is) c.requires in
     let at : c.leaf_of-leaf.result ≡ leaf_in r.config key = c.leaf_of-leaf.ensures ∙ ap (λ (x : Replayed). leaf_in x.config key) (sym c.self.view_is) in
-    let is = nth_is c.self.inside.leaves c.leaf_of-leaf.result (leaf_there c.self.inside.config _ c.self.inside.leaves c.leaf_of-leaf.result c.as_slice-key.result.now c.self.invariant.1 at) in
+    let is = nth_is c.self.inside.leaves c.leaf_of-leaf.result (leaf_there c.self.inside.config _ c.self.inside.leaves c.leaf_of-leaf.result c.as_slice.result.now c.self.invariant.1 at) in
     let was : versions_in key (nth_leaf c.self.inside.leaves c.leaf_of-leaf.result).rows ≡ held (take r.front r.entries) e.key = leaf_holds_key r.config _ c.self.inside.leaves c.leaf_of-leaf.result key (nth_leaf c.self.inside.leaves c.leaf_of-leaf.result) c.self.invariant.1 at is ∙ ap (held (take r.front r.entries)) same in
     next_fits r e c.in_ok-version.version _ c.self.invariant.0 below c.index-self-self.is copy was
 
@@ -50,8 +50,8 @@ pub invariant_of-self-2 : goal.invariant_of-self-2
 invariant_of-self-2 c =
     let r : Replayed = record { config = c.self.inside.config; entries = c.self.inside.entries.now; front = c.self.inside.front } in
     let e : Entry = c.index-self-self.result in
-    let key = c.as_slice-key.result.now in
-    let same : key ≡ e.key = c.as_slice-key.ensures ∙ ap (λ (x : Entry). x.key) (sym c.index-self-self.is) in
+    let key = c.as_slice.result.now in
+    let same : key ≡ e.key = c.as_slice.ensures ∙ ap (λ (x : Entry). x.key) (sym c.index-self-self.is) in
     let copy : c.in_ok-version.version ≡ e.version = c.in_ok-version.ensures.1 ∙ ap (λ (x : Entry). x.version) (sym c.index-self-self.is) in
     let ok = c.self.invariant.0 in
     let below : r.front < length r.entries = subst (λ (x : Replayed). x.front < length x.entries) (sym c.self.view_is) c.requires in

@@ -13,6 +13,6 @@ returns-clause-made c =
     let v : Version = record { clock = c.in_ok-clock.clock; kind = c.args.kind; value = c.args.value } in
     let here : place_fault s.config key c.args.kind c.args.value ≡ None = ap (place_fault s.config key c.args.kind) (sym c.as_slice.ensures) ∙ c.in_ok-leaf.ensures.0 in
     let is : v ≡ put_version c.args.at c.args.context.now c.args.kind c.args.value = search rules in
-    let stale = subst (λ (S : List Version). stale_fault S v.clock ≡ None) c.find_in-set.ensures.set c.in_ok-check_context.ensures.0 in
-    let fits : offer_fault v (held s.entries key) ≡ None = rw (c.find_in-set.ensures.set, c.if-crowds.false) at c.crowds.ensures in
+    let stale = subst (λ (S : List Version). stale_fault S v.clock ≡ None) c.search.ensures.set c.in_ok-check_context.ensures.0 in
+    let fits : offer_fault v (held s.entries key) ≡ None = rw (c.search.ensures.set, c.if-crowds.false) at c.crowds.ensures in
     fitting_put s c.in_ok-leaf.leaf c.args.at key c.args.context.now c.args.kind c.args.value v c.in_ok-leaf.ensures.1 here c.in_ok-clock.ensures.answers.0 is c.pairs-valid.ensures.valid stale fits

@@ -13,26 +13,26 @@ use Rattle.range_state.proofs.state.RangeState.prepare_version.Goals as goal
 pub returns-then-covers-clause-answers : goal.returns-then-covers-clause-answers
 returns-then-covers-clause-answers c =
     let a = c.args.batch.now in
-    let known : covered c.args.version.now (versions_in c.args.key.now a.leaf.rows) ≡ true = cc (c.covers.ensures, c.if-covers.true, c.find-set.ensures.found) in
+    let known : covered c.args.version.now (versions_in c.args.key.now a.leaf.rows) ≡ true = cc (c.covers.ensures, c.if-covers.true, c.search.ensures.found, c.as_slice.ensures) in
     let b : Batch = record { leaf = a.leaf; entries = a.entries; receipts = a.receipts; known = a.known + 1 } in
     ((known_next c.args.self.now c.args.seat c.args.leaf c.args.key.now c.args.version.now a b c.requires.batch c.requires.leaf known (λ i. b)).0, tt)
 
 pub returns-then-covers-clause-ok : goal.returns-then-covers-clause-ok
 returns-then-covers-clause-ok c =
     let a = c.args.batch.now in
-    let known : covered c.args.version.now (versions_in c.args.key.now a.leaf.rows) ≡ true = cc (c.covers.ensures, c.if-covers.true, c.find-set.ensures.found) in
+    let known : covered c.args.version.now (versions_in c.args.key.now a.leaf.rows) ≡ true = cc (c.covers.ensures, c.if-covers.true, c.search.ensures.found, c.as_slice.ensures) in
     let b : Batch = record { leaf = a.leaf; entries = a.entries; receipts = a.receipts; known = a.known + 1 } in
     (known_next c.args.self.now c.args.seat c.args.leaf c.args.key.now c.args.version.now a b c.requires.batch c.requires.leaf known (λ i. b)).1
 
 pub returns-then-crowds-clause-answers : goal.returns-then-crowds-clause-answers
 returns-then-crowds-clause-answers c =
     let a = c.args.batch.now in
-    let full : offer_fault c.args.version.now (versions_in c.args.key.now a.leaf.rows) ≡ Some Crowded = rw (c.find-set.ensures.found, c.if-crowds.true) at c.crowds.ensures in
+    let full : offer_fault c.args.version.now (versions_in c.args.key.now a.leaf.rows) ≡ Some Crowded = rw (c.search.ensures.found, c.as_slice.ensures, c.if-crowds.true) at c.crowds.ensures in
     inr (crowded_next c.args.self.now c.args.seat c.args.leaf c.args.key.now c.args.version.now a Crowded c.requires.batch c.requires.leaf full)
 
 pub offer-requires-clause-room : goal.offer-requires-clause-room
 offer-requires-clause-room c =
-    let fits : offer_fault c.args.version.now (versions_in c.args.key.now c.args.batch.now.leaf.rows) ≡ None = rw (c.find-set.ensures.found, c.if-crowds.false) at c.crowds.ensures in
+    let fits : offer_fault c.args.version.now (versions_in c.args.key.now c.args.batch.now.leaf.rows) ≡ None = rw (c.search.ensures.found, c.as_slice.ensures, c.if-crowds.false) at c.crowds.ensures in
     ap (λ (v : Version). offer_fault v (versions_in c.args.key.now c.args.batch.now.leaf.rows)) c.in_ok-row_version.ensures.1 ∙ fits
 
 pub returns-clause-answers : goal.returns-clause-answers
@@ -40,8 +40,8 @@ returns-clause-answers c =
     let s = c.args.self.now in
     let a = c.args.batch.now in
     let b : Batch = record { leaf = c.offer.new.self; entries = c.push.new.self; receipts = c.push-2.new.self; known = a.known } in
-    let fresh : covered c.args.version.now (versions_in c.args.key.now a.leaf.rows) ≡ false = cc (c.covers.ensures, c.if-covers.false, c.find-set.ensures.found) in
-    let fits : offer_fault c.args.version.now (versions_in c.args.key.now a.leaf.rows) ≡ None = rw (c.find-set.ensures.found, c.if-crowds.false) at c.crowds.ensures in
+    let fresh : covered c.args.version.now (versions_in c.args.key.now a.leaf.rows) ≡ false = cc (c.covers.ensures, c.if-covers.false, c.search.ensures.found, c.as_slice.ensures) in
+    let fits : offer_fault c.args.version.now (versions_in c.args.key.now a.leaf.rows) ≡ None = rw (c.search.ensures.found, c.as_slice.ensures, c.if-crowds.false) at c.crowds.ensures in
     let number : c.len.result + c.len-2.result ≡ length s.entries + length a.entries.items = omega (arith, c.len.ensures.count, c.len-2.ensures, ap (λ (t : State). length t.entries) c.self.view_is) in
     let made : c.in_ok-entry.entry ≡ record { number = length s.entries + length a.entries.items; seat = c.args.seat; source = Partner; key = c.args.key.now; version = c.args.version.now } =
     c.in_ok-entry.ensures.1 ∙ ap (λ (n : ℕ). record { number = n; seat = c.args.seat; source = Partner; key = c.args.key.now; version = c.args.version.now }) number in
@@ -56,8 +56,8 @@ returns-clause-ok c =
     let s = c.args.self.now in
     let a = c.args.batch.now in
     let b : Batch = record { leaf = c.offer.new.self; entries = c.push.new.self; receipts = c.push-2.new.self; known = a.known } in
-    let fresh : covered c.args.version.now (versions_in c.args.key.now a.leaf.rows) ≡ false = cc (c.covers.ensures, c.if-covers.false, c.find-set.ensures.found) in
-    let fits : offer_fault c.args.version.now (versions_in c.args.key.now a.leaf.rows) ≡ None = rw (c.find-set.ensures.found, c.if-crowds.false) at c.crowds.ensures in
+    let fresh : covered c.args.version.now (versions_in c.args.key.now a.leaf.rows) ≡ false = cc (c.covers.ensures, c.if-covers.false, c.search.ensures.found, c.as_slice.ensures) in
+    let fits : offer_fault c.args.version.now (versions_in c.args.key.now a.leaf.rows) ≡ None = rw (c.search.ensures.found, c.as_slice.ensures, c.if-crowds.false) at c.crowds.ensures in
     let number : c.len.result + c.len-2.result ≡ length s.entries + length a.entries.items = omega (arith, c.len.ensures.count, c.len-2.ensures, ap (λ (t : State). length t.entries) c.self.view_is) in
     let made : c.in_ok-entry.entry ≡ record { number = length s.entries + length a.entries.items; seat = c.args.seat; source = Partner; key = c.args.key.now; version = c.args.version.now } =
     c.in_ok-entry.ensures.1 ∙ ap (λ (n : ℕ). record { number = n; seat = c.args.seat; source = Partner; key = c.args.key.now; version = c.args.version.now }) number in

@@ -3,13 +3,13 @@ use Rattle.std.proofs.lemmas.Result.{err_from_is_err_and}
 use Rattle.range_state.proofs.FittingLaws.{put_refused}
 use Rattle.range_state.proofs.state.RangeState.put.Goals as goal
 
-pub returns-in_err-leaf-clause-puts : goal.returns-in_err-leaf-clause-puts
-returns-in_err-leaf-clause-puts c =
+pub returns-in_err-home-clause-puts : goal.returns-in_err-home-clause-puts
+returns-in_err-home-clause-puts c =
     let p = err_from_is_err_and c.from_residual.result c.from_residual.ensures.1 in
     rw (p.1, p.2) (
       refl,
-      elim c.in_err-leaf.ensures.made [
+      elim c.in_err-home.ensures.made [
         | inl none ↦ inl none
-        | inr fault ↦ inr (put_refused c.args.self.now c.args.seat c.args.at c.args.key.now c.args.context.now c.args.kind c.args.value c.in_err-leaf.field-0.0 (rw c.new-hashed.ensures at fault))
+        | inr fault ↦ inr (put_refused c.args.self.now c.args.seat c.args.at c.args.key.now c.args.context.now c.args.kind c.args.value c.in_err-home.field-0.0 (rw c.new-hashed.ensures at fault))
       ],
     )
