@@ -1,4 +1,4 @@
-use Rattle.std.proofs.Common.{◌≡◌, ◌+◌, ◌<◌, length, take, sym, ap, subst, ◌∙◌, arith, inl, refl}
+use Rattle.std.proofs.Common.{◌≡◌, ◌+◌, ◌<◌, length, take, get_or, sym, ap, subst, ◌∙◌, arith, inl, refl}
 use Rattle.std.proofs.lemmas.Result.{err_from_is_err_and}
 use Rattle.version_set.specs.Kind.{value_fault}
 use Rattle.range_journal.specs.declared.journal.Entry.{Entry}
@@ -32,13 +32,14 @@ pub offer-requires-clause-room : goal.offer-requires-clause-room
 offer-requires-clause-room c =
     let r : Replayed = record { config = c.self.inside.config; entries = c.self.inside.entries.now; front = c.self.inside.front } in
     let e : Entry = c.index-self-self.result in
-    let key = c.as_slice.result.now in
-    let same : key ≡ e.key = c.as_slice.ensures ∙ ap (λ (x : Entry). x.key) (sym c.index-self-self.is) in
+    let key = (get_or c.self.inside.entries.now c.self.inside.front e).key in
+    let same : key ≡ e.key = ap (λ (x : Entry). x.key) (sym c.index-self-self.is) in
     let copy : c.in_ok-version.version ≡ e.version = c.in_ok-version.ensures.1 ∙ ap (λ (x : Entry). x.version) (sym c.index-self-self.is) in
     let below : r.front < length r.entries = subst (λ (x : Replayed). x.front < length x.entries) (sym c.self.view_is) c.requires in
-    let at : c.leaf_of-leaf.result ≡ leaf_in r.config key = c.leaf_of-leaf.ensures ∙ ap (λ (x : Replayed). leaf_in x.config key) (sym c.self.view_is) in
-    let is = nth_is c.self.inside.leaves c.leaf_of-leaf.result (leaf_there c.self.inside.config _ c.self.inside.leaves c.leaf_of-leaf.result c.as_slice.result.now c.self.invariant.1 at) in
-    let was : versions_in key (nth_leaf c.self.inside.leaves c.leaf_of-leaf.result).rows ≡ held (take r.front r.entries) e.key = leaf_holds_key r.config _ c.self.inside.leaves c.leaf_of-leaf.result key (nth_leaf c.self.inside.leaves c.leaf_of-leaf.result) c.self.invariant.1 at is ∙ ap (held (take r.front r.entries)) same in
+    let at : c.leaf_of-leaf.result ≡ leaf_in r.config key = c.leaf_of-leaf.ensures ∙ (λ i. leaf_in (sym c.self.view_is i).config (c.as_slice.ensures i)) in
+    let is = nth_is c.self.inside.leaves c.leaf_of-leaf.result (leaf_there c.self.inside.config _ c.self.inside.leaves c.leaf_of-leaf.result key c.self.invariant.1 at) in
+    let was : versions_in key (nth_leaf c.self.inside.leaves c.leaf_of-leaf.result).rows ≡ held (take r.front r.entries) e.key =
+    leaf_holds_key r.config _ c.self.inside.leaves c.leaf_of-leaf.result key (nth_leaf c.self.inside.leaves c.leaf_of-leaf.result) c.self.invariant.1 at is ∙ ap (held (take r.front r.entries)) same in
     next_fits r e c.in_ok-version.version _ c.self.invariant.0 below c.index-self-self.is copy was
 
 pub returns-in_err-offer : goal.returns-in_err-offer
@@ -50,12 +51,12 @@ pub invariant_of-self-2 : goal.invariant_of-self-2
 invariant_of-self-2 c =
     let r : Replayed = record { config = c.self.inside.config; entries = c.self.inside.entries.now; front = c.self.inside.front } in
     let e : Entry = c.index-self-self.result in
-    let key = c.as_slice.result.now in
-    let same : key ≡ e.key = c.as_slice.ensures ∙ ap (λ (x : Entry). x.key) (sym c.index-self-self.is) in
+    let key = (get_or c.self.inside.entries.now c.self.inside.front e).key in
+    let same : key ≡ e.key = ap (λ (x : Entry). x.key) (sym c.index-self-self.is) in
     let copy : c.in_ok-version.version ≡ e.version = c.in_ok-version.ensures.1 ∙ ap (λ (x : Entry). x.version) (sym c.index-self-self.is) in
     let ok = c.self.invariant.0 in
     let below : r.front < length r.entries = subst (λ (x : Replayed). x.front < length x.entries) (sym c.self.view_is) c.requires in
-    let at : c.leaf_of-leaf.result ≡ leaf_in r.config e.key = c.leaf_of-leaf.ensures ∙ ap (λ (x : Replayed). leaf_in x.config key) (sym c.self.view_is) ∙ ap (leaf_in r.config) same in
+    let at : c.leaf_of-leaf.result ≡ leaf_in r.config e.key = c.leaf_of-leaf.ensures ∙ (λ i. leaf_in (sym c.self.view_is i).config (c.as_slice.ensures i)) ∙ ap (leaf_in r.config) same in
     let b = nth_leaf c.self.inside.leaves c.leaf_of-leaf.result in
     let is = nth_is c.self.inside.leaves c.leaf_of-leaf.result (leaf_there c.self.inside.config _ c.self.inside.leaves c.leaf_of-leaf.result e.key c.self.invariant.1 at) in (
       record {

@@ -16,12 +16,10 @@ returns-in_err-prepare_version-clause-answers c =
     let i = c.loop-version.version-index in
     let v = c.version-item.result in
     let f : Version → List ℕ × Version = λ w. (key, w) in
-    let offer : ◌≡◌ {A = Offers} ((c.as_slice.result.now, v) ∷ []) (f v ∷ []) = ap (λ (k : List ℕ). (k, v) ∷ []) c.as_slice.ensures in
     let all : offers_in c.args.row.now ≡ (map f (take i vs) ++ f v ∷ []) ++ map f (drop (i + 1) vs) =
     ap (map f) (sym c.as_slice-version-items.ensures.all) ∙ map_split f vs (i + 1) ∙ ap (λ (os : Offers). os ++ map f (drop (i + 1) vs)) (map_next f vs i v c.loop-version-test.true c.version-item.is) in
     let p = err_from_is_err_and c.from_residual.result c.from_residual.ensures.1 in
-    let told = subst (λ (os : Offers). (c.in_err-prepare_version.field-0.0 ≡ NoMemory) ⊎ (crowded_in (ahead s c.loop-version.batch) c.args.seat os ≡ Some c.in_err-prepare_version.field-0.0)) offer c.in_err-prepare_version.ensures.answers in
-    rw (p.1, p.2) (going_err s c.args.seat c.args.leaf (map f (take i vs)) (f v ∷ []) (map f (drop (i + 1) vs)) (offers_in c.args.row.now) c.args.batch.now c.loop-version.batch c.in_err-prepare_version.field-0.0 c.loop-version.invariant all told)
+    rw (p.1, p.2) (going_err s c.args.seat c.args.leaf (map f (take i vs)) (f v ∷ []) (map f (drop (i + 1) vs)) (offers_in c.args.row.now) c.args.batch.now c.loop-version.batch c.in_err-prepare_version.field-0.0 c.loop-version.invariant all c.in_err-prepare_version.ensures.answers)
 
 pub loop-version-preserved : goal.loop-version-preserved
 loop-version-preserved c =
@@ -31,7 +29,4 @@ loop-version-preserved c =
     let i = c.loop-version.version-index in
     let v = c.version-item.result in
     let f : Version → List ℕ × Version = λ w. (key, w) in
-    let offer : ◌≡◌ {A = Offers} ((c.as_slice.result.now, v) ∷ []) (f v ∷ []) = ap (λ (k : List ℕ). (k, v) ∷ []) c.as_slice.ensures in
-    let none = subst (λ (os : Offers). crowded_in (ahead s c.loop-version.batch) c.args.seat os ≡ None) offer c.in_ok-prepare_version.ensures.answers.0 in
-    let next = subst (λ (os : Offers). IsPrepared s c.args.seat c.args.leaf os c.loop-version.batch c.prepare_version.new.batch) offer c.in_ok-prepare_version.ensures.ok in
-    going_more s c.args.seat c.args.leaf (map f (take i vs)) (f v ∷ []) (map f (take (i + 1) vs)) c.args.batch.now c.loop-version.batch c.prepare_version.new.batch c.loop-version.invariant (map_next f vs i v c.loop-version-test.true c.version-item.is) none next
+    going_more s c.args.seat c.args.leaf (map f (take i vs)) (f v ∷ []) (map f (take (i + 1) vs)) c.args.batch.now c.loop-version.batch c.prepare_version.new.batch c.loop-version.invariant (map_next f vs i v c.loop-version-test.true c.version-item.is) c.in_ok-prepare_version.ensures.answers.0 c.in_ok-prepare_version.ensures.ok
