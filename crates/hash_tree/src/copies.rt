@@ -24,6 +24,30 @@ pub(crate) fn no_blocks(alloc: Global, format: Format) -> Result<Vec<Option<Dige
     Ok(blocks)
 }
 
+/// Adds an owner to each copy, and returns the copies. Refused: NoMemory. Copies no digest.
+pub(crate) fn share_copies(
+    alloc: Global,
+    blocks: &[Option<DigestBlock>],
+) -> Result<Vec<Option<DigestBlock>>, Refusal>
+    ensures { Answers result None (λ shared. shared.items ≡ blocks.now) }
+{
+    let mut shared = Vec::with_capacity(alloc, blocks.len())?;
+    for block in blocks {
+        shared.push(share_copy(block)?)?;
+    }
+    Ok(shared)
+}
+
+/// Adds an owner to a copy, if there is one, and returns its handle. Refused: NoMemory.
+fn share_copy(copy: &Option<DigestBlock>) -> Result<Option<DigestBlock>, Refusal>
+    ensures { Answers result None (λ shared. shared ≡ copy.now) }
+{
+    match copy {
+        Some(block) => Ok(Some(block.share()?)),
+        None => Ok(None),
+    }
+}
+
 /// Drops the copies of the blocks that have a leaf or a node above it.
 pub(crate) fn drop_path(format: Format, leaf: u16, blocks: &mut [Option<DigestBlock>])
     requires leaf { leaf < 16 ^ tree_depth format }

@@ -2,6 +2,7 @@
 //! change leaves, to write the texts of nodes, and to record which nodes are clean.
 //!
 //! - [`shared_leaf`]: the rows of one leaf, in order of key, with any number of owners.
+//! - [`row_runs`]: the rows of a leaf, to be read a run at a time.
 //! - [`leaves`]: the leaves of a range, in blocks that the range and its snapshots share.
 //! - [`node`]: nodes by depth and index.
 //! - [`text`], [`digest`]: texts, and texts with their digests.
@@ -28,6 +29,7 @@ mod leaf_block;
 pub mod leaves;
 pub mod marks;
 pub mod node;
+pub mod row_runs;
 pub mod shared_digests;
 pub mod shared_leaf;
 pub mod text;
@@ -40,6 +42,7 @@ pub use digest::{Digest, Hashed, hash};
 pub use leaves::Leaves;
 pub use marks::Marks;
 pub use node::{NodeAt, tree_depth};
+pub use row_runs::RowRuns;
 pub use shared_digests::SharedDigests;
 pub use shared_leaf::SharedLeaf;
 pub use text::Text;

@@ -3,7 +3,7 @@ ghost use Rattle.std.specs.Prelude.{◌≡◌, ◌+◌, ◌/◌, ◌<◌, ◌≤
 ghost use Rattle.vclock.specs.Answer.{Answers};
 ghost use Rattle.hash_tree.specs.Nodes.{tree_depth, nodes_above, node_count, place_at, kept_digest, children_of, are_clean, is_ready, ready_from, dirtied, dirty_count, IsTree};
 
-use crate::copies::{drop_block, drop_path, fill_blocks, no_blocks, share_blocks};
+use crate::copies::{drop_block, drop_path, fill_blocks, no_blocks, share_blocks, share_copies};
 use crate::digest::Digest;
 use crate::digest_block::DigestBlock;
 use crate::node::{NodeAt, tree_depth};
@@ -49,6 +49,18 @@ impl Marks {
             digests,
             blocks: no_blocks(alloc, format)?,
             whole: None,
+        })
+    }
+
+    /// Copies the digests, and shares the copies of blocks. Refused: NoMemory.
+    pub fn try_clone(&self, alloc: Global) -> Result<Marks, Refusal>
+        ensures { Answers result None (λ copy. copy ≡ self.now) }
+    {
+        Ok(Marks {
+            format: self.format,
+            digests: copy_digests(alloc, &self.digests)?,
+            blocks: share_copies(alloc, &self.blocks)?,
+            whole: share_whole(&self.whole)?,
         })
     }
 
@@ -199,6 +211,27 @@ fn count_of(format: Format) -> usize
     match format {
         Format::One => 273,
         Format::Two => 4_369,
+    }
+}
+
+/// Copies digests. Refused: NoMemory.
+fn copy_digests(alloc: Global, digests: &[Option<Digest>]) -> Result<Vec<Option<Digest>>, Refusal>
+    ensures { Answers result None (λ copy. copy.items ≡ digests.now) }
+{
+    let mut copy = Vec::with_capacity(alloc, digests.len())?;
+    for digest in digests {
+        copy.push(*digest)?;
+    }
+    Ok(copy)
+}
+
+/// Adds an owner to the digests of all nodes, if they are there, and returns their handle. Refused: NoMemory.
+fn share_whole(whole: &Option<SharedDigests>) -> Result<Option<SharedDigests>, Refusal>
+    ensures { Answers result None (λ shared. shared ≡ whole.now) }
+{
+    match whole {
+        Some(digests) => Ok(Some(digests.share()?)),
+        None => Ok(None),
     }
 }
 

@@ -16,6 +16,7 @@ ghost use Rattle.hash_tree.specs.Texts.{leaf_text};
 use crate::chunk::Chunk;
 use crate::chunks::{Spot, offer_to_key, share_chunks, spot_of, text_len};
 use crate::comparison::is_chunked_text;
+use crate::row_runs::RowRuns;
 use crate::texts::put_chunks;
 use row_bytes::Row;
 use std::alloc::{AllocError, Global};
@@ -161,6 +162,13 @@ impl SharedLeaf {
         let chunk = &chunks[spot.chunk];
         let (_, rows) = chunk.rows().split_at(spot.at);
         Some((rows, chunk.texts_from(spot.at)))
+    }
+
+    /// Returns all rows, to be read a run at a time. Doesn't allocate.
+    pub fn runs(&self) -> RowRuns<'_>
+        ensures { result ≡ self.now.rows }
+    {
+        RowRuns::of(self.chunks())
     }
 
     /// Offers a version to the set of a key, which has room for it. If the key has no row, one is added. Looks for the

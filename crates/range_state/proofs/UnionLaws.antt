@@ -92,7 +92,7 @@ or_swap true false = refl
 or_swap false true = refl
 or_swap false false = refl
 
-any_listed : (p : Version → Bool) (vs : List Version) → list_any p (set_from [] vs) ≡ list_any p vs
+pub any_listed : (p : Version → Bool) (vs : List Version) → list_any p (set_from [] vs) ≡ list_any p vs
 any_listed p vs = any-set_from p [] vs ∙ or_swap (list_any p vs) false
 
 same_listed : (xs ys : List Version) → ((p : Version → Bool) → list_any p xs ≡ list_any p ys) → set_from [] xs ≡ set_from [] ys
@@ -180,7 +180,7 @@ leaves_hold s seat other known (n ∷ leaves) key fits =
 
 -- ---- the offers of rows
 
-offers_for-append : (key : List ℕ) (xs ys : Offers) → offers_for key (xs ++ ys) ≡ offers_for key xs ++ offers_for key ys
+pub offers_for-append : (key : List ℕ) (xs ys : Offers) → offers_for key (xs ++ ys) ≡ offers_for key xs ++ offers_for key ys
 offers_for-append key [] ys = refl
 offers_for-append key (x ∷ xs) ys = by_key (pointwise nat_eq x.0 key) (offers_for-append key xs ys)
   where
@@ -196,7 +196,7 @@ of_other : (key k : List ℕ) (vs : List Version) → pointwise nat_eq k key ≡
 of_other key k [] is = refl
 of_other key k (v ∷ vs) is = rw is (of_other key k vs is)
 
-none_of : (key : List ℕ) (rows : List Row) → AllByRecursion (λ (r : Row). pointwise nat_eq r.key key ≡ false) rows → offers_for key (offers_of rows) ≡ []
+pub none_of : (key : List ℕ) (rows : List Row) → AllByRecursion (λ (r : Row). pointwise nat_eq r.key key ≡ false) rows → offers_for key (offers_of rows) ≡ []
 none_of key [] all = refl
 none_of key (r ∷ rows) all =
     offers_for-append key (offers_in r) (offers_of rows)
@@ -214,7 +214,7 @@ append_none [] = refl
 append_none (v ∷ vs) = ap (λ (ws : List Version). v ∷ ws) (append_none vs)
 
 -- the offers that rows make for a key are the versions that they have for it
-for_rows : (key : List ℕ) (rows : List Row) → AscendByKey rows → offers_for key (offers_of rows) ≡ versions_in key rows
+pub for_rows : (key : List ℕ) (rows : List Row) → AscendByKey rows → offers_for key (offers_of rows) ≡ versions_in key rows
 for_rows key [] a = refl
 for_rows key (r ∷ rows) a =
     offers_for-append key (offers_in r) (offers_of rows)
@@ -231,7 +231,7 @@ for_rows key (r ∷ rows) a =
     ] refl
 
 -- a leaf that is not the key's offers nothing for it
-other_leaf : (leaf : List ℕ → ℕ) (i : ℕ) (key : List ℕ) (rows : List Row) → nat_eq i (leaf key) ≡ false → AllByRecursion (λ (r : Row). pointwise nat_eq r.key key ≡ false) (rows_in_leaf leaf i rows)
+pub other_leaf : (leaf : List ℕ → ℕ) (i : ℕ) (key : List ℕ) (rows : List Row) → nat_eq i (leaf key) ≡ false → AllByRecursion (λ (r : Row). pointwise nat_eq r.key key ≡ false) (rows_in_leaf leaf i rows)
 other_leaf leaf i key [] away = tt
 other_leaf leaf i key (r ∷ rows) away = by_leaf (nat_eq (leaf r.key) i) refl (other_leaf leaf i key rows away)
   where

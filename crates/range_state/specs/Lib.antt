@@ -10,6 +10,7 @@ pub mod Unions
 pub mod Reconciles
 pub mod Batches
 pub mod Migrates
+pub mod Renewals
 pub mod Trees
 pub mod Run
 pub mod Replays

@@ -1,7 +1,8 @@
 //! The configuration of a range.
 ghost use Rattle.std.specs.Prelude.{◌≡◌, ◌<◌, ◌^◌, IsTrue};
-ghost use Rattle.range_state.specs.Config.{config_of, is_config};
+ghost use Rattle.range_state.specs.Config.{checked, config_of, is_config};
 ghost use Rattle.range_state.specs.Migrates.{config_in_two};
+ghost use Rattle.range_state.specs.Renewals.{config_to};
 
 use std::marker::Model;
 use vclock::Format;
@@ -73,6 +74,16 @@ impl RangeConfig {
             format: Format::Two,
             ..*self
         }
+    }
+
+    /// Returns this configuration with another limit, or `None` if the limit isn't 1 to 1,000,000.
+    pub(crate) fn with_limit(&self, limit: u64) -> Option<RangeConfig>
+        ensures { result ≡ checked (config_to self.now limit) }
+    {
+        if limit == 0 || limit > ENTRIES_MAX {
+            return None;
+        }
+        Some(RangeConfig { limit, ..*self })
     }
 
     /// The format of rows and tree.

@@ -1,5 +1,5 @@
 //! Laws of rows and sessions, proved from their definitions.
-ghost use Rattle.std.specs.Prelude.{◌≡◌, ◌≢◌, ◌≤◌, ◌↔◌, [], ℕ, List, None, Any, Contains, true};
+ghost use Rattle.std.specs.Prelude.{◌≡◌, ◌≢◌, ◌≤◌, ◌↔◌, [], ℕ, List, length, None, Any, Contains, true};
 ghost use Rattle.std.specs.List.{AllByRecursion};
 ghost use Rattle.range_journal.specs.declared.journal.Entry.{Entry};
 ghost use Rattle.range_journal.specs.Journal.{held};
@@ -19,8 +19,10 @@ ghost use Rattle.range_state.specs.Rows.{rows_of};
 ghost use Rattle.range_state.specs.Unions.{union_of, offered_all};
 ghost use Rattle.version_set.specs.declared.version.Version.{Version};
 ghost use Rattle.version_set.specs.Version.{maximal, Ascends};
-ghost use Rattle.range_state.specs.State.{State, IsRight, IsFromPartner, rows_now, dirty_fault};
+ghost use Rattle.range_state.specs.State.{State, IsRight, IsFromPartner, rows_now, dirty_fault, stale_fault};
 ghost use Rattle.range_state.specs.Syncs.{IsOfRange, synced};
+ghost use Rattle.range_state.specs.Renewals.{renewed_by, renew_fault};
+ghost use Rattle.vclock.specs.Clock.{Pairs};
 
 /// The rows of a journal have each key that has an entry, and no other key, each with the versions that are held for
 /// it.
@@ -112,4 +114,20 @@ pub fn ranges_that_hold_the_same_have_equal_roots()
     ensures roots { (a b : State) → IsRight a → IsRight b → IsOfRange a.config (rows_now b)
         → ((key : List ℕ) → held a.entries key ≡ held b.entries key) → dirty_fault a ≡ None → dirty_fault b ≡ None
         → kept_digest a.marks 0 ≡ kept_digest b.marks 0 }
+{}
+
+/// A renewed range holds for each key the versions that the old one holds. So it has the same rows, and refuses the same
+/// clocks of a put as stale. It has at most as many entries, and a range that is renewed once more in the same way is
+/// unchanged. It is right if the old one is.
+pub fn renewed_ranges_hold_the_same()
+    ensures held { (s : State) (seat limit : ℕ) (key : List ℕ)
+        → held (renewed_by s seat limit).entries key ≡ held s.entries key }
+    ensures rows { (s : State) (seat limit : ℕ) → rows_now (renewed_by s seat limit) ≡ rows_now s }
+    ensures again { (s : State) (seat limit : ℕ)
+        → renewed_by (renewed_by s seat limit) seat limit ≡ renewed_by s seat limit }
+    ensures fewer { (s : State) (seat limit : ℕ) → length (renewed_by s seat limit).entries ≤ length s.entries }
+    ensures stale { (s : State) (seat limit : ℕ) (key : List ℕ) (clock : Pairs)
+        → stale_fault (held (renewed_by s seat limit).entries key) clock ≡ stale_fault (held s.entries key) clock }
+    ensures right { (s : State) (seat limit : ℕ) → IsRight s → renew_fault s limit ≡ None
+        → IsRight (renewed_by s seat limit) }
 {}

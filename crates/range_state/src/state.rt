@@ -31,6 +31,7 @@ mod migration;
 mod preparation;
 mod receipts;
 pub mod reconciliation;
+mod renewal;
 mod sessions;
 mod snapshots;
 pub mod sync;

@@ -175,6 +175,11 @@ pub(crate) fn migrate(alloc: Global, state: &mut RangeState) -> Result<(), Refus
     state.migrate(alloc)
 }
 
+/// Makes a new range with a limit that begins with the versions that a range holds, at seat 4.
+pub(crate) fn renew(alloc: Global, state: &RangeState, limit: u64) -> Result<RangeState, Refusal> {
+    state.renewed(alloc, 4, limit)
+}
+
 /// Returns the snapshot of a range whose nodes are all clean.
 pub(crate) fn snapshot(
     alloc: Global,

@@ -32,6 +32,8 @@ mod ranges;
 mod reconciliations;
 pub mod refusals;
 #[cfg(test)]
+mod renewals;
+#[cfg(test)]
 mod rows;
 #[cfg(test)]
 mod sessions;

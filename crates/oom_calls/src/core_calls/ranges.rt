@@ -21,6 +21,11 @@ pub(crate) fn show_all<R: Print + AllocGlobal>(rt: &R) -> io::Result<()> {
     show(rt, "RangeState::accept", accept(alloc))?;
     show(rt, "RangeState::get", get(alloc))?;
     show(rt, "RangeState::migrate", migrate(alloc))?;
+    show(
+        rt,
+        "RangeState::renewed and Marks::try_clone",
+        renewed(alloc),
+    )?;
     show(rt, "Replay::advance", replay(alloc))
 }
 
@@ -131,6 +136,12 @@ fn migrate(alloc: Global) -> Result<u64, Refusal> {
         Ok(()) => Ok(u64::from(state.config().format().number())),
         Err(refusal) => Err(unchanged(refusal, is_before(alloc, &state, 4))),
     }
+}
+
+/// Makes a new range of the versions that a range holds, and returns the number of its entries.
+fn renewed(alloc: Global) -> Result<u64, Refusal> {
+    let new = range_of(alloc, KEYS)?.renewed(alloc, 0, 100)?;
+    Ok(new.journal().len())
 }
 
 /// Replays the journal of a range, and returns 1 if the replay then has the versions that the range holds.

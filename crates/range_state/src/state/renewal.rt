@@ -1,0 +1,164 @@
+//! A new range that begins with the versions that a range holds.
+ghost use Rattle.std.specs.Prelude.{◌≡◌, ◌<◌, ◌≤◌, ◌^◌, [], ◌∷◌, length, None};
+ghost use Rattle.vclock.specs.Answer.{Answers};
+ghost use Rattle.key_ring.specs.Places.{leaf_bits};
+ghost use Rattle.range_state.specs.Sessions.{offers_in, offers_of};
+ghost use Rattle.range_state.specs.Renewals.{copies_from, held_offers, renewed_by, short_fault, renew_fault, with_copies};
+
+use crate::state::RangeState;
+use hash_tree::SharedLeaf;
+use range_journal::{Journal, Source};
+use row_bytes::Row;
+use std::alloc::Global;
+use vclock::{Format, Refusal};
+use version_set::Version;
+
+impl RangeState {
+    /// Makes a new range that begins with the versions that this one holds: each is an entry, as a copy by the seat,
+    /// leaf by leaf, row by row and version by version, numbered from 0. The new range has this one's configuration
+    /// with another limit, its rows and its digests, and no session. It shares the leaves, so no row is copied. This
+    /// range is unchanged.
+    ///
+    /// Refused, in order: BadRing (the limit isn't 1 to 1,000,000), JournalFull (more versions are held than the
+    /// limit), NoMemory.
+    pub fn renewed(&self, alloc: Global, seat: u16, limit: u64) -> Result<RangeState, Refusal>
+        ensures { Answers result (renew_fault self.now limit) (λ range. range ≡ renewed_by self.now seat limit) }
+    {
+        let Some(config) = self.config.with_limit(limit) else {
+            return Err(Refusal::BadRing);
+        };
+        let journal = self.held_journal(alloc, seat, limit)?;
+        Ok(RangeState {
+            config,
+            journal,
+            leaves: self.leaves.share()?,
+            marks: self.marks.try_clone(alloc)?,
+            records: Vec::new(alloc),
+        })
+    }
+
+    /// Makes a journal with a limit, of the versions that are held, as copies by a seat. Refused, in order: JournalFull,
+    /// NoMemory.
+    fn held_journal(&self, alloc: Global, seat: u16, limit: u64) -> Result<Journal, Refusal>
+        ensures { Answers result (short_fault self.now limit)
+            (λ journal. (journal.entries ≡ copies_from 0 seat (held_offers self.now)) × (journal.limit ≡ limit)) }
+    {
+        let mut journal = Journal::new(alloc, limit);
+        journal.reserve(self.held_count())?;
+        self.append_held(&mut journal, seat)?;
+        Ok(journal)
+    }
+
+    /// Counts the versions that are held.
+    fn held_count(&self) -> u64
+        ensures { result ≡ length (held_offers self.now) }
+    {
+        // Called for its clause alone: the journal is within its limit.
+        let _within = self.journal.len();
+        let mut count = 0;
+        for leaf in 0..leaf_count(self.config.format()) {
+            count += version_count(self.rows(leaf));
+        }
+        count
+    }
+
+    /// Appends the versions that are held, as copies by a seat, for which room was made. Refused: NoMemory, and then
+    /// some may be appended.
+    fn append_held(&self, journal: &mut Journal, seat: u16) -> Result<(), Refusal>
+        requires { length (held_offers self.now) ≤ journal.old.room }
+        ensures { Answers result None (λ _. journal.new ≡ with_copies journal.old seat (held_offers self.now)) }
+    {
+        for leaf in 0..leaf_count(self.config.format()) {
+            append_leaf(journal, seat, self.rows(leaf))?;
+        }
+        Ok(())
+    }
+}
+
+/// Returns the number of leaves of a range.
+fn leaf_count(format: Format) -> u16
+    ensures { result ≡ 2 ^ leaf_bits format }
+{
+    match format {
+        Format::One => 256,
+        Format::Two => 4_096,
+    }
+}
+
+/// Counts the versions of a leaf.
+fn version_count(leaf: &SharedLeaf) -> u64
+    requires { length (offers_of leaf.now.rows) < 2 ^ 64 }
+    ensures { result ≡ length (offers_of leaf.now.rows) }
+{
+    let mut count = 0;
+    let mut runs = leaf.runs();
+    while let Some(rows) = runs.next_run() {
+        count += count_in(rows);
+    }
+    count
+}
+
+/// Counts the versions of rows.
+fn count_in(rows: &[Row]) -> u64
+    requires { length (offers_of rows.now) < 2 ^ 64 }
+    ensures { result ≡ length (offers_of rows.now) }
+{
+    let mut count = 0;
+    for row in rows {
+        count += row.versions.len() as u64;
+    }
+    count
+}
+
+/// Appends the versions of a leaf, as copies by a seat, for which room was made. Refused: NoMemory, and then some may be
+/// appended.
+fn append_leaf(journal: &mut Journal, seat: u16, leaf: &SharedLeaf) -> Result<(), Refusal>
+    requires { length (offers_of leaf.now.rows) ≤ journal.old.room }
+    ensures { Answers result None (λ _. journal.new ≡ with_copies journal.old seat (offers_of leaf.now.rows)) }
+{
+    let mut runs = leaf.runs();
+    while let Some(rows) = runs.next_run() {
+        append_rows(journal, seat, rows)?;
+    }
+    Ok(())
+}
+
+/// Appends the versions of rows, as copies by a seat, for which room was made. Refused: NoMemory, and then some may be
+/// appended.
+fn append_rows(journal: &mut Journal, seat: u16, rows: &[Row]) -> Result<(), Refusal>
+    requires { length (offers_of rows.now) ≤ journal.old.room }
+    ensures { Answers result None (λ _. journal.new ≡ with_copies journal.old seat (offers_of rows.now)) }
+{
+    for row in rows {
+        append_row(journal, seat, row)?;
+    }
+    Ok(())
+}
+
+/// Appends the versions of a row, as copies by a seat, for which room was made. Refused: NoMemory, and then some may be
+/// appended.
+fn append_row(journal: &mut Journal, seat: u16, row: &Row) -> Result<(), Refusal>
+    requires { length (offers_in row.now) ≤ journal.old.room }
+    ensures { Answers result None (λ _. journal.new ≡ with_copies journal.old seat (offers_in row.now)) }
+{
+    for version in row.versions.as_slice() {
+        append_version(journal, seat, row, version)?;
+    }
+    Ok(())
+}
+
+/// Appends a version of the key of a row, as a copy by a seat, for which room was made. Refused: NoMemory.
+fn append_version(
+    journal: &mut Journal,
+    seat: u16,
+    row: &Row,
+    version: &Version,
+) -> Result<(), Refusal>
+    requires { 1 ≤ journal.old.room }
+    ensures { Answers result None (λ _. journal.new ≡ with_copies journal.old seat ((row.now.key, version.now) ∷ [])) }
+{
+    let key = row.key.try_clone()?;
+    let version = version.try_clone()?;
+    journal.append_reserved(seat, Source::Copy, key, version);
+    Ok(())
+}
