@@ -11,5 +11,6 @@ pub mod Reconciles
 pub mod Batches
 pub mod Migrates
 pub mod Trees
+pub mod Counts
 pub mod Run
 pub mod Replays
