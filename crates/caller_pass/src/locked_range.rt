@@ -3,7 +3,9 @@ ghost use Rattle.std.specs.Prelude.{◌≡◌, ◌≤◌, [], None, IfErr, IsTru
 ghost use Rattle.std.specs.Arc.{arc_value};
 ghost use Rattle.vclock.specs.Answer.{Answers, AnswersAtOnce};
 ghost use Rattle.vclock.specs.Outcome.{Does, DoesAtOnce, DoesOrNoMemory, through};
+ghost use Rattle.range_journal.specs.Journal.{held};
 ghost use Rattle.sync_session.specs.TreeNodes.{as_node};
+ghost use Rattle.range_state.specs.Counts.{counts_of};
 ghost use Rattle.range_state.specs.State.{is_sent, GivesJob, ask_fault, install, dirty_fault, rows_now};
 ghost use Rattle.range_state.specs.Sessions.{open_session, cancel_session, unknown_fault};
 ghost use Rattle.range_state.specs.Migrates.{migrate};
@@ -19,7 +21,9 @@ use crate::unread::Unread;
 use hash_tree::{Hashed, NodeAt};
 use key_ring::HashedKey;
 use range_journal::Source;
-use range_state::{Accepted, AnswerCounted, RangeConfig, RangeState, Receipt, Record};
+use range_state::{
+    Accepted, AnswerCounted, RangeConfig, RangeCounts, RangeState, Receipt, Record,
+};
 use rehash::Job;
 use snapshot::Snapshot;
 use std::alloc::Global;
@@ -258,6 +262,14 @@ impl<L: Ledger> LockedRange<L> {
         Ok(versions)
     }
 
+    /// Copies the versions that are held for a key, as they are at this moment, for no pass: nothing is kept, and it
+    /// needn't show the caller's own puts. Returns an empty set if the key isn't held. Refused: NoMemory.
+    pub fn look(&self, alloc: Global, key: &HashedKey) -> Result<VersionSet, Refusal>
+        ensures { Answers result None (λ set. set ≡ held self.now.state.entries key.now) }
+    {
+        copy_of(alloc, self.state.find(key))
+    }
+
     /// Returns a job for a node, as `RangeState::take_job` does. Refused: NoMemory.
     pub fn take_job(&self, alloc: Global, skip: u64) -> Result<Option<Job>, Refusal>
         ensures { Answers result None (GivesJob self.now.state) }
@@ -350,6 +362,13 @@ impl<L: Ledger> LockedRange<L> {
         let migrated = self.state.migrate(alloc);
         let _right = self.state.journal();
         migrated
+    }
+
+    /// Returns the counts of the range, as `RangeState::counts` does. Doesn't allocate.
+    pub fn counts(&self) -> RangeCounts
+        ensures { result ≡ counts_of self.now.state }
+    {
+        self.state.counts()
     }
 
     /// The records of all sessions, in the order of their numbers. Doesn't allocate.

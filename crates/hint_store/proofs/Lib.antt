@@ -1,2 +1,3 @@
 pub mod HintLaws
+pub mod RenewLaws
 pub mod WaitLaws

@@ -1,2 +1,4 @@
 pub mod Hints
+pub mod Renewals
+pub mod Counts
 pub mod Waits

@@ -3,6 +3,7 @@
 //!
 //! - [`hint`]: a hint, its delivery and its fate.
 //! - [`store`]: the hints of a carrier.
+//! - [`counts`]: the numbers of its pending and delivered hints.
 //!
 //! ```
 //! expect(keep(alloc, store, 2, 1)? == 1, "the first hint is 1")?;
@@ -10,8 +11,10 @@
 //! ```
 #![tactic(auto)]
 
+pub mod counts;
 pub mod hint;
 pub mod store;
 
+pub use counts::HintCounts;
 pub use hint::{Delivery, Fate, Hint, Kept};
 pub use store::HintStore;

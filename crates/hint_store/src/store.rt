@@ -6,8 +6,11 @@ ghost use Rattle.std.specs.List.Sorted.{IsPartitionPoint};
 ghost use Rattle.vclock.specs.Answer.{Answers};
 ghost use Rattle.vclock.specs.Outcome.{Does, DoesAtOnce};
 ghost use Rattle.hint_store.specs.Hints.{AreHints, pending_count, kept_at, keep_fault, keep, next_hint, is_undelivered, delivers_hint, is_answered, IsAnswered, confirm, fate_of, delivery_of};
+ghost use Rattle.hint_store.specs.Renewals.{renewed};
+ghost use Rattle.hint_store.specs.Counts.{counts_of};
 ghost use Rattle.hint_store.specs.Waits.{IsBefore, id_of, is_up_to, earliest};
 
+use crate::counts::HintCounts;
 use crate::hint::{Delivery, Fate, Hint, Kept};
 use std::alloc::Global;
 use std::cmp::Ordering;
@@ -81,6 +84,16 @@ impl HintStore {
     {
         let pending = self.pending();
         self.len() as u32 - pending
+    }
+
+    /// Returns the numbers of pending and of delivered hints. Doesn't allocate.
+    pub fn counts(&self) -> HintCounts
+        ensures { result ≡ counts_of self.now }
+    {
+        HintCounts {
+            pending: self.pending(),
+            delivered: self.delivered(),
+        }
     }
 
     /// Returns the hint with this id, pending or delivered, or `None` if the id is 0 or not used yet.
@@ -172,6 +185,15 @@ impl HintStore {
         Ok(())
     }
 
+    /// Returns a store with the pending hints alone, in order, numbered anew from 1. This store is unchanged.
+    ///
+    /// Refused: NoMemory.
+    pub fn renewed(&self, alloc: Global) -> Result<HintStore, Refusal>
+        ensures { Answers result None (λ store. store ≡ renewed self.now) }
+    {
+        renewed_from(alloc, &self.hints)
+    }
+
     /// Returns the number of hints.
     fn len(&self) -> usize
         ensures { result ≡ length self.now }
@@ -219,6 +241,23 @@ impl HintStore {
             None => Ok(None),
         }
     }
+}
+
+/// Returns a store with the pending ones of these hints, in order, numbered from 1. Refused: NoMemory.
+fn renewed_from(alloc: Global, hints: &[Kept]) -> Result<HintStore, Refusal>
+    requires { AreHints hints.now }
+    ensures { Answers result None (λ store. store ≡ renewed hints.now) }
+{
+    let mut store = HintStore::new(alloc);
+    for kept in hints {
+        if !is_open(kept.fate) {
+            continue;
+        }
+        let key = kept.hint.key.try_clone()?;
+        let version = kept.hint.version.try_clone()?;
+        store.keep(kept.hint.owner, key, version)?;
+    }
+    Ok(store)
 }
 
 /// Returns the id of the entry at a place, if there is one and it is of this owner.

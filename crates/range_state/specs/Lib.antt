@@ -12,5 +12,6 @@ pub mod Batches
 pub mod Migrates
 pub mod Renewals
 pub mod Trees
+pub mod Counts
 pub mod Run
 pub mod Replays

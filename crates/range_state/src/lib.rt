@@ -36,5 +36,6 @@ pub use event::{
 };
 pub use record::Record;
 pub use state::RangeState;
+pub use state::counts::RangeCounts;
 pub use state::reconciliation::{Reconciled, reconcile};
 pub use state::sync::Synced;

@@ -27,6 +27,7 @@ use version_set::{Kind, Version, VersionSet};
 
 mod answers;
 mod bulk;
+pub mod counts;
 mod migration;
 mod preparation;
 mod receipts;

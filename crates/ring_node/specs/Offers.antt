@@ -13,6 +13,7 @@ use Rattle.walk_messages.specs.declared.message.Ask.{Ask}
 use Rattle.walk_messages.specs.declared.message.Offer.{Offer}
 use Rattle.snapshot.specs.RowMaps.{RowMap, IsRowMap, text_at, root_of}
 use Rattle.snapshot.specs.Snapshots.{answer_fault}
+use Rattle.ring_node.specs.declared.offers.OfferCounts.{OfferCounts}
 
 -- the rows of a snapshot that was published, with the number of its offer
 pub record Offered : Type 0 where
@@ -54,6 +55,10 @@ publish o m = do
 -- the newest offer, if any
 abbrev pub latest : Offers → Option Offer
 latest o = option_map offer_of (slice_get o.kept (length o.kept - 1))
+
+-- the number of offers kept, and that of the newest one
+abbrev pub counts_of : Offers → OfferCounts
+counts_of o = record { kept = length o.kept; newest = o.last }
 
 -- the offer of that number, if it is kept
 abbrev pub kept_under : Offers → ℕ → Option Offered

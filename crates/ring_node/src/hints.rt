@@ -1,11 +1,13 @@
 //! Hints that threads share.
 ghost use Rattle.std.specs.Prelude.{◌≡◌, ◌<◌, [], ◌∷◌, None, IfOk, IfSome};
 ghost use Rattle.vclock.specs.Answer.{Answers};
-ghost use Rattle.vclock.specs.Outcome.{Does, DoesAtOnce};
+ghost use Rattle.vclock.specs.Outcome.{Does, DoesAtOnce, gives};
 ghost use Rattle.hint_store.specs.Hints.{AreHints, keep, next_hint, confirm};
+ghost use Rattle.hint_store.specs.Renewals.{renewed};
+ghost use Rattle.hint_store.specs.Counts.{counts_of};
 ghost use Rattle.ring_node.specs.Moments.{FoundAtSomeMoment, ChangedAtSomeMoment};
 
-use hint_store::{Delivery, Hint, HintStore};
+use hint_store::{Delivery, Hint, HintCounts, HintStore};
 use std::alloc::Global;
 use std::sync::{Mutex, Wait};
 use vclock::{Bytes, Refusal};
@@ -79,5 +81,28 @@ impl SharedHints {
         let mut hints = self.hints.lock(rt);
         let _valid = hints.pending();
         hints.confirm(id, delivery)
+    }
+
+    /// Drops the delivered hints, and numbers the pending ones anew from 1, in order, as [`HintStore::renewed`] does.
+    /// The caller has the hints alone, so no delivery is in progress.
+    ///
+    /// Refused: NoMemory. On error the hints are unchanged.
+    pub fn renew<R: Wait>(&mut self, rt: &R, alloc: Global) -> Result<(), Refusal>
+        ensures { ChangedAtSomeMoment AreHints
+            (λ before after. Does result before after (gives tt (renewed before))) }
+    {
+        let mut hints = self.hints.lock(rt);
+        let _valid = hints.pending();
+        *hints = hints.renewed(alloc)?;
+        Ok(())
+    }
+
+    /// Returns the numbers of pending and of delivered hints, at one moment. Doesn't allocate.
+    pub fn counts<R: Wait>(&self, rt: &R) -> HintCounts
+        ensures { FoundAtSomeMoment AreHints (λ hints. result ≡ counts_of hints) }
+    {
+        let hints = self.hints.lock(rt);
+        let _valid = hints.pending();
+        hints.counts()
     }
 }

@@ -43,7 +43,7 @@ pub use gate::{Gate, OpenGate, Step};
 pub use hints::SharedHints;
 pub use link::{Link, Reached};
 pub use memory::MemoryLink;
-pub use offers::OfferPool;
+pub use offers::{OfferCounts, OfferPool};
 pub use range::{NotClosed, SharedRange};
 pub use rehasher::RehashReport;
 pub use scripted_link::ScriptedLink;

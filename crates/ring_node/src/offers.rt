@@ -7,7 +7,7 @@ ghost use Rattle.vclock.specs.Format.{format_number};
 ghost use Rattle.vclock.specs.Outcome.{Does};
 ghost use Rattle.snapshot.specs.RowMaps.{root_of};
 ghost use Rattle.ring_node.specs.Moments.{FoundAtSomeMoment, ChangedAtSomeMoment};
-ghost use Rattle.ring_node.specs.Offers.{Offered, AreOffers, unpublished, publish, latest, kept_under, serve_fault, IsAnswerIn};
+ghost use Rattle.ring_node.specs.Offers.{Offered, AreOffers, unpublished, publish, latest, kept_under, serve_fault, IsAnswerIn, counts_of};
 
 use hash_tree::{Text, tree_depth};
 use snapshot::Snapshot;
@@ -17,6 +17,15 @@ use std::sync::{Arc, Mutex, Wait};
 use vclock::Refusal;
 use vclock::limits::OFFERS_MAX;
 use walk_messages::{Answer, Ask, Offer};
+
+/// The counts of a node's offers at one moment.
+#[derive(Clone, Copy, Debug, PartialEq, Eq)]
+pub struct OfferCounts {
+    /// The number of offers kept, at most 16.
+    pub kept: u32,
+    /// The number of the newest offer, 0 before the first.
+    pub newest: u32,
+}
 
 /// A snapshot with the number of its offer.
 #[derive(Drop)]
@@ -94,6 +103,16 @@ impl Offers {
     {
         let published = self.kept.last()?;
         Some(published.snapshot.offer(published.number))
+    }
+
+    /// Returns the number of offers kept, and that of the newest one.
+    fn counts(&self) -> OfferCounts
+        ensures { result ≡ counts_of self.now }
+    {
+        OfferCounts {
+            kept: self.kept.len() as u32,
+            newest: self.last,
+        }
     }
 
     /// Finds the snapshot that has the text of an ask, and makes one more owner of it. Refused, in order: Gone,
@@ -174,6 +193,16 @@ impl OfferPool {
         ensures { FoundAtSomeMoment AreOffers (λ offers. result ≡ latest offers) }
     {
         self.offers.lock(rt).latest()
+    }
+
+    /// Returns the number of offers kept, and that of the newest one, at one moment. Doesn't allocate.
+    pub fn counts<R: Wait>(&self, rt: &R) -> OfferCounts
+        ensures { FoundAtSomeMoment AreOffers (λ offers. result ≡ counts_of offers) }
+    {
+        let offers = self.offers.lock(rt);
+        // Called for its clause `valid` alone: the offers are right.
+        let _valid = offers.latest();
+        offers.counts()
     }
 
     /// Answers an ask: with the text of its node in the tree that was offered.

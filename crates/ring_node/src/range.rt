@@ -5,6 +5,8 @@ ghost use Rattle.vclock.specs.Answer.{Answers};
 ghost use Rattle.vclock.specs.Clock.{raise_fault};
 ghost use Rattle.vclock.specs.Bytes.{key_fault};
 ghost use Rattle.vclock.specs.Outcome.{Does, DoesOrNoMemory, through};
+ghost use Rattle.range_journal.specs.Journal.{held};
+ghost use Rattle.range_state.specs.Counts.{counts_of};
 ghost use Rattle.range_state.specs.Migrates.{migrate};
 ghost use Rattle.range_state.specs.State.{is_sent, put_version, dirty_fault, rows_now};
 ghost use Rattle.caller_pass.specs.Closings.{AllThere, IsSettled, IsUnclosed};
@@ -15,7 +17,7 @@ ghost use Rattle.ring_node.specs.Passes.{IsReceiptOf, HasReceiptOf, IsSent, IsPu
 use caller_pass::{Book, Closed, LockedRange, Pass, Unclosed, Unread};
 use key_ring::HashedKey;
 use range_journal::Source;
-use range_state::{Accepted, RangeState, Receipt};
+use range_state::{Accepted, RangeCounts, RangeState, Receipt};
 use snapshot::Snapshot;
 use std::alloc::Global;
 use std::marker::Model;
@@ -177,6 +179,32 @@ impl<L: Ledger> SharedRange<L> {
         // Called for its clause `valid` alone: the range is right.
         let _valid = range.config();
         range.read(alloc, pass, &key)
+    }
+
+    /// Copies the versions that are held for a key at one moment, in the order of their texts, as [`LockedRange::look`]
+    /// does: for no pass, so nothing is kept, and it needn't show the caller's own puts. Returns an empty set if the key
+    /// isn't held. Refused: NoMemory.
+    pub fn look<R: Wait>(&self, rt: &R, alloc: Global, key: &[u8]) -> Result<VersionSet, Refusal>
+        ensures refusal { IfErr result (λ e. e ≡ Refusal.NoMemory) }
+        ensures moment { FoundAtSomeMoment (IsLocked L.parts)
+            (λ locked. Answers result None (λ set. set ≡ held locked.state.entries key.now)) }
+    {
+        let key = HashedKey::new(key);
+        let range = self.range.lock(rt);
+        // Called for its clause `valid` alone: the range is right.
+        let _valid = range.config();
+        range.look(alloc, &key)
+    }
+
+    /// Returns the numbers of entries, of dirty nodes and of sessions at one moment, and the limit of the journal, as
+    /// [`LockedRange::counts`] does. Doesn't allocate.
+    pub fn counts<R: Wait>(&self, rt: &R) -> RangeCounts
+        ensures { FoundAtSomeMoment (IsLocked L.parts) (λ locked. result ≡ counts_of locked.state) }
+    {
+        let range = self.range.lock(rt);
+        // Called for its clause `valid` alone: the range is right.
+        let _valid = range.config();
+        range.counts()
     }
 
     /// Makes a snapshot of the rows at one moment with the digests of their tree, as [`LockedRange::snapshot`] does.
