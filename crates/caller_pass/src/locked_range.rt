@@ -21,9 +21,7 @@ use crate::unread::Unread;
 use hash_tree::{Hashed, NodeAt};
 use key_ring::HashedKey;
 use range_journal::Source;
-use range_state::{
-    Accepted, AnswerCounted, RangeConfig, RangeCounts, RangeState, Receipt, Record,
-};
+use range_state::{Accepted, AnswerCounted, RangeConfig, RangeCounts, RangeState, Receipt, Record};
 use rehash::Job;
 use snapshot::Snapshot;
 use std::alloc::Global;

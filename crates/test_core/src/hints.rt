@@ -2,7 +2,7 @@
 use crate::checks::expect;
 use crate::refusals::expect_refused;
 use crate::versions::version;
-use hint_store::{Delivery, Fate, HintStore};
+use hint_store::{Delivery, Fate, HintCounts, HintStore};
 use std::alloc::Global;
 use std::test::Fail;
 use vclock::{Bytes, Refusal};
@@ -107,6 +107,36 @@ fn expect_oldest(alloc: Global, store: &mut HintStore) -> Result<(), Fail> {
 fn the_next_hint_is_the_oldest(rt: HostRuntime) -> Result<(), Fail> {
     let alloc = rt.alloc();
     expect_oldest(alloc, &mut HintStore::new(alloc))
+}
+
+/// Asserts the numbers of pending and of delivered hints.
+fn expect_counts(store: &HintStore, pending: u32, delivered: u32) -> Result<(), Fail> {
+    let counts = HintCounts { pending, delivered };
+    expect(store.counts() == counts, "a store counts its hints")
+}
+
+/// Returns the store that has the pending hints alone.
+fn renew(alloc: Global, store: &HintStore) -> Result<HintStore, Refusal> {
+    store.renewed(alloc)
+}
+
+/// Asserts that a renewed store has the pending hints alone, numbered from 1.
+fn expect_renewed(alloc: Global, store: &mut HintStore) -> Result<(), Fail> {
+    for owner in 4..7u16 {
+        keep(alloc, store, owner, 1)?;
+    }
+    confirm(alloc, store, 2, 5, 1)?;
+    expect_counts(store, 2, 1)?;
+    let renewed = renew(alloc, store)?;
+    expect_counts(&renewed, 2, 0)?;
+    expect_next(alloc, &renewed, &[4, 5, 6], 0, (1, 4))?;
+    expect_next(alloc, &renewed, &[4, 5, 6], 1, (2, 6))
+}
+
+#[test]
+fn a_renewed_store_has_the_pending_hints(rt: HostRuntime) -> Result<(), Fail> {
+    let alloc = rt.alloc();
+    expect_renewed(alloc, &mut HintStore::new(alloc))
 }
 
 /// Asserts that 10,000 hints are kept, and another one once one is confirmed.

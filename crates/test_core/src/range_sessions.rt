@@ -1,12 +1,12 @@
 //! Sessions of ranges with their partners.
 use crate::calls::{
-    abc, clean_range, count_held, hashed_at, new_range, node_at, offer, open_session, put,
+    abc, clean_range, count_held, hashed_at, new_range, node_at, offer, open_session, put, put_a,
     range_of_a, rehash, root_of, snapshot, snapshot_of_a, take_answer, text_at,
 };
 use crate::checks::expect;
 use crate::refusals::expect_refused;
 use hash_tree::{Digest, Hashed, NodeAt, Text, hash};
-use range_state::{AnswerTaken, RangeState, Record};
+use range_state::{AnswerTaken, RangeCounts, RangeState, Record};
 use snapshot::Snapshot;
 use std::alloc::Global;
 use std::test::Fail;
@@ -317,4 +317,25 @@ fn expect_walks(
 fn a_session_asks_the_nodes_that_differ(rt: HostRuntime) -> Result<(), Fail> {
     let alloc = rt.alloc();
     expect_walks(&rt, alloc, &mut range_of_a(&rt, alloc)?)
+}
+
+/// Asserts the counts of a range with an open session, after a put to its clean tree.
+fn expect_counts(alloc: Global, state: &mut RangeState, root: Digest) -> Result<(), Fail> {
+    open_session(alloc, state, offer(root))?;
+    put_a(alloc, state, &[])?;
+    let counts = RangeCounts {
+        entries: 1,
+        limit: 1_000,
+        dirty: 3,
+        sessions: 1,
+        open_sessions: 1,
+    };
+    expect(state.counts() == counts, "a range is counted")
+}
+
+#[test]
+fn a_put_dirties_three_nodes_of_a_range(rt: HostRuntime) -> Result<(), Fail> {
+    let alloc = rt.alloc();
+    let root = root_of(alloc, &range_of_a(&rt, alloc)?)?;
+    expect_counts(alloc, &mut clean_range(&rt, alloc)?, root)
 }

@@ -4,7 +4,7 @@
 use admission::Slot;
 use caller_pass::Pass;
 use range_journal::Source;
-use range_state::Accepted;
+use range_state::{Accepted, RangeCounts};
 use ring_node::{Gate, Link, OfferPool, RehashReport, SharedController, SharedRange, SyncReport};
 use snapshot::Snapshot;
 use std::alloc::Global;
@@ -68,6 +68,21 @@ pub fn get<L: Ledger, R: Wait>(
         Ok(versions) => Ok(versions),
         Err(unread) => Err(unread.into_refusal()),
     }
+}
+
+/// Returns the versions of a key that are held, for no pass.
+pub fn look<L: Ledger, R: Wait>(
+    rt: &R,
+    alloc: Global,
+    range: &SharedRange<L>,
+    key: &[u8],
+) -> Result<VersionSet, Refusal> {
+    range.look(rt, alloc, key)
+}
+
+/// Returns the counts of a range.
+pub fn count<L: Ledger, R: Wait>(rt: &R, range: &SharedRange<L>) -> RangeCounts {
+    range.counts(rt)
 }
 
 /// Migrates a range to format 2.

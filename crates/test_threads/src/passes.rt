@@ -3,6 +3,7 @@ ghost use Rattle.std.specs.Prelude.{◌≡◌};
 
 use crate::locked::Locked;
 use caller_pass::{Book, LockedRange, Pass, Unclosed, open_passes};
+use key_ring::HashedKey;
 use range_journal::Source;
 use range_state::Accepted;
 use std::alloc::Global;
@@ -78,6 +79,16 @@ fn put<L: Ledger>(
     Ok(receipt.number)
 }
 
+/// Returns the number of versions of `a`, for no pass.
+fn count_held<L: Ledger>(alloc: Global, range: &LockedRange<L>) -> Result<usize, Refusal> {
+    Ok(range.look(alloc, &HashedKey::new(b"a"))?.len())
+}
+
+/// Returns the number of entries of a range.
+fn count_entries<L: Ledger>(range: &LockedRange<L>) -> u64 {
+    range.counts().entries
+}
+
 /// Puts a value at seat 1 and reads it.
 fn write<L: Ledger>(
     alloc: Global,
@@ -87,6 +98,8 @@ fn write<L: Ledger>(
     expect(put(alloc, range, one)? == 0, "the put has the first entry")?;
     let held = range.get(alloc, one, b"a")?;
     expect(held.len() == 1, "one version is held")?;
+    expect(count_held(alloc, range)? == 1, "a look shows it")?;
+    expect(count_entries(range) == 1, "one entry is counted")?;
     expect(
         one.seen() == 1 && one.receipts().len() == 1 && one.readings().len() == 1,
         "the pass has a receipt and a reading",

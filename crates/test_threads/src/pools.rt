@@ -47,6 +47,15 @@ fn expect_refused<R: Wait>(
     expect(is_refused(text, refusal), "the ask is refused")
 }
 
+/// Expects that a pool has this number of offers, and that the newest has this one.
+fn expect_counts<R: Wait>(rt: &R, pool: &OfferPool, kept: u32, newest: u32) -> Result<(), Fail> {
+    let counts = pool.counts(rt);
+    expect(
+        counts.kept == kept && counts.newest == newest,
+        "a pool counts its offers",
+    )
+}
+
 /// Expects that a pool serves its first offer, down to its leaves, and no other one.
 fn expect_first<R: Wait>(
     rt: &R,
@@ -55,6 +64,7 @@ fn expect_first<R: Wait>(
     snapshot: &Arc<Snapshot, Global>,
 ) -> Result<(), Fail> {
     expect(pool.latest(rt).is_none(), "there is no offer yet")?;
+    expect_counts(rt, pool, 0, 0)?;
     let offer = publish(rt, pool, Arc::try_clone(snapshot)?)?;
     expect(
         offer.offer == 1 && offer.format == 1 && offer.range == 0,
@@ -81,7 +91,8 @@ fn expect_dropped<R: Wait>(
     expect_refused(rt, alloc, pool, 1, 2, Refusal::Gone)?;
     expect_leaf(rt, alloc, pool, 2)?;
     let newest = pool.latest(rt).ok_or("no offer")?;
-    expect(newest.offer == 17, "the newest offer is the last one")
+    expect(newest.offer == 17, "the newest offer is the last one")?;
+    expect_counts(rt, pool, 16, 17)
 }
 
 /// Seventeen offers of one pool, all of this snapshot.

@@ -1,7 +1,7 @@
 //! Calls of a shared range, in one thread.
 ghost use Rattle.std.specs.Prelude.{◌≡◌};
 
-use crate::calls::{copy, get, put, snapshot};
+use crate::calls::{copy, count, get, look, put, snapshot};
 use crate::nodes::{Replica, all_keys};
 use caller_pass::Pass;
 use ring_node::{NotClosed, SharedRange};
@@ -36,6 +36,11 @@ fn write<L: Ledger, R: Wait>(
     expect(
         first.receipts().len() == 1 && first.readings().len() == 1,
         "the pass has a receipt and a reading",
+    )?;
+    let looked = members(alloc, &look(rt, alloc, range, b"a")?)?;
+    expect(
+        looked.as_str() == held.as_str() && first.readings().len() == 1,
+        "a look shows the version and is no reading",
     )?;
     let receipt = first.receipts().first().ok_or("no receipt")?;
     expect(
@@ -77,6 +82,11 @@ fn write_and_copy<L: Ledger, R: Wait>(
     expect(
         copy_of_a(rt, alloc, range, second, (9, 1))? == Some(1),
         "another version has the second entry",
+    )?;
+    let counts = count(rt, range);
+    expect(
+        counts.entries == 2 && counts.limit == 10 && counts.dirty == 273 && counts.sessions == 0,
+        "two entries of ten, and no node is clean",
     )
 }
 

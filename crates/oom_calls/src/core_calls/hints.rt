@@ -15,6 +15,7 @@ pub(crate) fn show_all<R: Print + AllocGlobal>(rt: &R) -> io::Result<()> {
     show(rt, "HintStore::keep", keep(alloc))?;
     show(rt, "HintStore::next", next(alloc))?;
     show(rt, "HintStore::next_of", next_of(alloc))?;
+    show(rt, "HintStore::renewed", renew(alloc))?;
     show(rt, "Hint::try_clone", clone(alloc))
 }
 
@@ -81,6 +82,14 @@ fn next_of(alloc: Global) -> Result<u64, Refusal> {
         Some(hint) => Ok(u64::from(hint.id)),
         None => Err(Refusal::Stale),
     }
+}
+
+/// Renews a store of three hints whose first is delivered, and returns the number of hints that are pending then.
+fn renew(alloc: Global) -> Result<u64, Refusal> {
+    let mut store = store_before(alloc, 4)?;
+    let hint = store.next(alloc, 1, 0)?.ok_or(Refusal::Stale)?;
+    store.confirm(1, hint.into_delivery(false))?;
+    Ok(u64::from(store.renewed(alloc)?.pending()))
 }
 
 fn clone(alloc: Global) -> Result<u64, Refusal> {

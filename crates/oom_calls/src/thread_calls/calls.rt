@@ -15,6 +15,7 @@ pub(crate) enum LockedCall {
     Index,
     Get(u8),
     Read(u8),
+    Look(u8),
     Migrate,
 }
 
@@ -26,6 +27,7 @@ pub(crate) enum SharedCall {
     StalePut(u8),
     Copy(u8),
     Get(u8),
+    Look(u8),
     Rehash,
     Snapshot,
     Sync,
@@ -34,6 +36,7 @@ pub(crate) enum SharedCall {
     Keep(u8),
     Next,
     Deliver,
+    Renew,
     Migrate,
 }
 
@@ -45,7 +48,7 @@ pub(crate) enum Call {
 }
 
 /// The calls in order. Each list that grows by its calls grows at least twice.
-pub(crate) const CALLS: [Call; 42] = [
+pub(crate) const CALLS: [Call; 47] = [
     Call::Locked(LockedCall::Hash),
     Call::Locked(LockedCall::Snapshot),
     Call::Locked(LockedCall::OpenSession),
@@ -65,6 +68,7 @@ pub(crate) const CALLS: [Call; 42] = [
     Call::Locked(LockedCall::Accept(b'f')),
     Call::Locked(LockedCall::Get(b'b')),
     Call::Locked(LockedCall::Read(b'c')),
+    Call::Locked(LockedCall::Look(b'b')),
     Call::Locked(LockedCall::Migrate),
     Call::Shared(SharedCall::Put(b'b')),
     Call::Shared(SharedCall::Put(b'c')),
@@ -74,6 +78,7 @@ pub(crate) const CALLS: [Call; 42] = [
     Call::Shared(SharedCall::Copy(b'e')),
     Call::Shared(SharedCall::Copy(b'f')),
     Call::Shared(SharedCall::Get(b'b')),
+    Call::Shared(SharedCall::Look(b'b')),
     Call::Shared(SharedCall::Rehash),
     Call::Shared(SharedCall::Snapshot),
     Call::Shared(SharedCall::Sync),
@@ -87,6 +92,9 @@ pub(crate) const CALLS: [Call; 42] = [
     Call::Shared(SharedCall::Next),
     Call::Shared(SharedCall::Deliver),
     Call::Shared(SharedCall::Get(b'g')),
+    Call::Shared(SharedCall::Keep(b'l')),
+    Call::Shared(SharedCall::Keep(b'm')),
+    Call::Shared(SharedCall::Renew),
     Call::Shared(SharedCall::Migrate),
 ];
 
@@ -127,6 +135,7 @@ impl LockedCall {
             LockedCall::Index => "Pass::index",
             LockedCall::Get(_) => "LockedRange::get",
             LockedCall::Read(_) => "LockedRange::read",
+            LockedCall::Look(_) => "LockedRange::look",
             LockedCall::Migrate => "LockedRange::migrate",
         }
     }
@@ -139,6 +148,7 @@ impl SharedCall {
             SharedCall::StalePut(_) => "SharedRange::put, stale",
             SharedCall::Copy(_) => "SharedRange::copy",
             SharedCall::Get(_) => "SharedRange::get",
+            SharedCall::Look(_) => "SharedRange::look",
             SharedCall::Rehash => "SharedRange::rehash_worker",
             SharedCall::Snapshot => "SharedRange::snapshot",
             SharedCall::Sync => "SharedRange::sync_worker",
@@ -146,6 +156,7 @@ impl SharedCall {
             SharedCall::Keep(_) => "SharedHints::keep",
             SharedCall::Next => "SharedHints::next",
             SharedCall::Deliver => "deliver",
+            SharedCall::Renew => "SharedHints::renew",
             SharedCall::Migrate => "SharedRange::migrate",
         }
     }

@@ -65,6 +65,9 @@ impl<L: Ledger> Locked<L> {
             LockedCall::Index => self.index(),
             LockedCall::Get(key) => self.get(alloc, key),
             LockedCall::Read(key) => self.read(alloc, key),
+            LockedCall::Look(key) => {
+                Ok(self.range.look(alloc, &HashedKey::new(&[key]))?.len() as u64)
+            }
             LockedCall::Migrate => self.migrate(alloc),
         }
     }

@@ -127,6 +127,7 @@ impl<L: Ledger, C: Ledger> Shared<L, C> {
             SharedCall::StalePut(key) => self.put_stale(rt, alloc, key),
             SharedCall::Copy(key) => self.copy(rt, alloc, key),
             SharedCall::Get(key) => self.get(rt, alloc, key),
+            SharedCall::Look(key) => Ok(self.range.look(rt, alloc, &[key])?.len() as u64),
             SharedCall::Rehash => self.rehash(rt, alloc),
             SharedCall::Snapshot => Ok(u64::from(
                 self.range.snapshot(rt, alloc)?.format().number(),
@@ -144,6 +145,7 @@ impl<L: Ledger, C: Ledger> Shared<L, C> {
             SharedCall::Keep(key) => self.keep(rt, alloc, key),
             SharedCall::Next => self.next(rt, alloc),
             SharedCall::Deliver => self.deliver(rt, alloc),
+            SharedCall::Renew => self.renew(rt, alloc),
             SharedCall::Migrate => {
                 self.range.migrate(rt, alloc)?;
                 Ok(self.passes.len() as u64)
@@ -260,6 +262,14 @@ impl<L: Ledger, C: Ledger> Shared<L, C> {
         let report = deliver(rt, alloc, &slot, hints, range, pass, OWNER, TURNS);
         slots.give_back(rt, slot);
         Ok(report?.delivered)
+    }
+
+    /// Renews the hints, and returns the numbers of pending and of delivered ones as the digits of a number.
+    fn renew<R: Wait>(&mut self, rt: &R, alloc: Global) -> Result<u64, Refusal> {
+        self.hints.renew(rt, alloc)?;
+        let counts = self.hints.counts(rt);
+        let pending = u64::from(counts.pending).saturating_mul(10);
+        Ok(pending.saturating_add(u64::from(counts.delivered)))
     }
 }
 
