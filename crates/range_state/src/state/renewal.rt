@@ -28,12 +28,15 @@ impl RangeState {
             return Err(Refusal::BadRing);
         };
         let journal = self.held_journal(alloc, seat, limit)?;
+        let leaves = self.leaves.share()?;
+        let marks = self.marks.try_clone(alloc)?;
+        let records = Vec::new(alloc);
         Ok(RangeState {
             config,
             journal,
-            leaves: self.leaves.share()?,
-            marks: self.marks.try_clone(alloc)?,
-            records: Vec::new(alloc),
+            leaves,
+            marks,
+            records,
         })
     }
 

@@ -9,10 +9,10 @@ pub invariant_of-result : goal.invariant_of-result
 invariant_of-result c =
     let s : State = record { config = c.self.inside.config; entries = c.self.inside.journal.entries; marks = c.self.inside.marks.digests; records = c.self.inside.records.items } in
     let journal = c.in_ok-journal.ensures.1 in
-    let marks = c.in_ok-try_clone.ensures.1 in
+    let marks = c.in_ok-marks.ensures.1 in
     let config = limit_is s.config c.in-Some.config c.args.limit c.in-Some.ensures in
-    let range = renewed_range s c.args.self.now c.args.seat c.args.limit c.in-Some.config c.in_ok-journal.journal.entries c.in_ok-try_clone.field-0.digests c.new.result.items c.self.inside.leaves c.in_ok-share.field-0
-    c.self.view_is c.self.invariant.0 c.self.invariant.1 c.in-Some.ensures journal.0 (ap (λ (t : Tree). t.digests) marks) c.new.ensures.items c.in_ok-share.ensures.1 in (
+    let range = renewed_range s c.args.self.now c.args.seat c.args.limit c.in-Some.config c.in_ok-journal.journal.entries c.in_ok-marks.marks.digests c.new-records.result.items c.self.inside.leaves c.in_ok-leaves.leaves
+    c.self.view_is c.self.invariant.0 c.self.invariant.1 c.in-Some.ensures journal.0 (ap (λ (t : Tree). t.digests) marks) c.new-records.ensures.items c.in_ok-leaves.ensures.1 in (
       range.0,
       range.1,
       journal.1 ∙ sym (ap (λ (x : Config). x.limit) config),
