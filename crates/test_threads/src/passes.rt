@@ -96,10 +96,10 @@ fn write<L: Ledger>(
     one: &mut Pass<L>,
 ) -> Result<(), Fail> {
     expect(put(alloc, range, one)? == 0, "the put has the first entry")?;
-    let held = range.get(alloc, one, b"a")?;
-    expect(held.len() == 1, "one version is held")?;
     expect(count_held(alloc, range)? == 1, "a look shows it")?;
     expect(count_entries(range) == 1, "one entry is counted")?;
+    let held = range.get(alloc, one, b"a")?;
+    expect(held.len() == 1, "one version is held")?;
     expect(
         one.seen() == 1 && one.receipts().len() == 1 && one.readings().len() == 1,
         "the pass has a receipt and a reading",
