@@ -19,14 +19,14 @@ abbrev pub IsFresh : Option Config → State → Type 0
 IsFresh (Some c) s = s ≡ fresh c
 IsFresh None s = ⊥
 
--- the handle holds the new state, or is empty on error
-abbrev pub TakesState : Replica → Option Config → Result (Unit {0}) Refusal → Type 0
-TakesState new config r = Answers r (config_fault config) (λ _. (new.held ≡ true) × IsFresh config new.state) × OnErr r (new.held ≡ false)
+-- the handle holds the right state, or is empty on error
+abbrev pub TakesState : Replica → Option Refusal → (State → Type 0) → Result (Unit {0}) Refusal → Type 0
+TakesState new cause Right r = Answers r cause (λ _. (new.held ≡ true) × Right new.state) × OnErr r (new.held ≡ false)
 
 -- a full handle is unchanged, and HELD is returned; otherwise a replica is made
-abbrev pub MadeWhere : Bool → ℕ → Replica → Replica → Option Config → Type 0
-MadeWhere true code old new config = (new.held ≡ true) × (new.state ≡ old.state) × (code ≡ HELD)
-MadeWhere false code old new config = Returns code (TakesState new config)
+abbrev pub MadeWhere : Bool → ℕ → Replica → Replica → Option Refusal → (State → Type 0) → Type 0
+MadeWhere true code old new cause Right = (new.held ≡ true) × (new.state ≡ old.state) × (code ≡ HELD)
+MadeWhere false code old new cause Right = Returns code (TakesState new cause Right)
 
-unfoldable pub Makes : ℕ → Replica → Replica → Option Config → Type 0
-Makes code old new config = MadeWhere old.held code old new config
+unfoldable pub Makes : ℕ → Replica → Replica → Option Refusal → (State → Type 0) → Type 0
+Makes code old new cause Right = MadeWhere old.held code old new cause Right

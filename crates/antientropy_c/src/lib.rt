@@ -13,6 +13,7 @@ mod place;
 pub mod publication;
 mod published;
 pub mod puts;
+pub mod renewal;
 pub mod replica;
 pub mod rows;
 pub mod sessions;

@@ -29,7 +29,8 @@ pub extern "C" fn antientropy_new(
     range: u64,
     limit: u64,
 ) -> u32
-    ensures { Makes result replica.old replica.new (config_of format bits range limit) }
+    ensures { Makes result replica.old replica.new (config_fault (config_of format bits range limit))
+        (IsFresh (config_of format bits range limit)) }
 {
     if let Some(state) = replica.take(alloc) {
         replica.hold(state);
@@ -48,7 +49,8 @@ fn make(
     limit: u64,
 ) -> Result<(), Refusal>
     requires { replica.old.held ≡ false }
-    ensures { TakesState replica.new (config_of format bits range limit) result }
+    ensures { TakesState replica.new (config_fault (config_of format bits range limit))
+        (IsFresh (config_of format bits range limit)) result }
 {
     let state = fresh(alloc, format, bits, range, limit)?;
     replica.hold(state);
