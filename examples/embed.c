@@ -167,6 +167,24 @@ static void deliver(struct antientropy *replica)
     printf("its clock and node 1's first are %s\n", order == ANTIENTROPY_APART ? "concurrent" : "in order");
 }
 
+/* Makes a new replica that begins with the versions that an old one holds, in place of that one. */
+static void renew(struct antientropy *replica)
+{
+    struct antientropy old = *replica;
+    struct antientropy_counts counts;
+    *replica = (struct antientropy){0};
+    want("renew", antientropy_renew(&old, replica, 0), ANTIENTROPY_BAD_RING);
+    want("renew", antientropy_renew(&old, replica, 1), ANTIENTROPY_JOURNAL_FULL);
+    want("renew", antientropy_renew(&old, replica, 1000), ANTIENTROPY_OK);
+    want("renew", antientropy_renew(&old, replica, 1000), ANTIENTROPY_HELD);
+    want("count", antientropy_count(replica, &counts), ANTIENTROPY_OK);
+    printf("renewed with %llu entries and %llu sessions, ", (unsigned long long)counts.entries,
+           (unsigned long long)counts.sessions);
+    printf("roots equal: %s\n", equal_roots(&old, replica) ? "yes" : "no");
+    antientropy_free(&old);
+    want("renew", antientropy_renew(&old, replica, 1000), ANTIENTROPY_EMPTY);
+}
+
 int main(void)
 {
     struct antientropy a = {0}, b = {0};
@@ -204,6 +222,7 @@ int main(void)
     want("get", antientropy_get(&a, (const uint8_t *)"order", 5, text, 3, &need), ANTIENTROPY_SMALL);
     want("get", antientropy_get(&a, (const uint8_t *)"order", 5, text, need, &need), ANTIENTROPY_OK);
     printf("the row of order has %llu bytes\n", (unsigned long long)need);
+    renew(&b);
     antientropy_free(&a);
     antientropy_free(&b);
     want("migrate", antientropy_migrate(&a), ANTIENTROPY_EMPTY);

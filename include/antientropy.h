@@ -138,6 +138,13 @@ uint32_t antientropy_new(struct antientropy *replica, uint64_t format, uint64_t 
 /* Frees the replica that a handle holds, if it holds one. */
 void antientropy_free(struct antientropy *replica);
 
+/* Makes a new replica in the empty handle `into`, which begins with the versions that `from` holds: one entry for each,
+ * with the same rows and digests, no sessions, and a journal of at most `limit` entries, 1 to 1,000,000. `from` is left
+ * unchanged: free it, and go on with the new one under the same node number.
+ * Refused, in order: EMPTY (`from`), HELD (`into` holds one already), BAD_RING (the limit), JOURNAL_FULL (more versions
+ * are held than the limit), NO_MEMORY. */
+uint32_t antientropy_renew(struct antientropy *from, struct antientropy *into, uint64_t limit);
+
 /* Converts a replica of format 1 to format 2. All nodes become dirty, and open sessions are cancelled. A replica of
  * format 2 is left unchanged. Refused, in order: EMPTY, NO_MEMORY. */
 uint32_t antientropy_migrate(struct antientropy *replica);
