@@ -5,3 +5,4 @@ pub mod ReplayLaws
 pub mod Walk
 pub mod CallerLaws
 pub mod IndexLaws
+pub mod RenewalLaws

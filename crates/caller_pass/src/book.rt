@@ -1,7 +1,10 @@
 //! The book that counts the receipts of passes.
-ghost use Rattle.std.specs.Prelude.{◌≡◌, ◌+◌, ◌<◌, ◌≤◌, length, None, OnOk, IfErr};
+ghost use Rattle.std.specs.Prelude.{◌≡◌, ◌+◌, ◌<◌, ◌≤◌, ◌++◌, [], length, map, vec_len, None, OnOk, IfErr};
+ghost use Rattle.std.specs.Vec.{vec_capacity};
 ghost use Rattle.vclock.specs.Answer.{Answers};
 ghost use Rattle.caller_pass.specs.Passes.{new_book, new_passes, counted, absorbed, receipts_of};
+ghost use Rattle.caller_pass.specs.Closings.{AllThere};
+ghost use Rattle.caller_pass.specs.Renewals.{carried_passes, pass_of};
 
 use crate::pass::Pass;
 use crate::reading::Reading;
@@ -9,6 +12,7 @@ use crate::receipt_index::ByKey;
 use range_state::Receipt;
 use std::alloc::Global;
 use std::marker::Model;
+use std::mem::replace;
 use std::sync::ledger::{self, Blank, Ledger, Share};
 use vclock::Refusal;
 
@@ -32,13 +36,17 @@ pub struct Book<L: Ledger> {
     share: Share<L>,
 }
 
-/// A pass that was handed back, without its share.
+/// A pass that was handed back, without its share, so it is no `Pass` any more.
 #[derive(Drop)]
-struct ReturnedPass {
-    seat: u16,
-    seen: u64,
-    receipts: Vec<Receipt>,
-    readings: Vec<Reading>,
+pub struct ReturnedPass {
+    /// The number of the caller, from 0.
+    pub seat: u16,
+    /// The number of entries of the journal that the caller had seen.
+    pub seen: u64,
+    /// The entries that the caller made, in order.
+    pub receipts: Vec<Receipt>,
+    /// The readings of the caller, in order.
+    pub readings: Vec<Reading>,
 }
 
 impl<L: Ledger> Model for Book<L> {
@@ -161,6 +169,165 @@ impl<L: Ledger> Book<L> {
         ensures sum { receipts_of self.old.passes ≡ self.old.number }
     {
         self.count.audit(&mut self.share);
+    }
+
+    /// Takes the book and the passes of all seats apart, and makes a book and passes of the same ledger. The pass of
+    /// `seat` has the receipts, and has seen them; the others have none. `entries` is the count so far. Returns the
+    /// book, its passes, and the passes that were taken, in order. Doesn't allocate.
+    pub(crate) fn renew(
+        self,
+        alloc: Global,
+        entries: u64,
+        passes: Vec<Pass<L>>,
+        room: Room<L>,
+        seat: u16,
+        receipts: Vec<Receipt>,
+    ) -> (Book<L>, Vec<Pass<L>>, Vec<ReturnedPass>)
+        requires entries { self.number ≡ entries }
+        requires there { AllThere L.parts passes.items }
+        requires seat { seat < L.parts }
+        requires none { (room.passes.items ≡ []) × (room.kept.items ≡ []) }
+        requires room { (L.parts ≤ vec_capacity room.passes) × (length passes.items ≤ vec_capacity room.kept) }
+        ensures book { result.0 ≡ record { number = length receipts.items; seats = self.seats; passes = [] } }
+        ensures passes { result.1.items ≡ carried_passes seat receipts.items L.parts }
+        ensures kept { map pass_of result.2.items ≡ passes.items }
+    {
+        let Book {
+            mut count,
+            seats,
+            kept: _,
+            mut share,
+        } = self;
+        let Room { passes: new, kept } = room;
+        let kept = gather(&mut share, passes, kept);
+        count.audit(&mut share);
+        count.sub(&mut share, entries);
+        let passes = deal(alloc, &mut count, &mut share, seats, new, seat, receipts);
+        let book = Book {
+            count,
+            seats,
+            kept: Vec::new(alloc),
+            share,
+        };
+        (book, passes, kept)
+    }
+}
+
+/// Room for the passes of a renewal: for the new ones, and for those that are taken back.
+#[derive(Drop)]
+pub(crate) struct Room<L: Ledger> {
+    pub(crate) passes: Vec<Pass<L>>,
+    pub(crate) kept: Vec<ReturnedPass>,
+}
+
+impl<L: Ledger> Room<L> {
+    /// Makes room for new passes, and for those that are taken back. Refused: NoMemory.
+    pub(crate) fn new(alloc: Global, seats: u16, passes: usize) -> Result<Room<L>, Refusal>
+        ensures { Answers result None (λ room. (room.passes.items ≡ []) × (room.kept.items ≡ [])
+            × (seats ≤ vec_capacity room.passes) × (passes ≤ vec_capacity room.kept)) }
+    {
+        let kept = Vec::with_capacity(alloc, passes)?;
+        let passes = Vec::with_capacity(alloc, seats as usize)?;
+        Ok(Room { passes, kept })
+    }
+}
+
+/// Takes passes back in order, into a list with room for them, and merges their shares.
+fn gather<L: Ledger>(
+    share: &mut Share<L>,
+    mut passes: Vec<Pass<L>>,
+    mut kept: Vec<ReturnedPass>,
+) -> Vec<ReturnedPass>
+    requires none { kept.items ≡ [] }
+    requires room { length passes.items ≤ vec_capacity kept }
+    ensures kept { map pass_of result.items ≡ passes.items }
+    ensures parts { share.new.parts ≡ share.old.parts + length passes.items }
+    ensures few { share.new.parts ≤ L.parts }
+{
+    // Called for its clause alone: the share has at most all parts.
+    let none = share.empty();
+    share.merge(none);
+    passes.reverse();
+    while let Some(pass) = passes.pop() {
+        let Pass {
+            seat,
+            seen,
+            receipts,
+            readings,
+            by_key: _,
+            share: part,
+        } = pass;
+        share.merge(part);
+        kept.push_reserved(ReturnedPass {
+            seat,
+            seen,
+            receipts,
+            readings,
+        });
+    }
+    passes.destroy_empty();
+    kept
+}
+
+/// Makes a pass for each seat from a share that has one part a seat, into a list with room for them. The pass of the
+/// carrier has the receipts.
+fn deal<L: Ledger>(
+    alloc: Global,
+    count: &mut ledger::Book<L>,
+    share: &mut Share<L>,
+    seats: u16,
+    mut passes: Vec<Pass<L>>,
+    carrier: u16,
+    mut receipts: Vec<Receipt>,
+) -> Vec<Pass<L>>
+    requires count { count.old.total ≡ 0 }
+    requires amount { share.old.amount ≡ 0 }
+    requires parts { (share.old.parts ≡ seats) × (L.parts ≡ seats) }
+    requires carrier { carrier < seats }
+    requires none { passes.items ≡ [] }
+    requires room { seats ≤ vec_capacity passes }
+    ensures passes { result.items ≡ carried_passes carrier receipts.items seats }
+    ensures count { count.new.total ≡ length receipts.items }
+    ensures share { (share.new.parts ≡ 0) × (share.new.amount ≡ 0) }
+{
+    for seat in 0..seats {
+        let none = Vec::new(alloc);
+        let carried = if seat == carrier {
+            replace(&mut receipts, none)
+        } else {
+            none
+        };
+        passes.push_reserved(make_pass(alloc, count, share, seat, carried));
+    }
+    passes
+}
+
+/// Makes the pass of a seat from one part of a share. It has receipts, and has seen them.
+fn make_pass<L: Ledger>(
+    alloc: Global,
+    count: &mut ledger::Book<L>,
+    share: &mut Share<L>,
+    seat: u16,
+    receipts: Vec<Receipt>,
+) -> Pass<L>
+    requires seat { seat < L.parts }
+    requires part { 0 < share.old.parts }
+    requires amount { share.old.amount ≡ 0 }
+    ensures pass { result ≡ record { seat = seat; seen = length receipts.items; share = length receipts.items; receipts = receipts.items; readings = [] } }
+    ensures count { count.new.total ≡ count.old.total + length receipts.items }
+    ensures parts { share.new.parts + 1 ≡ share.old.parts }
+    ensures amount { share.new.amount ≡ 0 }
+{
+    let mut part = share.split_off(1, 0);
+    let seen = receipts.len() as u64;
+    count.add(&mut part, seen);
+    Pass {
+        seat,
+        seen,
+        receipts,
+        readings: Vec::new(alloc),
+        by_key: ByKey::new(alloc),
+        share: part,
     }
 }
 

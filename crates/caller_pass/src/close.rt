@@ -32,7 +32,7 @@ pub struct Closed<L: Ledger> {
     pub passes: Vec<Pass<L>>,
 }
 
-/// A range that wasn't closed, with its passes and the cause, so nothing is lost.
+/// A range that wasn't closed or renewed, with its passes and the cause, so nothing is lost.
 ///
 /// ```
 /// let Unclosed {
@@ -48,7 +48,7 @@ pub struct Unclosed<L: Ledger> {
     pub range: LockedRange<L>,
     /// The passes.
     pub passes: Vec<Pass<L>>,
-    /// The cause: Stranger, Unsettled or NoMemory.
+    /// The cause: Stranger, Unsettled or NoMemory; of a renewal also BadRing or JournalFull.
     pub refusal: Refusal,
 }
 
@@ -84,7 +84,7 @@ impl<L: Ledger> LockedRange<L> {
 }
 
 /// Compares all passes with the journal.
-fn compare<L: Ledger>(
+pub(crate) fn compare<L: Ledger>(
     alloc: Global,
     state: &RangeState,
     seats: u16,

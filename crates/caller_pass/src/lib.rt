@@ -7,6 +7,7 @@
 //! - [`locked_range`]: a range with its book; its calls record their outcome in the pass that they are lent.
 //! - [`unread`]: the refusal of a read.
 //! - [`close`]: the close of a range, once each pass agrees with the journal.
+//! - [`renewal`]: the close of a range, and a new one of the same ledger that begins with the versions held.
 //! - [`laws`]: laws proved from the definitions: a caller reads its own writes, and its readings of a key never go
 //!   back.
 //!
@@ -30,11 +31,13 @@ mod missing;
 pub mod pass;
 pub mod reading;
 mod receipt_index;
+pub mod renewal;
 pub mod unread;
 
-pub use book::{Book, Unabsorbed, open_passes};
+pub use book::{Book, ReturnedPass, Unabsorbed, open_passes};
 pub use close::{Closed, Unclosed};
 pub use locked_range::LockedRange;
 pub use pass::Pass;
 pub use reading::Reading;
+pub use renewal::Renewed;
 pub use unread::Unread;

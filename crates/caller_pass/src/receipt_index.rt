@@ -1,5 +1,6 @@
 //! The places of a pass's receipts, by key.
-ghost use Rattle.std.specs.Prelude.{◌≡◌, ◌+◌, ◌-◌, ◌<◌, [], Some, length, slice_get, OnOk};
+ghost use Rattle.std.specs.Prelude.{◌≡◌, ◌+◌, ◌-◌, ◌<◌, List, Some, length, slice_get, OnOk};
+ghost use Rattle.range_journal.specs.declared.journal.Entry.{Entry};
 ghost use Rattle.caller_pass.specs.Indexes.{IsIndex, found_in, front_at};
 
 use key_ring::HashedKey;
@@ -24,9 +25,9 @@ pub(crate) struct ByKey {
 }
 
 impl ByKey {
-    /// Makes the index of no receipts. Doesn't allocate.
+    /// Makes the index of no receipts, so that none is linked. Doesn't allocate.
     pub(crate) fn new(alloc: Global) -> ByKey
-        ensures { IsIndex [] result }
+        ensures { (receipts : List Entry) → IsIndex receipts result }
     {
         ByKey {
             last: HashMap::new(alloc),

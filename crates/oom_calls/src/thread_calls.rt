@@ -11,6 +11,7 @@ mod links;
 mod locked;
 mod partner;
 mod pools;
+mod renewals;
 mod scene;
 mod shared;
 mod stories;
@@ -30,5 +31,6 @@ pub(crate) fn show_all<R: Print + AllocGlobal + Threads + Wait + Sync>(rt: &R) -
     pools::show_all(rt, &partner)?;
     links::show_all(rt, &partner)?;
     channels::show_all(rt, &partner)?;
+    renewals::show_all(rt, &partner)?;
     stories::show_all(rt, &partner)
 }

@@ -44,7 +44,7 @@ pub use hints::SharedHints;
 pub use link::{Link, Reached};
 pub use memory::MemoryLink;
 pub use offers::{OfferCounts, OfferPool};
-pub use range::{NotClosed, SharedRange};
+pub use range::{NotClosed, RenewedRange, SharedRange};
 pub use rehasher::RehashReport;
 pub use scripted_link::ScriptedLink;
 pub use syncer::SyncReport;

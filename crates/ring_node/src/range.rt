@@ -1,5 +1,5 @@
 //! A range that threads share.
-ghost use Rattle.std.specs.Prelude.{◌≡◌, ◌⊎◌, ◌≤◌, [], None, IfOk, IfErr, OnOk, OnErr, IsTrue, All};
+ghost use Rattle.std.specs.Prelude.{◌≡◌, ◌⊎◌, ◌≤◌, [], map, None, IfOk, IfErr, OnOk, OnErr, IsTrue, All};
 ghost use Rattle.std.specs.Arc.{arc_value};
 ghost use Rattle.vclock.specs.Answer.{Answers};
 ghost use Rattle.vclock.specs.Clock.{raise_fault};
@@ -11,10 +11,11 @@ ghost use Rattle.range_state.specs.Migrates.{migrate};
 ghost use Rattle.range_state.specs.State.{is_sent, put_version, dirty_fault, rows_now};
 ghost use Rattle.caller_pass.specs.Closings.{AllThere, IsSettled, IsUnclosed};
 ghost use Rattle.caller_pass.specs.Locks.{IsLocked, moved, put_in, accept_in, get_in, plainly};
+ghost use Rattle.caller_pass.specs.Renewals.{carried_passes, renewed_in, pass_of, IsUnrenewed};
 ghost use Rattle.ring_node.specs.Moments.{FoundAtSomeMoment, ChangedAtSomeMoment};
 ghost use Rattle.ring_node.specs.Passes.{IsReceiptOf, HasReceiptOf, IsSent, IsPutRefusal, IsSentRefusal, IsReading, IsBehind};
 
-use caller_pass::{Book, Closed, LockedRange, Pass, Unclosed, Unread};
+use caller_pass::{Book, Closed, LockedRange, Pass, Renewed, ReturnedPass, Unclosed, Unread};
 use key_ring::HashedKey;
 use range_journal::Source;
 use range_state::{Accepted, RangeCounts, RangeState, Receipt};
@@ -51,7 +52,7 @@ impl<L: Ledger> Model for SharedRange<L> {
     ghost view = { λ s. s.node };
 }
 
-/// A range that wasn't closed, with its passes and the cause, so nothing is lost.
+/// A range that wasn't closed or renewed, with its passes and the cause, so nothing is lost.
 ///
 /// ```
 /// match self.range.close(alloc, passes) {
@@ -65,8 +66,19 @@ pub struct NotClosed<L: Ledger> {
     pub range: SharedRange<L>,
     /// The passes.
     pub passes: Vec<Pass<L>>,
-    /// The cause: Stranger, Unsettled or NoMemory.
+    /// The cause: Stranger, Unsettled or NoMemory; of a renewal also BadRing or JournalFull.
     pub refusal: Refusal,
+}
+
+/// A range that was closed and opened again, with its new passes, and with the passes that were handed in.
+#[derive(Drop)]
+pub struct RenewedRange<L: Ledger> {
+    /// The new range, of the same node.
+    pub range: SharedRange<L>,
+    /// Its passes, in the order of their seats.
+    pub passes: Vec<Pass<L>>,
+    /// The passes that were handed in, in the order in which they were.
+    pub kept: Vec<ReturnedPass>,
 }
 
 impl<L: Ledger> SharedRange<L> {
@@ -257,6 +269,60 @@ impl<L: Ledger> SharedRange<L> {
             Ok(closed) => Ok(closed),
             Err(unclosed) => Err(not_closed(node, unclosed)),
         }
+    }
+
+    /// Closes the range, and opens it again at the same node as a new one that begins with the versions held, as
+    /// [`LockedRange::renew`] does. The pass of `seat` has the carried entries as receipts, and has seen them; the
+    /// others have none. Takes no lock, since no other thread has the range any more.
+    ///
+    /// Refused as [`LockedRange::renew`] is, in order: Stranger (a seat has no pass, or the range has no such seat),
+    /// Unsettled, BadRing (the limit), JournalFull, NoMemory, which may replace Unsettled. On error range and passes
+    /// are returned.
+    pub fn renew(
+        self,
+        alloc: Global,
+        passes: Vec<Pass<L>>,
+        seat: u16,
+        limit: u64,
+    ) -> Result<RenewedRange<L>, NotClosed<L>>
+        ensures node { IfOk result (λ renewed. renewed.range ≡ self) }
+        ensures kept { IfOk result (λ renewed. map pass_of renewed.kept.items ≡ passes.items) }
+        ensures there { OnOk result (AllThere L.parts passes.items) }
+        ensures right { IfOk result (λ renewed. ChangedAtSomeMoment (IsLocked L.parts) (λ before after.
+            (after ≡ renewed_in before seat limit) × All (IsSettled before.state.entries) passes.items
+            × (renewed.passes.items ≡ carried_passes seat after.state.entries L.parts))) }
+        ensures handed_back { IfErr result (λ refused. (refused.range ≡ self) × (refused.passes.items ≡ passes.items)) }
+        ensures refusal { IfErr result (λ refused. FoundAtSomeMoment (IsLocked L.parts)
+            (λ locked. IsUnrenewed L.parts locked.state seat limit passes.items refused.refusal)) }
+    {
+        let SharedRange { node, range } = self;
+        let range = range.into_inner();
+        // Called for its clause `valid` alone: the range is right.
+        let _valid = range.config();
+        match range.renew(alloc, passes, seat, limit) {
+            Ok(renewed) => Ok(share(node, renewed)),
+            Err(unclosed) => Err(not_closed(node, unclosed)),
+        }
+    }
+}
+
+/// Adds its node to a range that was renewed, which threads share again.
+fn share<L: Ledger>(node: u16, renewed: Renewed<L>) -> RenewedRange<L>
+    requires { 1 ≤ node }
+    ensures range { result.range ≡ node }
+    ensures passes { result.passes.items ≡ renewed.passes.items }
+    ensures kept { result.kept.items ≡ renewed.kept.items }
+{
+    let Renewed {
+        range,
+        passes,
+        kept,
+    } = renewed;
+    let range = Mutex::new(range);
+    RenewedRange {
+        range: SharedRange { node, range },
+        passes,
+        kept,
     }
 }
 

@@ -41,6 +41,8 @@ mod rehashes;
 #[cfg(test)]
 mod relay;
 #[cfg(test)]
+mod renewals;
+#[cfg(test)]
 mod runs;
 #[cfg(test)]
 mod slots;

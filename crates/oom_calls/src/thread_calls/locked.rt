@@ -2,7 +2,7 @@
 ghost use Rattle.std.specs.Prelude.{◌≡◌};
 
 use crate::thread_calls::calls::LockedCall;
-use crate::thread_calls::closing::{Closing, close_locked};
+use crate::thread_calls::closing::{Closing, close_locked, renew_locked};
 use crate::thread_calls::partner::Partner;
 use crate::thread_calls::versions::{put_parts, version};
 use caller_pass::{LockedRange, Pass, open_passes};
@@ -42,6 +42,12 @@ impl<L: Ledger> Locked<L> {
     pub(crate) fn close(self, alloc: Global) -> Result<Closing<L>, Refusal> {
         let Locked { range, passes } = self;
         close_locked(alloc, range, passes)
+    }
+
+    /// Renews the range, and closes it.
+    pub(crate) fn renew_range(self, alloc: Global) -> Result<Closing<L>, Refusal> {
+        let Locked { range, passes } = self;
+        renew_locked(alloc, range, passes)
     }
 
     /// Makes a call, and returns a number that stands for its result.

@@ -2,7 +2,7 @@
 ghost use Rattle.std.specs.Prelude.{◌≡◌};
 
 use crate::thread_calls::calls::SharedCall;
-use crate::thread_calls::closing::{Closing, close_shared};
+use crate::thread_calls::closing::{Closing, close_shared, renew_shared};
 use crate::thread_calls::partner::Partner;
 use crate::thread_calls::versions::{put_parts, version};
 use admission::Controller;
@@ -93,6 +93,18 @@ impl<L: Ledger, C: Ledger> Shared<L, C> {
             counter: _,
         } = self;
         close_shared(alloc, range, passes)
+    }
+
+    /// Renews the range, and closes it.
+    pub(crate) fn renew_range(self, alloc: Global) -> Result<Closing<L>, Refusal> {
+        let Shared {
+            range,
+            passes,
+            slots: _,
+            hints: _,
+            counter: _,
+        } = self;
+        renew_shared(alloc, range, passes)
     }
 
     /// Returns the number of nodes that its workers hashed.

@@ -1,0 +1,171 @@
+//! The renewal of a range.
+ghost use Rattle.std.specs.Prelude.{◌≡◌, ◌<◌, ◌≤◌, [], None, length, map, vec_len, OnOk, IfOk, IfErr, All};
+ghost use Rattle.std.specs.List.{AllByRecursion};
+ghost use Rattle.std.specs.Vec.{vec_capacity};
+ghost use Rattle.vclock.specs.Answer.{Answers};
+ghost use Rattle.range_state.specs.Renewals.{renewed_by};
+ghost use Rattle.caller_pass.specs.Closings.{IsSettled, AllThere};
+ghost use Rattle.caller_pass.specs.Renewals.{carried_passes, renewed_in, pass_of, IsUnrenewed};
+
+use crate::book::{ReturnedPass, Room};
+use crate::close::{Unclosed, compare};
+use crate::locked_range::LockedRange;
+use crate::pass::Pass;
+use range_journal::Entry;
+use range_state::{RangeState, Receipt};
+use std::alloc::Global;
+use std::sync::ledger::Ledger;
+use vclock::Refusal;
+
+/// A range that was closed and opened again, with its new passes, and with the passes that were handed in.
+#[derive(Drop)]
+pub struct Renewed<L: Ledger> {
+    /// The new range.
+    pub range: LockedRange<L>,
+    /// Its passes, in the order of their seats.
+    pub passes: Vec<Pass<L>>,
+    /// The passes that were handed in, in the order in which they were.
+    pub kept: Vec<ReturnedPass>,
+}
+
+/// The parts of a renewed range. They are made before the old one is taken apart.
+#[derive(Drop)]
+struct Preparation<L: Ledger> {
+    state: RangeState,
+    receipts: Vec<Receipt>,
+    room: Room<L>,
+}
+
+impl<L: Ledger> LockedRange<L> {
+    /// Closes the range as `close` does, and opens it again as a new one that begins with the versions held, as
+    /// `RangeState::renewed` does, with new passes. The pass of `seat` has the carried entries as receipts, and has
+    /// seen them; the others have none.
+    ///
+    /// Refused, in order: Stranger (a seat has no pass, or the range has no such seat), Unsettled, BadRing (the limit),
+    /// JournalFull, NoMemory, which may replace Unsettled. On error range and passes are returned.
+    pub fn renew(
+        self,
+        alloc: Global,
+        passes: Vec<Pass<L>>,
+        seat: u16,
+        limit: u64,
+    ) -> Result<Renewed<L>, Unclosed<L>>
+        ensures range { IfOk result (λ r. r.range ≡ renewed_in self seat limit) }
+        ensures passes { IfOk result (λ r.
+            r.passes.items ≡ carried_passes seat (renewed_by self.state seat limit).entries L.parts) }
+        ensures kept { IfOk result (λ r. map pass_of r.kept.items ≡ passes.items) }
+        ensures there { OnOk result (AllThere L.parts passes.items) }
+        ensures settled { OnOk result (All (IsSettled self.state.entries) passes.items) }
+        ensures back { IfErr result (λ unclosed. (unclosed.range ≡ self) × (unclosed.passes.items ≡ passes.items)) }
+        ensures refused { IfErr result (λ unclosed.
+            IsUnrenewed L.parts self.state seat limit passes.items unclosed.refusal) }
+    {
+        let seats = self.book.seats();
+        match prepare(alloc, &self.state, seats, &passes, seat, limit) {
+            Ok(prepared) => Ok(self.carry(alloc, passes, seat, prepared)),
+            Err(refusal) => Err(Unclosed {
+                range: self,
+                passes,
+                refusal,
+            }),
+        }
+    }
+
+    /// Takes range and passes apart, and puts the new ones together.
+    fn carry(
+        self,
+        alloc: Global,
+        passes: Vec<Pass<L>>,
+        seat: u16,
+        prepared: Preparation<L>,
+    ) -> Renewed<L>
+        requires there { AllThere L.parts passes.items }
+        requires seat { seat < L.parts }
+        requires receipts { prepared.receipts.items ≡ prepared.state.entries }
+        requires seated { AllByRecursion (λ e. e.seat < L.parts) prepared.state.entries }
+        requires none { prepared.room.passes.items ≡ [] }
+        requires room { L.parts ≤ vec_capacity prepared.room.passes }
+        requires kept { (prepared.room.kept.items ≡ []) × (length passes.items ≤ vec_capacity prepared.room.kept) }
+        ensures state { result.range.state ≡ prepared.state }
+        ensures book { result.range.book
+            ≡ record { number = length prepared.state.entries; seats = self.book.seats; passes = [] } }
+        ensures passes { result.passes.items ≡ carried_passes seat prepared.state.entries L.parts }
+        ensures kept { map pass_of result.kept.items ≡ passes.items }
+    {
+        let LockedRange { state: old, book } = self;
+        let Preparation {
+            state,
+            receipts,
+            room,
+        } = prepared;
+        let entries = old.journal().len();
+        let (book, passes, kept) = book.renew(alloc, entries, passes, room, seat, receipts);
+        // Called for its clause alone: the state is right.
+        let _right = state.journal();
+        let range = LockedRange { state, book };
+        Renewed {
+            range,
+            passes,
+            kept,
+        }
+    }
+}
+
+/// Makes the parts of a renewed range, once each pass agrees with the journal.
+fn prepare<L: Ledger>(
+    alloc: Global,
+    state: &RangeState,
+    seats: u16,
+    passes: &Vec<Pass<L>>,
+    seat: u16,
+    limit: u64,
+) -> Result<Preparation<L>, Refusal>
+    requires { seats ≡ L.parts }
+    ensures seat { OnOk result (seat < seats) }
+    ensures there { OnOk result (AllThere seats passes.now.items) }
+    ensures settled { OnOk result (All (IsSettled state.now.entries) passes.now.items) }
+    ensures state { IfOk result (λ p. p.state ≡ renewed_by state.now seat limit) }
+    ensures receipts { IfOk result (λ p. p.receipts.items ≡ p.state.entries) }
+    ensures seated { IfOk result (λ p. AllByRecursion (λ e. e.seat < seats) p.state.entries) }
+    ensures none { IfOk result (λ p. (p.room.passes.items ≡ []) × (p.room.kept.items ≡ [])) }
+    ensures room { IfOk result (λ p. (seats ≤ vec_capacity p.room.passes)
+        × (length passes.now.items ≤ vec_capacity p.room.kept)) }
+    ensures refused { IfErr result (IsUnrenewed seats state.now seat limit passes.now.items) }
+{
+    if seat >= seats {
+        return Err(Refusal::Stranger);
+    }
+    compare(alloc, state, seats, passes)?;
+    let state = state.renewed(alloc, seat, limit)?;
+    let receipts = copy_all(alloc, state.journal().entries())?;
+    let room = Room::new(alloc, seats, passes.len())?;
+    Ok(Preparation {
+        state,
+        receipts,
+        room,
+    })
+}
+
+/// Copies entries. Refused: NoMemory.
+fn copy_all(alloc: Global, entries: &[Entry]) -> Result<Vec<Receipt>, Refusal>
+    ensures { Answers result None (λ copy. copy.items ≡ entries.now) }
+{
+    let mut copy = Vec::with_capacity(alloc, entries.len())?;
+    for entry in entries {
+        copy.push_reserved(copy_of(entry)?);
+    }
+    Ok(copy)
+}
+
+/// Copies an entry. Refused: NoMemory.
+fn copy_of(entry: &Entry) -> Result<Receipt, Refusal>
+    ensures { Answers result None (λ copy. copy ≡ entry.now) }
+{
+    Ok(Receipt {
+        number: entry.number,
+        seat: entry.seat,
+        source: entry.source,
+        key: entry.key.try_clone()?,
+        version: entry.version.try_clone()?,
+    })
+}
