@@ -301,7 +301,7 @@ impl<L: Ledger> SharedRange<L> {
         let _valid = range.config();
         match range.renew(alloc, passes, seat, limit) {
             Ok(renewed) => Ok(share(node, renewed)),
-            Err(unclosed) => Err(not_closed(node, unclosed)),
+            Err(unrenewed) => Err(not_closed(node, unrenewed)),
         }
     }
 }
