@@ -26,12 +26,21 @@ texts_of format (c ∷ chunks) all =
     ∙ ap (λ (rest : List ℕ). flat_map (row_text format) c.rows ++ rest) (texts_of format chunks all.1)
     ∙ sym (flat_map-append (row_text format) c.rows (all_rows chunks))
 
--- so a leaf's text is a byte and the texts of its chunks
+-- so the texts of a leaf's rows are those of its chunks
+pub rows_of_chunks : (b : Bucket) (format : Format) (chunks : List Bucket) → record { format = format; rows = all_rows chunks } ≡ b → AreChunks format chunks → flat_map chunk_text chunks ≡ flat_map (row_text b.format) b.rows
+rows_of_chunks b format chunks same are = texts_of format chunks are.each ∙ ap (λ (x : Bucket). flat_map (row_text x.format) x.rows) same
+
+-- and its text is a byte and these
 pub text_of_chunks : (b : Bucket) (format : Format) (chunks : List Bucket) → record { format = format; rows = all_rows chunks } ≡ b → AreChunks format chunks → leaf_byte format ∷ flat_map chunk_text chunks ≡ leaf_text b.format b.rows
 unfolding leaf_text
 text_of_chunks b format chunks same are =
     ap (λ (rest : List ℕ). leaf_byte format ∷ rest) (texts_of format chunks are.each)
     ∙ ap (λ (x : Bucket). leaf_byte x.format ∷ flat_map (row_text x.format) x.rows) same
+
+-- which is never empty
+pub some_text : (b : Bucket) → 1 ≤ length (leaf_text b.format b.rows)
+unfolding leaf_text
+some_text b = omega arith
 
 -- the rows before a chunk, its own, and those after it
 pub three_parts : (chunks : List Bucket) (i : ℕ) → i < length chunks → all_rows chunks ≡ all_rows (take i chunks) ++ chunk_rows chunks i ++ all_rows (drop (i + 1) chunks)

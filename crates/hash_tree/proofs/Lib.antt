@@ -14,4 +14,3 @@ pub mod TreeLaws
 pub mod ReadyLaws
 pub mod BlockLaws
 pub mod CopyLaws
-pub mod RewriteLaws

@@ -17,7 +17,7 @@ use crate::chunk::Chunk;
 use crate::chunks::{Spot, offer_to_key, share_chunks, spot_of, text_len};
 use crate::comparison::is_chunked_text;
 use crate::row_runs::RowRuns;
-use crate::texts::put_chunks;
+use crate::texts::{leaf_byte, put_chunks};
 use row_bytes::Row;
 use std::alloc::{AllocError, Global};
 use std::marker::Model;
@@ -103,7 +103,18 @@ impl SharedLeaf {
     {
         // Summing the lengths first touches every chunk in one pass, so their cache misses overlap.
         reserve(out, self.text_len())?;
-        put_chunks(out, self.format, self.chunks())
+        out.push(leaf_byte(self.format))?;
+        put_chunks(out, self.chunks())
+    }
+
+    /// Appends the texts of the rows, one after another: the text of the leaf without its first byte. Refused: NoMemory,
+    /// and then `out` is unchanged.
+    pub fn put_rows(&self, out: &mut Vec<u8>) -> Result<(), Refusal>
+        ensures { Does result out.old.items out.new.items
+            (gives tt (out.old.items ++ flat_map (row_text self.now.format) self.now.rows)) }
+    {
+        reserve(out, self.text_len() - 1)?;
+        Ok(put_chunks(out, self.chunks())?)
     }
 
     /// Returns true if `text` is the text of the leaf. Doesn't allocate.

@@ -36,17 +36,12 @@ pub fn inner_byte(format: Format) -> u8
     }
 }
 
-/// Appends the text of a leaf with these chunks. Fails only if memory is needed beyond the room of `out`, and then part
-/// of the text may be at the end.
-pub(crate) fn put_chunks(
-    out: &mut Vec<u8>,
-    format: Format,
-    chunks: &[Chunk],
-) -> Result<(), AllocError>
-    ensures ok { OnOk result (out.new.items ≡ out.old.items ++ leaf_byte format ∷ flat_map chunk_text chunks.now) }
-    ensures room { OnErr result (vec_capacity out.old < length out.old.items + length (flat_map chunk_text chunks.now) + 1) }
+/// Appends the texts of the rows of chunks. Fails only if memory is needed beyond the room of `out`, and then some may
+/// be at the end.
+pub(crate) fn put_chunks(out: &mut Vec<u8>, chunks: &[Chunk]) -> Result<(), AllocError>
+    ensures ok { OnOk result (out.new.items ≡ out.old.items ++ flat_map chunk_text chunks.now) }
+    ensures room { OnErr result (vec_capacity out.old < length out.old.items + length (flat_map chunk_text chunks.now)) }
 {
-    out.push(leaf_byte(format))?;
     for chunk in chunks {
         out.extend_from_slice(chunk.text())?;
     }

@@ -138,12 +138,12 @@ impl WrittenRows {
     {
         let more = version_len(self.format, &version) as usize;
         let start = total(&self.lens[..at]);
-        let len = self.lens[at] as usize;
+        let rest = rest_of(&self.text, start + self.lens[at] as usize)?;
         let spare = self.spare_bytes();
         make_room(&mut self.text, more, spare)?;
         let row = &mut self.rows[at];
         row.versions.offer(version)?;
-        rewrite(&mut self.text, start, len, self.format, row);
+        rewrite(&mut self.text, start, self.format, row, &rest);
         self.lens[at] = row_len(self.format, row) as u32;
         Ok(())
     }
@@ -160,7 +160,8 @@ impl WrittenRows {
         make_room(&mut self.lens, 1, spare_rows)?;
         make_room(&mut self.text, len as usize, spare_bytes)?;
         let start = total(&self.lens[..at]);
-        rewrite(&mut self.text, start, 0, self.format, &row);
+        let rest = rest_of(&self.text, start)?;
+        rewrite(&mut self.text, start, self.format, &row, &rest);
         self.rows.insert(at, row).unwrap();
         self.lens.insert(at, len as u32).unwrap();
         Ok(())
@@ -247,28 +248,24 @@ fn part_of(text: &[u8], start: usize, len: usize) -> &[u8]
     part
 }
 
-/// Replaces the `len` bytes of a text from `start` on by the text of a row, for which there is room.
-fn rewrite(text: &mut Vec<u8>, start: usize, len: usize, format: Format, row: &Row)
-    requires within { start + len ≤ length text.old.items }
-    requires fits { FitsText format row.now }
-    requires room { length text.old.items + length (row_text format row.now) ≤ vec_capacity text.old + len }
-    ensures { text.new.items ≡ take start text.old.items ++ row_text format row.now ++ drop (start + len) text.old.items }
+/// Copies the bytes of a text from a place on. Refused: NoMemory.
+fn rest_of(text: &Vec<u8>, from: usize) -> Result<Vec<u8>, Refusal>
+    requires { from ≤ length text.now.items }
+    ensures { Answers result None (λ rest. rest.items ≡ drop from text.now.items) }
 {
-    let rest = text.len() - start - len;
-    move_to_end(text, start, len);
-    text.truncate(start + rest);
-    put_row(text, format, row).unwrap();
-    move_to_end(text, start, rest);
+    Ok(Vec::from_slice(*text.allocator(), &text[from..])?)
 }
 
-/// Moves the `len` bytes of a text from `start` on to its end.
-fn move_to_end(text: &mut [u8], start: usize, len: usize)
-    requires { start + len ≤ length text.old }
-    ensures moved { (front part rest : List ℕ) → text.old ≡ front ++ part ++ rest → length front ≡ start → length part ≡ len
-        → text.new ≡ front ++ rest ++ part }
-    ensures len { length text.new ≡ length text.old }
+/// Replaces the bytes of a text from `start` on by the text of a row and then the rest. There is room for both.
+fn rewrite(text: &mut Vec<u8>, start: usize, format: Format, row: &Row, rest: &[u8])
+    requires within { start ≤ length text.old.items }
+    requires fits { FitsText format row.now }
+    requires room { start + length (row_text format row.now) + length rest.now ≤ vec_capacity text.old }
+    ensures { text.new.items ≡ take start text.old.items ++ row_text format row.now ++ rest.now }
 {
-    text[start..].rotate_left(len);
+    text.truncate(start);
+    put_row(text, format, row).unwrap();
+    text.extend_from_slice(rest).unwrap();
 }
 
 impl Drop for WrittenRows {

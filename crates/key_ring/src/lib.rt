@@ -22,5 +22,5 @@ pub mod places;
 pub mod ring;
 
 pub use hashed_key::HashedKey;
-pub use places::{KeyPlace, place};
+pub use places::{KeyPlace, leaf_count, place};
 pub use ring::Ring;

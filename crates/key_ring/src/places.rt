@@ -28,3 +28,13 @@ pub fn place(format: Format, bits: u8, key: &[u8]) -> KeyPlace
 {
     HashedKey::new(key).place(format, bits)
 }
+
+/// Returns the number of leaves of a range.
+pub fn leaf_count(format: Format) -> u16
+    ensures { result ≡ 2 ^ leaf_bits format }
+{
+    match format {
+        Format::One => 256,
+        Format::Two => 4_096,
+    }
+}

@@ -1,5 +1,5 @@
 -- Snapshots: the leaves of a row map, with the digests of all nodes of its tree.
-use Rattle.std.specs.Prelude.{◌≡◌, ℕ, ◌^◌, List, [], ◌∷◌, length, map, nat_le, Option, Some, None, if◌then◌else◌}
+use Rattle.std.specs.Prelude.{◌≡◌, ℕ, ◌^◌, List, [], ◌∷◌, length, map, nat_le, nat_lt, Option, Some, None, if◌then◌else◌}
 use Rattle.std.specs.List.{flat_map, range_with_len}
 use Rattle.vclock.specs.declared.format.Format.{Format}
 use Rattle.vclock.specs.declared.refusal.Refusal.{Refusal}
@@ -40,3 +40,7 @@ pub record IsSnapshot (m : RowMap) (leaves : List Bucket) (digests : List (List 
 -- the fault of an ask for a node's text: the tree has no such node
 abbrev pub answer_fault : RowMap → NodeAt → Option Refusal
 answer_fault m node = if nat_le node.depth (tree_depth m.format) then None else Some BadMessage
+
+-- the fault of a leaf that the tree does not have
+abbrev pub leaf_fault : Format → ℕ → Option Refusal
+leaf_fault format leaf = if nat_lt leaf (2 ^ leaf_bits format) then None else Some BadMessage

@@ -1,18 +1,21 @@
 //! Snapshots.
 ghost use Rattle.std.specs.Prelude.{◌≡◌, ◌<◌, ◌≤◌, ◌^◌, None};
+ghost use Rattle.std.specs.List.{flat_map};
 ghost use Rattle.std.specs.Arc.{arc_value};
 ghost use Rattle.vclock.specs.Answer.{Answers};
 ghost use Rattle.vclock.specs.Format.{format_number};
 ghost use Rattle.key_ring.specs.Places.{leaf_bits};
+ghost use Rattle.row_bytes.specs.Rows.{row_text};
 ghost use Rattle.hash_tree.specs.Leaves.{rows_in_leaf};
 ghost use Rattle.hash_tree.specs.Nodes.{tree_depth};
 ghost use Rattle.hash_tree.specs.Texts.{inner_text, leaf_text};
 ghost use Rattle.snapshot.specs.RowMaps.{IsRowMap, leaf_in, text_at, digest_at, root_of};
-ghost use Rattle.snapshot.specs.Snapshots.{IsSnapshot, map_of, answer_fault};
+ghost use Rattle.snapshot.specs.Snapshots.{IsSnapshot, map_of, answer_fault, leaf_fault};
 
 use hash_tree::{
     Digest, Hashed, Leaves, NodeAt, SharedDigests, SharedLeaf, Text, inner_text, tree_depth,
 };
+use key_ring::leaf_count;
 use std::alloc::Global;
 use std::marker::Model;
 use std::sync::Arc;
@@ -21,8 +24,8 @@ use walk_messages::{Ask, Offer};
 
 /// All rows of a range at one moment, with the digest of each node of the tree over them. It shares leaves and
 /// digests with the range, which copies what is shared before changing it, so a snapshot never changes. A node offers a
-/// snapshot to its partners and answers their asks from it while writes continue. Only `new`, `of_shared`, `answer` and
-/// `hashed_answer` allocate.
+/// snapshot to its partners and answers their asks from it while writes continue. Only `new`, `of_shared`, `rows_text`,
+/// `answer` and `hashed_answer` allocate.
 ///
 /// ```
 /// let snapshot = Snapshot::new(alloc, Format::One, 3, 5, leaves, digests)?;
@@ -110,6 +113,22 @@ impl Snapshot {
         ensures { result ≡ self.now.range }
     {
         self.range
+    }
+
+    /// Returns the texts of the rows of a leaf, in ascending order of key: the text of the leaf without its first byte.
+    ///
+    /// Refused, in order: BadMessage (the tree has no such leaf), NoMemory.
+    pub fn rows_text(&self, alloc: Global, leaf: u16) -> Result<Vec<u8>, Refusal>
+        ensures { Answers result (leaf_fault self.now.format leaf)
+            (λ text. text.items ≡ flat_map (row_text self.now.format)
+            (rows_in_leaf (leaf_in self.now) leaf self.now.rows)) }
+    {
+        if leaf >= leaf_count(self.format) {
+            return Err(Refusal::BadMessage);
+        }
+        let mut text = Vec::new(alloc);
+        self.rows(leaf).put_rows(&mut text)?;
+        Ok(text)
     }
 
     /// Returns the digest of the root.

@@ -1,8 +1,7 @@
-use Rattle.std.proofs.Common.{Result, Ok, Err, None, Some, refl, inl, inr, ◌≡◌, ◌++◌, ◌+◌, ◌≤◌, ◌∙◌, ℕ, List, length, take, drop, set, sym, ap, arith}
-use Rattle.std.proofs.lemmas.List.{set-get_or}
+use Rattle.std.proofs.Common.{None, Some, refl, inl, inr, ◌≡◌, ◌++◌, ◌+◌, ◌≤◌, ◌∙◌, ℕ, List, length, take, drop, set, sym, ap, arith}
+use Rattle.std.proofs.lemmas.List.{set-get_or, length-drop}
 use Rattle.std.proofs.lemmas.Result.{err_from_is_err_and}
 use Rattle.std.specs.List.{sum_by}
-use Rattle.std.specs.Result.{IsOk, OnErr}
 use Rattle.vclock.specs.Outcome.{gives}
 use Rattle.version_set.specs.Version.{offered}
 use Rattle.row_bytes.specs.declared.row.Row.{Row}
@@ -17,6 +16,22 @@ total-start-requires c =
     let s = c.self.inside in
     let before = λ (ls : List ℕ). sum_by (λ (n : ℕ). n) (take c.args.at ls) in
     omega (arith, start_within s.format s.rows.items s.lens.items s.text.items c.args.at c.self.invariant, ap before c.deref.ensures.value, s.text.ok.0, s.text.ok.1, s.text.small)
+
+pub overflow_add-start : goal.overflow_add-start
+overflow_add-start c =
+    let s = c.self.inside in
+    let at = c.args.at in
+    let within = within-inside c.args.self.now s.format s.rows.items at c.self.view_is c.requires.at in
+    let begins : c.total-start.result ≡ sum_by (λ (n : ℕ). n) (take at s.lens.items) = c.total-start.ensures ∙ ap (λ (ls : List ℕ). sum_by (λ (n : ℕ). n) (take at ls)) c.deref.ensures.value in
+    omega (arith, ends_within s.format s.rows.items s.lens.items s.text.items at c.total-start.result c.index.result.now c.self.invariant within begins c.index.ensures, s.text.ok.0, s.text.ok.1, s.text.small)
+
+pub rest_of-requires : goal.rest_of-requires
+rest_of-requires c =
+    let s = c.self.inside in
+    let at = c.args.at in
+    let within = within-inside c.args.self.now s.format s.rows.items at c.self.view_is c.requires.at in
+    let begins : c.total-start.result ≡ sum_by (λ (n : ℕ). n) (take at s.lens.items) = c.total-start.ensures ∙ ap (λ (ls : List ℕ). sum_by (λ (n : ℕ). n) (take at ls)) c.deref.ensures.value in
+    omega (arith, ends_within s.format s.rows.items s.lens.items s.text.items at c.total-start.result c.index.result.now c.self.invariant within begins c.index.ensures)
 
 pub returns-in_err-offer : goal.returns-in_err-offer
 returns-in_err-offer c =
@@ -47,11 +62,16 @@ rewrite-requires-clause-fits c =
 pub rewrite-requires-clause-room : goal.rewrite-requires-clause-room
 rewrite-requires-clause-room c =
     let s = c.self.inside in
+    let at = c.args.at in
+    let start = c.total-start.result in
     let len = c.index.result.now in
-    let within = within-inside c.args.self.now s.format s.rows.items c.args.at c.self.view_is c.requires.at in
+    let within = within-inside c.args.self.now s.format s.rows.items at c.self.view_is c.requires.at in
+    let begins : start ≡ sum_by (λ (n : ℕ). n) (take at s.lens.items) = c.total-start.ensures ∙ ap (λ (ls : List ℕ). sum_by (λ (n : ℕ). n) (take at ls)) c.deref.ensures.value in
+    let inside = ends_within s.format s.rows.items s.lens.items s.text.items at start len c.self.invariant within begins c.index.ensures in
     let grown : length (row_text s.format (record { key = c.index_mut-row.result.now.key; versions = c.offer.new.self })) ≤ len + c.version_len-more.result =
-    rw c.in_ok-offer.ensures.set (grows-at s.format s.rows.items s.lens.items s.text.items c.args.at len c.version_len-more.result c.index_mut-row.result.now c.args.version c.self.invariant within c.index_mut-row.ensures.value c.index.ensures c.version_len-more.ensures.exact) in
-    omega (arith, grown, c.in_ok-make_room.ensures.room)
+    rw c.in_ok-offer.ensures.set (grows-at s.format s.rows.items s.lens.items s.text.items at len c.version_len-more.result c.index_mut-row.result.now c.args.version c.self.invariant within c.index_mut-row.ensures.value c.index.ensures c.version_len-more.ensures.exact) in
+    let rest : c.deref-2.result.now ≡ drop (start + len) s.text.items = c.deref-2.ensures.value ∙ c.in_ok-rest.ensures.1 in
+    omega (arith, grown, inside, ap length rest, length-drop (start + len) s.text.items, ap length c.make_room.ensures.items, c.in_ok-make_room.ensures.room)
 
 pub row_len-requires : goal.row_len-requires
 row_len-requires c =
@@ -73,8 +93,11 @@ invariant_of-self-2 c =
     let begins : c.total-start.result ≡ sum_by (λ (n : ℕ). n) (take at s.lens.items) = c.total-start.ensures ∙ ap (λ (ls : List ℕ). sum_by (λ (n : ℕ). n) (take at ls)) c.deref.ensures.value in
     let ends = end_is s.format s.rows.items s.lens.items s.text.items at start c.index.result.now c.self.invariant within begins c.index.ensures in
     let fits : FitsText s.format new = rw c.in_ok-offer.ensures.set (fits-at s.format s.rows.items s.lens.items s.text.items at old c.args.version c.self.invariant within c.index_mut-row.ensures.value value) in
+    let rest : c.deref-2.result.now ≡ drop end s.text.items = c.deref-2.ensures.value ∙ c.in_ok-rest.ensures.1 in
     let now : c.rewrite.new.text.items ≡ take start s.text.items ++ row_text s.format new ++ drop end s.text.items =
-    c.rewrite.ensures ∙ ap (λ (t : List ℕ). take start t ++ row_text s.format new ++ drop end t) c.make_room.ensures.items in
+    c.rewrite.ensures
+    ∙ ap (λ (t : List ℕ). take start t ++ row_text s.format new ++ c.deref-2.result.now) c.make_room.ensures.items
+    ∙ ap (λ (t : List ℕ). take start s.text.items ++ row_text s.format new ++ t) rest in
     keeps-set s.format s.rows.items s.lens.items s.text.items at c.row_len.result start end new c.rewrite.new.text.items c.self.invariant within fits c.row_len.ensures.exact begins ends now
 
 pub returns : goal.returns
