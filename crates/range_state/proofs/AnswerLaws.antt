@@ -23,7 +23,7 @@ use Rattle.key_ring.specs.Places.{leaf_bits}
 use Rattle.row_bytes.specs.declared.row.Row.{Row}
 use Rattle.hash_tree.specs.Leaves.{Bucket, rows_in_leaf}
 use Rattle.hash_tree.specs.Nodes.{tree_depth, dirtied}
-use Rattle.sync_session.specs.Walks.{Walk, TakenText, IsInnerText, AreSpelled, IsCanonical}
+use Rattle.sync_session.specs.Walks.{Walk, TakenText, IsInnerText, AreSpelled, IsCanonical, Held}
 use Rattle.sync_session.specs.Readings.{AreOthers}
 use Rattle.sync_session.specs.declared.news.News.{News}
 use Rattle.sync_session.specs.Steps.{IsDue, after, failed, IsTakeFault}
@@ -39,7 +39,7 @@ use Rattle.range_state.specs.Sessions.{offers_of, taken_in, crowded_in, walked_t
 use Rattle.range_state.specs.Batches.{IsRowFor, IsBatch, seen_count}
 use Rattle.range_state.proofs.RowLaws.{leaf-push}
 use Rattle.range_state.proofs.BatchLaws.{Offers}
-use Rattle.range_state.proofs.TakenLaws.{Reached, reached, taken_grown, record_kept, format_now, spelled_offers, spelled_rows, spelled_short, leaf_right}
+use Rattle.range_state.proofs.TakenLaws.{Reached, reached, taken_grown, record_kept, goes_on, format_now, spelled_offers, spelled_rows, spelled_short, leaf_right}
 
 -- ---- the record of a number
 
@@ -138,18 +138,65 @@ inner_taken s seat id r t a w here read receipts known state is =
 
 -- ---- a text of a leaf, before anything changes
 
--- it is a leaf of the session's own tree, and some rows spell the text
-pub leaf_due : (s : State) (id : ℕ) (r : Record) (t : TakenText) (rows : List Row) → IsRight s → id < length s.records → r ≡ get_or s.records id r → IsLeafRead s r t rows → (t.node.depth ≡ tree_depth r.session.own.format) × IsCanonical r.session.own t.node t.text
-leaf_due s id r t rows ok within was read =
-    let format = format_now s.config s.entries r t (record_kept s id r ok within was) read.due in
-    let deep : t.node.depth ≡ tree_depth r.session.own.format = read.leaf ∙ sym (ap tree_depth format) in
-    (deep, inr (deep, (rows, read.spelled)))
+-- the rows that were read, beside own ones that are held
+pub record NewsRead (s : State) (id : ℕ) (t : TakenText) (news : News) : Type 0 where
+  pub right : IsRight s
+  pub within : id < length s.records
+  pub own : List Row
+  pub rows : List Row
+  pub held : Held own (held s.entries)
+  pub parted : AreOthers own rows news.rows.items news.known
+  pub read : MatchOption (slice_get s.records id) ⊥ (λ r. IsLeafRead s r t rows)
 
-pub rows_ready : (s : State) (id : ℕ) (t : TakenText) (rows : List Row) → IsRight s → MatchOption (slice_get s.records id) ⊥ (λ r. IsLeafRead s r t rows) → AllByRecursion (IsRowFor s.config t.node.index) rows × (length (offers_of rows) ≤ length t.text)
-rows_ready s id t rows ok h = with_record s.records id (λ r. IsLeafRead s r t rows) _ (λ r within was read.
-    let kept = record_kept s id r ok within was in
+-- of a range that is what another value of it shows
+pub news_read : {old s : State} (id : ℕ) (t : TakenText) (news : News) → old ≡ s → IsRight old → MatchOption (slice_get s.records id) ⊥ (λ r. IsNewsRead s r t news) → NewsRead s id t news
+news_read {s = s} id t news view old_right h =
+    let ok = subst IsRight view old_right in
+    with_record s.records id (λ r. IsNewsRead s r t news) _ (λ r within was is. record {
+      right = ok;
+      within = within;
+      own = r.session.own.rows;
+      rows = is.rows;
+      held = (goes_on s.config s.entries r t (record_kept s id r ok within was) is.read.due).walked.own_held;
+      parted = is.parted;
+      read = subst (λ (o : Option Record). MatchOption o ⊥ (λ x. IsLeafRead s x t is.rows)) (sym (got_record s.records id r within was)) is.read;
+    }) h
+
+-- the record, whose session awaits such a text: it is of a leaf of its own tree, and some rows spell it
+pub record IsLeafAt (s : State) (id : ℕ) (r : Record) (t : TakenText) (rows : List Row) : Type 0 where
+  pub within : id < length s.records
+  pub was : r ≡ get_or s.records id r
+  pub here : slice_get s.records id ≡ Some r
+  pub read : IsLeafRead s r t rows
+  pub kept : IsKept s.config s.entries r
+  pub format : r.session.own.format ≡ s.config.format
+  pub deep : t.node.depth ≡ tree_depth r.session.own.format
+  pub can : IsCanonical r.session.own t.node t.text
+
+pub leaf_at : {old s : State} {id : ℕ} {r : Record} {t : TakenText} {news : News} (seen : NewsRead s id t news) → old ≡ s → r ≡ get_or old.records id r → IsLeafAt s id r t seen.rows
+leaf_at {s = s} {id = id} {r = r} {t = t} seen view old_was =
+    let was : r ≡ get_or s.records id r = old_was ∙ ap (λ (u : State). get_or u.records id r) view in
+    let read = the_record s.records id r (λ x. IsLeafRead s x t seen.rows) seen.within was seen.read in
+    let kept = record_kept s id r seen.right seen.within was in
     let format = format_now s.config s.entries r t kept read.due in
-    (spelled_rows s.config r.session t.node t.text rows format kept.here read.spelled, spelled_short r.session.own t.node t.text rows read.spelled)) h
+    let deep : t.node.depth ≡ tree_depth r.session.own.format = read.leaf ∙ sym (ap tree_depth format) in
+    record {
+      within = seen.within;
+      was = was;
+      here = got_record s.records id r seen.within was;
+      read = read;
+      kept = kept;
+      format = format;
+      deep = deep;
+      can = inr (deep, (seen.rows, read.spelled));
+    }
+
+with_leaf : {s : State} {id : ℕ} {t : TakenText} {news : News} (seen : NewsRead s id t news) (Q : Type 0) → ((r : Record) → IsLeafAt s id r t seen.rows → Q) → Q
+with_leaf {s = s} {id = id} {t = t} seen Q f = with_record s.records id (λ r. IsLeafRead s r t seen.rows) Q (λ r within was read. f r (leaf_at seen refl was)) seen.read
+
+pub rows_ready : {s : State} {id : ℕ} {t : TakenText} {news : News} (seen : NewsRead s id t news) → AllByRecursion (IsRowFor s.config t.node.index) seen.rows × (length (offers_of seen.rows) ≤ length t.text)
+rows_ready {s = s} {t = t} seen = with_leaf seen _ (λ r at.
+    (spelled_rows s.config r.session t.node t.text seen.rows at.format at.kept.here at.read.spelled, spelled_short r.session.own t.node t.text seen.rows at.read.spelled))
 
 crowded_cause : (v : Version) (S : List Version) (e : Refusal) → offer_fault v S ≡ Some e → e ≡ Crowded
 crowded_cause v S e h = by_case (covered v S) (nat_lt 64 (length (maximal (with_version v S)))) h
@@ -163,48 +210,41 @@ first_cause : (a b : Option Refusal) (e : Refusal) → (a ≡ Some e → e ≡ C
 first_cause None b e f g h = g h
 first_cause (Some x) b e f g h = f h
 
-crowded_is : (s : State) (seat : ℕ) (offers : Offers) (e : Refusal) → crowded_in s seat offers ≡ Some e → e ≡ Crowded
+crowded_is : (s : State) (seat : ℕ) (offers : Offers) (e : Refusal) → crowded_in s seat Partner offers ≡ Some e → e ≡ Crowded
 crowded_is s seat [] e h = absurd (let clash : None ≡ Some e = h in cc)
 crowded_is s seat (o ∷ offers) e h = first_cause (offer_fault o.1 (held s.entries o.0)) _ e (crowded_cause o.1 (held s.entries o.0) e) (crowded_is (accept_step s seat Partner o.0 o.1) seat offers e) h
 
 -- no memory
-pub no_memory : (s : State) (seat id : ℕ) (t : TakenText) (rows : List Row) (e : Refusal) → IsRight s → MatchOption (slice_get s.records id) ⊥ (λ r. IsLeafRead s r t rows) → e ≡ NoMemory → TakesFor s seat id (slice_get s.records id) t (Err e) s
-no_memory s seat id t rows e ok h memory = with_record s.records id (λ r. IsLeafRead s r t rows) _ (λ r within was read.
-    let here = got_record s.records id r within was in
-    let deep = (leaf_due s id r t rows ok within was read).0 in
-    let fault : IsTakeFault r.session t NoMemory = (read.due, λ less. absurd (omega (arith, less, deep))) in
-    subst (λ (x : Refusal). TakesFor s seat id (slice_get s.records id) t (Err x) s) (sym memory) (refused s seat id r t NoMemory here fault (λ same. cc))) h
+pub no_memory : {s new : State} {id : ℕ} {t : TakenText} {news : News} {e : Refusal} (seat : ℕ) (seen : NewsRead s id t news) → s ≡ new → e ≡ NoMemory → TakesFor s seat id (slice_get s.records id) t (Err e) new
+no_memory {s = s} {id = id} {t = t} {e = e} seat seen same memory = subst (λ (u : State). TakesFor s seat id (slice_get s.records id) t (Err e) u) same (with_leaf seen _ (λ r at.
+    let fault : IsTakeFault r.session t NoMemory = (at.read.due, λ less. absurd (omega (arith, less, at.deep))) in
+    subst (λ (x : Refusal). TakesFor s seat id (slice_get s.records id) t (Err x) s) (sym memory) (refused s seat id r t NoMemory at.here fault (λ same. cc))))
 
 -- a version too many, or no memory
-pub not_prepared : (s : State) (seat id : ℕ) (t : TakenText) (rows : List Row) (e : Refusal) → IsRight s → MatchOption (slice_get s.records id) ⊥ (λ r. IsLeafRead s r t rows) → (e ≡ NoMemory) ⊎ (crowded_in s seat (offers_of rows) ≡ Some e)
-    → TakesFor s seat id (slice_get s.records id) t (Err e) s
-not_prepared s seat id t rows e ok h cause = with_record s.records id (λ r. IsLeafRead s r t rows) _ (λ r within was read.
-    let here = got_record s.records id r within was in
-    elim cause [
-      | inl memory ↦ no_memory s seat id t rows e ok h memory
-      | inr crowd ↦
-          let is = crowded_is s seat (offers_of rows) e crowd in
-          let full : crowded_in s seat (offers_of rows) ≡ Some Crowded = crowd ∙ ap (λ (x : Refusal). Some x) is in
-          let fault : IsLeafFault s seat r t Crowded = record { rows = rows; read = read; fault = rw full refl } in
-          subst (λ (x : Refusal). TakesFor s seat id (slice_get s.records id) t (Err x) s) (sym is)
-          (subst (λ (o : Option Record). TakesFor s seat id o t (Err Crowded) s) (sym here) (fault, refl))
-    ]) h
+pub not_prepared : {s : State} {id : ℕ} {t : TakenText} {news : News} {e : Refusal} (seat : ℕ) (seen : NewsRead s id t news) → (e ≡ NoMemory) ⊎ (crowded_in s seat Partner (offers_of seen.rows) ≡ Some e) → TakesFor s seat id (slice_get s.records id) t (Err e) s
+not_prepared seat seen (inl memory) = no_memory seat seen refl memory
+not_prepared {s = s} {id = id} {t = t} {e = e} seat seen (inr crowd) = with_leaf seen _ (λ r at.
+    let is = crowded_is s seat (offers_of seen.rows) e crowd in
+    let full : crowded_in s seat Partner (offers_of seen.rows) ≡ Some Crowded = crowd ∙ ap (λ (x : Refusal). Some x) is in
+    let fault : IsLeafFault s seat r t Crowded = record { rows = seen.rows; read = at.read; fault = rw full refl } in
+    subst (λ (x : Refusal). TakesFor s seat id (slice_get s.records id) t (Err x) s) (sym is)
+    (subst (λ (o : Option Record). TakesFor s seat id o t (Err Crowded) s) (sym at.here) (fault, refl)))
+
+-- the journal of a range
+pub record IsLogOf (s : State) (log : Log) : Type 0 where
+  pub entries : log.entries ≡ s.entries
+  pub limit : log.limit ≡ s.config.limit
 
 -- the journal has no room for the entries, or there is no memory
-pub no_room : (s : State) (seat id : ℕ) (t : TakenText) (rows : List Row) (e : Refusal) (log : Log) (n : ℕ) → IsRight s → MatchOption (slice_get s.records id) ⊥ (λ r. IsLeafRead s r t rows) → crowded_in s seat (offers_of rows) ≡ None
-    → length (taken_in s seat (offers_of rows)).entries ≡ length s.entries + n → log.entries ≡ s.entries → log.limit ≡ s.config.limit
-    → ((e ≡ NoMemory) × IsTrue (outcome.is_given (reserve log n))) ⊎ (reserve log n ≡ outcome.refuses e) → TakesFor s seat id (slice_get s.records id) t (Err e) s
-no_room s seat id t rows e log n ok h fits count entries limit cause = with_record s.records id (λ r. IsLeafRead s r t rows) _ (λ r within was read.
-    let here = got_record s.records id r within was in
-    elim cause [
-      | inl memory ↦ no_memory s seat id t rows e ok h memory.0
-      | inr full ↦
-          let both = reserve_err log n e full in
-          let past : nat_le (length (taken_in s seat (offers_of rows)).entries) s.config.limit ≡ false = not_within _ _ (omega (arith, both.0, count, limit, ap length entries)) in
-          let fault : IsLeafFault s seat r t JournalFull = record { rows = rows; read = read; fault = rw (fits, past) refl } in
-          subst (λ (x : Refusal). TakesFor s seat id (slice_get s.records id) t (Err x) s) (sym both.1)
-          (subst (λ (o : Option Record). TakesFor s seat id o t (Err JournalFull) s) (sym here) (fault, refl))
-    ]) h
+pub no_room : {s new : State} {id : ℕ} {t : TakenText} {news : News} {e : Refusal} {log : Log} {n : ℕ} (seat : ℕ) (seen : NewsRead s id t news) (more : List Entry) → s ≡ new → IsLogOf s log → crowded_in s seat Partner (offers_of seen.rows) ≡ None
+    → s.entries ++ more ≡ (taken_in s seat (offers_of seen.rows)).entries → n ≡ length more → ((e ≡ NoMemory) × IsTrue (outcome.is_given (reserve log n))) ⊎ (reserve log n ≡ outcome.refuses e) → TakesFor s seat id (slice_get s.records id) t (Err e) new
+no_room seat seen more same is fits taken count (inl memory) = no_memory seat seen same memory.0
+no_room {s = s} {id = id} {t = t} {e = e} {log = log} {n = n} seat seen more same is fits taken count (inr full) = subst (λ (u : State). TakesFor s seat id (slice_get s.records id) t (Err e) u) same (with_leaf seen _ (λ r at.
+    let both = reserve_err log n e full in
+    let past : nat_le (length (taken_in s seat (offers_of seen.rows)).entries) s.config.limit ≡ false = not_within _ _ (omega (arith, both.0, ap length taken, length-append s.entries more, count, is.limit, ap length is.entries)) in
+    let fault : IsLeafFault s seat r t JournalFull = record { rows = seen.rows; read = at.read; fault = rw (fits, past) refl } in
+    subst (λ (x : Refusal). TakesFor s seat id (slice_get s.records id) t (Err x) s) (sym both.1)
+    (subst (λ (o : Option Record). TakesFor s seat id o t (Err JournalFull) s) (sym at.here) (fault, refl))))
   where
     not_within : (a b : ℕ) → b < a → nat_le a b ≡ false
     not_within a b h = grind (arith, nat_tests)
@@ -222,8 +262,16 @@ leaf_off c i leaf es (e ∷ more) other all =
     apart : (a b : ℕ) → a ≢ b → nat_eq a b ≡ false
     apart a b h = grind (arith, nat_tests)
 
+-- the leaves are the nodes of their depth
+leaf_inside : (c : Config) (depth index : ℕ) → depth ≡ tree_depth c.format → index < 16 ^ depth → index < leaf_count c
+leaf_inside c depth index deep within = counted c.format index (subst (λ (d : ℕ). index < 16 ^ d) deep within)
+  where
+    counted : (f : Format) (n : ℕ) → n < 16 ^ tree_depth f → n < 2 ^ leaf_bits f
+    counted One n h = h
+    counted Two n h = h
+
 -- the leaves with another in the place of the one that the entries are of
-leaves_after : (c : Config) (es more : List Entry) (leaves : List Bucket) (leaf : ℕ) (new : Bucket) → AreLeaves c es leaves → leaf < leaf_count c → AllByRecursion (λ (e : Entry). leaf ≡ leaf_in c e.key) more → new ≡ bucket_of c (es ++ more) leaf
+pub leaves_after : (c : Config) (es more : List Entry) (leaves : List Bucket) (leaf : ℕ) (new : Bucket) → AreLeaves c es leaves → leaf < leaf_count c → AllByRecursion (λ (e : Entry). leaf ≡ leaf_in c e.key) more → new ≡ bucket_of c (es ++ more) leaf
     → AreLeaves c (es ++ more) (set leaves leaf new)
 leaves_after c es more leaves leaf new ok within all is = record {
   all = length-set leaves leaf new ∙ ok.all;
@@ -237,34 +285,30 @@ leaves_after c es more leaves leaf new ok within all is = record {
   ];
 }
 
--- the facts of a leaf's text whose versions are prepared
-pub record IsAccepted (s : State) (seat id : ℕ) (r : Record) (t : TakenText) (rows : List Row) (b : Batch) (entries : List Entry) (marks : List (Option (List ℕ))) (w : Walk) : Type 0 where
-  pub within : id < length s.records
-  pub was : r ≡ get_or s.records id r
-  pub read : IsLeafRead s r t rows
-  pub fits : crowded_in s seat (offers_of rows) ≡ None
+-- the facts of a leaf's text whose versions are prepared, and of the state with them
+pub record IsAccepted (s : State) (seat id : ℕ) (t : TakenText) (rows : List Row) (r : Record) (b : Batch) (new : State) : Type 0 where
+  pub at : IsLeafAt s id r t rows
+  pub fits : crowded_in s seat Partner (offers_of rows) ≡ None
   pub batch : IsBatch s t.node.index b
   pub taken : s.entries ++ b.entries.items ≡ (taken_in s seat (offers_of rows)).entries
   pub seen : seen_count b ≡ length (offers_of rows)
-  pub entries_are : entries ≡ s.entries ++ b.entries.items
-  pub marks_are : marks ≡ cond (nat_eq (length b.entries.items) 0) s.marks (dirtied s.config.format t.node.index s.marks)
-  pub walk : w ≡ after r.session t
+  pub config : new.config ≡ s.config
+  pub entries : new.entries ≡ s.entries ++ b.entries.items
+  pub marks : new.marks ≡ cond (nat_eq (length b.entries.items) 0) s.marks (dirtied s.config.format t.node.index s.marks)
+  pub records : new.records ≡ set s.records id (record { partner = r.partner; session = after r.session t })
 
-homes : (s : State) (seat id : ℕ) (r : Record) (t : TakenText) (rows : List Row) (b : Batch) (entries : List Entry) (marks : List (Option (List ℕ))) (w : Walk) → IsRight s → IsAccepted s seat id r t rows b entries marks w → AllByRecursion (λ o. t.node.index ≡ leaf_in s.config o.0) (offers_of rows)
-homes s seat id r t rows b entries marks w ok is =
-    let kept = record_kept s id r ok is.within is.was in
-    All-weaker _ _ (offers_of rows) (λ o x. x.leaf_is) (spelled_offers s.config r.session t.node t.text rows (format_now s.config s.entries r t kept is.read.due) kept.here is.read.spelled)
+homes : {s new : State} {seat id : ℕ} {t : TakenText} {rows : List Row} {r : Record} {b : Batch} → IsAccepted s seat id t rows r b new → AllByRecursion (λ o. t.node.index ≡ leaf_in s.config o.0) (offers_of rows)
+homes {s = s} {t = t} {rows = rows} {r = r} is = All-weaker _ _ (offers_of rows) (λ o x. x.leaf_is) (spelled_offers s.config r.session t.node t.text rows is.at.format is.at.kept.here is.at.read.spelled)
 
 -- the state then
-pub accepted_is : (s : State) (seat id : ℕ) (r : Record) (t : TakenText) (rows : List Row) (b : Batch) (entries : List Entry) (marks : List (Option (List ℕ))) (w : Walk) → IsRight s → IsAccepted s seat id r t rows b entries marks w
-    → record { config = s.config; entries = entries; marks = marks; records = set s.records id (record { partner = r.partner; session = w }) } ≡ walked_to (taken_in s seat (offers_of rows)) id r (after r.session t)
-accepted_is s seat id r t rows b entries marks w ok is =
+accepted_is : {s new : State} {seat id : ℕ} {t : TakenText} {rows : List Row} {r : Record} {b : Batch} → IsAccepted s seat id t rows r b new → new ≡ walked_to (taken_in s seat (offers_of rows)) id r (after r.session t)
+accepted_is {s = s} {seat = seat} {id = id} {t = t} {rows = rows} {r = r} {b = b} is =
     let end = taken_in s seat (offers_of rows) in
-    let es : entries ≡ end.entries = is.entries_are ∙ is.taken in
-    let moved = reached s s t.node.index seat (offers_of rows) (homes s seat id r t rows b entries marks w ok is) (inl refl) in
+    let moved = reached s s t.node.index seat Partner (offers_of rows) (homes is) (inl refl) in
     let count : length end.entries ≡ length s.entries + length b.entries.items = sym (ap length is.taken) ∙ length-append s.entries b.entries.items in
     let same = by_case s t.node.index end (length b.entries.items) count moved in
-    λ i. record { config = same.0 i; entries = es i; marks = (is.marks_are ∙ same.2) i; records = set (same.1 i) id (record { partner = r.partner; session = is.walk i }) }
+    let records = is.records ∙ ap (λ (rs : List Record). set rs id (record { partner = r.partner; session = after r.session t })) same.1 in
+    λ i. record { config = (is.config ∙ same.0) i; entries = (is.entries ∙ is.taken) i; marks = (is.marks ∙ same.2) i; records = records i }
   where
     some_news : (n : ℕ) → 0 < n → nat_eq n 0 ≡ false
     some_news n h = grind (arith, nat_tests)
@@ -285,47 +329,33 @@ accepted_is s seat id r t rows b entries marks w ok is =
       rw (some_news n (omega (arith, count, news.more))) (sym news.marks),
     )
 
-pub accepted_right : (s : State) (seat id : ℕ) (r : Record) (t : TakenText) (rows : List Row) (b : Batch) (entries : List Entry) (marks : List (Option (List ℕ))) (w : Walk) → IsRight s → IsAccepted s seat id r t rows b entries marks w
-    → IsRight (record { config = s.config; entries = entries; marks = marks; records = set s.records id (record { partner = r.partner; session = w }) })
-accepted_right s seat id r t rows b entries marks w ok is =
-    subst IsRight (sym (accepted_is s seat id r t rows b entries marks w ok is)) (leaf_right s seat id r t rows ok is.within is.was is.read is.fits)
+pub accepted_right : {s new : State} {seat id : ℕ} {t : TakenText} {rows : List Row} {r : Record} {b : Batch} → IsRight s → IsAccepted s seat id t rows r b new → IsRight new
+accepted_right {s = s} {seat = seat} {id = id} {t = t} {rows = rows} {r = r} ok is = subst IsRight (sym (accepted_is is)) (leaf_right s seat id r t rows ok is.at.within is.at.was is.at.read is.fits)
 
-pub accepted_leaves : (s : State) (seat id : ℕ) (r : Record) (t : TakenText) (rows : List Row) (b : Batch) (entries : List Entry) (marks : List (Option (List ℕ))) (w : Walk) (leaves : List Bucket) → IsRight s → AreLeaves s.config s.entries leaves → IsAccepted s seat id r t rows b entries marks w
-    → t.node.index < leaf_count s.config → AreLeaves s.config entries (set leaves t.node.index b.leaf)
-accepted_leaves s seat id r t rows b entries marks w leaves ok are is within =
-    let grown = taken_grown (λ key v. t.node.index ≡ leaf_in s.config key) s seat (offers_of rows) (homes s seat id r t rows b entries marks w ok is) in
-    let es : entries ≡ s.entries ++ grown.more = is.entries_are ∙ is.taken ∙ grown.entries in
-    let leaf : b.leaf ≡ bucket_of s.config (s.entries ++ grown.more) t.node.index = is.batch.leaf_is ∙ ap (λ (xs : List Entry). bucket_of s.config xs t.node.index) (sym is.entries_are ∙ es) in
-    subst (λ (xs : List Entry). AreLeaves s.config xs (set leaves t.node.index b.leaf)) (sym es) (leaves_after s.config s.entries grown.more leaves t.node.index b.leaf are within grown.all leaf)
+pub accepted_leaves : {s new : State} {seat id : ℕ} {t : TakenText} {rows : List Row} {r : Record} {b : Batch} {leaves : List Bucket} → AreLeaves s.config s.entries leaves → IsAccepted s seat id t rows r b new → t.node.index < 16 ^ t.node.depth → AreLeaves new.config new.entries (set leaves t.node.index b.leaf)
+accepted_leaves {s = s} {new = new} {seat = seat} {t = t} {rows = rows} {b = b} {leaves = leaves} are is within =
+    let grown = taken_grown (λ key v. t.node.index ≡ leaf_in s.config key) s seat Partner (offers_of rows) (homes is) in
+    let es : new.entries ≡ s.entries ++ grown.more = is.entries ∙ is.taken ∙ grown.entries in
+    let leaf : b.leaf ≡ bucket_of s.config (s.entries ++ grown.more) t.node.index = is.batch.leaf_is ∙ ap (λ (xs : List Entry). bucket_of s.config xs t.node.index) (sym is.entries ∙ es) in
+    let inside = leaf_inside s.config t.node.depth t.node.index is.at.read.leaf within in
+    subst (λ (c : Config). AreLeaves c new.entries (set leaves t.node.index b.leaf)) (sym is.config)
+    (subst (λ (xs : List Entry). AreLeaves s.config xs (set leaves t.node.index b.leaf)) (sym es) (leaves_after s.config s.entries grown.more leaves t.node.index b.leaf are inside grown.all leaf))
 
-pub leaf_taken : (s : State) (seat id : ℕ) (r : Record) (t : TakenText) (rows : List Row) (b : Batch) (entries : List Entry) (marks : List (Option (List ℕ))) (w : Walk) (a : AnswerTaken) (log after : Log) → IsRight s → IsAccepted s seat id r t rows b entries marks w
-    → a.receipts.items ≡ b.receipts.items → a.known ≡ b.known → a.state ≡ w.state → log.entries ≡ s.entries → log.limit ≡ s.config.limit → Reserved log after (length b.entries.items)
-    → TakesFor s seat id (slice_get s.records id) t (Ok a) (record { config = s.config; entries = entries; marks = marks; records = set s.records id (record { partner = r.partner; session = w }) })
-leaf_taken s seat id r t rows b entries marks w a log after ok is receipts known state es limit room =
+pub leaf_taken : {s new : State} {seat id : ℕ} {t : TakenText} {rows : List Row} {r : Record} {b : Batch} {log after_log : Log} {n : ℕ} {w : Walk} (a : AnswerTaken) → IsAccepted s seat id t rows r b new → a.receipts.items ≡ b.entries.items → a.known ≡ b.known
+    → a.state ≡ w.state → w ≡ after r.session t → IsLogOf s log → Reserved log after_log n → n ≡ length b.entries.items → TakesFor s seat id (slice_get s.records id) t (Ok a) new
+leaf_taken {s = s} {new = new} {seat = seat} {id = id} {t = t} {rows = rows} {r = r} {b = b} a is receipts known state walk journal room len =
     let end = taken_in s seat (offers_of rows) in
-    let new : State = record { config = s.config; entries = entries; marks = marks; records = set s.records id (record { partner = r.partner; session = w }) } in
-    let here = got_record s.records id r is.within is.was in
     let count : length end.entries ≡ length s.entries + length b.entries.items = sym (ap length is.taken) ∙ length-append s.entries b.entries.items in
-    let low : nat_le (length end.entries) s.config.limit ≡ true = le-leb _ _ (omega (arith, count, limit, ap length es, room.within)) in
-    let came : a.receipts.items ≡ b.entries.items = receipts ∙ is.batch.receipts in
+    let low : nat_le (length end.entries) s.config.limit ≡ true = le-leb _ _ (omega (arith, count, len, journal.limit, ap length journal.entries, room.within)) in
     let took : TakesLeaf s seat id r t a new = record {
       rows = rows;
-      read = is.read;
+      read = is.at.read;
       fault = rw (is.fits, low) refl;
-      receipts = ap (λ (xs : List Entry). s.entries ++ xs) came ∙ is.taken;
-      known = omega (arith, ap length came, known, is.seen);
-      new_is = accepted_is s seat id r t rows b entries marks w ok is;
+      receipts = ap (λ (xs : List Entry). s.entries ++ xs) receipts ∙ is.taken;
+      known = omega (arith, ap length receipts, known, is.seen);
+      new_is = accepted_is is;
     } in
-    let text : TakesText s seat id r t (Ok a) new = (state ∙ ap (λ (v : Walk). v.state) is.walk, inr took) in
-    subst (λ (o : Option Record). TakesFor s seat id o t (Ok a) new) (sym here) text
-
--- the leaves are the nodes of their depth
-pub leaf_inside : (c : Config) (depth index : ℕ) → depth ≡ tree_depth c.format → index < 16 ^ depth → index < leaf_count c
-leaf_inside c depth index deep within = counted c.format index (subst (λ (d : ℕ). index < 16 ^ d) deep within)
-  where
-    counted : (f : Format) (n : ℕ) → n < 16 ^ tree_depth f → n < 2 ^ leaf_bits f
-    counted One n h = h
-    counted Two n h = h
+    subst (λ (o : Option Record). TakesFor s seat id o t (Ok a) new) (sym is.at.here) (state ∙ ap (λ (v : Walk). v.state) walk, inr took)
 
 -- ---- what was read
 

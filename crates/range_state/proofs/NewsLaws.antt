@@ -1,7 +1,6 @@
 -- The versions of a leaf whose rows were read beside a session's own ones: those that the own rows have are held, so that
 -- nothing becomes of them.
-use Rattle.std.proofs.Common.{◌≡◌, inl, inr, ℕ, ◌+◌, true, Option, None, List, [], ◌∷◌, ◌++◌, length, map, refl, sym, ap, subst, ◌∙◌, arith, slice_get}
-use Rattle.std.specs.Prelude.{MatchOption}
+use Rattle.std.proofs.Common.{◌≡◌, ◌≤◌, inl, inr, ℕ, ◌+◌, true, Option, None, List, [], ◌∷◌, ◌++◌, length, map, refl, sym, ap, subst, ◌∙◌, arith}
 use Rattle.std.specs.List.{AllByRecursion}
 use Rattle.std.proofs.lemmas.List.{length-append, length-map}
 use Rattle.vclock.specs.Answer.{first_fault}
@@ -16,21 +15,21 @@ use Rattle.sync_session.specs.declared.news.News.{News}
 use Rattle.sync_session.specs.Readings.{AreOthers}
 use Rattle.sync_session.specs.Walks.{TakenText, Held}
 use Rattle.sync_session.proofs.StepLaws.{Held-grows}
-use Rattle.range_state.specs.declared.«record».Record.{Record}
-use Rattle.range_state.specs.State.{State, IsRight, knows, accept_step}
-use Rattle.range_state.specs.Sessions.{offers_in, offers_of, taken_in, crowded_in, IsLeafRead, IsNewsRead}
-use Rattle.range_state.proofs.AnswerLaws.{with_record, got_record}
+use Rattle.range_state.specs.State.{State, knows, accept_step}
+use Rattle.range_state.specs.Sessions.{offers_in, offers_of, taken_in, crowded_in}
+use Rattle.range_state.proofs.AnswerLaws.{NewsRead, rows_ready}
+use Rattle.range_state.specs.Batches.{IsRowFor}
 use Rattle.range_state.proofs.BatchLaws.{Offers, taken-append, crowded-append}
 use Rattle.range_state.proofs.RecordLaws.{grows}
 use Rattle.range_state.proofs.StateLaws.{knows_held}
-use Rattle.range_state.proofs.TakenLaws.{Nothing, nothing, taken_grown, record_kept, goes_on}
+use Rattle.range_state.proofs.TakenLaws.{Nothing, nothing, taken_grown}
 
 -- ---- versions that are held
 
 -- Nothing becomes of offers that are known.
 record AreIdle (s : State) (seat : ℕ) (offers : Offers) : Type 0 where
   taken : taken_in s seat offers ≡ s
-  crowded : crowded_in s seat offers ≡ None
+  crowded : crowded_in s seat Partner offers ≡ None
 
 idle : (s : State) (seat : ℕ) (key : List ℕ) (vs : List Version) → AllByRecursion (λ v. covered v (held s.entries key) ≡ true) vs → AreIdle s seat (map (λ (v : Version). (key, v)) vs)
 idle s seat key [] all = record { taken = refl; crowded = refl }
@@ -42,13 +41,13 @@ idle s seat key (v ∷ vs) all =
     let rest = idle s seat key vs all.1 in
     record {
       taken = ap (λ (t : State). taken_in t seat offers) step ∙ rest.taken;
-      crowded = ap (λ (f : Option Refusal). first_fault f (crowded_in (accept_step s seat Partner key v) seat offers)) fits ∙ ap (λ (t : State). crowded_in t seat offers) step ∙ rest.crowded;
+      crowded = ap (λ (f : Option Refusal). first_fault f (crowded_in (accept_step s seat Partner key v) seat Partner offers)) fits ∙ ap (λ (t : State). crowded_in t seat Partner offers) step ∙ rest.crowded;
     }
 
 -- what is held stays so while offers are taken
 still_held : (s : State) (seat : ℕ) (offers : Offers) (own : List Row) → Held own (held s.entries) → Held own (held (taken_in s seat offers).entries)
 still_held s seat offers own h =
-    let grown = taken_grown Nothing s seat offers (nothing offers) in
+    let grown = taken_grown Nothing s seat Partner offers (nothing offers) in
     subst (λ es. Held own (held es)) (sym grown.entries) (Held-grows (held s.entries) (held (s.entries ++ grown.more)) own (grows s.entries grown.more) h)
 
 -- ---- the news stand for all
@@ -56,35 +55,35 @@ still_held s seat offers own h =
 -- What becomes of the offers of all rows becomes of the news alone.
 pub record IsSame (s : State) (seat : ℕ) (rows others : List Row) (known : ℕ) : Type 0 where
   pub taken : taken_in s seat (offers_of rows) ≡ taken_in s seat (offers_of others)
-  pub crowded : crowded_in s seat (offers_of rows) ≡ crowded_in s seat (offers_of others)
+  pub crowded : crowded_in s seat Partner (offers_of rows) ≡ crowded_in s seat Partner (offers_of others)
   pub count : length (offers_of rows) ≡ length (offers_of others) + known
 
 same_more : (s : State) (seat : ℕ) (r : Row) (rows others : List Row) (known : ℕ) → IsSame (taken_in s seat (offers_in r)) seat rows others known → IsSame s seat (r ∷ rows) (r ∷ others) known
 same_more s seat r rows others known is =
     let next = taken_in s seat (offers_in r) in
     record {
-      taken = taken-append s seat (offers_in r) (offers_of rows) ∙ is.taken ∙ sym (taken-append s seat (offers_in r) (offers_of others));
+      taken = taken-append s seat Partner (offers_in r) (offers_of rows) ∙ is.taken ∙ sym (taken-append s seat Partner (offers_in r) (offers_of others));
       crowded =
-          crowded-append s seat (offers_in r) (offers_of rows)
-          ∙ ap (first_fault (crowded_in s seat (offers_in r))) is.crowded
-          ∙ sym (crowded-append s seat (offers_in r) (offers_of others));
+          crowded-append s seat Partner (offers_in r) (offers_of rows)
+          ∙ ap (first_fault (crowded_in s seat Partner (offers_in r))) is.crowded
+          ∙ sym (crowded-append s seat Partner (offers_in r) (offers_of others));
       count = omega (arith, is.count, length-append (offers_in r) (offers_of rows), length-append (offers_in r) (offers_of others));
     }
 
 same_idle : (s : State) (seat : ℕ) (r : Row) (rows others : List Row) (n known : ℕ) → AreIdle s seat (offers_in r) → known ≡ length r.versions + n → IsSame s seat rows others n → IsSame s seat (r ∷ rows) others known
 same_idle s seat r rows others n known quiet total is = record {
-  taken = taken-append s seat (offers_in r) (offers_of rows) ∙ ap (λ (t : State). taken_in t seat (offers_of rows)) quiet.taken ∙ is.taken;
+  taken = taken-append s seat Partner (offers_in r) (offers_of rows) ∙ ap (λ (t : State). taken_in t seat (offers_of rows)) quiet.taken ∙ is.taken;
   crowded =
-      crowded-append s seat (offers_in r) (offers_of rows)
-      ∙ ap (λ (f : Option Refusal). first_fault f (crowded_in (taken_in s seat (offers_in r)) seat (offers_of rows))) quiet.crowded
-      ∙ ap (λ (t : State). crowded_in t seat (offers_of rows)) quiet.taken ∙ is.crowded;
+      crowded-append s seat Partner (offers_in r) (offers_of rows)
+      ∙ ap (λ (f : Option Refusal). first_fault f (crowded_in (taken_in s seat (offers_in r)) seat Partner (offers_of rows))) quiet.crowded
+      ∙ ap (λ (t : State). crowded_in t seat Partner (offers_of rows)) quiet.taken ∙ is.crowded;
   count = omega (arith, is.count, total, length-append (offers_in r) (offers_of rows), length-map {B = List ℕ × Version} r.versions (λ (v : Version). (r.key, v)));
 }
 
 pub news_stand : (s : State) (seat : ℕ) (own rows others : List Row) (known : ℕ) → Held own (held s.entries) → AreOthers own rows others known → IsSame s seat rows others known
 news_stand s seat own [] others known h news = record {
   taken = ap (λ (rs : List Row). taken_in s seat (offers_of rs)) (sym news.0);
-  crowded = ap (λ (rs : List Row). crowded_in s seat (offers_of rs)) (sym news.0);
+  crowded = ap (λ (rs : List Row). crowded_in s seat Partner (offers_of rs)) (sym news.0);
   count = omega (arith, news.1, ap (λ (rs : List Row). length (offers_of rs)) news.0);
 }
 news_stand s seat own (r ∷ rows) others known h news = elim news [
@@ -99,30 +98,16 @@ news_stand s seat own (r ∷ rows) others known h news = elim news [
 ]
 
 -- what holds of all rows holds of the news
-pub news_all : (P : Row → Type 0) (own rows others : List Row) (known : ℕ) → AllByRecursion P rows → AreOthers own rows others known → AllByRecursion P others
+news_all : (P : Row → Type 0) (own rows others : List Row) (known : ℕ) → AllByRecursion P rows → AreOthers own rows others known → AllByRecursion P others
 news_all P own [] others known all news = subst (AllByRecursion P) (sym news.0) tt
 news_all P own (r ∷ rows) others known all news = elim news [
   | inl other ↦ subst (AllByRecursion P) (sym other.1.1) (all.0, news_all P own rows other.1.0 known all.1 other.1.2)
   | inr has ↦ news_all P own rows others has.1.0 all.1 has.1.2
 ]
 
--- ---- what was read
-
--- the rows that were read, beside own ones that are held
-pub record NewsRead (s : State) (id : ℕ) (t : TakenText) (news : News) : Type 0 where
-  pub own : List Row
-  pub rows : List Row
-  pub held : Held own (held s.entries)
-  pub parted : AreOthers own rows news.rows.items news.known
-  pub read : MatchOption (slice_get s.records id) ⊥ (λ r. IsLeafRead s r t rows)
-
-pub news_read : (s : State) (id : ℕ) (t : TakenText) (news : News) → IsRight s → MatchOption (slice_get s.records id) ⊥ (λ r. IsNewsRead s r t news) → NewsRead s id t news
-news_read s id t news ok h = with_record s.records id (λ r. IsNewsRead s r t news) _ (λ r within was is.
-    let kept = record_kept s id r ok within was in
-    record {
-      own = r.session.own.rows;
-      rows = is.rows;
-      held = (goes_on s.config s.entries r t kept is.read.due).walked.own_held;
-      parted = is.parted;
-      read = subst (λ (o : Option Record). MatchOption o ⊥ (λ x. IsLeafRead s x t is.rows)) (sym (got_record s.records id r within was)) is.read;
-    }) h
+-- what the news of a leaf's text have
+pub news_ready : {s : State} {id : ℕ} {t : TakenText} {news : News} → NewsRead s id t news → AllByRecursion (IsRowFor s.config t.node.index) news.rows.items × (length (offers_of news.rows.items) + news.known ≤ length t.text)
+news_ready {s = s} {t = t} {news = news} seen =
+    let ready = rows_ready seen in
+    let all = news_stand s 0 seen.own seen.rows news.rows.items news.known seen.held seen.parted in
+    (news_all (IsRowFor s.config t.node.index) seen.own seen.rows news.rows.items news.known ready.0 seen.parted, omega (arith, ready.1, all.count))

@@ -252,7 +252,7 @@ grown_sound s e ok here unknown clock fits = record {
   };
 }
 
-grown-right : (s : State) (e : Entry) → IsRight s → ¬ (e.source ≡ Partner) → place_fault s.config e.key e.version.kind e.version.value ≡ None → covered e.version (held s.entries e.key) ≡ false → IsClock e.version.clock → offer_fault e.version (held s.entries e.key) ≡ None → IsRight (journaled s e)
+pub grown-right : (s : State) (e : Entry) → IsRight s → ¬ (e.source ≡ Partner) → place_fault s.config e.key e.version.kind e.version.value ≡ None → covered e.version (held s.entries e.key) ≡ false → IsClock e.version.clock → offer_fault e.version (held s.entries e.key) ≡ None → IsRight (journaled s e)
 grown-right s e ok other here unknown clock fits =
     let sound = grown_sound s e (sound_of s ok) here unknown clock fits in
     record {

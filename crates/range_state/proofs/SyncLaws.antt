@@ -1,5 +1,5 @@
 -- A whole session with a partner that answers truly.
-use Rattle.std.proofs.Common.{◌≡◌, ◌≢◌, ℕ, suc, ◌+◌, ◌^◌, ◌<◌, ◌≤◌, ◌⊎◌, true, false, not, Option, Some, None, List, [], ◌∷◌, ◌++◌, length, map, set, refl, sym, ap, subst, ◌∙◌, arith, inl, inr, append_assoc, append-nil, slice_get}
+use Rattle.std.proofs.Common.{◌≡◌, ◌≢◌, ℕ, suc, ◌+◌, ◌-◌, ◌^◌, ◌<◌, ◌≤◌, ◌⊎◌, true, false, not, Option, Some, None, List, [], ◌∷◌, ◌++◌, length, map, set, refl, sym, ap, subst, ◌∙◌, arith, inl, inr, append_assoc, append-nil, slice_get}
 use Rattle.std.specs.Prelude.{Result, Ok, Err, MatchOption}
 use Rattle.std.specs.List.{filter, AllByRecursion}
 use Rattle.std.proofs.lemmas.Bool.{or_right, both_ways, cases_lt}
@@ -124,12 +124,12 @@ true_walk s now seat known other u ok here map =
       };
     }
 
-pub here_is : (s now : State) (seat known id : ℕ) (other : RowMap) (u : IsUnderWay s seat other known now) → id ≡ length s.records → slice_get now.records id ≡ Some u.r
+here_is : (s now : State) (seat known id : ℕ) (other : RowMap) (u : IsUnderWay s seat other known now) → id ≡ length s.records → slice_get now.records id ≡ Some u.r
 here_is s now seat known id other u at = ap (λ (rs : List Record). slice_get rs id) u.records ∙ ap (slice_get (s.records ++ u.r ∷ [])) at ∙ got_last s.records u.r
 
 -- it has a record
-pub known_session : (s now : State) (seat known id : ℕ) (other : RowMap) (u : IsUnderWay s seat other known now) → id ≡ length s.records → unknown_fault now id ≡ None
-known_session s now seat known id other u at = ap unknown_for (here_is s now seat known id other u at)
+pub known_session : {s now : State} {seat known id : ℕ} {other : RowMap} (u : IsUnderWay s seat other known now) → id ≡ length s.records → unknown_fault now id ≡ None
+known_session {s = s} {now = now} {seat = seat} {known = known} {id = id} {other = other} u at = ap unknown_for (here_is s now seat known id other u at)
 
 first_has : (nodes : List Node) (n : Node) (rest : List Node) → nodes ≡ n ∷ rest → contains_node n nodes ≡ true
 first_has nodes n rest is = ap (contains_node n) is ∙ has_head n rest
@@ -138,35 +138,37 @@ first_is : (s now : State) (seat known id : ℕ) (other : RowMap) (u : IsUnderWa
 first_is s now seat known id other u at o h = subst (λ (x : Option Record). MatchOption x ⊥ (λ r. IsFirstOf r.session.outstanding o)) (here_is s now seat known id other u at) h
 
 -- the next node of a session on its way: the first outstanding one
-pub record IsNext (s now : State) (seat known : ℕ) (other : RowMap) (u : IsUnderWay s seat other known now) (n : Node) : Type 0 where
+pub record IsNext (s now : State) (seat id known : ℕ) (other : RowMap) (u : IsUnderWay s seat other known now) (n : Node) : Type 0 where
+  pub at : id ≡ length s.records
   pub is : IsTrueWalk s now other u.r
   pub rest : List Node
   pub first : u.r.session.outstanding ≡ n ∷ rest
 
-pub next_is : (s now : State) (seat known id : ℕ) (other : RowMap) (u : IsUnderWay s seat other known now) → id ≡ length s.records → IsRight now → IsOfRange s.config other → IsRowMap other → (o : Option NodeAt) (node : NodeAt) → MatchOption (slice_get now.records id) ⊥ (λ r. IsFirstOf r.session.outstanding o) → o ≡ Some node
-    → IsNext s now seat known other u (as_node node)
-next_is s now seat known id other u at ok here map o node h some =
+pub next_is : {s now : State} {seat known id : ℕ} {other : RowMap} {o : Option NodeAt} {node : NodeAt} (u : IsUnderWay s seat other known now) → id ≡ length s.records → IsRight now → IsOfRange s.config other → IsRowMap other → MatchOption (slice_get now.records id) ⊥ (λ r. IsFirstOf r.session.outstanding o) → o ≡ Some node
+    → IsNext s now seat id known other u (as_node node)
+next_is {s = s} {now = now} {seat = seat} {known = known} {id = id} {other = other} {o = o} {node = node} u at ok here map h some =
     let first : IsFirstOf u.r.session.outstanding (Some node) = subst (λ (x : Option NodeAt). IsFirstOf u.r.session.outstanding x) some (first_is s now seat known id other u at o h) in
-    record { is = true_walk s now seat known other u ok here map; rest = first.0; first = first.1 }
+    record { at = at; is = true_walk s now seat known other u ok here map; rest = first.0; first = first.1 }
 
 -- a session on its way that has no next node
-pub record IsDone (s now : State) (seat known : ℕ) (other : RowMap) (u : IsUnderWay s seat other known now) : Type 0 where
+pub record IsDone (s now : State) (seat id known : ℕ) (other : RowMap) (u : IsUnderWay s seat other known now) : Type 0 where
+  pub at : id ≡ length s.records
   pub is : IsTrueWalk s now other u.r
   pub none : u.r.session.outstanding ≡ []
 
-pub done_is : (s now : State) (seat known id : ℕ) (other : RowMap) (u : IsUnderWay s seat other known now) → id ≡ length s.records → IsRight now → IsOfRange s.config other → IsRowMap other → MatchOption (slice_get now.records id) ⊥ (λ r. IsFirstOf r.session.outstanding None)
-    → IsDone s now seat known other u
-done_is s now seat known id other u at ok here map h = record { is = true_walk s now seat known other u ok here map; none = first_is s now seat known id other u at None h }
+pub done_is : {s now : State} {seat known id : ℕ} {other : RowMap} (u : IsUnderWay s seat other known now) → id ≡ length s.records → IsRight now → IsOfRange s.config other → IsRowMap other → MatchOption (slice_get now.records id) ⊥ (λ r. IsFirstOf r.session.outstanding None)
+    → IsDone s now seat id known other u
+done_is {s = s} {now = now} {seat = seat} {known = known} {id = id} {other = other} u at ok here map h = record { at = at; is = true_walk s now seat known other u ok here map; none = first_is s now seat known id other u at None h }
 
 -- the first outstanding node is due, and its true text is one that it can have
 pub first_due : (s now : State) (other : RowMap) (r : Record) (n : Node) (rest : List Node) → IsTrueWalk s now other r → IsHonest r.session other → r.session.outstanding ≡ n ∷ rest
     → IsDue r.session (entry n (text_of other n)) × IsCanonical r.session.own n (text_of other n)
 first_due s now other r n rest is honest first = true_text_due (held now.entries) r.session other is.right.walked is.right.orderly is.partner honest n (first_has r.session.outstanding n rest first)
 
-pub shallow : (s now : State) (seat known : ℕ) (other : RowMap) (u : IsUnderWay s seat other known now) (n : Node) (rest : List Node) → IsTrueWalk s now other u.r → u.r.session.outstanding ≡ n ∷ rest → n.depth ≤ tree_depth other.format
-shallow s now seat known other u n rest is first = elim (first_due s now other u.r n rest is u.honest first).1 [
-  | inl inner ↦ omega (arith, inner.0, ap tree_depth is.partner.format)
-  | inr leaf ↦ omega (arith, leaf.0, ap tree_depth is.partner.format)
+pub shallow : {s now : State} {seat id known : ℕ} {other : RowMap} {u : IsUnderWay s seat other known now} {n : Node} → IsNext s now seat id known other u n → n.depth ≤ tree_depth other.format
+shallow {s = s} {now = now} {other = other} {u = u} {n = n} next = elim (first_due s now other u.r n next.rest next.is u.honest next.first).1 [
+  | inl inner ↦ omega (arith, inner.0, ap tree_depth next.is.partner.format)
+  | inr leaf ↦ omega (arith, leaf.0, ap tree_depth next.is.partner.format)
 ]
 
 pub asked_ascend : (s now : State) (seat known : ℕ) (other : RowMap) (u : IsUnderWay s seat other known now) → IsTrueWalk s now other u.r → AscendByPlace u.r.session.asked
@@ -287,10 +289,10 @@ went_on s now new seat id known other u n rest a count sum is at first answer =
     ]
 
 -- the next node was answered
-pub answered : (s now new : State) (seat id known : ℕ) (other : RowMap) (u : IsUnderWay s seat other known now) (n : Node) (a : AnswerTaken) (count : ℕ) → IsNext s now seat known other u n → count ≡ known + a.known → id ≡ length s.records
+pub answered : {s now new : State} {seat id known : ℕ} {other : RowMap} {u : IsUnderWay s seat other known now} {n : Node} {a : AnswerTaken} {count : ℕ} → IsNext s now seat id known other u n → count ≡ known + a.known
     → (◌≡◌ {A = Result AnswerTaken Refusal} (Ok a) (Err refusals.NoMemory) × (new ≡ now)) ⊎ TakesFor now seat id (slice_get now.records id) (entry n (text_of other n)) (Ok a) new → HasMoved s now new seat id count other u.r n
-answered s now new seat id known other u n a count next sum at (inl memory) = absurd (let clash = memory.0 in cc)
-answered s now new seat id known other u n a count next sum at (inr took) = went_on s now new seat id known other u n next.rest a count sum next.is at next.first took
+answered next sum (inl memory) = absurd (let clash = memory.0 in cc)
+answered {s = s} {now = now} {new = new} {seat = seat} {id = id} {known = known} {other = other} {u = u} {n = n} {a = a} {count = count} next sum (inr took) = went_on s now new seat id known other u n next.rest a count sum next.is next.at next.first took
 
 -- ---- a leaf is refused
 
@@ -311,23 +313,18 @@ stops s now new seat id known other u n rest e is at first memory answer =
     refusal_of now new seat id u.r (entry n (text_of other n)) e memory due.0 due.1 took
 
 -- the next node is a leaf that was refused
-pub stopped : (s now new : State) (seat id known : ℕ) (other : RowMap) (u : IsUnderWay s seat other known now) (n : Node) (e : Refusal) → IsNext s now seat known other u n → id ≡ length s.records → (e ≡ refusals.NoMemory → ⊥)
+pub stopped : {s now new : State} {seat id known : ℕ} {other : RowMap} {u : IsUnderWay s seat other known now} {n : Node} {e : Refusal} → IsNext s now seat id known other u n → (e ≡ refusals.NoMemory → ⊥)
     → (◌≡◌ {A = Result AnswerTaken Refusal} (Err e) (Err refusals.NoMemory) × (new ≡ now)) ⊎ TakesFor now seat id (slice_get now.records id) (entry n (text_of other n)) (Err e) new → IsLeafFault now seat u.r (entry n (text_of other n)) e × (new ≡ now)
-stopped s now new seat id known other u n e next at memory (inl none) = absurd (memory (let same = none.0 in cc))
-stopped s now new seat id known other u n e next at memory (inr took) = stops s now new seat id known other u n next.rest e next.is at next.first memory took
+stopped next memory (inl none) = absurd (memory (let same = none.0 in cc))
+stopped {s = s} {now = now} {new = new} {seat = seat} {id = id} {known = known} {other = other} {u = u} {n = n} {e = e} next memory (inr took) = stops s now new seat id known other u n next.rest e next.is next.at next.first memory took
 
 -- where no memory is left, nothing changes
-no_memory : (s now new : State) (seat id known : ℕ) (other : RowMap) (u : IsUnderWay s seat other known now) (t : TakenText) → id ≡ length s.records
-    → TakesFor now seat id (slice_get now.records id) t (Err refusals.NoMemory) new → new ≡ now
-no_memory s now new seat id known other u t at answer =
-    let here = here_is s now seat known id other u at in
-    let took : Refuses now seat id u.r t refusals.NoMemory new = subst (λ (o : Option Record). TakesFor now seat id o t (Err refusals.NoMemory) new) here answer in
-    took.1
-
-pub unchanged : (s now new : State) (seat id known : ℕ) (other : RowMap) (u : IsUnderWay s seat other known now) (n : Node) → id ≡ length s.records
+unchanged : {s now new : State} {seat id known : ℕ} {other : RowMap} {u : IsUnderWay s seat other known now} {n : Node} → IsNext s now seat id known other u n
     → (◌≡◌ {A = Result AnswerTaken Refusal} (Err refusals.NoMemory) (Err refusals.NoMemory) × (new ≡ now)) ⊎ TakesFor now seat id (slice_get now.records id) (entry n (text_of other n)) (Err refusals.NoMemory) new → new ≡ now
-unchanged s now new seat id known other u n at (inl none) = none.1
-unchanged s now new seat id known other u n at (inr took) = no_memory s now new seat id known other u (entry n (text_of other n)) at took
+unchanged next (inl none) = none.1
+unchanged {s = s} {now = now} {new = new} {seat = seat} {id = id} {known = known} {other = other} {u = u} {n = n} next (inr answer) =
+    let took : Refuses now seat id u.r (entry n (text_of other n)) refusals.NoMemory new = subst (λ (o : Option Record). TakesFor now seat id o (entry n (text_of other n)) (Err refusals.NoMemory) new) (here_is s now seat known id other u next.at) answer in
+    took.1
 
 -- ---- the end
 
@@ -358,6 +355,10 @@ pub record IsTold (s now : State) (id count : ℕ) (cause : Option Refusal) (a :
   pub asked : MatchOption (slice_get now.records id) ⊥ (λ r. a.asked ≡ length r.session.asked)
   pub fault : a.fault ≡ cause
 
+pub is_told : {s now : State} {id count before : ℕ} {cause : Option Refusal} {a : Synced} → before ≡ length s.entries → before + a.accepted ≡ length now.entries → a.known ≡ count → MatchOption (slice_get now.records id) ⊥ (λ r. a.asked ≡ length r.session.asked) → a.fault ≡ cause
+    → IsTold s now id count cause a
+is_told {a = a} start accepted known asked fault = record { accepted = ap (λ k. k + a.accepted) (sym start) ∙ accepted; known = known; asked = asked; fault = fault }
+
 ends : (s now : State) (seat id known : ℕ) (other : RowMap) (fault : Option Refusal) (a : Synced) (u : IsUnderWay s seat other known now) → IsTrueWalk s now other u.r → id ≡ length s.records → IsNearlyDone u.r.session
     → taken_leaves s seat other 0 (leaves_in s.config.format u.r.session.asked) ≡ record { state = beside now s.records; known = known; fault = fault } → u.r.session.state ≡ ended fault → IsTold s now id known fault a
     → IsSyncedTo s seat other now a
@@ -377,17 +378,19 @@ ends s now seat id known other fault a u is at near progress state told =
     }
 
 -- nothing is outstanding
-pub finished : (s now : State) (seat id known : ℕ) (other : RowMap) (a : Synced) (u : IsUnderWay s seat other known now) → IsTrueWalk s now other u.r → id ≡ length s.records → u.r.session.outstanding ≡ [] → IsTold s now id known None a → IsSyncedTo s seat other now a
-finished s now seat id known other a u is at done told =
-    let taken : u.r.session.asked ≡ nodes_of u.r.session.taken = u.turn ∙ ap (λ (xs : List Node). nodes_of u.r.session.taken ++ xs) done ∙ append-nil (nodes_of u.r.session.taken) in
-    ends s now seat id known other None a u is at (none_left s now seat known other u done)
+pub finished : {s now : State} {seat id known : ℕ} {other : RowMap} {u : IsUnderWay s seat other known now} {a : Synced} → IsDone s now seat id known other u → IsTold s now id known None a → IsSyncedTo s seat other now a
+finished {s = s} {now = now} {seat = seat} {id = id} {known = known} {other = other} {u = u} {a = a} done told =
+    let taken : u.r.session.asked ≡ nodes_of u.r.session.taken = u.turn ∙ ap (λ (xs : List Node). nodes_of u.r.session.taken ++ xs) done.none ∙ append-nil (nodes_of u.r.session.taken) in
+    ends s now seat id known other None a u done.is done.at (none_left s now seat known other u done.none)
     (ap (λ (xs : List Node). taken_leaves s seat other 0 (leaves_in s.config.format xs)) taken ∙ u.progress)
-    (u.stands ∙ ap state_by done) told
+    (u.stands ∙ ap state_by done.none) told
 
 -- the leaf of a node is refused
-pub refused_at : (s now new : State) (seat id known : ℕ) (other : RowMap) (a : Synced) (u : IsUnderWay s seat other known now) (n : Node) (rest : List Node) (e : Refusal) → IsTrueWalk s now other u.r → id ≡ length s.records → u.r.session.outstanding ≡ n ∷ rest
-    → IsLeafFault now seat u.r (entry n (text_of other n)) e × (new ≡ now) → IsTold s new id known (Some e) a → IsSyncedTo s seat other new a
-refused_at s now new seat id known other a u n rest e is at first cause told =
+pub refused_at : {s now new : State} {seat id known : ℕ} {other : RowMap} {u : IsUnderWay s seat other known now} {a : Synced} {n : Node} {e : Refusal} → IsNext s now seat id known other u n → IsLeafFault now seat u.r (entry n (text_of other n)) e × (new ≡ now) → IsTold s new id known (Some e) a → IsSyncedTo s seat other new a
+refused_at {s = s} {now = now} {seat = seat} {id = id} {known = known} {other = other} {u = u} {a = a} {n = n} {e = e} next cause told =
+    let is = next.is in
+    let rest = next.rest in
+    let first = next.first in
     let f : Format = s.config.format in
     let done = nodes_of u.r.session.taken in
     let are = offers_are s now seat known other u n cause.0.rows is cause.0.read in
@@ -395,7 +398,7 @@ refused_at s now new seat id known other a u n rest e is at first cause told =
     let all : leaves_in f u.r.session.asked ≡ leaves_in f done ++ n ∷ leaves_in f rest =
     ap (leaves_in f) (u.turn ∙ ap (λ (xs : List Node). done ++ xs) first) ∙ leaves-append f done (n ∷ rest) ∙ ap (λ (xs : List Node). leaves_in f done ++ xs) (leaf_counts f n rest are.0) in
     subst (λ (x : State). IsSyncedTo s seat other x a) (sym cause.1)
-    (ends s now seat id known other (Some e) a u is at (leaves_left s now seat known other u n rest is first are.0)
+    (ends s now seat id known other (Some e) a u is next.at (leaves_left s now seat known other u n rest is first are.0)
     (ap (taken_leaves s seat other 0) all
     ∙ taken_more s (beside now s.records) seat other 0 known (leaves_in f done) (n ∷ leaves_in f rest) u.progress
     ∙ leaf_refused now s.records seat other known n (leaves_in f rest) e fault)
@@ -406,11 +409,13 @@ length-nodes : (ts : List TakenText) → length (nodes_of ts) ≡ length ts
 length-nodes [] = refl
 length-nodes (t ∷ ts) = omega (arith, length-nodes ts)
 
--- there are more nodes where the trees differ than texts were taken
-pub room_left : (s now : State) (seat known : ℕ) (other : RowMap) (u : IsUnderWay s seat other known now) (n : Node) (rest : List Node) → IsTrueWalk s now other u.r → u.r.session.outstanding ≡ n ∷ rest → length u.r.session.taken < length (differ (rows_now s) other)
-room_left s now seat known other u n rest is first =
-    let most = fits (differ (rows_now s) other) u.r.session.asked (asked_ascend s now seat known other u is) (differ_ascends (rows_now s) other) (asked_in s now seat known other u is) in
-    omega (arith, most, ap length u.turn, length-append (nodes_of u.r.session.taken) u.r.session.outstanding, length-nodes u.r.session.taken, ap length first)
+-- each text that is taken leaves fewer of the nodes where the trees differ
+pub fewer_left : {s now new : State} {seat id known : ℕ} {other : RowMap} {u : IsUnderWay s seat other known now} {count : ℕ} {n : Node} → IsNext s now seat id known other u n → HasMoved s now new seat id count other u.r n → length (differ (rows_now s) other) - taken_count new.records id < length (differ (rows_now s) other) - taken_count now.records id
+fewer_left {s = s} {now = now} {seat = seat} {id = id} {known = known} {other = other} {u = u} next moved =
+    let most = fits (differ (rows_now s) other) u.r.session.asked (asked_ascend s now seat known other u next.is) (differ_ascends (rows_now s) other) (asked_in s now seat known other u next.is) in
+    let room : length u.r.session.taken < length (differ (rows_now s) other) =
+    omega (arith, most, ap length u.turn, length-append (nodes_of u.r.session.taken) u.r.session.outstanding, length-nodes u.r.session.taken, ap length next.first) in
+    omega (arith, moved.more, ap count_of (here_is s now seat known id other u next.at), room)
 
 -- ---- a session that stopped on its way
 
@@ -450,21 +455,8 @@ up_to s now seat known other u n rest is first = elim (cases_lt n.depth (tree_de
         ∙ ap (λ (xs : List Node). xs ++ leaves_in f (n ∷ [])) (no_leaves f done (all_above f done n less inside.1 (ascends_before done n rest (subst (λ (xs : List Node). AscendByPlace xs) turn (asked_ascend s now seat known other u is)))))
         ∙ inner_counts f n [] less
 
-pub taken_first : (s now : State) (seat known : ℕ) (other : RowMap) (u : IsUnderWay s seat other known now) (n : Node) (rest : List Node) → IsTrueWalk s now other u.r → u.r.session.outstanding ≡ n ∷ rest → AreFirst s.config.format (nodes_of u.r.session.taken) (differ (rows_now s) other)
-taken_first s now seat known other u n rest is first =
-    let f : Format = s.config.format in
-    let done = nodes_of u.r.session.taken in
-    let more = up_to s now seat known other u n rest is first in (
-      leaves_in f (n ∷ []) ++ more.0,
-      more.1 ∙ ap (λ (xs : List Node). xs ++ more.0) (leaves-append f done (n ∷ [])) ∙ append_assoc (leaves_in f done) (leaves_in f (n ∷ [])) more.0,
-    )
-
-pub moved_first : (s now new : State) (seat id known count : ℕ) (other : RowMap) (u : IsUnderWay s seat other known now) (n : Node) (rest : List Node) → IsTrueWalk s now other u.r → u.r.session.outstanding ≡ n ∷ rest → (moved : HasMoved s now new seat id count other u.r n) → AreFirst s.config.format (nodes_of moved.under.r.session.taken) (differ (rows_now s) other)
-moved_first s now new seat id known count other u n rest is first moved =
-    subst (λ (xs : List Node). AreFirst s.config.format xs (differ (rows_now s) other)) (sym moved.turn) (up_to s now seat known other u n rest is first)
-
 -- the record of a session on its way
-pub one_more : (s now : State) (seat partner known : ℕ) (other : RowMap) (u : IsUnderWay s seat other known now) → u.r.partner ≡ partner → HasOneMore s partner other now.records
+one_more : (s now : State) (seat partner known : ℕ) (other : RowMap) (u : IsUnderWay s seat other known now) → u.r.partner ≡ partner → HasOneMore s partner other now.records
 one_more s now seat partner known other u with_whom = record {
   r = u.r;
   records = u.records;
@@ -477,20 +469,19 @@ one_more s now seat partner known other u with_whom = record {
 }
 
 -- a session that ended has asked all
-pub all_asked : (s now : State) (seat partner known : ℕ) (other : RowMap) (u : IsUnderWay s seat other known now) → IsTrueWalk s now other u.r → u.r.session.outstanding ≡ [] → u.r.partner ≡ partner → HasAskedAll s partner other now.records
+pub all_asked : {s now : State} {seat id known : ℕ} {other : RowMap} {u : IsUnderWay s seat other known now} {partner : ℕ} → IsDone s now seat id known other u → u.r.partner ≡ partner → HasAskedAll s partner other now.records
 unfolding one_more
-all_asked s now seat partner known other u is done with_whom = (one_more s now seat partner known other u with_whom, asked_all s now seat known other u is (none_left s now seat known other u done))
+all_asked {s = s} {now = now} {seat = seat} {known = known} {other = other} {u = u} {partner = partner} done with_whom = (one_more s now seat partner known other u with_whom, asked_all s now seat known other u done.is (none_left s now seat known other u done.none))
 
 -- and so has one of which a leaf was refused
-pub all_asked_at : (s now new : State) (seat partner known : ℕ) (other : RowMap) (u : IsUnderWay s seat other known now) (n : Node) (rest : List Node) (e : Refusal) → IsTrueWalk s now other u.r → u.r.session.outstanding ≡ n ∷ rest
-    → IsLeafFault now seat u.r (entry n (text_of other n)) e × (new ≡ now) → u.r.partner ≡ partner → HasAskedAll s partner other new.records
+pub all_asked_at : {s now new : State} {seat id known : ℕ} {other : RowMap} {u : IsUnderWay s seat other known now} {partner : ℕ} {n : Node} {e : Refusal} → IsNext s now seat id known other u n → IsLeafFault now seat u.r (entry n (text_of other n)) e × (new ≡ now) → u.r.partner ≡ partner → HasAskedAll s partner other new.records
 unfolding one_more
-all_asked_at s now new seat partner known other u n rest e is first cause with_whom =
-    let deep = (offers_are s now seat known other u n cause.0.rows is cause.0.read).0 in
+all_asked_at {s = s} {now = now} {seat = seat} {known = known} {other = other} {u = u} {partner = partner} {n = n} next cause with_whom =
+    let deep = (offers_are s now seat known other u n cause.0.rows next.is cause.0.read).0 in
     subst (λ (x : State). HasAskedAll s partner other x.records) (sym cause.1)
-    (one_more s now seat partner known other u with_whom, asked_all s now seat known other u is (leaves_left s now seat known other u n rest is first deep))
+    (one_more s now seat partner known other u with_whom, asked_all s now seat known other u next.is (leaves_left s now seat known other u n next.rest next.is next.first deep))
 
-pub part_way : (s now : State) (seat partner known : ℕ) (other : RowMap) (u : IsUnderWay s seat other known now) → AreFirst s.config.format (nodes_of u.r.session.taken) (differ (rows_now s) other) → u.r.partner ≡ partner → IsPartWay s seat partner other now
+part_way : (s now : State) (seat partner known : ℕ) (other : RowMap) (u : IsUnderWay s seat other known now) → AreFirst s.config.format (nodes_of u.r.session.taken) (differ (rows_now s) other) → u.r.partner ≡ partner → IsPartWay s seat partner other now
 part_way s now seat partner known other u first with_whom = record {
   leaves = leaves_in s.config.format (nodes_of u.r.session.taken);
   rest = first.0;
@@ -502,5 +493,18 @@ part_way s now seat partner known other u first with_whom = record {
   session = one_more s now seat partner known other u with_whom;
 }
 
-pub still_with : (s now new : State) (seat id count partner : ℕ) (other : RowMap) (r : Record) (n : Node) (moved : HasMoved s now new seat id count other r n) → r.partner ≡ partner → moved.under.r.partner ≡ partner
-still_with s now new seat id count partner other r n moved same = moved.partner ∙ same
+-- a session stopped before its next node
+pub stopped_before : {s now new : State} {seat id known : ℕ} {other : RowMap} {u : IsUnderWay s seat other known now} {partner : ℕ} {n : Node} → IsNext s now seat id known other u n
+    → (◌≡◌ {A = Result AnswerTaken Refusal} (Err refusals.NoMemory) (Err refusals.NoMemory) × (new ≡ now)) ⊎ TakesFor now seat id (slice_get now.records id) (entry n (text_of other n)) (Err refusals.NoMemory) new → u.r.partner ≡ partner → IsPartWay s seat partner other new
+stopped_before {s = s} {now = now} {seat = seat} {known = known} {other = other} {u = u} {partner = partner} {n = n} next answer with_whom =
+    let f : Format = s.config.format in
+    let done = nodes_of u.r.session.taken in
+    let more = up_to s now seat known other u n next.rest next.is next.first in
+    let first = more.1 ∙ ap (λ (xs : List Node). xs ++ more.0) (leaves-append f done (n ∷ [])) ∙ append_assoc (leaves_in f done) (leaves_in f (n ∷ [])) more.0 in
+    subst (λ (x : State). IsPartWay s seat partner other x) (sym (unchanged next answer)) (part_way s now seat partner known other u (leaves_in f (n ∷ []) ++ more.0, first) with_whom)
+
+-- and after it
+pub stopped_after : {s now new : State} {seat id known : ℕ} {other : RowMap} {u : IsUnderWay s seat other known now} {partner count : ℕ} {n : Node} → IsNext s now seat id known other u n → HasMoved s now new seat id count other u.r n → u.r.partner ≡ partner → IsPartWay s seat partner other new
+stopped_after {s = s} {now = now} {new = new} {seat = seat} {known = known} {other = other} {u = u} {partner = partner} {count = count} {n = n} next moved with_whom =
+    part_way s new seat partner count other moved.under
+    (subst (λ (xs : List Node). AreFirst s.config.format xs (differ (rows_now s) other)) (sym moved.turn) (up_to s now seat known other u n next.rest next.is next.first)) (moved.partner ∙ with_whom)

@@ -41,11 +41,11 @@ pub taken_beside : (t : State) (rs : List Record) (seat : ℕ) (offers : Offers)
 taken_beside t rs seat [] = refl
 taken_beside t rs seat (o ∷ offers) = ap (λ (u : State). taken_in u seat offers) (step_beside t rs seat o.0 o.1) ∙ taken_beside (accept_step t seat Partner o.0 o.1) rs seat offers
 
-crowded_beside : (t : State) (rs : List Record) (seat : ℕ) (offers : Offers) → crowded_in (beside t rs) seat offers ≡ crowded_in t seat offers
+crowded_beside : (t : State) (rs : List Record) (seat : ℕ) (offers : Offers) → crowded_in (beside t rs) seat Partner offers ≡ crowded_in t seat Partner offers
 crowded_beside t rs seat [] = refl
 crowded_beside t rs seat (o ∷ offers) =
     ap (first_fault (offer_fault o.1 (held t.entries o.0)))
-    (ap (λ (u : State). crowded_in u seat offers) (step_beside t rs seat o.0 o.1) ∙ crowded_beside (accept_step t seat Partner o.0 o.1) rs seat offers)
+    (ap (λ (u : State). crowded_in u seat Partner offers) (step_beside t rs seat o.0 o.1) ∙ crowded_beside (accept_step t seat Partner o.0 o.1) rs seat offers)
 
 pub fault_beside : (t : State) (rs : List Record) (seat : ℕ) (offers : Offers) → leaf_fault (beside t rs) seat offers ≡ leaf_fault t seat offers
 fault_beside t rs seat offers = λ i. first_fault (crowded_beside t rs seat offers i) (cond (nat_le (length (taken_beside t rs seat offers i).entries) t.config.limit) None (Some JournalFull))
@@ -55,7 +55,7 @@ records_stay t seat offers = ap (λ (u : State). u.records) (taken_beside t t.re
 
 pub config_stays : (t : State) (seat : ℕ) (offers : Offers) → (taken_in t seat offers).config ≡ t.config
 config_stays t seat [] = refl
-config_stays t seat (o ∷ offers) = config_stays (accept_step t seat Partner o.0 o.1) seat offers ∙ step_config t seat o.0 o.1
+config_stays t seat (o ∷ offers) = config_stays (accept_step t seat Partner o.0 o.1) seat offers ∙ step_config t seat Partner o.0 o.1
 
 -- ---- leaves that are taken
 

@@ -15,6 +15,7 @@ use Rattle.version_set.specs.declared.version.Version.{Version}
 use Rattle.version_set.specs.Version.{covered, offer_fault, is_same, is_below}
 use Rattle.version_set.proofs.ListLaws.{all-append}
 use Rattle.range_journal.specs.declared.journal.Entry.{Entry}
+use Rattle.range_journal.specs.declared.journal.Source.{Source}
 use Rattle.range_journal.specs.declared.journal.Source.TheVariants.{Partner}
 use Rattle.range_journal.specs.Journal.{held, versions_of}
 use Rattle.range_journal.proofs.JournalLaws.{covered-held, versions_of-push, contains_later, any_later}
@@ -40,7 +41,7 @@ use Rattle.range_state.specs.Config.{Config}
 use Rattle.range_state.specs.declared.«record».Record.{Record}
 use Rattle.range_state.specs.Records.{IsOver, IsHere, IsGoing, IsKept, is_open_state, is_open}
 use Rattle.range_state.specs.State.{State, IsRight, IsLeafWith, HasTaken, leaf_in, place_fault, knows, entry_of, journaled, accept_step}
-use Rattle.range_state.specs.Sessions.{offers_in, offers_of, taken_in, crowded_in, walked_to, IsInnerRead, IsLeafRead}
+use Rattle.range_state.specs.Sessions.{offers_in, offers_of, accepted_in, taken_in, crowded_in, walked_to, IsInnerRead, IsLeafRead}
 use Rattle.range_state.specs.Batches.{IsRowFor}
 use Rattle.range_state.proofs.StateLaws.{IsSound, eq_itself, sound_of, grown_sound, knows_held, first_none, later_none}
 use Rattle.range_state.proofs.RecordLaws.{grows}
@@ -72,29 +73,29 @@ pub record IsNews (s : State) (leaf : ℕ) (t : State) : Type 0 where
 abbrev pub Reached : State → ℕ → State → Type 0
 Reached s leaf t = (t ≡ s) ⊎ IsNews s leaf t
 
-reached_step : (s t : State) (leaf seat : ℕ) (key : List ℕ) (v : Version) → leaf ≡ leaf_in s.config key → Reached s leaf t → Reached s leaf (accept_step t seat Partner key v)
-reached_step s t leaf seat key v at was = elim (knows t key v) as (λ b. Reached s leaf (cond b t (journaled t (entry_of t seat Partner key v)))) [
+reached_step : (s t : State) (leaf seat : ℕ) (source : Source) (key : List ℕ) (v : Version) → leaf ≡ leaf_in s.config key → Reached s leaf t → Reached s leaf (accept_step t seat source key v)
+reached_step s t leaf seat source key v at was = elim (knows t key v) as (λ b. Reached s leaf (cond b t (journaled t (entry_of t seat source key v)))) [
   | true ↦ was
   | false ↦ inr (by_case was)
 ]
   where
-    by_case : Reached s leaf t → IsNews s leaf (journaled t (entry_of t seat Partner key v))
+    by_case : Reached s leaf t → IsNews s leaf (journaled t (entry_of t seat source key v))
     by_case (inl e) = record {
       config = ap (λ (u : State). u.config) e;
       records = ap (λ (u : State). u.records) e;
       marks = (λ i. dirtied (e i).config.format (leaf_in (e i).config key) (e i).marks) ∙ ap (λ (n : ℕ). dirtied s.config.format n s.marks) (sym at);
-      more = omega (arith, ap (λ (u : State). length u.entries) e, length-append t.entries (entry_of t seat Partner key v ∷ []));
+      more = omega (arith, ap (λ (u : State). length u.entries) e, length-append t.entries (entry_of t seat source key v ∷ []));
     }
     by_case (inr n) = record {
       config = n.config;
       records = n.records;
       marks = (λ i. dirtied (n.config i).format (leaf_in (n.config i) key) (n.marks i)) ∙ ap (λ (k : ℕ). dirtied s.config.format k (dirtied s.config.format leaf s.marks)) (sym at) ∙ dirtied_twice s.config.format leaf s.marks;
-      more = omega (arith, n.more, length-append t.entries (entry_of t seat Partner key v ∷ []));
+      more = omega (arith, n.more, length-append t.entries (entry_of t seat source key v ∷ []));
     }
 
-pub reached : (s t : State) (leaf seat : ℕ) (offers : Offers) → AllByRecursion (λ o. leaf ≡ leaf_in s.config o.0) offers → Reached s leaf t → Reached s leaf (taken_in t seat offers)
-reached s t leaf seat [] all was = was
-reached s t leaf seat (o ∷ offers) all was = reached s (accept_step t seat Partner o.0 o.1) leaf seat offers all.1 (reached_step s t leaf seat o.0 o.1 all.0 was)
+pub reached : (s t : State) (leaf seat : ℕ) (source : Source) (offers : Offers) → AllByRecursion (λ o. leaf ≡ leaf_in s.config o.0) offers → Reached s leaf t → Reached s leaf (accepted_in t seat source offers)
+reached s t leaf seat source [] all was = was
+reached s t leaf seat source (o ∷ offers) all was = reached s (accept_step t seat source o.0 o.1) leaf seat source offers all.1 (reached_step s t leaf seat source o.0 o.1 all.0 was)
 
 -- ---- it is sound
 
@@ -104,22 +105,22 @@ pub record IsOfferFor (c : Config) (leaf : ℕ) (key : List ℕ) (v : Version) :
   pub here : place_fault c key v.kind v.value ≡ None
   pub clock : IsClock v.clock
 
-step_sound : (t : State) (seat : ℕ) (key : List ℕ) (v : Version) → IsSound t → place_fault t.config key v.kind v.value ≡ None → IsClock v.clock → offer_fault v (held t.entries key) ≡ None → IsSound (accept_step t seat Partner key v)
-step_sound t seat key v ok here clock fits = elim (knows t key v) as (λ b. knows t key v ≡ b → IsSound (cond b t (journaled t (entry_of t seat Partner key v)))) [
+step_sound : (t : State) (seat : ℕ) (source : Source) (key : List ℕ) (v : Version) → IsSound t → place_fault t.config key v.kind v.value ≡ None → IsClock v.clock → offer_fault v (held t.entries key) ≡ None → IsSound (accept_step t seat source key v)
+step_sound t seat source key v ok here clock fits = elim (knows t key v) as (λ b. knows t key v ≡ b → IsSound (cond b t (journaled t (entry_of t seat source key v)))) [
   | true ↦ λ known. ok
-  | false ↦ λ fresh. grown_sound t (entry_of t seat Partner key v) ok here (knows_held t key v ∙ fresh) clock fits
+  | false ↦ λ fresh. grown_sound t (entry_of t seat source key v) ok here (knows_held t key v ∙ fresh) clock fits
 ] refl
 
 -- A step keeps the configuration.
-pub step_config : (t : State) (seat : ℕ) (key : List ℕ) (v : Version) → (accept_step t seat Partner key v).config ≡ t.config
-step_config t seat key v = elim (knows t key v) as (λ b. (cond b t (journaled t (entry_of t seat Partner key v))).config ≡ t.config) [ true ↦ refl | false ↦ refl ]
+pub step_config : (t : State) (seat : ℕ) (source : Source) (key : List ℕ) (v : Version) → (accept_step t seat source key v).config ≡ t.config
+step_config t seat source key v = elim (knows t key v) as (λ b. (cond b t (journaled t (entry_of t seat source key v))).config ≡ t.config) [ true ↦ refl | false ↦ refl ]
 
-pub taken_sound : (c : Config) (t : State) (leaf seat : ℕ) (offers : Offers) → t.config ≡ c → IsSound t → AllByRecursion (λ o. IsOfferFor c leaf o.0 o.1) offers → crowded_in t seat offers ≡ None → IsSound (taken_in t seat offers)
-taken_sound c t leaf seat [] same ok all none = ok
-taken_sound c t leaf seat (o ∷ offers) same ok all none =
+pub taken_sound : (c : Config) (t : State) (leaf seat : ℕ) (source : Source) (offers : Offers) → t.config ≡ c → IsSound t → AllByRecursion (λ o. IsOfferFor c leaf o.0 o.1) offers → crowded_in t seat source offers ≡ None → IsSound (accepted_in t seat source offers)
+taken_sound c t leaf seat source [] same ok all none = ok
+taken_sound c t leaf seat source (o ∷ offers) same ok all none =
     let here = ap (λ (x : Config). place_fault x o.0 o.1.kind o.1.value) same ∙ all.0.here in
     let fits = first_none (offer_fault o.1 (held t.entries o.0)) _ none in
-    taken_sound c (accept_step t seat Partner o.0 o.1) leaf seat offers (step_config t seat o.0 o.1 ∙ same) (step_sound t seat o.0 o.1 ok here all.0.clock fits) all.1 (later_none (offer_fault o.1 (held t.entries o.0)) _ none)
+    taken_sound c (accept_step t seat source o.0 o.1) leaf seat source offers (step_config t seat source o.0 o.1 ∙ same) (step_sound t seat source o.0 o.1 ok here all.0.clock fits) all.1 (later_none (offer_fault o.1 (held t.entries o.0)) _ none)
 
 -- ---- the entries that came
 
@@ -129,17 +130,17 @@ pub record IsGrown (P : List ℕ → Version → Type 0) (s t : State) : Type 0 
   pub entries : t.entries ≡ s.entries ++ more
   pub all : AllByRecursion (λ (e : Entry). P e.key e.version) more
 
-step_grown : (P : List ℕ → Version → Type 0) (t : State) (seat : ℕ) (key : List ℕ) (v : Version) → P key v → IsGrown P t (accept_step t seat Partner key v)
-step_grown P t seat key v p = elim (knows t key v) as (λ b. IsGrown P t (cond b t (journaled t (entry_of t seat Partner key v)))) [
+step_grown : (P : List ℕ → Version → Type 0) (t : State) (seat : ℕ) (source : Source) (key : List ℕ) (v : Version) → P key v → IsGrown P t (accept_step t seat source key v)
+step_grown P t seat source key v p = elim (knows t key v) as (λ b. IsGrown P t (cond b t (journaled t (entry_of t seat source key v)))) [
   | true ↦ record { more = []; entries = sym (append-nil t.entries); all = tt }
-  | false ↦ record { more = entry_of t seat Partner key v ∷ []; entries = refl; all = (p, tt) }
+  | false ↦ record { more = entry_of t seat source key v ∷ []; entries = refl; all = (p, tt) }
 ]
 
-pub taken_grown : (P : List ℕ → Version → Type 0) (t : State) (seat : ℕ) (offers : Offers) → AllByRecursion (λ o. P o.0 o.1) offers → IsGrown P t (taken_in t seat offers)
-taken_grown P t seat [] all = record { more = []; entries = sym (append-nil t.entries); all = tt }
-taken_grown P t seat (o ∷ offers) all =
-    let one = step_grown P t seat o.0 o.1 all.0 in
-    let rest = taken_grown P (accept_step t seat Partner o.0 o.1) seat offers all.1 in
+pub taken_grown : (P : List ℕ → Version → Type 0) (t : State) (seat : ℕ) (source : Source) (offers : Offers) → AllByRecursion (λ o. P o.0 o.1) offers → IsGrown P t (accepted_in t seat source offers)
+taken_grown P t seat source [] all = record { more = []; entries = sym (append-nil t.entries); all = tt }
+taken_grown P t seat source (o ∷ offers) all =
+    let one = step_grown P t seat source o.0 o.1 all.0 in
+    let rest = taken_grown P (accept_step t seat source o.0 o.1) seat source offers all.1 in
     record {
       more = one.more ++ rest.more;
       entries = rest.entries ∙ ap (λ (es : List Entry). es ++ rest.more) one.entries ∙ append_assoc t.entries one.more rest.more;
@@ -148,11 +149,11 @@ taken_grown P t seat (o ∷ offers) all =
 
 -- ---- what is held of them
 
-held_step : (t : State) (seat : ℕ) (key : List ℕ) (v : Version) → covered v (held (accept_step t seat Partner key v).entries key) ≡ true
-held_step t seat key v = elim (knows t key v) as (λ b. knows t key v ≡ b → covered v (held (cond b t (journaled t (entry_of t seat Partner key v))).entries key) ≡ true) [
+held_step : (t : State) (seat : ℕ) (source : Source) (key : List ℕ) (v : Version) → covered v (held (accept_step t seat source key v).entries key) ≡ true
+held_step t seat source key v = elim (knows t key v) as (λ b. knows t key v ≡ b → covered v (held (cond b t (journaled t (entry_of t seat source key v))).entries key) ≡ true) [
   | true ↦ λ known. knows_held t key v ∙ known
   | false ↦ λ fresh.
-      let e = entry_of t seat Partner key v in
+      let e = entry_of t seat source key v in
       covered-held v (t.entries ++ e ∷ []) key
       ∙ ap (covered v) (versions_of-push t.entries e key ∙ rw (nat_list_eq_equiv.refl key) refl)
       ∙ list_any-append (λ (w : Version). is_same v w || is_below v w) (versions_of t.entries key) (v ∷ [])
@@ -166,13 +167,13 @@ pub nothing : (offers : Offers) → AllByRecursion (λ o. Nothing o.0 o.1) offer
 nothing [] = tt
 nothing (o ∷ offers) = (tt, nothing offers)
 
-pub taken_held : (t : State) (seat : ℕ) (offers : Offers) → AllByRecursion (λ o. covered o.1 (held (taken_in t seat offers).entries o.0) ≡ true) offers
-taken_held t seat [] = tt
-taken_held t seat (o ∷ offers) =
-    let next = accept_step t seat Partner o.0 o.1 in
-    let rest = taken_grown Nothing next seat offers (nothing offers) in (
-      subst (λ (es : List Entry). covered o.1 (held es o.0) ≡ true) (sym rest.entries) (grows next.entries rest.more o.1 o.0 (held_step t seat o.0 o.1)),
-      taken_held next seat offers,
+pub taken_held : (t : State) (seat : ℕ) (source : Source) (offers : Offers) → AllByRecursion (λ o. covered o.1 (held (accepted_in t seat source offers).entries o.0) ≡ true) offers
+taken_held t seat source [] = tt
+taken_held t seat source (o ∷ offers) =
+    let next = accept_step t seat source o.0 o.1 in
+    let rest = taken_grown Nothing next seat source offers (nothing offers) in (
+      subst (λ (es : List Entry). covered o.1 (held es o.0) ≡ true) (sym rest.entries) (grows next.entries rest.more o.1 o.0 (held_step t seat source o.0 o.1)),
+      taken_held next seat source offers,
     )
 
 -- ---- offers and rows
@@ -336,7 +337,7 @@ inner_right s id r t ok within was read =
     replaced_right s id r (record { partner = r.partner; session = after r.session t }) ok was (λ e. is_awaiting s.config s.entries r t old read.due) same (keeps_after r.session t)
 
 -- of a leaf, whose versions are accepted
-pub leaf_right : (s : State) (seat id : ℕ) (r : Record) (t : TakenText) (rows : List Row) → IsRight s → id < length s.records → r ≡ get_or s.records id r → IsLeafRead s r t rows → crowded_in s seat (offers_of rows) ≡ None
+pub leaf_right : (s : State) (seat id : ℕ) (r : Record) (t : TakenText) (rows : List Row) → IsRight s → id < length s.records → r ≡ get_or s.records id r → IsLeafRead s r t rows → crowded_in s seat Partner (offers_of rows) ≡ None
     → IsRight (walked_to (taken_in s seat (offers_of rows)) id r (after r.session t))
 leaf_right s seat id r t rows ok within was read none =
     let end = taken_in s seat (offers_of rows) in
@@ -344,15 +345,15 @@ leaf_right s seat id r t rows ok within was read none =
     let old = record_kept s id r ok within was in
     let format = format_now s.config s.entries r t old read.due in
     let offers = spelled_offers s.config r.session t.node t.text rows format old.here read.spelled in
-    let moved = reached s s t.node.index seat (offers_of rows) (All-weaker _ _ (offers_of rows) (λ o is. is.leaf_is) offers) (inl refl) in
+    let moved = reached s s t.node.index seat Partner (offers_of rows) (All-weaker _ _ (offers_of rows) (λ o is. is.leaf_is) offers) (inl refl) in
     let same = same_range s t.node.index end moved in
-    let grown = taken_grown (IsAmong rows) s seat (offers_of rows) (offers_among rows) in
+    let grown = taken_grown (IsAmong rows) s seat Partner (offers_of rows) (offers_among rows) in
     let more = grown.more in
-    let sound = taken_sound s.config s t.node.index seat (offers_of rows) refl (sound_of s ok) offers none in
+    let sound = taken_sound s.config s t.node.index seat Partner (offers_of rows) refl (sound_of s ok) offers none in
     let here : end ≡ record { config = s.config; entries = s.entries ++ more; marks = end.marks; records = s.records } = λ i. record { config = same.0 i; entries = grown.entries i; marks = end.marks; records = same.1 i } in
     let depth : tree_depth r.session.own.format ≡ tree_depth s.config.format = ap tree_depth format in
     let canonical : IsCanonical r.session.own t.node t.text = inr (omega (arith, depth, read.leaf), (rows, read.spelled)) in
-    let covers = all_offers (λ key v. covered v (held (s.entries ++ more) key) ≡ true) rows (subst (λ (es : List Entry). AllByRecursion (λ o. covered o.1 (held es o.0) ≡ true) (offers_of rows)) grown.entries (taken_held s seat (offers_of rows))) in
+    let covers = all_offers (λ key v. covered v (held (s.entries ++ more) key) ≡ true) rows (subst (λ (es : List Entry). AllByRecursion (λ o. covered o.1 (held es o.0) ≡ true) (offers_of rows)) grown.entries (taken_held s seat Partner (offers_of rows))) in
     let leaf = spelled_held (held (s.entries ++ more)) r.session.own t rows read.spelled covers in
     let kept = kept_after s.config s.entries more r t old read.due canonical leaf in
     let come = come_of s id r t rows more within (read.leaf ∙ sym depth) read.spelled grown.all in

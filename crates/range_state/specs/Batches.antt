@@ -3,11 +3,12 @@ use Rattle.std.specs.Prelude.{◌≡◌, ℕ, ◌+◌, None, List, ◌++◌, len
 use Rattle.std.specs.List.{AllByRecursion}
 use Rattle.version_set.specs.declared.version.Version.{Version}
 use Rattle.range_journal.specs.Log.{AreNumberedFrom}
+use Rattle.range_journal.specs.declared.journal.Source.{Source}
 use Rattle.row_bytes.specs.declared.row.Row.{Row}
 use Rattle.range_state.specs.declared.state.preparation.Batch.{Batch}
 use Rattle.range_state.specs.Config.{Config}
 use Rattle.range_state.specs.State.{State, leaf_in, place_fault, bucket_of}
-use Rattle.range_state.specs.Sessions.{taken_in}
+use Rattle.range_state.specs.Sessions.{accepted_in}
 
 -- a row of a leaf of the range, whose versions have their place there
 pub record IsRowFor (c : Config) (leaf : ℕ) (r : Row) : Type 0 where
@@ -18,18 +19,17 @@ pub record IsRowFor (c : Config) (leaf : ℕ) (r : Row) : Type 0 where
 abbrev pub ahead : State → Batch → State
 ahead s b = record s { entries = s.entries ++ b.entries.items }
 
--- the leaf has its rows with the entries that are prepared; they have the next numbers, and each has its receipt
+-- the leaf has its rows with the entries that are prepared, which have the next numbers
 pub record IsBatch (s : State) (leaf : ℕ) (b : Batch) : Type 0 where
   pub leaf_is : b.leaf ≡ bucket_of s.config (ahead s b).entries leaf
   pub numbered : AreNumberedFrom (length s.entries) b.entries.items
-  pub receipts : b.receipts.items ≡ b.entries.items
 
 -- the number of versions that were looked at
 abbrev pub seen_count : Batch → ℕ
 seen_count b = length b.entries.items + b.known
 
 -- the batch after these versions, each in its turn
-pub record IsPrepared (s : State) (seat leaf : ℕ) (offers : List (List ℕ × Version)) (before now : Batch) : Type 0 where
+pub record IsPrepared (s : State) (seat : ℕ) (source : Source) (leaf : ℕ) (offers : List (List ℕ × Version)) (before now : Batch) : Type 0 where
   pub batch : IsBatch s leaf now
-  pub entries : (ahead s now).entries ≡ (taken_in (ahead s before) seat offers).entries
+  pub entries : (ahead s now).entries ≡ (accepted_in (ahead s before) seat source offers).entries
   pub count : seen_count now ≡ seen_count before + length offers

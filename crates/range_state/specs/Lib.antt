@@ -9,6 +9,7 @@ pub mod Syncs
 pub mod Unions
 pub mod Reconciles
 pub mod Batches
+pub mod Loads
 pub mod Migrates
 pub mod Renewals
 pub mod Trees

@@ -8,6 +8,7 @@ use Rattle.vclock.specs.declared.refusal.Refusal.{Refusal}
 use Rattle.vclock.specs.declared.refusal.Refusal.TheVariants as refusals
 use Rattle.version_set.specs.Version.{offer_fault}
 use Rattle.version_set.specs.declared.version.Version.{Version}
+use Rattle.range_journal.specs.declared.journal.Source.{Source}
 use Rattle.range_journal.specs.declared.journal.Source.TheVariants.{Partner}
 use Rattle.range_journal.specs.Journal.{held}
 use Rattle.row_bytes.specs.declared.row.Row.{Row}
@@ -88,20 +89,28 @@ offers_in r = map (λ (v : Version). (r.key, v)) r.versions
 abbrev pub offers_of : List Row → List (List ℕ × Version)
 offers_of rows = flat_map offers_in rows
 
--- the state after each version was accepted in its turn, as from a partner
-abbrev pub taken_in : State → ℕ → List (List ℕ × Version) → State
-taken_in s seat [] = s
-taken_in s seat (o ∷ offers) = taken_in (accept_step s seat Partner o.0 o.1) seat offers
+-- the state after each version was accepted in its turn, as from a source
+abbrev pub accepted_in : State → ℕ → Source → List (List ℕ × Version) → State
+accepted_in s seat source [] = s
+accepted_in s seat source (o ∷ offers) = accepted_in (accept_step s seat source o.0 o.1) seat source offers
 
 -- the fault of accepting them all, if the journal has room: one of them, in its turn, would be a version too many for
 -- its key
-abbrev pub crowded_in : State → ℕ → List (List ℕ × Version) → Option Refusal
-crowded_in s seat [] = None
-crowded_in s seat (o ∷ offers) = first_fault (offer_fault o.1 (held s.entries o.0)) (crowded_in (accept_step s seat Partner o.0 o.1) seat offers)
+abbrev pub crowded_in : State → ℕ → Source → List (List ℕ × Version) → Option Refusal
+crowded_in s seat source [] = None
+crowded_in s seat source (o ∷ offers) = first_fault (offer_fault o.1 (held s.entries o.0)) (crowded_in (accept_step s seat source o.0 o.1) seat source offers)
+
+-- the fault of accepting them all
+abbrev pub accept_fault : State → ℕ → Source → List (List ℕ × Version) → Option Refusal
+accept_fault s seat source offers = first_fault (crowded_in s seat source offers) (if nat_le (length (accepted_in s seat source offers).entries) s.config.limit then None else Some refusals.JournalFull)
+
+-- the state after each version was accepted in its turn, as from a partner
+abbrev pub taken_in : State → ℕ → List (List ℕ × Version) → State
+taken_in s seat offers = accepted_in s seat Partner offers
 
 -- the fault of accepting them all
 abbrev pub leaf_fault : State → ℕ → List (List ℕ × Version) → Option Refusal
-leaf_fault s seat offers = first_fault (crowded_in s seat offers) (if nat_le (length (taken_in s seat offers).entries) s.config.limit then None else Some refusals.JournalFull)
+leaf_fault s seat offers = accept_fault s seat Partner offers
 
 -- ---- taking a text
 

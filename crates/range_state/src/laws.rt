@@ -1,8 +1,9 @@
 //! Laws of rows and sessions, proved from their definitions.
 ghost use Rattle.std.specs.Prelude.{◌≡◌, ◌≢◌, ◌≤◌, ◌↔◌, [], ℕ, List, length, None, Any, Contains, true};
-ghost use Rattle.std.specs.List.{AllByRecursion};
+ghost use Rattle.std.specs.List.{AllByRecursion, flat_map};
 ghost use Rattle.range_journal.specs.declared.journal.Entry.{Entry};
 ghost use Rattle.range_journal.specs.Journal.{held};
+ghost use Rattle.row_bytes.specs.Rows.{AreRows, row_text};
 ghost use Rattle.row_bytes.specs.declared.row.Row.{Row};
 ghost use Rattle.hash_tree.specs.Leaves.{AscendByKey};
 ghost use Rattle.hash_tree.specs.Nodes.{kept_digest};
@@ -19,10 +20,12 @@ ghost use Rattle.range_state.specs.Rows.{rows_of};
 ghost use Rattle.range_state.specs.Unions.{union_of, offered_all};
 ghost use Rattle.version_set.specs.declared.version.Version.{Version};
 ghost use Rattle.version_set.specs.Version.{maximal, Ascends};
-ghost use Rattle.range_state.specs.State.{State, IsRight, IsFromPartner, rows_now, dirty_fault, stale_fault};
+ghost use Rattle.range_state.specs.State.{State, IsRight, IsFromPartner, all_dirty, fresh, rows_now, dirty_fault, stale_fault};
 ghost use Rattle.range_state.specs.Syncs.{IsOfRange, synced};
-ghost use Rattle.range_state.specs.Renewals.{renewed_by, renew_fault};
+ghost use Rattle.range_state.specs.Loads.{load, load_text, load_all, leaves_of};
+ghost use Rattle.range_state.specs.Renewals.{config_to, renewed_by, renew_fault};
 ghost use Rattle.vclock.specs.Clock.{Pairs};
+ghost use Rattle.vclock.specs.Outcome.{gives};
 
 /// The rows of a journal have each key that has an entry, and no other key, each with the versions that are held for
 /// it.
@@ -130,4 +133,16 @@ pub fn renewed_ranges_hold_the_same()
         → stale_fault (held (renewed_by s seat limit).entries key) clock ≡ stale_fault (held s.entries key) clock }
     ensures right { (s : State) (seat limit : ℕ) → IsRight s → renew_fault s limit ≡ None
         → IsRight (renewed_by s seat limit) }
+{}
+
+/// A text of rows is loaded as these rows. Loading the rows of a range's leaves, leaf by leaf, into a new range of its
+/// configuration with a limit, by a seat, isn't refused if the range can be renewed with that limit. It leaves the
+/// journal of the range that is renewed by that seat. All nodes are dirty then. So a range that is saved and loaded is a
+/// renewed range.
+pub fn loaded_ranges_are_renewed()
+    ensures texts { (s : State) (seat : ℕ) (rows : List Row) → AreRows s.config.format rows
+        → load_text s seat (flat_map (row_text s.config.format) rows) ≡ load s seat rows }
+    ensures all { (s : State) (seat limit : ℕ) → IsRight s → renew_fault s limit ≡ None
+        → load_all (fresh (config_to s.config limit)) seat (leaves_of s)
+        ≡ gives tt (record (renewed_by s seat limit) { marks = all_dirty s.config.format }) }
 {}

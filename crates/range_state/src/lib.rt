@@ -24,6 +24,7 @@
 pub mod config;
 pub mod event;
 pub mod laws;
+pub mod leaf_rows;
 pub mod record;
 mod replay;
 pub mod run;
@@ -34,8 +35,10 @@ pub use event::{
     AcceptEvent, Accepted, AnswerCounted, AnswerEvent, AnswerTaken, Event, InstallEvent, OpenEvent,
     PutEvent, Receipt, Reply,
 };
+pub use leaf_rows::LeafRows;
 pub use record::Record;
 pub use state::RangeState;
 pub use state::counts::RangeCounts;
+pub use state::loading::Loaded;
 pub use state::reconciliation::{Reconciled, reconcile};
 pub use state::sync::Synced;

@@ -28,6 +28,7 @@ use version_set::{Kind, Version, VersionSet};
 mod answers;
 mod bulk;
 pub mod counts;
+pub mod loading;
 mod migration;
 mod preparation;
 mod receipts;

@@ -10,7 +10,7 @@ ghost use Rattle.range_state.specs.Sessions.{walked_to, IsInnerRead, IsNewsRead,
 
 use crate::event::{AnswerTaken, Receipt};
 use crate::state::RangeState;
-use crate::state::preparation::Batch;
+use crate::state::preparation::{Batch, receipts_beside};
 use hash_tree::{Hashed, Marks, NodeAt, tree_depth};
 use range_journal::{Entry, Journal};
 use std::alloc::Global;
@@ -119,12 +119,12 @@ impl RangeState {
     {
         // Called for its clause alone: the digest is that of the text.
         let _bytes = text.text();
-        let batch = self.prepare_beside(alloc, told, seat, node.index, news)?;
+        let batch = self.prepare_news(alloc, seat, node.index, news)?;
         self.journal.reserve(batch.entries.len() as u64)?;
+        let receipts = receipts_beside(alloc, told, &batch.entries)?;
         let Batch {
             leaf,
             entries,
-            receipts,
             known,
         } = batch;
         let leaves = self.leaves.with_leaf(alloc, node.index, leaf)?;
@@ -153,7 +153,7 @@ impl RangeState {
 }
 
 /// Makes a leaf and every node above it dirty, if there are new entries for it.
-fn mark_news(marks: &mut Marks, leaf: u16, entries: &[Entry])
+pub(super) fn mark_news(marks: &mut Marks, leaf: u16, entries: &[Entry])
     requires { leaf < 16 ^ tree_depth marks.old.format }
     ensures { marks.new ≡ record marks.old { digests = (if nat_eq (length entries.now) 0 then marks.old.digests else dirtied marks.old.format leaf marks.old.digests) } }
 {
@@ -163,7 +163,7 @@ fn mark_news(marks: &mut Marks, leaf: u16, entries: &[Entry])
 }
 
 /// Appends entries, which have the next numbers, and for which room was made.
-fn append_all(journal: &mut Journal, entries: Vec<Entry>)
+pub(super) fn append_all(journal: &mut Journal, entries: Vec<Entry>)
     requires numbered { AreNumberedFrom (length journal.old.entries) entries.items }
     requires room { length entries.items ≤ journal.old.room }
     ensures entries { journal.new.entries ≡ journal.old.entries ++ entries.items }

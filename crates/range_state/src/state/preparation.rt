@@ -9,7 +9,7 @@ ghost use Rattle.row_bytes.specs.declared.row.Row.{Row};
 ghost use Rattle.sync_session.specs.Readings.{AreOthers};
 ghost use Rattle.sync_session.specs.Walks.{Held};
 ghost use Rattle.range_state.specs.State.{leaf_in, leaf_count, place_fault};
-ghost use Rattle.range_state.specs.Sessions.{offers_in, offers_of, taken_in, crowded_in};
+ghost use Rattle.range_state.specs.Sessions.{offers_in, offers_of, accepted_in, taken_in, crowded_in};
 ghost use Rattle.range_state.specs.Batches.{IsRowFor, ahead, IsBatch, seen_count, IsPrepared};
 
 use crate::event::Receipt;
@@ -29,48 +29,45 @@ pub(super) struct Batch {
     pub(super) leaf: SharedLeaf,
     /// Their entries, which have the next numbers.
     pub(super) entries: Vec<Entry>,
-    /// Copies of the entries, for the caller.
-    pub(super) receipts: Vec<Receipt>,
     /// The number of versions that were looked at and are known already.
     pub(super) known: u64,
 }
 
 impl RangeState {
-    /// Prepares the versions of rows of a leaf. Refused: Crowded (one version, in its turn, would be too many for its
-    /// key), NoMemory, which may replace Crowded.
+    /// Prepares the versions of rows of a leaf, as from a source. Refused: Crowded (one version, in its turn, would be too
+    /// many for its key), NoMemory, which may replace Crowded.
     pub(super) fn prepare_rows(
         &self,
         alloc: Global,
         seat: u16,
+        source: Source,
         leaf: u16,
         rows: &[Row],
     ) -> Result<Batch, Refusal>
         requires inside { leaf < leaf_count self.now.config }
         requires here { AllByRecursion (IsRowFor self.now.config leaf) rows.now }
         requires few { length (offers_of rows.now) < 2 ^ 64 }
-        ensures { AnswersOrNoMemory result (crowded_in self.now seat (offers_of rows.now))
+        ensures { AnswersOrNoMemory result (crowded_in self.now seat source (offers_of rows.now))
             (λ batch. IsBatch self.now leaf batch
-            × (self.now.entries ++ batch.entries.items ≡ (taken_in self.now seat (offers_of rows.now)).entries)
+            × (self.now.entries ++ batch.entries.items ≡ (accepted_in self.now seat source (offers_of rows.now)).entries)
             × (seen_count batch ≡ length (offers_of rows.now))) }
     {
         let mut batch = Batch {
             leaf: self.leaves.get(leaf).share()?,
             entries: Vec::new(alloc),
-            receipts: Vec::new(alloc),
             known: 0,
         };
         for row in rows {
-            self.prepare_row(alloc, seat, leaf, row, &mut batch)?;
+            self.prepare_row(alloc, seat, source, leaf, row, &mut batch)?;
         }
         Ok(batch)
     }
 
-    /// Prepares the versions of the news in a leaf's text, and makes room for their receipts in a list that isn't
-    /// empty. The versions of local rows in the text are held, and count as known.
-    pub(super) fn prepare_beside(
+    /// Prepares the versions of the news in a partner's text of a leaf. The versions of local rows in the text are held,
+    /// and count as known.
+    pub(super) fn prepare_news(
         &self,
         alloc: Global,
-        told: &mut Vec<Receipt>,
         seat: u16,
         leaf: u16,
         news: &News,
@@ -78,22 +75,16 @@ impl RangeState {
         requires inside { leaf < leaf_count self.now.config }
         requires here { AllByRecursion (IsRowFor self.now.config leaf) news.now.rows.items }
         requires few { length (offers_of news.now.rows.items) + news.now.known < 2 ^ 64 }
-        ensures answers { (own rows : List Row)
+        ensures { (own rows : List Row)
             → Held own (held self.now.entries)
             → AreOthers own rows news.now.rows.items news.now.known
-            → AnswersOrNoMemory result (crowded_in self.now seat (offers_of rows))
+            → AnswersOrNoMemory result (crowded_in self.now seat sources.Partner (offers_of rows))
             (λ batch. IsBatch self.now leaf batch
             × (self.now.entries ++ batch.entries.items ≡ (taken_in self.now seat (offers_of rows)).entries)
             × (seen_count batch ≡ length (offers_of rows))) }
-        ensures same { told.new.items ≡ told.old.items }
-        ensures room { IfOk result (λ batch. (told.new.items ≡ [])
-            ⊎ (vec_len told.new + vec_len batch.receipts ≤ vec_capacity told.new)) }
     {
-        let mut batch = self.prepare_rows(alloc, seat, leaf, &news.rows)?;
+        let mut batch = self.prepare_rows(alloc, seat, Source::Partner, leaf, &news.rows)?;
         batch.known += news.known;
-        if !told.is_empty() {
-            told.reserve(batch.receipts.len())?;
-        }
         Ok(batch)
     }
 
@@ -102,6 +93,7 @@ impl RangeState {
         &self,
         alloc: Global,
         seat: u16,
+        source: Source,
         leaf: u16,
         row: &Row,
         batch: &mut Batch,
@@ -109,11 +101,11 @@ impl RangeState {
         requires here { IsRowFor self.now.config leaf row.now }
         requires batch { IsBatch self.now leaf batch.old }
         requires few { seen_count batch.old + length (offers_in row.now) < 2 ^ 64 }
-        ensures answers { AnswersOrNoMemory result (crowded_in (ahead self.now batch.old) seat (offers_in row.now)) (λ _. ⊤) }
-        ensures ok { OnOk result (IsPrepared self.now seat leaf (offers_in row.now) batch.old batch.new) }
+        ensures answers { AnswersOrNoMemory result (crowded_in (ahead self.now batch.old) seat source (offers_in row.now)) (λ _. ⊤) }
+        ensures ok { OnOk result (IsPrepared self.now seat source leaf (offers_in row.now) batch.old batch.new) }
     {
         for version in row.versions.as_slice() {
-            self.prepare_version(alloc, seat, leaf, &row.key, version, batch)?;
+            self.prepare_version(alloc, seat, source, leaf, &row.key, version, batch)?;
         }
         Ok(())
     }
@@ -123,6 +115,7 @@ impl RangeState {
         &self,
         alloc: Global,
         seat: u16,
+        source: Source,
         leaf: u16,
         key: &Bytes,
         version: &Version,
@@ -133,9 +126,9 @@ impl RangeState {
         requires batch { IsBatch self.now leaf batch.old }
         requires few { seen_count batch.old + 1 < 2 ^ 64 }
         ensures answers { AnswersOrNoMemory result
-            (crowded_in (ahead self.now batch.old) seat ((key.now, version.now) ∷ [])) (λ _. ⊤) }
+            (crowded_in (ahead self.now batch.old) seat source ((key.now, version.now) ∷ [])) (λ _. ⊤) }
         ensures ok { OnOk result
-            (IsPrepared self.now seat leaf ((key.now, version.now) ∷ []) batch.old batch.new) }
+            (IsPrepared self.now seat source leaf ((key.now, version.now) ∷ []) batch.old batch.new) }
     {
         let (set, near) = batch.leaf.search(key.as_slice());
         if covers(set, version) {
@@ -146,24 +139,63 @@ impl RangeState {
             return Err(Refusal::Crowded);
         }
         let number = self.journal.len() + batch.entries.len() as u64;
-        let entry = partners_entry(number, seat, key, version)?;
-        let receipt = partners_entry(number, seat, key, version)?;
+        let entry = new_entry(number, seat, source, key, version)?;
         let row_version = version.try_clone()?;
         batch.leaf.offer(alloc, near, key, row_version)?;
         batch.entries.push(entry)?;
-        batch.receipts.push(receipt)?;
         Ok(())
     }
 }
 
-/// Makes the entry of a version that a partner had.
-fn partners_entry(number: u64, seat: u16, key: &Bytes, version: &Version) -> Result<Entry, Refusal>
-    ensures { Answers result None (λ entry. entry ≡ record { number = number; seat = seat; source = sources.Partner; key = key.now; version = version.now }) }
+/// Copies entries as receipts, and makes room for them in a list that isn't empty. Refused: NoMemory.
+pub(super) fn receipts_beside(
+    alloc: Global,
+    told: &mut Vec<Receipt>,
+    entries: &[Entry],
+) -> Result<Vec<Receipt>, Refusal>
+    ensures copies { Answers result None (λ receipts. receipts.items ≡ entries.now) }
+    ensures same { told.new.items ≡ told.old.items }
+    ensures room { IfOk result (λ receipts. (told.new.items ≡ [])
+        ⊎ (vec_len told.new + vec_len receipts ≤ vec_capacity told.new)) }
+{
+    if !told.is_empty() {
+        told.reserve(entries.len())?;
+    }
+    copies_of(alloc, entries)
+}
+
+/// Copies entries. Refused: NoMemory.
+fn copies_of(alloc: Global, entries: &[Entry]) -> Result<Vec<Receipt>, Refusal>
+    ensures { Answers result None (λ copies. copies.items ≡ entries.now) }
+{
+    let mut copies = Vec::with_capacity(alloc, entries.len())?;
+    for entry in entries {
+        let Entry {
+            number,
+            seat,
+            source,
+            key,
+            version,
+        } = entry;
+        copies.push(new_entry(*number, *seat, *source, key, version)?)?;
+    }
+    Ok(copies)
+}
+
+/// Makes an entry. Refused: NoMemory.
+fn new_entry(
+    number: u64,
+    seat: u16,
+    source: Source,
+    key: &Bytes,
+    version: &Version,
+) -> Result<Entry, Refusal>
+    ensures { Answers result None (λ entry. entry ≡ record { number = number; seat = seat; source = source; key = key.now; version = version.now }) }
 {
     Ok(Entry {
         number,
         seat,
-        source: Source::Partner,
+        source,
         key: key.try_clone()?,
         version: version.try_clone()?,
     })

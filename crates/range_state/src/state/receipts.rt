@@ -126,7 +126,7 @@ impl RangeState {
 }
 
 /// Moves receipts to the end of a list that is empty or has room for them.
-fn move_to(list: &mut Vec<Receipt>, mut receipts: Vec<Receipt>)
+pub(super) fn move_to(list: &mut Vec<Receipt>, mut receipts: Vec<Receipt>)
     requires { (list.old.items ≡ []) ⊎ (vec_len list.old + vec_len receipts ≤ vec_capacity list.old) }
     ensures { list.new.items ≡ list.old.items ++ receipts.items }
 {

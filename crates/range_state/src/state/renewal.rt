@@ -7,10 +7,11 @@ ghost use Rattle.range_state.specs.Renewals.{copies_from, held_offers, renewed_b
 
 use crate::state::RangeState;
 use hash_tree::SharedLeaf;
+use key_ring::leaf_count;
 use range_journal::{Journal, Source};
 use row_bytes::Row;
 use std::alloc::Global;
-use vclock::{Format, Refusal};
+use vclock::Refusal;
 use version_set::Version;
 
 impl RangeState {
@@ -75,16 +76,6 @@ impl RangeState {
             append_leaf(journal, seat, self.rows(leaf))?;
         }
         Ok(())
-    }
-}
-
-/// Returns the number of leaves of a range.
-fn leaf_count(format: Format) -> u16
-    ensures { result ≡ 2 ^ leaf_bits format }
-{
-    match format {
-        Format::One => 256,
-        Format::Two => 4_096,
     }
 }
 

@@ -26,13 +26,13 @@ returns-in_err-prepare_row c =
     let rows = c.args.rows.now in
     let i = c.loop-row.row-index in
     let r = c.row-item.result in
-    let a : Batch = record { leaf = c.in_ok-share.field-0; entries = c.new.result; receipts = c.new-2.result; known = 0 } in
+    let a : Batch = record { leaf = c.in_ok-share.field-0; entries = c.new.result; known = 0 } in
     let all : offers_of rows ≡ (offers_of (take i rows) ++ offers_in r) ++ offers_of (drop (i + 1) rows) =
     offers_split rows (i + 1) ∙ ap (λ (os : Offers). os ++ offers_of (drop (i + 1) rows)) (offers_next rows i r c.loop-row-test.true c.row-item.is) in
     let p = err_from_is_err_and c.from_residual-in_err-prepare_row.result c.from_residual-in_err-prepare_row.ensures.1 in
-    let told = going_err s c.args.seat c.args.leaf (offers_of (take i rows)) (offers_in r) (offers_of (drop (i + 1) rows)) (offers_of rows) a c.loop-row.batch c.in_err-prepare_row.field-0.0 c.loop-row.invariant all c.in_err-prepare_row.ensures.answers in
+    let told = going_err s c.args.seat c.args.source c.args.leaf (offers_of (take i rows)) (offers_in r) (offers_of (drop (i + 1) rows)) (offers_of rows) a c.loop-row.batch c.in_err-prepare_row.field-0.0 c.loop-row.invariant all c.in_err-prepare_row.ensures.answers in
     let e = c.in_err-prepare_row.field-0.0 in
-    rw (p.1, p.2) (rw (from_none s c.args.seat (offers_of rows) a c.new.ensures.items) at told)
+    rw (p.1, p.2) (rw (from_none s c.args.seat c.args.source (offers_of rows) a c.new.ensures.items) at told)
 
 pub loop-row-preserved : goal.loop-row-preserved
 loop-row-preserved c =
@@ -40,8 +40,8 @@ loop-row-preserved c =
     let rows = c.args.rows.now in
     let i = c.loop-row.row-index in
     let r = c.row-item.result in
-    let a : Batch = record { leaf = c.in_ok-share.field-0; entries = c.new.result; receipts = c.new-2.result; known = 0 } in
-    going_more s c.args.seat c.args.leaf (offers_of (take i rows)) (offers_in r) (offers_of (take (i + 1) rows)) a c.loop-row.batch c.prepare_row.new.batch c.loop-row.invariant (offers_next rows i r c.loop-row-test.true c.row-item.is) c.in_ok-prepare_row.ensures.answers.0 c.in_ok-prepare_row.ensures.ok
+    let a : Batch = record { leaf = c.in_ok-share.field-0; entries = c.new.result; known = 0 } in
+    going_more s c.args.seat c.args.source c.args.leaf (offers_of (take i rows)) (offers_in r) (offers_of (take (i + 1) rows)) a c.loop-row.batch c.prepare_row.new.batch c.loop-row.invariant (offers_next rows i r c.loop-row-test.true c.row-item.is) c.in_ok-prepare_row.ensures.answers.0 c.in_ok-prepare_row.ensures.ok
 
 pub loop-row-init : goal.loop-row-init
 loop-row-init c =
@@ -54,7 +54,6 @@ loop-row-init c =
         batch = record {
           leaf_is = leaf ∙ ap (λ (es : List Entry). bucket_of s.config es c.args.leaf) (sym whole);
           numbered = subst (AreNumberedFrom (length s.entries)) (sym c.new.ensures.items) tt;
-          receipts = c.new-2.ensures.items ∙ sym c.new.ensures.items;
         };
         entries = refl;
         count = omega arith;

@@ -1,8 +1,7 @@
-use Rattle.std.proofs.Common.{◌≡◌, ℕ, ◌+◌, None, Some, true, false, length, sym, ap, ◌∙◌, inr, arith}
+use Rattle.std.proofs.Common.{◌≡◌, ℕ, ◌+◌, None, Some, true, false, length, ap, ◌∙◌, inr, arith}
 use Rattle.vclock.specs.declared.refusal.Refusal.TheVariants.{Crowded}
 use Rattle.version_set.specs.declared.version.Version.{Version}
 use Rattle.version_set.specs.Version.{covered, offer_fault}
-use Rattle.range_journal.specs.declared.journal.Source.TheVariants.{Partner}
 use Rattle.hash_tree.specs.Leaves.{versions_in}
 use Rattle.hash_tree.proofs.OutcomeLaws.{given}
 use Rattle.range_state.specs.declared.state.preparation.Batch.{Batch}
@@ -14,21 +13,21 @@ pub returns-then-covers-clause-answers : goal.returns-then-covers-clause-answers
 returns-then-covers-clause-answers c =
     let a = c.args.batch.now in
     let known : covered c.args.version.now (versions_in c.args.key.now a.leaf.rows) ≡ true = cc (c.covers.ensures, c.if-covers.true, c.search.ensures.found, c.as_slice.ensures) in
-    let b : Batch = record { leaf = a.leaf; entries = a.entries; receipts = a.receipts; known = a.known + 1 } in
-    ((known_next c.args.self.now c.args.seat c.args.leaf c.args.key.now c.args.version.now a b c.requires.batch c.requires.leaf known (λ i. b)).0, tt)
+    let b : Batch = record { leaf = a.leaf; entries = a.entries; known = a.known + 1 } in
+    ((known_next c.args.self.now c.args.seat c.args.source c.args.leaf c.args.key.now c.args.version.now a b c.requires.batch c.requires.leaf known (λ i. b)).0, tt)
 
 pub returns-then-covers-clause-ok : goal.returns-then-covers-clause-ok
 returns-then-covers-clause-ok c =
     let a = c.args.batch.now in
     let known : covered c.args.version.now (versions_in c.args.key.now a.leaf.rows) ≡ true = cc (c.covers.ensures, c.if-covers.true, c.search.ensures.found, c.as_slice.ensures) in
-    let b : Batch = record { leaf = a.leaf; entries = a.entries; receipts = a.receipts; known = a.known + 1 } in
-    (known_next c.args.self.now c.args.seat c.args.leaf c.args.key.now c.args.version.now a b c.requires.batch c.requires.leaf known (λ i. b)).1
+    let b : Batch = record { leaf = a.leaf; entries = a.entries; known = a.known + 1 } in
+    (known_next c.args.self.now c.args.seat c.args.source c.args.leaf c.args.key.now c.args.version.now a b c.requires.batch c.requires.leaf known (λ i. b)).1
 
 pub returns-then-crowds-clause-answers : goal.returns-then-crowds-clause-answers
 returns-then-crowds-clause-answers c =
     let a = c.args.batch.now in
     let full : offer_fault c.args.version.now (versions_in c.args.key.now a.leaf.rows) ≡ Some Crowded = rw (c.search.ensures.found, c.as_slice.ensures, c.if-crowds.true) at c.crowds.ensures in
-    inr (crowded_next c.args.self.now c.args.seat c.args.leaf c.args.key.now c.args.version.now a Crowded c.requires.batch c.requires.leaf full)
+    inr (crowded_next c.args.self.now c.args.seat c.args.source c.args.leaf c.args.key.now c.args.version.now a Crowded c.requires.batch c.requires.leaf full)
 
 pub offer-requires-clause-room : goal.offer-requires-clause-room
 offer-requires-clause-room c =
@@ -39,15 +38,14 @@ pub returns-clause-answers : goal.returns-clause-answers
 returns-clause-answers c =
     let s = c.args.self.now in
     let a = c.args.batch.now in
-    let b : Batch = record { leaf = c.offer.new.self; entries = c.push.new.self; receipts = c.push-2.new.self; known = a.known } in
+    let b : Batch = record { leaf = c.offer.new.self; entries = c.push.new.self; known = a.known } in
     let fresh : covered c.args.version.now (versions_in c.args.key.now a.leaf.rows) ≡ false = cc (c.covers.ensures, c.if-covers.false, c.search.ensures.found, c.as_slice.ensures) in
     let fits : offer_fault c.args.version.now (versions_in c.args.key.now a.leaf.rows) ≡ None = rw (c.search.ensures.found, c.as_slice.ensures, c.if-crowds.false) at c.crowds.ensures in
     let number : c.len.result + c.len-2.result ≡ length s.entries + length a.entries.items = omega (arith, c.len.ensures.count, c.len-2.ensures, ap (λ (t : State). length t.entries) c.self.view_is) in
-    let made : c.in_ok-entry.entry ≡ record { number = length s.entries + length a.entries.items; seat = c.args.seat; source = Partner; key = c.args.key.now; version = c.args.version.now } =
-    c.in_ok-entry.ensures.1 ∙ ap (λ (n : ℕ). record { number = n; seat = c.args.seat; source = Partner; key = c.args.key.now; version = c.args.version.now }) number in
-    let same : c.in_ok-receipt.receipt ≡ c.in_ok-entry.entry = c.in_ok-receipt.ensures.1 ∙ sym c.in_ok-entry.ensures.1 in (
-      (news_next s c.args.seat c.args.leaf c.args.key.now c.args.version.now c.in_ok-row_version.row_version a b c.in_ok-entry.entry c.in_ok-receipt.receipt c.requires.batch c.requires.leaf fresh fits c.in_ok-row_version.ensures.1
-          made same (given _ _ _ _ c.in_ok-offer.ensures).1 c.in_ok-push.ensures.items c.in_ok-push-2.ensures.items (λ i. a.known)).0,
+    let made : c.in_ok-entry.entry ≡ record { number = length s.entries + length a.entries.items; seat = c.args.seat; source = c.args.source; key = c.args.key.now; version = c.args.version.now } =
+    c.in_ok-entry.ensures.1 ∙ ap (λ (n : ℕ). record { number = n; seat = c.args.seat; source = c.args.source; key = c.args.key.now; version = c.args.version.now }) number in (
+      (news_next s c.args.seat c.args.source c.args.leaf c.args.key.now c.args.version.now c.in_ok-row_version.row_version a b c.in_ok-entry.entry c.requires.batch c.requires.leaf fresh fits c.in_ok-row_version.ensures.1
+          made (given _ _ _ _ c.in_ok-offer.ensures).1 c.in_ok-push.ensures.items (λ i. a.known)).0,
       tt,
     )
 
@@ -55,12 +53,11 @@ pub returns-clause-ok : goal.returns-clause-ok
 returns-clause-ok c =
     let s = c.args.self.now in
     let a = c.args.batch.now in
-    let b : Batch = record { leaf = c.offer.new.self; entries = c.push.new.self; receipts = c.push-2.new.self; known = a.known } in
+    let b : Batch = record { leaf = c.offer.new.self; entries = c.push.new.self; known = a.known } in
     let fresh : covered c.args.version.now (versions_in c.args.key.now a.leaf.rows) ≡ false = cc (c.covers.ensures, c.if-covers.false, c.search.ensures.found, c.as_slice.ensures) in
     let fits : offer_fault c.args.version.now (versions_in c.args.key.now a.leaf.rows) ≡ None = rw (c.search.ensures.found, c.as_slice.ensures, c.if-crowds.false) at c.crowds.ensures in
     let number : c.len.result + c.len-2.result ≡ length s.entries + length a.entries.items = omega (arith, c.len.ensures.count, c.len-2.ensures, ap (λ (t : State). length t.entries) c.self.view_is) in
-    let made : c.in_ok-entry.entry ≡ record { number = length s.entries + length a.entries.items; seat = c.args.seat; source = Partner; key = c.args.key.now; version = c.args.version.now } =
-    c.in_ok-entry.ensures.1 ∙ ap (λ (n : ℕ). record { number = n; seat = c.args.seat; source = Partner; key = c.args.key.now; version = c.args.version.now }) number in
-    let same : c.in_ok-receipt.receipt ≡ c.in_ok-entry.entry = c.in_ok-receipt.ensures.1 ∙ sym c.in_ok-entry.ensures.1 in
-    (news_next s c.args.seat c.args.leaf c.args.key.now c.args.version.now c.in_ok-row_version.row_version a b c.in_ok-entry.entry c.in_ok-receipt.receipt c.requires.batch c.requires.leaf fresh fits c.in_ok-row_version.ensures.1
-    made same (given _ _ _ _ c.in_ok-offer.ensures).1 c.in_ok-push.ensures.items c.in_ok-push-2.ensures.items (λ i. a.known)).1
+    let made : c.in_ok-entry.entry ≡ record { number = length s.entries + length a.entries.items; seat = c.args.seat; source = c.args.source; key = c.args.key.now; version = c.args.version.now } =
+    c.in_ok-entry.ensures.1 ∙ ap (λ (n : ℕ). record { number = n; seat = c.args.seat; source = c.args.source; key = c.args.key.now; version = c.args.version.now }) number in
+    (news_next s c.args.seat c.args.source c.args.leaf c.args.key.now c.args.version.now c.in_ok-row_version.row_version a b c.in_ok-entry.entry c.requires.batch c.requires.leaf fresh fits c.in_ok-row_version.ensures.1
+    made (given _ _ _ _ c.in_ok-offer.ensures).1 c.in_ok-push.ensures.items (λ i. a.known)).1
