@@ -1,5 +1,7 @@
 -- By what entries a range grows.
-use Rattle.std.proofs.Common.{◌≡◌, ℕ, ◌<◌, Bool, true, false, cond, Option, Some, None, List, [], ◌∷◌, ◌++◌, refl, sym, ap, subst, ◌∙◌, inl, inr, append-nil}
+use Rattle.std.proofs.Common.{◌≡◌, ℕ, ◌<◌, Bool, true, false, cond, Option, Some, None, List, [], ◌∷◌, ◌++◌, length, drop, refl, sym, ap, subst, ◌∙◌, inl, inr, append-nil, arith}
+use Rattle.std.proofs.Math.Seq.{drop-append_seam}
+use Rattle.std.proofs.lemmas.List.{length-append}
 use Rattle.std.specs.Prelude.{slice_get, Ok, Err}
 use Rattle.std.specs.List.{AllByRecursion}
 use Rattle.vclock.specs.Clock.{Pairs, raised, raise_fault}
@@ -13,14 +15,18 @@ use Rattle.version_set.specs.declared.version.Version.{Version}
 use Rattle.range_journal.specs.Journal.{held}
 use Rattle.range_journal.specs.declared.journal.Entry.{Entry}
 use Rattle.range_journal.specs.declared.journal.Source.{Source}
-use Rattle.range_journal.specs.declared.journal.Source.TheVariants.{Partner}
+use Rattle.range_journal.specs.declared.journal.Source.TheVariants.{Copy, Partner}
+use Rattle.row_bytes.specs.declared.row.Row.{Row}
 use Rattle.sync_session.specs.Walks.{TakenText}
 use Rattle.range_state.specs.declared.«record».Record.{Record}
 use Rattle.range_state.specs.declared.event.Accepted.{Accepted}
 use Rattle.range_state.specs.declared.event.Accepted.TheVariants.{Taken, Known}
 use Rattle.range_state.specs.declared.event.AnswerTaken.{AnswerTaken}
+use Rattle.range_state.specs.declared.state.loading.Loaded.{Loaded}
+use Rattle.range_state.specs.Loads.{apart_fault, load, loaded}
+use Rattle.range_state.proofs.TakenLaws.{Nothing, nothing, taken_grown}
 use Rattle.range_state.specs.State.{State, place_fault, stale_fault, full_fault, put_version, put_entry, entry_of, knows, journaled, accept_step, admit, put, accept}
-use Rattle.range_state.specs.Sessions.{taken_in, offers_of, TakesFor, TakesInner, TakesLeaf, TakesAnswer}
+use Rattle.range_state.specs.Sessions.{accepted_in, accept_fault, offers_of, TakesFor, TakesInner, TakesLeaf, TakesAnswer}
 
 -- each entry came by one of so many seats
 abbrev pub AreSeated : ℕ → List Entry → Type 0
@@ -83,15 +89,15 @@ grown_by_one n s e t all seat is = record {
 
 -- ---- the versions of a leaf
 
-seated_step : (n : ℕ) (s : State) (seat : ℕ) (key : List ℕ) (v : Version) → seat < n → AreSeated n s.entries → AreSeated n (accept_step s seat Partner key v).entries
-seated_step n s seat key v lt all = elim (knows s key v) as (λ b. AreSeated n (cond b s (journaled s (entry_of s seat Partner key v))).entries) [
+seated_step : (n : ℕ) (s : State) (seat : ℕ) (source : Source) (key : List ℕ) (v : Version) → seat < n → AreSeated n s.entries → AreSeated n (accept_step s seat source key v).entries
+seated_step n s seat source key v lt all = elim (knows s key v) as (λ b. AreSeated n (cond b s (journaled s (entry_of s seat source key v))).entries) [
   | true ↦ all
-  | false ↦ all-push (λ (x : Entry). x.seat < n) s.entries (entry_of s seat Partner key v) all lt
+  | false ↦ all-push (λ (x : Entry). x.seat < n) s.entries (entry_of s seat source key v) all lt
 ]
 
-seated_taken : (n : ℕ) (s : State) (seat : ℕ) (offers : List (List ℕ × Version)) → seat < n → AreSeated n s.entries → AreSeated n (taken_in s seat offers).entries
-seated_taken n s seat [] lt all = all
-seated_taken n s seat (o ∷ offers) lt all = seated_taken n (accept_step s seat Partner o.0 o.1) seat offers lt (seated_step n s seat o.0 o.1 lt all)
+seated_accepted : (n : ℕ) (s : State) (seat : ℕ) (source : Source) (offers : List (List ℕ × Version)) → seat < n → AreSeated n s.entries → AreSeated n (accepted_in s seat source offers).entries
+seated_accepted n s seat source [] lt all = all
+seated_accepted n s seat source (o ∷ offers) lt all = seated_accepted n (accept_step s seat source o.0 o.1) seat source offers lt (seated_step n s seat source o.0 o.1 lt all)
 
 by_inner : (n : ℕ) (s : State) (id : ℕ) (r : Record) (t : TakenText) (a : AnswerTaken) (new : State) → AreSeated n s.entries → TakesInner s id r t a new → IsGrownBy n s a.receipts.items new
 by_inner n s id r t a new all took = record {
@@ -102,7 +108,7 @@ by_inner n s id r t a new all took = record {
 by_leaf : (n : ℕ) (s : State) (seat id : ℕ) (r : Record) (t : TakenText) (a : AnswerTaken) (new : State) → seat < n → AreSeated n s.entries → TakesLeaf s seat id r t a new → IsGrownBy n s a.receipts.items new
 by_leaf n s seat id r t a new lt all took = record {
   entries = ap (λ (x : State). x.entries) took.new_is ∙ sym took.receipts;
-  seated = subst (λ (x : State). AreSeated n x.entries) (sym took.new_is) (seated_taken n s seat (offers_of took.rows) lt all);
+  seated = subst (λ (x : State). AreSeated n x.entries) (sym took.new_is) (seated_accepted n s seat Partner (offers_of took.rows) lt all);
 }
 
 pub grown_by_text : (n : ℕ) (s : State) (seat id : ℕ) (t : TakenText) (a : AnswerTaken) (new : State) → seat < n → AreSeated n s.entries → TakesAnswer s seat id t (Ok a) new → IsGrownBy n s a.receipts.items new
@@ -114,3 +120,31 @@ grown_by_text n s seat id t a new lt all = by_record (slice_get s.records id)
       | inl inner ↦ by_inner n s id r t a new all inner
       | inr leaf ↦ by_leaf n s seat id r t a new lt all leaf
     ]
+
+-- ---- the rows of a leaf that are loaded
+
+pub load_gives : (s : State) (seat : ℕ) (rows : List Row) (a : Loaded) (t : State) → load s seat rows ≡ gives a t
+    → (a ≡ loaded s t (offers_of rows)) × (t ≡ accepted_in s seat Copy (offers_of rows))
+load_gives s seat rows a t h =
+    let offers = offers_of rows in
+    let new = accepted_in s seat Copy offers in
+    let g : gives (loaded s new offers) new ≡ gives a t = past (accept_fault s seat Copy offers) _ a t (past (apart_fault s.config rows) _ a t h) in
+    let now : new ≡ t = cc in
+    let counts : loaded s new offers ≡ a = cc in
+    (sym counts ∙ ap (λ (x : State). loaded s x offers) now, sym now)
+
+-- by the new entries, as many as were taken
+pub grown_by_load : (n : ℕ) (s : State) (seat : ℕ) (rows : List Row) (a : Loaded) (t : State) → seat < n → AreSeated n s.entries → load s seat rows ≡ gives a t
+    → IsGrownBy n s (drop (length s.entries) t.entries) t × (a.taken ≡ length (drop (length s.entries) t.entries))
+grown_by_load n s seat rows a t lt all h =
+    let offers = offers_of rows in
+    let both = load_gives s seat rows a t h in
+    let grown = taken_grown Nothing s seat Copy offers (nothing offers) in
+    let entries : t.entries ≡ s.entries ++ grown.more = ap (λ (x : State). x.entries) both.1 ∙ grown.entries in
+    let came : drop (length s.entries) t.entries ≡ grown.more = ap (drop (length s.entries)) entries ∙ drop-append_seam s.entries grown.more in (
+      record {
+        entries = entries ∙ ap (λ (es : List Entry). s.entries ++ es) (sym came);
+        seated = subst (λ (x : State). AreSeated n x.entries) (sym both.1) (seated_accepted n s seat Copy offers lt all);
+      },
+      omega (arith, ap (λ (x : Loaded). x.taken) both.0, ap length entries, ap length came, length-append s.entries grown.more),
+    )

@@ -1,6 +1,7 @@
 pub mod PassLaws
 pub mod GrowthLaws
 pub mod LockLaws
+pub mod LoadLaws
 pub mod ReplayLaws
 pub mod Walk
 pub mod CallerLaws

@@ -10,6 +10,7 @@ ghost use Rattle.range_state.specs.State.{is_sent, GivesJob, ask_fault, install,
 ghost use Rattle.range_state.specs.Sessions.{open_session, cancel_session, unknown_fault};
 ghost use Rattle.range_state.specs.Migrates.{migrate};
 ghost use Rattle.range_state.specs.Syncs.{IsFirstOf};
+ghost use Rattle.caller_pass.specs.Loads.{load_in, load_text_in};
 ghost use Rattle.caller_pass.specs.Passes.{seen_after};
 ghost use Rattle.caller_pass.specs.Locks.{IsLocked, moved, put_in, accept_in, get_in, plainly, TellsAnswer};
 
@@ -21,7 +22,10 @@ use crate::unread::Unread;
 use hash_tree::{Hashed, NodeAt};
 use key_ring::HashedKey;
 use range_journal::Source;
-use range_state::{Accepted, AnswerCounted, RangeConfig, RangeCounts, RangeState, Receipt, Record};
+use range_state::{
+    Accepted, AnswerCounted, LeafRows, Loaded, RangeConfig, RangeCounts, RangeState, Receipt,
+    Record,
+};
 use rehash::Job;
 use snapshot::Snapshot;
 use std::alloc::Global;
@@ -339,6 +343,51 @@ impl<L: Ledger> LockedRange<L> {
         book.count(share, taken.receipts);
         *seen = seen_after(*seen, journal, taken.receipts);
         Ok(taken)
+    }
+
+    /// Loads rows of one leaf from their texts, as `RangeState::load_rows` does for the seat of the pass. Moves the
+    /// receipts into the pass.
+    ///
+    /// Refused as `RangeState::load_rows` is. On error range and pass are unchanged.
+    pub fn load_rows(
+        &mut self,
+        alloc: Global,
+        pass: &mut Pass<L>,
+        text: &[u8],
+    ) -> Result<Loaded, Refusal>
+        ensures { DoesOrNoMemory result (self.old, pass.old) (self.new, pass.new)
+            (load_text_in self.old pass.old text.now) }
+    {
+        let rows = LeafRows::read(alloc, self.config(), text)?;
+        self.load_read(alloc, pass, &rows)
+    }
+
+    /// Loads rows as [`LockedRange::load_rows`] does, that were read before the lock was taken, for this range's
+    /// configuration.
+    pub fn load_read(
+        &mut self,
+        alloc: Global,
+        pass: &mut Pass<L>,
+        rows: &LeafRows,
+    ) -> Result<Loaded, Refusal>
+        requires { rows.now.config ≡ self.old.state.config }
+        ensures { DoesOrNoMemory result (self.old, pass.old) (self.new, pass.new)
+            (load_in self.old pass.old rows.now.rows) }
+    {
+        let LockedRange { state, book } = self;
+        let Pass {
+            seat,
+            seen,
+            receipts,
+            readings: _,
+            by_key: _,
+            share,
+        } = pass;
+        let loaded = state.load_into(alloc, receipts, *seat, rows)?;
+        let journal = state.journal().len();
+        book.count(share, loaded.taken);
+        *seen = seen_after(*seen, journal, loaded.taken);
+        Ok(loaded)
     }
 
     /// Cancels a session that is open, as `RangeState::cancel_session` does. Doesn't allocate. Refused: UnknownSession.

@@ -5,3 +5,5 @@ pub mod TellLaws
 pub mod GainLaws
 pub mod WalkLaws
 pub mod ReplyLaws
+pub mod BroughtLaws
+pub mod LoadLaws

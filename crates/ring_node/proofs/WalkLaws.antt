@@ -25,43 +25,10 @@ use Rattle.ring_node.specs.Links.{IsLostExactly}
 use Rattle.ring_node.specs.Moments.{ChangedAtSomeMoment}
 use Rattle.ring_node.specs.Walks.{IsOpening, IsOpenRefusal, IsTakeRefusal}
 use Rattle.walk_messages.specs.declared.message.Offer.{Offer}
-use Rattle.ring_node.proofs.GainLaws.{still, both, some_same}
+use Rattle.ring_node.proofs.BroughtLaws.{all_brought, seen_up}
+use Rattle.ring_node.proofs.GainLaws.{some_same}
 
 -- ---- the entries that a text brings
-
--- entries that came from a partner by a seat, after those that there were
-record Brought (seat : ℕ) (before now : List Entry) : Type 0 where
-  pub es : List Entry
-  pub grown : now ≡ before ++ es
-  pub each : AllByRecursion (IsGain seat Partner (length now)) es
-
-nothing : (seat : ℕ) (xs ys : List Entry) → ys ≡ xs → Brought seat xs ys
-nothing seat xs ys same = record { es = []; grown = same ∙ sym (append-nil xs); each = tt }
-
-step : (s : State) (seat : ℕ) (key : List ℕ) (v : Version) → Brought seat s.entries (accept_step s seat Partner key v).entries
-step s seat key v = elim (knows s key v) as (λ b. Brought seat s.entries (cond b s (journaled s (entry_of s seat Partner key v))).entries) [
-  | true ↦ nothing seat s.entries s.entries refl
-  | false ↦
-      let e = entry_of s seat Partner key v in
-      record {
-        es = e ∷ [];
-        grown = refl;
-        each = (record { seat_is = refl; source_is = refl; seen_is = omega (arith, length-append s.entries (e ∷ [])) }, tt);
-      }
-]
-
-then : (seat : ℕ) (xs ys zs : List Entry) → Brought seat xs ys → Brought seat ys zs → Brought seat xs zs
-then seat xs ys zs a b = record {
-  es = a.es ++ b.es;
-  grown = b.grown ∙ (ap (λ es. es ++ b.es) a.grown ∙ append_assoc xs a.es b.es);
-  each = both seat Partner (length zs) a.es b.es (still seat seat Partner (length ys) (length zs) a.es refl (omega (arith, ap length b.grown, length-append ys b.es)) a.each) b.each;
-}
-
-all_taken : (s : State) (seat : ℕ) (offers : List (List ℕ × Version)) → Brought seat s.entries (taken_in s seat offers).entries
-all_taken s seat [] = nothing seat s.entries s.entries refl
-all_taken s seat (o ∷ offers) =
-    let t = accept_step s seat Partner o.0 o.1 in
-    then seat s.entries t.entries (taken_in t seat offers).entries (step s seat o.0 o.1) (all_taken t seat offers)
 
 -- the receipts of a text are of such entries
 abbrev AreBrought : ℕ → List Entry → State → Type 0
@@ -72,7 +39,7 @@ by_inner s seat id r t a new took = subst (λ (es : List Entry). AreBrought seat
 
 by_leaf : (s : State) (seat id : ℕ) (r : Record) (t : TakenText) (a : AnswerTaken) (new : State) → TakesLeaf s seat id r t a new → AreBrought seat a.receipts.items new
 by_leaf s seat id r t a new took =
-    let b = all_taken s seat (offers_of took.rows) in
+    let b = all_brought s seat Partner (offers_of took.rows) in
     let same : a.receipts.items ≡ b.es = append_cancel_left s.entries a.receipts.items b.es (took.receipts ∙ b.grown) in
     let now : new.entries ≡ (taken_in s seat (offers_of took.rows)).entries = ap (λ (x : State). x.entries) took.new_is in
     subst (λ (es : List Entry). AreBrought seat es new) (sym same)
@@ -85,17 +52,6 @@ by_text s seat id t a new (Some r) took = elim took.1 [
   | inr leaf ↦ by_leaf s seat id r t a new leaf
 ]
 
--- who was told of them has seen them
-reaches : (seen journal k : ℕ) → 0 < k → journal ≤ seen_after seen journal k
-reaches seen journal k some = elim (nat_eq k 0) as (λ b. nat_eq k 0 ≡ b → journal ≤ cond b seen (max seen journal)) [
-  | true ↦ λ is. absurd (omega (arith, eqb-true k 0 is, some))
-  | false ↦ λ is. omega arith
-] refl
-
-seen_up : (seat seen journal : ℕ) (es : List Entry) → AllByRecursion (IsGain seat Partner journal) es → AllByRecursion (IsGain seat Partner (seen_after seen journal (length es))) es
-seen_up seat seen journal [] all = tt
-seen_up seat seen journal (e ∷ es) all = still seat seat Partner journal (seen_after seen journal (length (e ∷ es))) (e ∷ es) refl (reaches seen journal (length (e ∷ es)) (omega arith)) all
-
 gains_told : (l m : Locked) (p q : PassView) (id : ℕ) (t : TakenText) (a : AnswerCounted) → IsToldOf l p id t a m q → Gains p q Partner a.receipts
 gains_told l m p q id t a is =
     let es = is.taken.receipts.items in
@@ -106,7 +62,7 @@ gains_told l m p q id t a is =
     record {
       gained = es;
       count = sym count;
-      each = subst (λ n. AllByRecursion (IsGain p.seat Partner n) es) (sym seen) (seen_up p.seat p.seen (length m.state.entries) es brought);
+      each = subst (λ n. AllByRecursion (IsGain p.seat Partner n) es) (sym seen) (seen_up p.seat Partner p.seen (length m.state.entries) es brought);
       receipts = ap (λ (x : PassView). x.receipts) pass;
       share = ap (λ (x : PassView). x.share) pass ∙ ap (λ n. p.share + n) (sym count);
       seen = subst (λ n. p.seen ≤ n) (sym seen) (seen_rises p.seen (length m.state.entries) (length es));

@@ -11,14 +11,16 @@ ghost use Rattle.range_state.specs.Migrates.{migrate};
 ghost use Rattle.range_state.specs.State.{is_sent, put_version, dirty_fault, rows_now};
 ghost use Rattle.caller_pass.specs.Closings.{AllThere, IsSettled, IsUnclosed};
 ghost use Rattle.caller_pass.specs.Locks.{IsLocked, moved, put_in, accept_in, get_in, plainly};
+ghost use Rattle.caller_pass.specs.Loads.{load_text_in};
 ghost use Rattle.caller_pass.specs.Renewals.{carried_passes, renewed_in, pass_of, IsUnrenewed};
+ghost use Rattle.ring_node.specs.Gains.{Gains};
 ghost use Rattle.ring_node.specs.Moments.{FoundAtSomeMoment, ChangedAtSomeMoment};
 ghost use Rattle.ring_node.specs.Passes.{IsReceiptOf, HasReceiptOf, IsSent, IsPutRefusal, IsSentRefusal, IsReading, IsBehind};
 
 use caller_pass::{Book, Closed, LockedRange, Pass, Renewed, ReturnedPass, Unclosed, Unread};
 use key_ring::HashedKey;
 use range_journal::Source;
-use range_state::{Accepted, RangeCounts, RangeState, Receipt};
+use range_state::{Accepted, LeafRows, Loaded, RangeConfig, RangeCounts, RangeState, Receipt};
 use snapshot::Snapshot;
 use std::alloc::Global;
 use std::marker::Model;
@@ -55,7 +57,7 @@ impl<L: Ledger> Model for SharedRange<L> {
 /// A range that wasn't closed or renewed, with its passes and the cause, so nothing is lost.
 ///
 /// ```
-/// match self.range.close(alloc, passes) {
+/// match range.close(alloc, passes) {
 ///     Ok(closed) => Ok(closed.state.journal().len()),
 ///     Err(refused) => Err(refused.refusal),
 /// }
@@ -206,6 +208,41 @@ impl<L: Ledger> SharedRange<L> {
         // Called for its clause `valid` alone: the range is right.
         let _valid = range.config();
         range.look(alloc, &key)
+    }
+
+    /// Loads rows of one leaf from their texts, as [`LockedRange::load_rows`] does. The pass gets the receipts. The rows
+    /// are read before the lock is taken. If the range was migrated meanwhile, they are read again under the lock.
+    ///
+    /// Refused as [`LockedRange::load_rows`] is, in order: RowBroken (with the offset in bytes), OtherRange (a key is of
+    /// another range, or of another leaf than the first one), Crowded, JournalFull, NoMemory, which may replace any
+    /// cause. On error range and pass are unchanged.
+    pub fn load_rows<R: Wait>(
+        &self,
+        rt: &R,
+        alloc: Global,
+        pass: &mut Pass<L>,
+        text: &[u8],
+    ) -> Result<Loaded, Refusal>
+        ensures reply { IfOk result (λ loaded. Gains pass.old pass.new Source.Copy loaded.taken) }
+        ensures same { OnErr result (pass.new ≡ pass.old) }
+        ensures moment { ChangedAtSomeMoment (IsLocked L.parts) (λ before after.
+            DoesOrNoMemory result (before, pass.old) (after, pass.new) (load_text_in before pass.old text.now)) }
+    {
+        let config = self.config(rt);
+        let rows = LeafRows::read(alloc, config, text)?;
+        let mut range = self.range.lock(rt);
+        if range.config() == config {
+            range.load_read(alloc, pass, &rows)
+        } else {
+            range.load_rows(alloc, pass, text)
+        }
+    }
+
+    /// Returns the configuration of the range at one moment: its format may change once, by `migrate`.
+    pub fn config<R: Wait>(&self, rt: &R) -> RangeConfig
+        ensures { FoundAtSomeMoment (IsLocked L.parts) (λ locked. result ≡ locked.state.config) }
+    {
+        self.range.lock(rt).config()
     }
 
     /// Returns the numbers of entries, of dirty nodes and of sessions at one moment, and the limit of the journal, as
