@@ -1,10 +1,10 @@
-/* Passes hostile bytes to each call of the C library that reads a message: 16 MiB of them, and mutated messages.
+/* Passes hostile bytes to each call of the C library that reads a message or rows: 16 MiB of them, and mutated ones.
  *
  *     fuzz [MUTATIONS]     (100,000 for each call, if no number is given)
  *
- * Each call must refuse them, except that an ask may be a good one, and leave the replica unchanged, with equal counts
- * and equal rows. Prints the number of bytes and mutations, and ends with status 1 at the first call that does
- * otherwise. */
+ * Each call must refuse them, except that an ask or rows may be good ones, and leave the replica unchanged, with equal
+ * counts and equal rows. An empty replica that refuses rows must stay empty. Prints the number of bytes and mutations,
+ * and ends with status 1 at the first call that does otherwise. */
 #include "antientropy.h"
 
 #include <stdio.h>
@@ -77,11 +77,11 @@ static void compare(struct antientropy *replica, const struct antientropy_counts
     }
 }
 
-/* A replica with 64 open sessions, the maximum, a partner's snapshot, and one message of each kind. */
+/* A replica with 64 open sessions, the maximum; a partner's snapshot; a message of each kind; and the rows of a leaf. */
 static struct antientropy replica, partner;
 static struct antientropy_snapshot offered;
-static uint8_t offer[64], ask[64], answer[ROOM];
-static uint64_t offer_len, ask_len, answer_len;
+static uint8_t offer[64], ask[64], answer[ROOM], rows[ROOM];
+static uint64_t offer_len, ask_len, answer_len, rows_len;
 
 static void prepare(void)
 {
@@ -96,6 +96,8 @@ static void prepare(void)
         must("open", antientropy_open(&replica, 2, offer, offer_len, &session));
     must("ask", antientropy_ask(&replica, session, NUMBER, ask, sizeof ask, &ask_len));
     must("serve", antientropy_serve(&offered, NUMBER, ask, ask_len, answer, sizeof answer, &answer_len));
+    for (uint16_t leaf = 0; rows_len < 60; leaf++)
+        must("rows", antientropy_rows(&offered, leaf, rows, sizeof rows, &rows_len));
 }
 
 /* Passes an offer, which must open no session: it is refused, if only because there are 64. */
@@ -124,6 +126,24 @@ static void bring_answer(const uint8_t *bytes, size_t len)
     uint32_t got = antientropy_take(&replica, 63, NUMBER, bytes, len, &taken);
     if (got != ANTIENTROPY_BAD_MESSAGE && got != ANTIENTROPY_NOT_ASKED && got != ANTIENTROPY_WRONG_DIGEST)
         fail("take", got);
+}
+
+/* Passes rows to an empty replica. They may be good ones: then it is replaced by a new one. */
+static void bring_rows(const uint8_t *bytes, size_t len)
+{
+    static struct antientropy empty;
+    struct antientropy_loaded loaded = {0};
+    struct antientropy_counts counts;
+    if (!empty.held)
+        must("new", antientropy_new(&empty, 2, 0, 0, 1000));
+    uint32_t got = antientropy_load(&empty, bytes, len, &loaded);
+    must("count", antientropy_count(&empty, &counts));
+    if (got != ANTIENTROPY_OK && got != ANTIENTROPY_ROW_BROKEN && got != ANTIENTROPY_OTHER_RANGE)
+        fail("load", got);
+    if (counts.entries != loaded.taken || (got == ANTIENTROPY_ROW_BROKEN && loaded.offset > len))
+        fail("what was loaded", got);
+    if (counts.entries > 0 || bytes == rows)
+        antientropy_free(&empty);
 }
 
 /* Passes bytes to each call that reads a message. */
@@ -194,8 +214,10 @@ int main(int argc, char **argv)
     mutations(count, offer, offer_len, bring_offer);
     mutations(count, ask, ask_len, bring_ask);
     mutations(count, answer, answer_len, bring_answer);
+    mutations(count, rows, rows_len, bring_rows);
+    bring_rows(rows, rows_len);
     compare(&replica, &counts);
-    printf("mutated messages, %u for each call: refused, and nothing changed\n", count);
+    printf("mutated messages and rows, %u for each call: refused, and nothing changed\n", count);
     antientropy_snapshot_free(&offered);
     antientropy_free(&replica);
     antientropy_free(&partner);

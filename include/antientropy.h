@@ -59,7 +59,7 @@ enum {
     ANTIENTROPY_STALE_CONTEXT = 6,    /* a held version has seen all of the new version's clock */
     ANTIENTROPY_CROWDED = 7,          /* the key would have over 64 versions */
     ANTIENTROPY_JOURNAL_FULL = 8,     /* the journal has no room for the entries */
-    ANTIENTROPY_OTHER_RANGE = 9,      /* the key of a put or an accept, or the offer, is of another range */
+    ANTIENTROPY_OTHER_RANGE = 9,      /* a key or an offer is of another range, or the rows are of two leaves */
     ANTIENTROPY_DIRTY = 10,           /* some node of the tree has no digest: rehash */
     ANTIENTROPY_UNKNOWN_SESSION = 12, /* no session has this number */
     ANTIENTROPY_NOT_ASKED = 13,       /* the node isn't outstanding */
@@ -69,6 +69,7 @@ enum {
     ANTIENTROPY_SESSIONS_FULL = 17,   /* 64 sessions are open, or there are 1,024 */
     ANTIENTROPY_GONE = 22,            /* the ask is for another offer */
     ANTIENTROPY_BAD_RING = 27,        /* the numbers of a range are outside the limits */
+    ANTIENTROPY_ROW_BROKEN = 30,      /* the bytes aren't texts of rows */
     ANTIENTROPY_BAD_MESSAGE = 31,     /* not a message, not the expected kind, or a node that isn't in the tree */
     ANTIENTROPY_NO_MEMORY = 32,       /* malloc or realloc failed */
     ANTIENTROPY_SMALL = 33,           /* the room is too small */
@@ -117,6 +118,13 @@ struct antientropy_taken {
     uint64_t accepted; /* number of new versions: they are now entries of the journal */
     uint64_t known;    /* number of known versions */
     uint64_t state;    /* state of the session */
+};
+
+/* The result of a load. */
+struct antientropy_loaded {
+    uint64_t taken;  /* number of new versions: they are now entries of the journal */
+    uint64_t known;  /* number of known versions */
+    uint64_t offset; /* after ROW_BROKEN, which writes it alone: the offset in bytes of the broken field */
 };
 
 /* Counts of a replica. */
@@ -240,6 +248,17 @@ uint32_t antientropy_offer(struct antientropy_snapshot *snapshot, uint32_t numbe
  * BAD_MESSAGE. */
 uint32_t antientropy_serve(struct antientropy_snapshot *snapshot, uint32_t number, const uint8_t *ask, size_t ask_len,
                            uint8_t *out, size_t out_len, uint64_t *need);
+
+/* Returns the texts of the rows of a leaf, 0 to 255, or to 4,095 in format 2: the bytes to save, and to load again.
+ * Refused, in order: EMPTY, BAD_MESSAGE (the tree has no such leaf), NO_MEMORY, SMALL. */
+uint32_t antientropy_rows(struct antientropy_snapshot *snapshot, uint16_t leaf, uint8_t *out, size_t out_len,
+                          uint64_t *need);
+
+/* Loads rows of one leaf, in ascending order of key, as antientropy_rows or antientropy_get returns them: accepts all
+ * of their versions as copies, or none. Refused, in order: EMPTY, ROW_BROKEN, OTHER_RANGE (also for rows of two leaves),
+ * CROWDED, JOURNAL_FULL, NO_MEMORY, which may be returned instead of any but EMPTY. */
+uint32_t antientropy_load(struct antientropy *replica, const uint8_t *rows, size_t rows_len,
+                          struct antientropy_loaded *loaded);
 
 /* ---- sessions */
 

@@ -11,3 +11,4 @@ pub mod Puts
 pub mod Sessions
 pub mod Shows
 pub mod Versions
+pub mod Loads

@@ -5,6 +5,7 @@
 pub mod clocks;
 pub mod counts;
 pub mod lifecycle;
+pub mod loads;
 mod numbers;
 pub mod offers;
 mod output;

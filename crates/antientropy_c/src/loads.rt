@@ -1,0 +1,112 @@
+//! Rows of leaves: written from a snapshot, and loaded into a replica.
+ghost use Rattle.std.specs.Prelude.{◌≡◌, Result};
+ghost use Rattle.std.specs.List.{flat_map};
+ghost use Rattle.vclock.specs.Answer.{Answers};
+ghost use Rattle.vclock.specs.Outcome.{DoesOrNoMemory};
+ghost use Rattle.vclock.specs.declared.refusal.Refusal.{Refusal};
+ghost use Rattle.row_bytes.specs.Rows.{row_text};
+ghost use Rattle.hash_tree.specs.Leaves.{rows_in_leaf};
+ghost use Rattle.snapshot.specs.RowMaps.{leaf_in};
+ghost use Rattle.snapshot.specs.Snapshots.{leaf_fault};
+ghost use Rattle.range_state.specs.Loads.{load_text};
+ghost use Rattle.range_state.specs.declared.state.loading.Loaded.{Loaded};
+ghost use Rattle.antientropy_c.specs.Calls.{Calls};
+ghost use Rattle.antientropy_c.specs.Hands.{HandsOutRight};
+ghost use Rattle.antientropy_c.specs.Loads.{TellsLoaded};
+ghost use Rattle.antientropy_c.specs.Numbers.{Returns};
+ghost use Rattle.antientropy_c.specs.Offers.{ShowsRows};
+
+use crate::numbers::{EMPTY, code};
+use crate::output::hand_out;
+use crate::publication::Publication;
+use crate::replica::Replica;
+use hash_tree::Text;
+use range_state::Loaded;
+use snapshot::Snapshot;
+use std::alloc::Global;
+use vclock::Refusal;
+
+/// The result of a load.
+#[repr(C)]
+#[derive(Clone, Copy, Debug)]
+pub struct LoadReceipt {
+    /// The number of new versions.
+    pub taken: u64,
+    /// The number of versions that were known.
+    pub known: u64,
+    /// The offset in bytes of the broken field, if the rows were refused for it. 0 if they weren't refused.
+    pub offset: u64,
+}
+
+/// Writes the texts of the rows of a leaf of a snapshot, in ascending order of key. Refused, in order: EMPTY, BadMessage
+/// (the tree has no such leaf), NoMemory, SMALL.
+#[unsafe(no_mangle)]
+#[tactic(auto, using(crate::proofs::OfferLaws::empty, crate::proofs::OfferLaws::held, crate::proofs::CallLaws::gives))]
+pub extern "C" fn antientropy_rows(
+    alloc: Global,
+    publication: &mut Publication,
+    leaf: u16,
+    out: &mut [u8],
+    need: &mut u64,
+) -> u32
+    ensures { ShowsRows result publication.old publication.new (λ m. HandsOutRight result (need.old, out.old) (need.new, out.new)
+        (λ r. Answers r (leaf_fault m.format leaf)
+        (λ bytes. bytes ≡ flat_map (row_text m.format) (rows_in_leaf (leaf_in m) leaf m.rows)))) }
+{
+    let Some(rows) = publication.take(alloc) else {
+        return EMPTY;
+    };
+    let told = rows_of(alloc, rows.snapshot(), leaf);
+    publication.hold(rows);
+    hand_out(&told, out, need)
+}
+
+/// Writes the texts of the rows of a leaf of a snapshot.
+fn rows_of(alloc: Global, snapshot: &Snapshot, leaf: u16) -> Result<Text, Refusal>
+    ensures { Answers result (leaf_fault snapshot.now.format leaf)
+        (λ bytes. bytes ≡ flat_map (row_text snapshot.now.format) (rows_in_leaf (leaf_in snapshot.now) leaf snapshot.now.rows)) }
+{
+    Ok(Text::from(snapshot.rows_text(alloc, leaf)?))
+}
+
+/// Loads rows of one leaf from their texts, as [`RangeState::load_rows`](range_state::RangeState::load_rows) does at
+/// seat 0.
+///
+/// Refused, in order: EMPTY; then as `load_rows` is: RowBroken, OtherRange, Crowded, JournalFull, NoMemory. On error the
+/// replica is unchanged. After RowBroken the offset is stored; after any other refusal the result is unchanged.
+#[unsafe(no_mangle)]
+#[tactic(auto, using(crate::proofs::CallLaws::empty, crate::proofs::CallLaws::held, crate::proofs::CallLaws::returns))]
+pub extern "C" fn antientropy_load(
+    alloc: Global,
+    replica: &mut Replica,
+    rows: &[u8],
+    loaded: &mut LoadReceipt,
+) -> u32
+    ensures { Calls result replica.old replica.new (λ s t. Returns result (λ (r : Result Loaded Refusal).
+        DoesOrNoMemory r s t (load_text s 0 rows.now) × TellsLoaded r loaded.old loaded.new)) }
+{
+    let Some(mut state) = replica.take(alloc) else {
+        return EMPTY;
+    };
+    let told = state.load_rows(alloc, 0, rows);
+    replica.hold(state);
+    tell_loaded(&told, loaded);
+    code(&told)
+}
+
+/// Stores the counts of a load, or the offset of a broken field.
+fn tell_loaded(told: &Result<Loaded, Refusal>, receipt: &mut LoadReceipt)
+    ensures { TellsLoaded told.now receipt.old receipt.new }
+{
+    match told {
+        Ok(Loaded { taken, known }) => {
+            *receipt = LoadReceipt {
+                taken: *taken,
+                known: *known,
+                offset: 0,
+            }
+        }
+        Err(Refusal::RowBroken(offset)) => receipt.offset = *offset,
+        Err(_) => {}
+    }
+}
