@@ -1,20 +1,56 @@
-//! The close of a replica.
+//! The close of a replica, and its renewal.
 use crate::replica::Replica;
+use caller_pass::Pass;
+use ring_node::{OfferPool, RenewedRange, SharedHints, SharedRange};
 use std::alloc::Global;
 use std::sync::ledger::Ledger;
 use vclock::Refusal;
+
+/// The seat of the syncs, by which nobody reads.
+const SYNCER: u16 = 0;
 
 impl<L: Ledger> Replica<L> {
     /// Closes a replica whose threads have ended, and returns the number of entries in its journal. Each entry has its
     /// receipt in a pass. Refused: Stranger (a pass is missing), Unsettled (a pass and the journal differ), NoMemory.
     pub(crate) fn close(self, alloc: Global) -> Result<u64, Refusal> {
-        let mut passes = Vec::with_capacity(alloc, 3)?;
-        passes.push_reserved(self.client);
-        passes.push_reserved(self.peer);
-        passes.push_reserved(self.syncer);
-        match self.range.close(alloc, passes) {
+        let (range, passes, _, _) = self.into_parts(alloc)?;
+        match range.close(alloc, passes) {
             Ok(closed) => Ok(closed.state.journal().len()),
             Err(refused) => Err(refused.refusal),
         }
+    }
+
+    /// Closes a replica whose threads have ended, and opens it again with the versions that it holds. Gives back the
+    /// memory of everything else: entries of older versions, sessions, receipts, readings and delivered hints. Refused
+    /// as `close` is, or as JournalFull.
+    pub(crate) fn renew(self, alloc: Global, limit: u64) -> Result<Replica<L>, Refusal> {
+        let (range, passes, hints, offers) = self.into_parts(alloc)?;
+        match range.renew(alloc, passes, SYNCER, limit) {
+            Ok(renewed) => {
+                let RenewedRange { range, passes, .. } = renewed;
+                Replica::of_parts(range, passes, hints, offers)
+            }
+            Err(refused) => Err(refused.refusal),
+        }
+    }
+
+    /// Returns the range, its passes, the hints and the offers.
+    fn into_parts(
+        self,
+        alloc: Global,
+    ) -> Result<(SharedRange<L>, Vec<Pass<L>>, SharedHints, OfferPool), Refusal> {
+        let Replica {
+            range,
+            hints,
+            offers,
+            client,
+            peer,
+            syncer,
+        } = self;
+        let mut passes = Vec::with_capacity(alloc, 3)?;
+        passes.push_reserved(client);
+        passes.push_reserved(peer);
+        passes.push_reserved(syncer);
+        Ok((range, passes, hints, offers))
     }
 }

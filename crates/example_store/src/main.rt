@@ -1,12 +1,13 @@
-//! A store of two nodes, to read and to copy: a program that uses these crates in the order of a day.
+//! A store of two nodes, to read and to copy: a program that uses these crates in the order of its days.
 //! `docs/EMBEDDING.md` goes through it.
 //!
-//! The ring has two ranges, and both nodes keep each of them. Each range has its day, with its ledgers.
+//! The ring has two ranges, and both nodes keep each of them. Each range has its days, with its ledgers.
 #![tactic(auto)]
 
+mod checkpoint;
 mod client;
 mod closing;
-mod day;
+mod days;
 mod fault;
 mod handoff;
 mod links;
@@ -15,7 +16,7 @@ mod rounds;
 mod routes;
 mod slots;
 
-use day::run_day;
+use days::run_days;
 use fault::Fault;
 use key_ring::Ring;
 use std::alloc::Global;
@@ -33,11 +34,11 @@ fn main(rt: HostRuntime) -> ExitCode {
     }
 }
 
-/// Runs the day of each range.
+/// Runs the days of each range.
 fn run<R: Threads + Wait + Print + Sync>(rt: &R, alloc: Global) -> Result<(), Fault> {
     let ring = Ring::new(alloc, 1, &[1, 2], 2)?;
     for range in 0..ring.ranges() {
-        run_day(rt, alloc, &ring, range)?;
+        run_days(rt, alloc, &ring, range)?;
     }
     Ok(())
 }

@@ -35,11 +35,23 @@ impl<L: Ledger> Replica<L> {
         requires node { 1 ≤ node }
     {
         let state = RangeState::new(alloc, config)?;
-        let (book, mut passes) = open_passes::<L>(blank, alloc, SEATS)?;
+        let (book, passes) = open_passes::<L>(blank, alloc, SEATS)?;
+        let range = SharedRange::new(node, state, book);
+        let (hints, offers) = (SharedHints::new(alloc), OfferPool::new(alloc));
+        Replica::of_parts(range, passes, hints, offers)
+    }
+
+    /// Makes a replica of a range and its passes, which are in the order of their seats.
+    pub(crate) fn of_parts(
+        range: SharedRange<L>,
+        mut passes: Vec<Pass<L>>,
+        hints: SharedHints,
+        offers: OfferPool,
+    ) -> Result<Replica<L>, Refusal> {
         Ok(Replica {
-            range: SharedRange::new(node, state, book),
-            hints: SharedHints::new(alloc),
-            offers: OfferPool::new(alloc),
+            range,
+            hints,
+            offers,
             client: passes.pop().ok_or(Refusal::Stranger)?,
             peer: passes.pop().ok_or(Refusal::Stranger)?,
             syncer: passes.pop().ok_or(Refusal::Stranger)?,

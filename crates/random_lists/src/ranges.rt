@@ -6,7 +6,7 @@ ghost use Rattle.range_state.specs.State.{is_sent};
 use hash_tree::{Digest, Hashed, NodeAt};
 use range_journal::{Journal, Source};
 use range_state::{
-    Accepted, AnswerTaken, RangeConfig, RangeState, Receipt, Reconciled, Record, reconcile,
+    Accepted, AnswerTaken, Loaded, RangeConfig, RangeState, Receipt, Reconciled, Record, reconcile,
 };
 use rehash::Job;
 use snapshot::Snapshot;
@@ -140,6 +140,27 @@ impl Range {
     /// Cancels a session.
     pub(crate) fn cancel_session(&mut self, id: u64) -> Result<(), Refusal> {
         self.state.cancel_session(id)
+    }
+
+    /// Returns a new range with a limit that begins with the versions held.
+    pub(crate) fn renewed(&self, alloc: Global, seat: u16, limit: u64) -> Result<Range, Refusal> {
+        let state = self.state.renewed(alloc, seat, limit)?;
+        Ok(Range { state })
+    }
+
+    /// Returns the texts of the rows of a leaf.
+    pub(crate) fn rows_text(&self, alloc: Global, leaf: u16) -> Result<Vec<u8>, Refusal> {
+        self.state.rows_text(alloc, leaf)
+    }
+
+    /// Loads rows of one leaf from their texts.
+    pub(crate) fn load_rows(
+        &mut self,
+        alloc: Global,
+        seat: u16,
+        text: &[u8],
+    ) -> Result<Loaded, Refusal> {
+        self.state.load_rows(alloc, seat, text)
     }
 
     /// Migrates to format 2.

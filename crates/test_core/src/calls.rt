@@ -4,7 +4,7 @@ ghost use Rattle.std.specs.Prelude.{◌≤◌};
 
 use hash_tree::{Digest, Hashed, NodeAt, Text, hash};
 use range_journal::Source;
-use range_state::{Accepted, AnswerTaken, Event, RangeConfig, RangeState, Reply};
+use range_state::{Accepted, AnswerTaken, Event, Loaded, RangeConfig, RangeState, Reply};
 use rehash::{Job, run_job};
 use row_bytes::{Row, RowList, a_held_set_is_a_row, read_row, read_rows, write_row};
 use snapshot::Snapshot;
@@ -178,6 +178,20 @@ pub(crate) fn migrate(alloc: Global, state: &mut RangeState) -> Result<(), Refus
 /// Makes a new range with a limit that begins with the versions that a range holds, at seat 4.
 pub(crate) fn renew(alloc: Global, state: &RangeState, limit: u64) -> Result<RangeState, Refusal> {
     state.renewed(alloc, 4, limit)
+}
+
+/// Loads rows of one leaf from their texts, at seat 4.
+pub(crate) fn load_rows(
+    alloc: Global,
+    state: &mut RangeState,
+    text: &[u8],
+) -> Result<Loaded, Refusal> {
+    state.load_rows(alloc, 4, text)
+}
+
+/// Returns the texts of the rows of a leaf.
+pub(crate) fn rows_text(alloc: Global, state: &RangeState, leaf: u16) -> Result<Vec<u8>, Refusal> {
+    state.rows_text(alloc, leaf)
 }
 
 /// Returns the snapshot of a range whose nodes are all clean.

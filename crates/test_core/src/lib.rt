@@ -19,6 +19,8 @@ mod leaves;
 #[cfg(test)]
 mod limits;
 #[cfg(test)]
+mod loads;
+#[cfg(test)]
 mod messages;
 #[cfg(test)]
 mod migrations;

@@ -2,9 +2,9 @@
 //! no facts about it, and is proved fast.
 
 use admission::Slot;
-use caller_pass::Pass;
+use caller_pass::{LockedRange, Pass};
 use range_journal::Source;
-use range_state::{Accepted, RangeCounts};
+use range_state::{Accepted, Loaded, RangeCounts};
 use ring_node::{Gate, Link, OfferPool, RehashReport, SharedController, SharedRange, SyncReport};
 use snapshot::Snapshot;
 use std::alloc::Global;
@@ -54,6 +54,27 @@ pub fn copy<L: Ledger, R: Wait>(
         Accepted::Taken(receipt) => Ok(Some(receipt.number)),
         Accepted::Known => Ok(None),
     }
+}
+
+/// Loads rows of one leaf from their texts.
+pub fn load_rows<L: Ledger, R: Wait>(
+    rt: &R,
+    alloc: Global,
+    range: &SharedRange<L>,
+    pass: &mut Pass<L>,
+    text: &[u8],
+) -> Result<Loaded, Refusal> {
+    range.load_rows(rt, alloc, pass, text)
+}
+
+/// Loads rows of one leaf into a locked range.
+pub fn load_locked<L: Ledger>(
+    alloc: Global,
+    range: &mut LockedRange<L>,
+    pass: &mut Pass<L>,
+    text: &[u8],
+) -> Result<Loaded, Refusal> {
+    range.load_rows(alloc, pass, text)
 }
 
 /// Returns the held versions of a key.

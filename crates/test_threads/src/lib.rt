@@ -19,6 +19,8 @@ mod interruptions;
 #[cfg(test)]
 mod lies;
 #[cfg(test)]
+mod loads;
+#[cfg(test)]
 mod locked;
 #[cfg(test)]
 mod migrations;

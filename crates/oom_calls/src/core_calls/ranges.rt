@@ -12,6 +12,10 @@ use version_set::Kind;
 /// The keys, of one byte each, whose copies are accepted one after the other.
 pub(crate) const KEYS: &[u8] = b"abcdee";
 
+/// The text of the key `a` with two versions, `y` and `z`.
+pub(crate) const TWO_VERSIONS: &[u8] =
+    b"\x00\x01a\x00\x02\x01\x00\x02\x00\x00\x00\x00\x00\x00\x00\x01\x00\x00\x00\x01y\x01\x00\x03\x00\x00\x00\x00\x00\x00\x00\x01\x00\x00\x00\x01z";
+
 /// Shows the calls on range states.
 pub(crate) fn show_all<R: Print + AllocGlobal>(rt: &R) -> io::Result<()> {
     let alloc = rt.alloc();
@@ -25,6 +29,12 @@ pub(crate) fn show_all<R: Print + AllocGlobal>(rt: &R) -> io::Result<()> {
         rt,
         "RangeState::renewed and Marks::try_clone",
         renewed(alloc),
+    )?;
+    show(rt, "RangeState::load_rows", load_rows(alloc))?;
+    show(
+        rt,
+        "RangeState::rows_text and SharedLeaf::put_rows",
+        rows_text(alloc),
     )?;
     show(rt, "Replay::advance", replay(alloc))
 }
@@ -142,6 +152,20 @@ fn migrate(alloc: Global) -> Result<u64, Refusal> {
 fn renewed(alloc: Global) -> Result<u64, Refusal> {
     let new = range_of(alloc, KEYS)?.renewed(alloc, 0, 100)?;
     Ok(new.journal().len())
+}
+
+/// Loads a row with two versions, and returns the number of those taken.
+fn load_rows(alloc: Global) -> Result<u64, Refusal> {
+    let mut state = range(alloc)?;
+    match state.load_rows(alloc, 0, TWO_VERSIONS) {
+        Ok(loaded) => Ok(loaded.taken),
+        Err(refusal) => Err(unchanged(refusal, is_before(alloc, &state, 2))),
+    }
+}
+
+/// Returns the length of the texts of the rows of the leaf of `a`.
+fn rows_text(alloc: Global) -> Result<u64, Refusal> {
+    Ok(range_before(alloc, 4)?.rows_text(alloc, 12)?.len() as u64)
 }
 
 /// Replays the journal of a range, and returns 1 if the replay then has the versions that the range holds.

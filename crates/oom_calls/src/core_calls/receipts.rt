@@ -1,6 +1,6 @@
 //! Calls of a range that append their receipts to a list.
 use crate::core_calls::range_sessions::{first_text_of, is_after};
-use crate::core_calls::ranges::{KEYS, is_before, is_before_key, put_parts, range};
+use crate::core_calls::ranges::{KEYS, TWO_VERSIONS, is_before, is_before_key, put_parts, range};
 use crate::core_calls::sessions::ASKED;
 use crate::core_calls::snapshots::{Snapshots, clean_range};
 use crate::core_calls::versions::version;
@@ -8,7 +8,7 @@ use crate::lines::{show, unchanged};
 use crate::states::begins;
 use key_ring::HashedKey;
 use range_journal::Source;
-use range_state::{Accepted, RangeState, Receipt};
+use range_state::{Accepted, LeafRows, RangeState, Receipt};
 use snapshot::Snapshot;
 use std::alloc::Global;
 use std::io;
@@ -24,6 +24,7 @@ pub(crate) fn show_all<R: Print + AllocGlobal + Threads + Sync>(
     let alloc = rt.alloc();
     show(rt, "RangeState::put_into", put(alloc))?;
     show(rt, "RangeState::accept_into", accept(alloc))?;
+    show(rt, "LeafRows::read and RangeState::load_into", load(alloc))?;
     show(
         rt,
         "RangeState::take_answer_into",
@@ -76,6 +77,18 @@ fn accept(alloc: Global) -> Result<u64, Refusal> {
             let is_same = has_told(&told, &state);
             return Err(unchanged(refusal, all(is_same, is_before_key(alloc, &state, at))));
         }
+    }
+    Ok(told.len() as u64)
+}
+
+/// Loads a row with two versions, which was read before.
+fn load(alloc: Global) -> Result<u64, Refusal> {
+    let mut state = range(alloc)?;
+    let mut told = Vec::new(alloc);
+    let rows = LeafRows::read(alloc, state.config(), TWO_VERSIONS)?;
+    if let Err(refusal) = state.load_into(alloc, &mut told, 0, &rows) {
+        let is_same = has_told(&told, &state);
+        return Err(unchanged(refusal, all(is_same, is_before(alloc, &state, 2))));
     }
     Ok(told.len() as u64)
 }

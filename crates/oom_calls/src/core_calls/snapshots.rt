@@ -47,7 +47,8 @@ pub(crate) fn show_all<R: Print + AllocGlobal>(rt: &R, both: &Snapshots) -> io::
         rt,
         "Snapshot::hashed_answer",
         hashed_answer(alloc, &both.partner),
-    )
+    )?;
+    show(rt, "Snapshot::rows_text", rows_text(alloc, &both.partner))
 }
 
 impl Snapshots {
@@ -87,4 +88,9 @@ fn answer(alloc: Global, partner: &Snapshot) -> Result<u64, Refusal> {
 fn hashed_answer(alloc: Global, partner: &Snapshot) -> Result<u64, Refusal> {
     let hashed = partner.hashed_answer(alloc, root_ask()?)?;
     Ok(hashed.text().len() as u64)
+}
+
+/// Returns the length of the texts of the rows of the leaf of `a`, in bytes.
+fn rows_text(alloc: Global, partner: &Snapshot) -> Result<u64, Refusal> {
+    Ok(partner.rows_text(alloc, 12)?.len() as u64)
 }

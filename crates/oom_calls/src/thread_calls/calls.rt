@@ -16,6 +16,8 @@ pub(crate) enum LockedCall {
     Get(u8),
     Read(u8),
     Look(u8),
+    /// Loads a row of two versions.
+    Load,
     Migrate,
 }
 
@@ -37,6 +39,8 @@ pub(crate) enum SharedCall {
     Next,
     Deliver,
     Renew,
+    /// Loads a row of two versions.
+    Load,
     Migrate,
 }
 
@@ -48,7 +52,7 @@ pub(crate) enum Call {
 }
 
 /// The calls in order. Each list that grows by its calls grows at least twice.
-pub(crate) const CALLS: [Call; 47] = [
+pub(crate) const CALLS: [Call; 49] = [
     Call::Locked(LockedCall::Hash),
     Call::Locked(LockedCall::Snapshot),
     Call::Locked(LockedCall::OpenSession),
@@ -69,6 +73,7 @@ pub(crate) const CALLS: [Call; 47] = [
     Call::Locked(LockedCall::Get(b'b')),
     Call::Locked(LockedCall::Read(b'c')),
     Call::Locked(LockedCall::Look(b'b')),
+    Call::Locked(LockedCall::Load),
     Call::Locked(LockedCall::Migrate),
     Call::Shared(SharedCall::Put(b'b')),
     Call::Shared(SharedCall::Put(b'c')),
@@ -95,6 +100,7 @@ pub(crate) const CALLS: [Call; 47] = [
     Call::Shared(SharedCall::Keep(b'l')),
     Call::Shared(SharedCall::Keep(b'm')),
     Call::Shared(SharedCall::Renew),
+    Call::Shared(SharedCall::Load),
     Call::Shared(SharedCall::Migrate),
 ];
 
@@ -136,6 +142,7 @@ impl LockedCall {
             LockedCall::Get(_) => "LockedRange::get",
             LockedCall::Read(_) => "LockedRange::read",
             LockedCall::Look(_) => "LockedRange::look",
+            LockedCall::Load => "LockedRange::load_rows and LockedRange::load_read",
             LockedCall::Migrate => "LockedRange::migrate",
         }
     }
@@ -157,6 +164,7 @@ impl SharedCall {
             SharedCall::Next => "SharedHints::next",
             SharedCall::Deliver => "deliver",
             SharedCall::Renew => "SharedHints::renew",
+            SharedCall::Load => "SharedRange::load_rows",
             SharedCall::Migrate => "SharedRange::migrate",
         }
     }

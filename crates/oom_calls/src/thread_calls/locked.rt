@@ -4,7 +4,7 @@ ghost use Rattle.std.specs.Prelude.{◌≡◌};
 use crate::thread_calls::calls::LockedCall;
 use crate::thread_calls::closing::{Closing, close_locked, renew_locked};
 use crate::thread_calls::partner::Partner;
-use crate::thread_calls::versions::{put_parts, version};
+use crate::thread_calls::versions::{TWO_VERSIONS, put_parts, version};
 use caller_pass::{LockedRange, Pass, open_passes};
 use hash_tree::{Text, hash};
 use key_ring::HashedKey;
@@ -74,6 +74,7 @@ impl<L: Ledger> Locked<L> {
             LockedCall::Look(key) => {
                 Ok(self.range.look(alloc, &HashedKey::new(&[key]))?.len() as u64)
             }
+            LockedCall::Load => self.load(alloc),
             LockedCall::Migrate => self.migrate(alloc),
         }
     }
@@ -129,6 +130,13 @@ impl<L: Ledger> Locked<L> {
             Accepted::Taken(receipt) => Ok(receipt.number),
             Accepted::Known => Ok(100),
         }
+    }
+
+    /// Loads a row of two versions, and returns the number of those taken.
+    fn load(&mut self, alloc: Global) -> Result<u64, Refusal> {
+        let pass = self.passes.get_mut(0).ok_or(Refusal::Stranger)?;
+        let loaded = self.range.load_rows(alloc, pass, TWO_VERSIONS)?;
+        Ok(loaded.taken)
     }
 
     /// Indexes a pass, which is never refused, and returns the number of its receipts.

@@ -4,7 +4,7 @@ ghost use Rattle.std.specs.Prelude.{◌≡◌};
 use crate::thread_calls::calls::SharedCall;
 use crate::thread_calls::closing::{Closing, close_shared, renew_shared};
 use crate::thread_calls::partner::Partner;
-use crate::thread_calls::versions::{put_parts, version};
+use crate::thread_calls::versions::{TWO_VERSIONS, put_parts, version};
 use admission::Controller;
 use caller_pass::{Pass, open_passes};
 use hint_store::Hint;
@@ -158,6 +158,7 @@ impl<L: Ledger, C: Ledger> Shared<L, C> {
             SharedCall::Next => self.next(rt, alloc),
             SharedCall::Deliver => self.deliver(rt, alloc),
             SharedCall::Renew => self.renew(rt, alloc),
+            SharedCall::Load => self.load(rt, alloc),
             SharedCall::Migrate => {
                 self.range.migrate(rt, alloc)?;
                 Ok(self.passes.len() as u64)
@@ -195,6 +196,13 @@ impl<L: Ledger, C: Ledger> Shared<L, C> {
             Accepted::Taken(receipt) => Ok(receipt.number),
             Accepted::Known => Ok(100),
         }
+    }
+
+    /// Loads a row of two versions, and returns the number of those taken.
+    fn load<R: Wait>(&mut self, rt: &R, alloc: Global) -> Result<u64, Refusal> {
+        let pass = self.passes.get_mut(0).ok_or(Refusal::Stranger)?;
+        let loaded = self.range.load_rows(rt, alloc, pass, TWO_VERSIONS)?;
+        Ok(loaded.taken)
     }
 
     /// Returns the number of versions of a key.

@@ -3,6 +3,10 @@ use std::alloc::Global;
 use vclock::{Bytes, Clock, Refusal};
 use version_set::{Kind, Version};
 
+/// The text of the key `z` with two versions, `y` and `z`, in format 1.
+pub(crate) const TWO_VERSIONS: &[u8] =
+    b"\x00\x01z\x00\x02\x01\x00\x02\x00\x00\x00\x00\x00\x00\x00\x01\x00\x00\x00\x01y\x01\x00\x03\x00\x00\x00\x00\x00\x00\x00\x01\x00\x00\x00\x01z";
+
 /// Returns a version that one node alone has counted, with the value `x`.
 pub(crate) fn version(alloc: Global, node: u64) -> Result<Version, Refusal> {
     Ok(Version {

@@ -145,6 +145,8 @@ impl Trial {
             15..=17 => self.reconcile(rt, alloc),
             18 if self.random.once_in(2) => self.cancel(),
             19 if self.random.once_in(4) => self.migrate(alloc),
+            20 if self.random.once_in(4) => self.own.renew(alloc),
+            21 if self.random.once_in(4) => self.own.reload(alloc),
             _ => self.answer_some(alloc),
         }
     }

@@ -310,6 +310,67 @@ impl Replica {
         self.compare_all(alloc)
     }
 
+    /// Renews the range with its limit. Clean nodes stay clean.
+    pub(crate) fn renew(&mut self, alloc: Global) -> Result<(), Trouble> {
+        let range = self.range.renewed(alloc, SEAT, self.plain.limit)?;
+        self.go_on_with(alloc, range)
+    }
+
+    /// Loads the rows of each leaf into a new range, of which no node is clean.
+    pub(crate) fn reload(&mut self, alloc: Global) -> Result<(), Trouble> {
+        let (format, limit) = (self.plain.format, self.plain.limit);
+        let mut range = Range::new(alloc, format, u64::from(self.plain.is_half), limit)?;
+        for leaf in 0..width(leaf_depth(format)) {
+            let text = self.range.rows_text(alloc, leaf)?;
+            range.load_rows(alloc, SEAT, &text)?;
+        }
+        self.clean = vec![in alloc; false; 4_369]?;
+        self.go_on_with(alloc, range)
+    }
+
+    /// Goes on with a new range, which begins with the versions held and has no session.
+    fn go_on_with(&mut self, alloc: Global, range: Range) -> Result<(), Trouble> {
+        self.plain.entries = self.held_entries(alloc)?;
+        self.range = range;
+        self.walks = Vec::new(alloc);
+        self.work = None;
+        self.compare_all(alloc)
+    }
+
+    /// Returns an entry for each version held, as a copy: leaf by leaf, and key by key.
+    fn held_entries(&self, alloc: Global) -> Result<Vec<PlainEntry>, Trouble> {
+        let mut homes = Vec::new(alloc);
+        for key in 1..KEYS {
+            homes.push((self.plain.leaf_of(key), key))?;
+        }
+        let mut entries = Vec::new(alloc);
+        for leaf in 0..width(leaf_depth(self.plain.format)) {
+            for (home, key) in &homes {
+                if *home == leaf {
+                    self.add_held(alloc, *key, &mut entries)?;
+                }
+            }
+        }
+        Ok(entries)
+    }
+
+    /// Adds an entry for each version held for a key.
+    fn add_held(
+        &self,
+        alloc: Global,
+        key: u64,
+        entries: &mut Vec<PlainEntry>,
+    ) -> Result<(), Trouble> {
+        for version in self.plain.held(alloc, key)? {
+            entries.push(PlainEntry {
+                key,
+                version,
+                source: Source::Copy,
+            })?;
+        }
+        Ok(())
+    }
+
     /// Returns true if every node is clean.
     pub(crate) fn is_all_clean(&self) -> bool {
         self.dirty_count() == 0

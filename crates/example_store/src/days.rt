@@ -1,6 +1,7 @@
-//! The day of a range, and its output.
+//! The days of a range, and their output.
 ghost use Rattle.std.specs.Prelude.{◌≡◌, ◌^◌, ◌<◌};
 
+use crate::checkpoint::Checkpoint;
 use crate::client::{put, read, update};
 use crate::fault::Fault;
 use crate::handoff::Health;
@@ -35,8 +36,11 @@ const ORDERS: u64 = 100;
 /// The place of a byte of the root's text in its answer: after the 16 bytes of the head and the first byte of the text.
 const BYTE_OF_THE_TEXT: usize = 17;
 
-/// Both replicas of a range, the slots of their background work, and the keys of the day.
-struct Day<A: Ledger, B: Ledger, C: Ledger> {
+/// The number of the node under which a lost replica returns: one that was never used.
+const RETURNED: u16 = 3;
+
+/// Both replicas of a range, the slots of their background work, and the keys.
+struct Store<A: Ledger, B: Ledger, C: Ledger> {
     alloc: Global,
     first: Replica<A>,
     second: Replica<B>,
@@ -45,8 +49,8 @@ struct Day<A: Ledger, B: Ledger, C: Ledger> {
     orders: Vec<String>,
 }
 
-/// Runs the day of a range, from its opening to its close, with new ledgers.
-pub(crate) fn run_day<R: Threads + Wait + Print + Sync>(
+/// Runs the three days of a range, from its opening to its close, with new ledgers.
+pub(crate) fn run_days<R: Threads + Wait + Print + Sync>(
     rt: &R,
     alloc: Global,
     ring: &Ring,
@@ -54,28 +58,32 @@ pub(crate) fn run_day<R: Threads + Wait + Print + Sync>(
 ) -> Result<(), Fault>
     requires { range < 2 ^ ring.now.bits }
 {
-    let (first, second, slots) = (Blank::new(3), Blank::new(3), Blank::new(1_024));
-    run_with::<Brand, Brand, Brand, R>(rt, alloc, ring, range, first, second, slots)
+    let (first, second, third) = (Blank::new(3), Blank::new(3), Blank::new(3));
+    let slots = Blank::new(1_024);
+    run_with::<Brand, Brand, Brand, Brand, R>(rt, alloc, ring, range, first, second, third, slots)
 }
 
-/// Runs the day of a range with these ledgers.
-fn run_with<A, B, C, R>(
+/// Runs the days of a range with these ledgers: of both replicas, of the one that returns, and of the slots.
+fn run_with<A, B, D, C, R>(
     rt: &R,
     alloc: Global,
     ring: &Ring,
     range: u16,
     first: Blank,
     second: Blank,
+    third: Blank,
     slots: Blank,
 ) -> Result<(), Fault>
 where
     A: Ledger + Send + Sync,
     B: Ledger + Send + Sync,
+    D: Ledger + Send + Sync,
     C: Ledger + Send + Sync,
     R: Threads + Wait + Print + Sync,
     requires range { range < 2 ^ ring.now.bits }
     requires first { (first.name ≡ A.name) × (first.parts ≡ A.parts) × (first.parts ≡ 3) }
     requires second { (second.name ≡ B.name) × (second.parts ≡ B.parts) × (second.parts ≡ 3) }
+    requires third { (third.name ≡ D.name) × (third.parts ≡ D.parts) × (third.parts ≡ 3) }
     requires slots { (slots.name ≡ C.name) × (slots.parts ≡ C.parts) × (slots.parts ≡ 1024) }
 {
     let homes = homes_of(ring, range)?;
@@ -88,7 +96,7 @@ where
     let slots = open_slots::<C>(alloc, slots)?;
     let first = Replica::<A>::open(alloc, first, homes.first, config)?;
     let second = Replica::<B>::open(alloc, second, homes.second, config)?;
-    let mut day = Day {
+    let mut store = Store {
         alloc,
         first,
         second,
@@ -96,18 +104,22 @@ where
         carts,
         orders,
     };
-    day.run(rt)?;
-    day.close(rt)
+    store.first_day(rt)?;
+    let mut store = store.renew(rt)?;
+    store.second_day(rt)?;
+    let store = store.renew(rt)?;
+    store.third_day::<D, R>(rt, third)?;
+    store.close(rt)
 }
 
-impl<A, B, C> Day<A, B, C>
+impl<A, B, C> Store<A, B, C>
 where
     A: Ledger + Send + Sync,
     B: Ledger + Send + Sync,
     C: Ledger + Send + Sync,
 {
-    /// Does everything before the close, in order.
-    fn run<R: Threads + Wait + Print + Sync>(&mut self, rt: &R) -> Result<(), Fault> {
+    /// Does everything of the first day, in order.
+    fn first_day<R: Threads + Wait + Print + Sync>(&mut self, rt: &R) -> Result<(), Fault> {
         self.morning(rt)?;
         self.outage(rt)?;
         self.partition(rt)?;
@@ -237,6 +249,11 @@ where
         self.first.range.migrate(rt, self.alloc)?;
         self.second.range.migrate(rt, self.alloc)?;
         println!(rt; "  evening: both replicas migrated to format 2")?;
+        self.end_day(rt)
+    }
+
+    /// Hashes the trees of both replicas, and compares their roots.
+    fn end_day<R: Wait + Print>(&self, rt: &R) -> Result<(), Fault> {
         let root = self.first.end_day(rt, self.alloc, &self.slots)?;
         let other = self.second.end_day(rt, self.alloc, &self.slots)?;
         let roots = if root == other { "equal" } else { "different" };
@@ -244,9 +261,68 @@ where
         Ok(())
     }
 
+    /// Renews both replicas: each goes on with the versions that it holds.
+    fn renew<R: Wait + Print>(self, rt: &R) -> Result<Store<A, B, C>, Fault> {
+        let Store {
+            alloc,
+            first,
+            second,
+            slots,
+            carts,
+            orders,
+        } = self;
+        let before = first.range.counts(rt).entries;
+        let first = first.renew(alloc, JOURNAL_LIMIT)?;
+        let second = second.renew(alloc, JOURNAL_LIMIT)?;
+        let after = first.range.counts(rt).entries;
+        println!(rt; "  night: {before} entries settled and renewed to {after}")?;
+        Ok(Store {
+            alloc,
+            first,
+            second,
+            slots,
+            carts,
+            orders,
+        })
+    }
+
+    /// Puts each cart again.
+    fn second_day<R: Wait + Print>(&mut self, rt: &R) -> Result<(), Fault> {
+        self.put_carts(rt, b"a pen", Health::Up)?;
+        println!(rt; "  second day: {} carts put and copied", self.carts.len())?;
+        self.end_day(rt)
+    }
+
+    /// Saves the rows of the first replica, and loads them as a process does that starts again: into a new replica, at
+    /// a node number that was never used.
+    fn third_day<D: Ledger, R: Wait + Print>(&self, rt: &R, blank: Blank) -> Result<(), Fault>
+        requires ledger { (blank.name ≡ D.name) × (blank.parts ≡ D.parts) × (blank.parts ≡ 3) }
+    {
+        let alloc = self.alloc;
+        let snapshot = self.first.range.snapshot(rt, alloc)?;
+        let saved = Checkpoint::of(alloc, &snapshot)?;
+        let config = self.first.range.config(rt);
+        let mut third = Replica::<D>::open(alloc, blank, RETURNED, config)?;
+        let loaded = saved.load(rt, alloc, &third.range, &mut third.peer)?;
+        let root = third.end_day(rt, alloc, &self.slots)?;
+        let roots = if root == saved.root() {
+            "its root"
+        } else {
+            "another root"
+        };
+        println!(rt; "  third day: {loaded} versions loaded at node {RETURNED}, with {roots}")?;
+        for cart in &self.carts {
+            let (range, pass) = (&third.range, &mut third.client);
+            update(rt, alloc, range, pass, cart.as_bytes(), b"a lamp")?;
+        }
+        let entries = third.close(alloc)?;
+        println!(rt; "  third day: {entries} entries at node {RETURNED}, all receipts settled")?;
+        Ok(())
+    }
+
     /// Closes both replicas.
     fn close<R: Print>(self, rt: &R) -> Result<(), Fault> {
-        let Day {
+        let Store {
             alloc,
             first,
             second,
@@ -261,10 +337,10 @@ where
     }
 }
 
-impl<A: Ledger, B: Ledger, C: Ledger> Drop for Day<A, B, C> {
-    /// Keeps the fields out of the proofs of functions that drop a day.
+impl<A: Ledger, B: Ledger, C: Ledger> Drop for Store<A, B, C> {
+    /// Keeps the fields out of the proofs of functions that drop a store.
     fn drop(self) {
-        let Day {
+        let Store {
             alloc: _alloc,
             first: _first,
             second: _second,
