@@ -1,0 +1,97 @@
+/* Renews a replica, saves it, and loads it again, and prints the times.
+ *
+ *     renewals KEYS FORMAT
+ *
+ * Each key has 10 bytes, and one version with a value of 8 bytes and a clock of one pair. The line has the milliseconds
+ * of the renewal, of writing all rows into memory, and of loading them into a new replica, and the bytes of the rows.
+ * The status is 1 if a call is refused or the rows differ in the end. */
+#include "antientropy.h"
+
+#include <stdio.h>
+#include <stdlib.h>
+#include <string.h>
+#include <time.h>
+
+enum { LIMIT = 1000000, ROOT_AT = 7, ROOT_LEN = 32 };
+
+static void must(const char *call, uint32_t number)
+{
+    if (number != ANTIENTROPY_OK) {
+        fprintf(stderr, "%s: %u\n", call, number);
+        exit(1);
+    }
+}
+
+static double now(void)
+{
+    struct timespec at;
+    clock_gettime(CLOCK_MONOTONIC, &at);
+    return (double)at.tv_sec * 1e3 + (double)at.tv_nsec / 1e6;
+}
+
+static void fill(struct antientropy *replica, unsigned keys)
+{
+    struct antientropy_pair none[1] = {{0, 0}};
+    struct antientropy_receipt receipt;
+    char key[16];
+    for (unsigned n = 0; n < keys; n++) {
+        snprintf(key, sizeof key, "key%07u", n);
+        must("put", antientropy_put(replica, 1, (const uint8_t *)key, 10, none, 0, ANTIENTROPY_LIVE,
+                                    (const uint8_t *)"12345678", 8, &receipt));
+    }
+}
+
+static void root_of(struct antientropy *replica, struct antientropy_snapshot *snapshot, uint8_t *root)
+{
+    uint8_t offer[64];
+    uint64_t len;
+    must("rehash", antientropy_rehash(replica));
+    must("snapshot", antientropy_snapshot(replica, snapshot));
+    must("offer", antientropy_offer(snapshot, 1, offer, sizeof offer, &len));
+    memcpy(root, offer + ROOT_AT, ROOT_LEN);
+}
+
+int main(int argc, char **argv)
+{
+    if (argc != 3)
+        return 2;
+    unsigned keys = (unsigned)strtoul(argv[1], NULL, 10), format = (unsigned)strtoul(argv[2], NULL, 10);
+    unsigned leaves = format == 1 ? 256 : 4096;
+    struct antientropy old = {0}, new = {0}, loaded = {0};
+    struct antientropy_snapshot snapshot = {0}, other = {0};
+    struct antientropy_loaded counts;
+    uint8_t root[ROOT_LEN], root_now[ROOT_LEN];
+    size_t room = (size_t)keys * 64, used = 0;
+    uint8_t *rows = malloc(room);
+    uint64_t *lens = calloc(leaves, sizeof *lens);
+    if (rows == NULL || lens == NULL)
+        return 1;
+    must("new", antientropy_new(&old, format, 0, 0, LIMIT));
+    fill(&old, keys);
+    root_of(&old, &snapshot, root);
+
+    double begin = now();
+    must("renew", antientropy_renew(&old, &new, LIMIT));
+    double renewed = now() - begin;
+
+    begin = now();
+    for (unsigned leaf = 0; leaf < leaves; leaf++) {
+        must("rows", antientropy_rows(&snapshot, (uint16_t)leaf, rows + used, room - used, &lens[leaf]));
+        used += lens[leaf];
+    }
+    double saved = now() - begin;
+
+    must("new", antientropy_new(&loaded, format, 0, 0, LIMIT));
+    size_t at = 0;
+    begin = now();
+    for (unsigned leaf = 0; leaf < leaves; leaf++) {
+        must("load", antientropy_load(&loaded, rows + at, lens[leaf], &counts));
+        at += lens[leaf];
+    }
+    double read = now() - begin;
+    root_of(&loaded, &other, root_now);
+    if (memcmp(root, root_now, ROOT_LEN) != 0)
+        return 1;
+    printf("%.0f %.0f %.0f %zu\n", renewed, saved, read, used);
+    return 0;
+}
