@@ -80,7 +80,17 @@ impl Trial {
         self.own.compare_all(alloc)?;
         self.own.compare_finished(alloc)?;
         self.partner.compare_all(alloc)?;
-        self.partner.compare_finished(alloc)
+        self.partner.compare_finished(alloc)?;
+        self.live_on(alloc)
+    }
+
+    /// Renews the range in one list of eight, and then loads its rows into another range.
+    fn live_on(&mut self, alloc: Global) -> Result<(), Trouble> {
+        if self.events % 8 != 0 {
+            return Ok(());
+        }
+        self.own.renew(alloc)?;
+        self.own.reload(alloc)
     }
 
     /// Gives the partner some versions, some of which the range has too, and keeps its offer.
@@ -145,8 +155,6 @@ impl Trial {
             15..=17 => self.reconcile(rt, alloc),
             18 if self.random.once_in(2) => self.cancel(),
             19 if self.random.once_in(4) => self.migrate(alloc),
-            20 if self.random.once_in(4) => self.own.renew(alloc),
-            21 if self.random.once_in(4) => self.own.reload(alloc),
             _ => self.answer_some(alloc),
         }
     }
