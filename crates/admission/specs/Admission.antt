@@ -45,6 +45,10 @@ allowance_of a = max a.target a.slots
 abbrev pub lend : Admission → Outcome (Unit {0}) Admission
 lend a = if nat_lt a.slots a.target then gives tt (record a { slots = a.slots + 1 }) else refuses NoSlot
 
+-- one slot less, if one is lent
+abbrev pub give_back : Admission → Outcome (Unit {0}) Admission
+give_back a = if nat_lt 0 a.slots then gives tt (record a { slots = a.slots - 1 }) else refuses NoSlot
+
 -- the number of samples kept, and the controller with one more
 abbrev pub sample : Admission → ℕ → ℕ → Outcome ℕ Admission
 sample a moment micros =

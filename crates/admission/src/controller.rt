@@ -1,12 +1,11 @@
 //! A controller of slots.
-ghost use Rattle.std.specs.Prelude.{◌≡◌, ◌+◌, ◌-◌, ◌≤◌, length, IfOk, [], None, Some, MatchOption};
+ghost use Rattle.std.specs.Prelude.{◌≡◌, ◌+◌, ◌-◌, ◌≤◌, IfOk, [], None, MatchOption};
 ghost use Rattle.vclock.specs.Answer.{Answers};
 ghost use Rattle.vclock.specs.Outcome.{DoesAtOnce, ChangesAtOnce};
-ghost use Rattle.admission.specs.Admission.{IsAdmission, fresh_admission, free_of, allowance_of, lend, sample, adjust, window_of, percentile, IsPercentile, target_after};
+ghost use Rattle.admission.specs.Admission.{IsAdmission, fresh_admission, free_of, allowance_of, lend, sample, adjust, window_of, IsPercentile};
 
-use crate::latency::{MOST, Sample, percentile, window};
+use crate::budget::SlotBudget;
 use crate::slot::Slot;
-use circular_buffer::HeapCircularBuffer;
 use std::alloc::Global;
 use std::marker::Model;
 use std::sync::ledger::{Blank, Book, Ledger, Share};
@@ -26,38 +25,20 @@ use vclock::Refusal;
 /// expect_slots(&controller, 8, 0, 8)?;
 /// ```
 pub struct Controller<L: Ledger> {
-    floor: u32,
-    ceiling: u32,
-    threshold: u32,
-    target: u32,
-    lent: u32,
-    latest: u64,
-    samples: HeapCircularBuffer<Sample>,
-    room: Vec<u32>,
+    budget: SlotBudget,
     book: Book<L>,
     spare: Share<L>,
 }
 
 impl<L: Ledger> Model for Controller<L> {
-    ghost use Rattle.std.specs.Prelude.{◌≡◌, ◌+◌, ◌≤◌, length, vec_capacity};
-    ghost use Rattle.admission.specs.Admission.{Admission, pairs};
+    ghost use Rattle.std.specs.Prelude.{◌≡◌, ◌+◌};
+    ghost use Rattle.admission.specs.Admission.{Admission};
 
     ghost Value = { Admission };
 
-    ghost view = { λ c. record {
-      floor = c.floor;
-      ceiling = c.ceiling;
-      threshold = c.threshold;
-      target = c.target;
-      slots = c.book.total;
-      samples = pairs c.samples.items;
-      latest = c.latest;
-    } };
+    ghost view = { λ c. record c.budget { slots = c.book.total } };
 
-    ghost invariant = { λ c. (1 ≤ c.floor) × (c.floor ≤ c.target) × (c.target ≤ c.ceiling) × (c.ceiling ≤ 1024)
-        × (c.lent ≤ c.ceiling)
-        × (c.lent ≡ c.book.total) × (c.spare.amount ≡ 0) × (c.spare.parts + c.lent ≡ 1024)
-        × (c.samples.capacity ≡ 1024) × (length c.samples.items ≤ 1024) × (1024 ≤ vec_capacity c.room) };
+    ghost invariant = { λ c. (c.budget.slots ≡ c.book.total) × (c.spare.amount ≡ 0) × (c.spare.parts + c.budget.slots ≡ 1024) };
 }
 
 impl<L: Ledger> Controller<L> {
@@ -79,19 +60,10 @@ impl<L: Ledger> Controller<L> {
         requires bounds { (1 ≤ floor) × (floor ≤ ceiling) × (ceiling ≤ 1024) }
         ensures { Answers result None (λ c. c ≡ fresh_admission floor ceiling threshold) }
     {
-        let samples = HeapCircularBuffer::with_capacity(alloc, MOST)?;
-        let mut room = Vec::new(alloc);
-        room.reserve(MOST)?;
+        let budget = SlotBudget::new(alloc, floor, ceiling, threshold)?;
         let (book, spare) = blank.open::<L>();
         Ok(Controller {
-            floor,
-            ceiling,
-            threshold,
-            target: ceiling,
-            lent: 0,
-            latest: 0,
-            samples,
-            room,
+            budget,
             book,
             spare,
         })
@@ -102,14 +74,14 @@ impl<L: Ledger> Controller<L> {
         ensures counted { result ≡ self.now.slots }
         ensures valid { IsAdmission self.now }
     {
-        self.lent
+        self.budget.lent()
     }
 
     /// Returns the number of slots that could be lent now: the target without the slots lent.
     pub fn free(&self) -> u32
         ensures { result ≡ free_of self.now }
     {
-        self.target.saturating_sub(self.lent)
+        self.budget.free()
     }
 
     /// Returns the number of slots that are lent or could be: the target, or the slots lent if the target fell below
@@ -118,14 +90,14 @@ impl<L: Ledger> Controller<L> {
         ensures value { result ≡ allowance_of self.now }
         ensures sum { result ≡ self.now.slots + free_of self.now }
     {
-        self.target.max(self.lent)
+        self.budget.allowance()
     }
 
     /// Returns the target: the maximum number of slots lent, from the floor to the ceiling.
     pub fn target(&self) -> u32
         ensures { result ≡ self.now.target }
     {
-        self.target
+        self.budget.target()
     }
 
     /// Lends a slot. The borrower must give it back, since it can't be dropped.
@@ -134,12 +106,9 @@ impl<L: Ledger> Controller<L> {
     pub fn lend(&mut self) -> Result<Slot<L>, Refusal>
         ensures { ChangesAtOnce result self.old self.new (lend self.old) }
     {
-        if self.lent >= self.target {
-            return Err(Refusal::NoSlot);
-        }
+        self.budget.lend()?;
         let mut share = self.spare.split_off(1, 0);
         self.book.add(&mut share, 1);
-        self.lent += 1;
         Ok(Slot { share })
     }
 
@@ -152,7 +121,7 @@ impl<L: Ledger> Controller<L> {
         self.book.audit(&mut share);
         self.book.sub(&mut share, 1);
         self.spare.merge(share);
-        self.lent -= 1;
+        self.budget.give_back().unwrap();
     }
 
     /// Sets the target, from the floor to the ceiling. Slots that are lent stay lent.
@@ -160,7 +129,7 @@ impl<L: Ledger> Controller<L> {
         requires { (self.old.floor ≤ target) × (target ≤ self.old.ceiling) }
         ensures { self.new ≡ record self.old { target = target } }
     {
-        self.target = target;
+        self.budget.set_target(target);
     }
 
     /// Resets a controller with no slot lent to its state after `new`.
@@ -168,25 +137,17 @@ impl<L: Ledger> Controller<L> {
         requires { self.old.slots ≡ 0 }
         ensures { self.new ≡ fresh_admission self.old.floor self.old.ceiling self.old.threshold }
     {
-        self.target = self.ceiling;
-        self.latest = 0;
-        self.samples.clear();
+        self.budget.reset();
     }
 
     /// Records the latency of a reply of the foreground, in microseconds, with its moment in milliseconds, and returns
     /// the number of samples kept: the last 1,024.
     ///
     /// Refused: ClockBack (a later moment was accepted before).
-    #[tactic(auto, using(crate::proofs::Ranks::pairs_keep))]
     pub fn sample(&mut self, moment: u64, micros: u32) -> Result<u32, Refusal>
         ensures { DoesAtOnce result self.old self.new (sample self.old moment micros) }
     {
-        if moment < self.latest {
-            return Err(Refusal::ClockBack);
-        }
-        self.samples.push_back(Sample { moment, micros });
-        self.latest = moment;
-        Ok(self.samples.len() as u32)
+        self.budget.sample(moment, micros)
     }
 
     /// Sets the target by the samples of the last 60,000 milliseconds, and returns their 99th percentile in
@@ -201,27 +162,7 @@ impl<L: Ledger> Controller<L> {
         ensures adjusts { DoesAtOnce result self.old self.new (adjust self.old now) }
         ensures fact { IfOk result (λ found. MatchOption found (window_of now self.old.samples ≡ []) (IsPercentile (window_of now self.old.samples))) }
     {
-        if now < self.latest {
-            return Err(Refusal::ClockBack);
-        }
-        self.latest = now;
-        window(&mut self.room, &self.samples, now);
-        let found = percentile(&mut self.room);
-        if let Some(p) = found {
-            self.follow(p);
-        }
-        Ok(found)
-    }
-
-    /// Sets the target by a percentile.
-    fn follow(&mut self, p: u32)
-        ensures { self.new ≡ record self.old { target = target_after self.old (Some p) } }
-    {
-        if p > self.threshold {
-            self.target = self.floor.max(self.target / 2);
-        } else if p as u64 * 2 <= self.threshold as u64 {
-            self.target = self.ceiling.min(self.target + 1);
-        }
+        self.budget.adjust(now)
     }
 }
 
@@ -229,14 +170,7 @@ impl<L: Ledger> Drop for Controller<L> {
     /// Keeps the fields out of the proofs of callers that drop a controller.
     fn drop(self) {
         let Controller {
-            floor: _floor,
-            ceiling: _ceiling,
-            threshold: _threshold,
-            target: _target,
-            lent: _lent,
-            latest: _latest,
-            samples: _samples,
-            room: _room,
+            budget: _budget,
             book: _book,
             spare: _spare,
         } = self;

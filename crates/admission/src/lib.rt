@@ -1,7 +1,8 @@
 //! Slots for background work, lent while the foreground is fast enough: section 6.5 of the Dynamo paper of 2007. Use it
 //! to admit background work such as syncs by the latency of reads and writes.
 //!
-//! - [`controller`]: lends slots up to a target that follows the latency of the foreground.
+//! - [`budget`]: the numbers of slots that are lent and may be, which follow the latency of the foreground.
+//! - [`controller`]: lends slots within a budget.
 //! - [`slot`]: a slot, which can't be dropped: a program that loses one doesn't compile.
 //!
 //! ```
@@ -12,9 +13,11 @@
 //! ```
 #![tactic(auto)]
 
+pub mod budget;
 pub mod controller;
 mod latency;
 pub mod slot;
 
+pub use budget::SlotBudget;
 pub use controller::Controller;
 pub use slot::Slot;

@@ -1,6 +1,6 @@
 -- Laws of numbered hints.
 use Rattle.std.proofs.Common.{◌≡◌, ℕ, zero, suc, ◌+◌, ◌-◌, ◌<◌, ◌≤◌, ◌^◌, ◌↔◌, Bool, true, false, ◌&&◌, ◌||◌, cond, leb, List, [], ◌∷◌, ◌++◌, length, get_or, set, take, min, Option, Some, None, refl, ap, sym, subst, ◌∙◌, inl, inr, arith, add-zero, length-set, get_or-set_same, Any}
-use Rattle.std.specs.Prelude.{nat_eq, nat_lt, slice_get, find}
+use Rattle.std.specs.Prelude.{nat_eq, nat_lt, slice_get, find, MatchOption}
 use Rattle.std.specs.List.{list_any}
 use Rattle.std.specs.Option.{option_map, option_and_then}
 use Rattle.std.specs.Str.{bytes_eq}
@@ -24,7 +24,7 @@ use Rattle.hint_store.specs.declared.hint.Fate.{Fate}
 use Rattle.hint_store.specs.declared.hint.Fate.TheVariants.{Pending, Taken, Known}
 use Rattle.hint_store.specs.declared.hint.Kept.{Kept}
 use Rattle.hint_store.specs.Waits.{earliest}
-use Rattle.hint_store.specs.Hints.{is_undelivered, is_pending, pending_count, HaveIdsFrom, kept_at, keep_fault, is_due, next_hint, delivers_hint, is_answered, IsAnswered, fate_of, answered, confirm, confirmed, owner_answer, delivery_of}
+use Rattle.hint_store.specs.Hints.{is_undelivered, is_pending, pending_count, HaveIdsFrom, kept_at, keep_fault, is_due, next_hint, delivers_hint, is_answered, IsAnswered, fate_of, answered, confirm, confirmed, closed, owner_answer, delivery_of, delivery_by, waiting_owner, settle, settled_at}
 
 pub get_or_same : {X : Type 0} (xs : List X) (i : ℕ) (d e : X) → i < length xs → get_or xs i d ≡ get_or xs i e
 get_or_same xs i d e h = same_Some (get_or xs i d) (get_or xs i e) (sym (slice_get-get_or xs i d h) ∙ slice_get-get_or xs i e h)
@@ -242,6 +242,77 @@ found_at hints id d a t =
       stands = ap (λ j. get_or hints j found.1) (sym place) ∙ found.3;
       answered = is;
     }
+
+-- the pending hint of a number, of that owner
+pub record IsOpen (hints : List Kept) (id owner : ℕ) : Type 0 where
+  pub kept : Kept
+  pub is : kept_at hints id ≡ Some kept
+  pub pending : kept.fate ≡ Pending
+  pub same_owner : kept.hint.owner ≡ owner
+
+pub open_at : (hints : List Kept) (id owner : ℕ) → MatchOption (kept_at hints id) ⊥ (λ k. (k.fate ≡ Pending) × (k.hint.owner ≡ owner)) → IsOpen hints id owner
+open_at hints id owner h =
+    elim (kept_at hints id) as (λ o. kept_at hints id ≡ o → MatchOption o ⊥ (λ k. (k.fate ≡ Pending) × (k.hint.owner ≡ owner)) → IsOpen hints id owner) [
+      | None ↦ λ e no. absurd no
+      | Some k ↦ λ e is. record { kept = k; is = e; pending = is.0; same_owner = is.1 }
+    ] refl h
+
+-- its delivery: that of a hint to an owner
+abbrev pub delivery_to : ℕ → Hint → Bool → Delivery
+delivery_to owner h known = record { owner = owner; key = h.key; version = h.version; known = known }
+
+pub open_found : (hints : List Kept) (id owner : ℕ) (known : Bool) → HaveIdsFrom 1 hints → (o : IsOpen hints id owner) → IsFound hints id (delivery_to owner o.kept.hint known)
+open_found hints id owner known a o =
+    let there = kept_some hints id o.kept o.is in
+    let number = id_at 1 hints (id - 1) o.kept a there.1 in
+    record {
+      kept = o.kept;
+      over = there.0;
+      inside = there.1;
+      stands = there.2;
+      answered = record {
+        is_pending = o.pending;
+        same_id = ap (λ (x : Kept). x.hint.id) (sym there.2) ∙ number ∙ omega (arith, there.0);
+        same_owner = o.same_owner;
+        same_key = refl;
+        same_version = refl;
+      };
+    }
+
+-- a hint that was found is open
+pub found_open : (hints : List Kept) (id : ℕ) (d : Delivery) → IsFound hints id d → MatchOption (kept_at hints id) ⊥ (λ k. (k.fate ≡ Pending) × (k.hint.owner ≡ d.owner))
+found_open hints id d f =
+    subst (λ o. MatchOption o ⊥ (λ (k : Kept). (k.fate ≡ Pending) × (k.hint.owner ≡ d.owner))) (sym (kept_there hints id f.kept f.over f.inside ∙ ap (λ x. Some x) f.stands)) (f.answered.is_pending, f.answered.same_owner)
+
+-- the owner of the pending hint of a number, if there is one
+pub open_owner : (hints : List Kept) (id owner : ℕ) → option_and_then waiting_owner (kept_at hints id) ≡ Some owner → IsOpen hints id owner
+open_owner hints id owner is =
+    elim (kept_at hints id) as (λ o. kept_at hints id ≡ o → option_and_then waiting_owner o ≡ Some owner → IsOpen hints id owner) [
+      | None ↦ λ e no. absurd (cc)
+      | Some k ↦ λ e is.
+          elim (is_undelivered k.fate) as (λ b. is_undelivered k.fate ≡ b → cond b (Some k.hint.owner) None ≡ Some owner → IsOpen hints id owner) [
+            | true ↦ λ t own. record { kept = k; is = e; pending = open_pending k.fate t; same_owner = same_Some k.hint.owner owner own }
+            | false ↦ λ t no. absurd (cc)
+          ] refl is
+    ] refl is
+
+-- the outcome of a delivery of a hint by its number alone
+pub settle_open : (hints : List Kept) (id owner : ℕ) (known : Bool) → HaveIdsFrom 1 hints → IsOpen hints id owner → settle hints id known ≡ gives tt (closed hints id known)
+settle_open hints id owner known a o =
+    let d : Delivery = delivery_by o.kept.hint known in
+    let f : IsFound hints id d = open_found hints id o.kept.hint.owner known a (record { kept = o.kept; is = o.is; pending = o.pending; same_owner = refl }) in
+    let any : list_any (is_answered id d) hints ≡ true = list_any-from_Any (is_answered id d) hints (id - 1, f.kept, f.inside, f.stands, answered_from id d f.kept f.answered) in
+    ap (settled_at hints id known) o.is ∙ ap (λ b. cond b (gives tt (closed hints id known)) (refuses UnknownHint)) any
+
+pub settle_none : (hints : List Kept) (id : ℕ) (known : Bool) → HaveIdsFrom 1 hints → option_and_then waiting_owner (kept_at hints id) ≡ None → settle hints id known ≡ refuses UnknownHint
+settle_none hints id known a none =
+    elim (kept_at hints id) as (λ o. kept_at hints id ≡ o → option_and_then waiting_owner o ≡ None → settled_at hints id known o ≡ refuses UnknownHint) [
+      | None ↦ λ e no. refl
+      | Some k ↦ λ e no.
+          let shut : is_undelivered k.fate ≡ false = elim (is_undelivered k.fate) as (λ b. cond b (Some k.hint.owner) None ≡ None → b ≡ false) [ true ↦ λ n. cc | false ↦ λ n. refl ] no in
+          ap (λ b. cond b (gives tt (closed hints id known)) (refuses UnknownHint))
+          (awaits_some hints id (delivery_by k.hint known) k a (sym e) ∙ ap (λ b. b && delivers_hint (delivery_by k.hint known) k.hint) shut)
+    ] refl none
 
 answered_other : (id : ℕ) (d : Delivery) (k : Kept) → (k.hint.id ≡ id → ⊥) → answered id d k ≡ k
 answered_other id d k other = ap (λ b. cond b (record { hint = k.hint; fate = fate_of d }) k) (ne_eqb k.hint.id id other)

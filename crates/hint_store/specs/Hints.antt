@@ -87,17 +87,28 @@ pub record IsAnswered (id : ℕ) (d : Delivery) (k : Kept) : Type 0 where
   pub same_key : k.hint.key ≡ d.key
   pub same_version : k.hint.version ≡ d.version
 
+-- the fate of a hint that was delivered, by whether its owner knew the version
+abbrev pub fate_if : Bool → Fate
+fate_if known = if known then Known else Taken
+
 -- the fate of a hint after a delivery
 abbrev pub fate_of : Delivery → Fate
-fate_of d = if d.known then Known else Taken
+fate_of d = fate_if d.known
 
 -- the hint with that number with its fate, and every other hint unchanged
+abbrev pub closed_at : ℕ → Bool → Kept → Kept
+closed_at id known k = if nat_eq k.hint.id id then record k { fate = fate_if known } else k
+
+-- the hints after the wait of one of them ended
+abbrev pub closed : List Kept → ℕ → Bool → List Kept
+closed hints id known = map (closed_at id known) hints
+
 abbrev pub answered : ℕ → Delivery → Kept → Kept
-answered id d k = if nat_eq k.hint.id id then record k { fate = fate_of d } else k
+answered id d k = closed_at id d.known k
 
 -- the hints after a delivery of one of them
 abbrev pub confirmed : List Kept → ℕ → Delivery → List Kept
-confirmed hints id d = map (answered id d) hints
+confirmed hints id d = closed hints id d.known
 
 -- the hints after a delivery of a pending one
 abbrev pub confirm : List Kept → ℕ → Delivery → Outcome (Unit {0}) (List Kept)
@@ -110,3 +121,15 @@ delivery_by h known = record { owner = h.owner; key = h.key; version = h.version
 -- the delivery of a hint, if it was delivered
 abbrev pub delivery_of : Kept → Option Delivery
 delivery_of k = option_map (λ known. delivery_by k.hint known) (owner_answer k.fate)
+
+-- the owner of a hint, if it is pending
+abbrev pub waiting_owner : Kept → Option ℕ
+waiting_owner k = if is_pending k then Some k.hint.owner else None
+
+-- the delivery of a pending hint to its owner, who knew its version or not
+abbrev pub settled_at : List Kept → ℕ → Bool → Option Kept → Outcome (Unit {0}) (List Kept)
+settled_at hints id known None = refuses UnknownHint
+settled_at hints id known (Some k) = confirm hints id (delivery_by k.hint known)
+
+abbrev pub settle : List Kept → ℕ → Bool → Outcome (Unit {0}) (List Kept)
+settle hints id known = settled_at hints id known (kept_at hints id)

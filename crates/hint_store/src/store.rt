@@ -1,11 +1,12 @@
 //! The hints of a carrier.
-ghost use Rattle.std.specs.Prelude.{◌≡◌, ◌+◌, ◌≤◌, ◌↔◌, [], ◌∷◌, length, slice_get, None, Some, true, false, Any, AllPairs, OnOk, IsOk, if◌then◌else◌};
+ghost use Rattle.std.specs.Prelude.{◌≡◌, ◌+◌, ◌≤◌, ◌↔◌, [], ◌∷◌, length, slice_get, None, Some, true, false, Any, AllPairs, MatchOption, OnOk, IsOk, if◌then◌else◌};
+ghost use Rattle.hint_store.specs.declared.hint.Fate.TheVariants.{Pending};
 ghost use Rattle.std.specs.Option.{option_copied, option_map, option_and_then};
 ghost use Rattle.std.specs.List.{list_any};
 ghost use Rattle.std.specs.List.Sorted.{IsPartitionPoint};
 ghost use Rattle.vclock.specs.Answer.{Answers};
 ghost use Rattle.vclock.specs.Outcome.{Does, DoesAtOnce};
-ghost use Rattle.hint_store.specs.Hints.{AreHints, pending_count, kept_at, keep_fault, keep, next_hint, is_undelivered, delivers_hint, is_answered, IsAnswered, confirm, fate_of, delivery_of};
+ghost use Rattle.hint_store.specs.Hints.{AreHints, pending_count, kept_at, keep_fault, keep, next_hint, is_undelivered, delivers_hint, is_answered, IsAnswered, confirm, closed, fate_if, delivery_of, waiting_owner, settle};
 ghost use Rattle.hint_store.specs.Renewals.{renewed};
 ghost use Rattle.hint_store.specs.Counts.{counts_of};
 ghost use Rattle.hint_store.specs.Waits.{IsBefore, id_of, is_up_to, earliest};
@@ -133,6 +134,15 @@ impl HintStore {
         Ok(id)
     }
 
+    /// Returns the id of the pending hint of an owner with the least id over `after`. Does a binary search. Doesn't
+    /// allocate.
+    pub fn next_id(&self, owner: u16, after: u32) -> Option<u32>
+        ensures { result ≡ option_map (λ h. h.id) (next_hint (owner ∷ []) after self.now) }
+    {
+        let place = place_after(&self.pending, owner, after);
+        id_at(&self.pending, place, owner)
+    }
+
     /// Returns a copy of the pending hint of an owner with the least id over `after`. Does a binary search over the
     /// pending hints.
     ///
@@ -142,7 +152,7 @@ impl HintStore {
     {
         // Called only for its clause `valid`: the ids count from 1.
         let _valid = self.pending();
-        self.copy_of(alloc, self.first_of(owner, after))
+        self.copy_of(alloc, self.next_id(owner, after))
     }
 
     /// Returns a copy of the pending hint with the least id over `after` whose owner is one of `owners`. Does a binary
@@ -161,7 +171,7 @@ impl HintStore {
         let _valid = self.pending();
         let mut least = None;
         for owner in owners {
-            least = lesser(least, self.first_of(*owner, after));
+            least = lesser(least, self.next_id(*owner, after));
         }
         self.copy_of(alloc, least)
     }
@@ -175,13 +185,26 @@ impl HintStore {
         ensures fact { IsOk result ↔ Any (IsAnswered id delivery) self.old }
         ensures kept { OnOk result (option_and_then delivery_of (kept_at self.new id) ≡ Some delivery) }
     {
+        // Called only for its clause `valid`: the ids count from 1.
+        let _valid = self.pending();
         if !self.awaits(id, &delivery) {
             return Err(Refusal::UnknownHint);
         }
-        let last = id - 1;
-        let place = place_after(&self.pending, delivery.owner, last);
-        self.pending.remove(place);
-        self.hints[last as usize].fate = fate_of(&delivery);
+        self.close(id, delivery.owner, delivery.known);
+        Ok(())
+    }
+
+    /// Records that a pending hint was delivered to its owner, who knew its version or took it, as `confirm` does with
+    /// the owner, the key and the version that the hint has. Doesn't allocate.
+    ///
+    /// Refused: UnknownHint (no pending hint has this id).
+    pub fn settle(&mut self, id: u32, known: bool) -> Result<(), Refusal>
+        ensures { DoesAtOnce result self.old self.new (settle self.old id known) }
+    {
+        // Called only for its clause `valid`: the ids count from 1.
+        let _valid = self.pending();
+        let owner = self.waiting_owner(id).ok_or(Refusal::UnknownHint)?;
+        self.close(id, owner, known);
         Ok(())
     }
 
@@ -221,12 +244,27 @@ impl HintStore {
         }
     }
 
-    /// Returns the least id over `after` of a pending hint of this owner.
-    fn first_of(&self, owner: u16, after: u32) -> Option<u32>
-        ensures { result ≡ option_map (λ h. h.id) (next_hint (owner ∷ []) after self.now) }
+    /// Ends the wait of the pending hint with an id.
+    fn close(&mut self, id: u32, owner: u16, known: bool)
+        requires { MatchOption (kept_at self.old id) ⊥ (λ k. (k.fate ≡ Pending) × (k.hint.owner ≡ owner)) }
+        ensures { self.new ≡ closed self.old id known }
     {
-        let place = place_after(&self.pending, owner, after);
-        id_at(&self.pending, place, owner)
+        let last = id - 1;
+        let place = place_after(&self.pending, owner, last);
+        self.pending.remove(place);
+        self.hints[last as usize].fate = fate_of(known);
+    }
+
+    /// Returns the owner of the pending hint with an id, if there is one.
+    fn waiting_owner(&self, id: u32) -> Option<u16>
+        ensures { result ≡ option_and_then waiting_owner (kept_at self.now id) }
+    {
+        let kept = self.get(id)?;
+        if is_open(kept.fate) {
+            Some(kept.hint.owner)
+        } else {
+            None
+        }
     }
 
     /// Returns a copy of the hint with an id, if there is one. Refused: NoMemory.
@@ -303,14 +341,10 @@ fn is_open(fate: Fate) -> bool
 }
 
 /// Returns the fate of a hint after a delivery.
-fn fate_of(delivery: &Delivery) -> Fate
-    ensures { result ≡ fate_of delivery.now }
+fn fate_of(known: bool) -> Fate
+    ensures { result ≡ fate_if known }
 {
-    if delivery.known {
-        Fate::Known
-    } else {
-        Fate::Taken
-    }
+    if known { Fate::Known } else { Fate::Taken }
 }
 
 /// Returns true if a delivery has the owner, the key and the version of a hint.

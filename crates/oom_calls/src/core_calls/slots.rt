@@ -2,7 +2,7 @@
 ghost use Rattle.std.specs.Prelude.{◌≡◌};
 
 use crate::lines::show;
-use admission::Controller;
+use admission::{Controller, SlotBudget};
 use std::alloc::Global;
 use std::io;
 use std::marker::Brand;
@@ -11,7 +11,14 @@ use vclock::Refusal;
 
 /// Shows the calls on slots.
 pub(crate) fn show_all<R: Print + AllocGlobal>(rt: &R) -> io::Result<()> {
-    show(rt, "Controller::new", controller(rt.alloc()))
+    show(rt, "Controller::new", controller(rt.alloc()))?;
+    show(rt, "SlotBudget::new", budget(rt.alloc()))
+}
+
+/// Returns the number of slots that a new budget can lend.
+fn budget(alloc: Global) -> Result<u64, Refusal> {
+    let budget = SlotBudget::new(alloc, 1, 8, 50_000)?;
+    Ok(u64::from(budget.free()))
 }
 
 fn controller(alloc: Global) -> Result<u64, Refusal> {

@@ -7,5 +7,5 @@ use Rattle.hint_store.proofs.store.HintStore.next.Goals as goal
 pub returns : goal.returns
 returns c =
     subst (λ (h : Option Hint). Answers c.copy_of.result None (λ found. found ≡ h))
-    (next_found (c.args.owner ∷ []) c.args.after c.args.self.now c.first_of.result c.pending-valid.ensures.valid.numbered c.first_of.ensures)
+    (next_found (c.args.owner ∷ []) c.args.after c.args.self.now c.next_id.result c.pending-valid.ensures.valid.numbered c.next_id.ensures)
     c.copy_of.ensures

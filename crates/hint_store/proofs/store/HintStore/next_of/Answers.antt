@@ -14,7 +14,7 @@ loop-owner-init c = no_owners c.args.after c.args.self.now
 pub loop-owner-preserved : goal.loop-owner-preserved
 loop-owner-preserved c =
     let step = next_more c.args.owners.now c.loop-owner.owner-index 0 c.args.after c.args.self.now c.pending-valid.ensures.valid.numbered c.loop-owner-test.true in
-    c.lesser-least.ensures ∙ (ap (λ a. earliest a c.first_of.result) c.loop-owner.invariant ∙ (ap (earliest _) c.first_of.ensures ∙ sym step))
+    c.lesser-least.ensures ∙ (ap (λ a. earliest a c.next_id.result) c.loop-owner.invariant ∙ (ap (earliest _) c.next_id.ensures ∙ sym step))
 
 pub returns : goal.returns
 returns c =

@@ -7,7 +7,7 @@ use Rattle.hint_store.specs.Hints.{is_due}
 use Rattle.hint_store.specs.Waits.{id_of, is_up_to}
 use Rattle.hint_store.proofs.HintLaws.{ids}
 use Rattle.hint_store.proofs.WaitLaws.{first_due}
-use Rattle.hint_store.proofs.store.HintStore.first_of.Goals as goal
+use Rattle.hint_store.proofs.store.HintStore.next_id.Goals as goal
 
 pub returns : goal.returns
 returns c =
