@@ -7,11 +7,11 @@
 #include <stdlib.h>
 #include <string.h>
 
-/* A session takes each of the 4,369 nodes of a tree of format 2 at most once. Bad answers are counted apart: more than a few
- * mean that the link or the partner is at fault. A value has at most 65,536 bytes. */
-enum { ROOM = 1 << 16, OFFER = 7, MOST_ASKS = 10000, MOST_BAD = 8 };
+/* A session takes each of the 4,369 nodes of a tree of format 2 at most once. Bad answers are counted apart: more than
+ * a few mean that the link or the partner is at fault. */
+enum { OFFER = 7, MOST_ASKS = 10000, MOST_BAD = 8 };
 
-static uint8_t offer[64], ask[64], text[ROOM];
+static uint8_t offer[ANTIENTROPY_OFFER_LEN], ask[ANTIENTROPY_ASK_LEN], text[ANTIENTROPY_VALUE_MAX_2];
 
 /* The room of an answer, which grows: the answer of a leaf has no fixed limit. */
 static uint8_t *answer;
@@ -42,8 +42,8 @@ static void put(struct antientropy *replica, uint16_t node, const char *key, con
                 const struct antientropy_pair *context, size_t context_len)
 {
     struct antientropy_receipt receipt;
-    uint32_t got = antientropy_put(replica, node, (const uint8_t *)key, strlen(key), context, context_len, ANTIENTROPY_LIVE,
-                                   (const uint8_t *)value, strlen(value), &receipt);
+    uint32_t got = antientropy_put(replica, node, (const uint8_t *)key, strlen(key), context, context_len,
+                                   ANTIENTROPY_LIVE, (const uint8_t *)value, strlen(value), &receipt);
     want("put", got, ANTIENTROPY_OK);
 }
 
@@ -65,17 +65,24 @@ static uint64_t offer_now(struct antientropy *replica, struct antientropy_snapsh
     return len;
 }
 
+/* Returns the root of a replica's rows now. */
+static void root_of(struct antientropy *replica, uint8_t *root)
+{
+    struct antientropy_snapshot snapshot = {0};
+    uint64_t len;
+    want("rehash", antientropy_rehash(replica), ANTIENTROPY_OK);
+    want("snapshot", antientropy_snapshot(replica, &snapshot), ANTIENTROPY_OK);
+    want("root", antientropy_root(&snapshot, root, ANTIENTROPY_ROOT_LEN, &len), ANTIENTROPY_OK);
+    antientropy_snapshot_free(&snapshot);
+}
+
 /* Returns true if two replicas have equal roots. */
 static bool equal_roots(struct antientropy *a, struct antientropy *b)
 {
-    struct antientropy_snapshot of_a = {0}, of_b = {0};
-    uint8_t first[64];
-    uint64_t len = offer_now(a, &of_a, OFFER);
-    memcpy(first, offer, len);
-    offer_now(b, &of_b, OFFER);
-    antientropy_snapshot_free(&of_a);
-    antientropy_snapshot_free(&of_b);
-    return memcmp(first, offer, len) == 0;
+    uint8_t first[ANTIENTROPY_ROOT_LEN], second[ANTIENTROPY_ROOT_LEN];
+    root_of(a, first);
+    root_of(b, second);
+    return memcmp(first, second, sizeof first) == 0;
 }
 
 /* Returns whether an answer was refused without harm: the next ask is for the same node. */
@@ -84,7 +91,8 @@ static bool is_bad_answer(uint32_t got)
     return got == ANTIENTROPY_BAD_MESSAGE || got == ANTIENTROPY_NOT_ASKED || got == ANTIENTROPY_WRONG_DIGEST;
 }
 
-/* Answers the ask from a snapshot, and returns the number of bytes. If they don't fit, it makes room and serves again. */
+/* Answers the ask from a snapshot, and returns the number of bytes. If they don't fit, it makes room and serves
+ * again. */
 static uint64_t serve(struct antientropy_snapshot *offered, uint64_t ask_len)
 {
     uint64_t len;
@@ -97,32 +105,36 @@ static uint64_t serve(struct antientropy_snapshot *offered, uint64_t ask_len)
     return len;
 }
 
-/* Syncs a replica from a partner, and prints the numbers of asks and of new versions. The second answer is forged, and is
- * refused. */
+/* Syncs a replica from a partner, and prints the numbers of asks and of new versions. The second answer is forged, and
+ * is refused. A leaf with a crowded key is left, and the nodes after it are asked. */
 static void sync(struct antientropy *replica, struct antientropy *partner)
 {
     struct antientropy_snapshot offered = {0};
+    struct antientropy_offer_parts parts;
     struct antientropy_taken taken;
     uint64_t len = offer_now(partner, &offered, OFFER), session, state, accepted = 0;
-    uint32_t got;
-    unsigned asks, bad = 0;
+    unsigned asks, bad = 0, crowded = 0;
+    want("read_offer", antientropy_read_offer(offer, len, &parts), ANTIENTROPY_OK);
+    uint32_t got, number = (uint32_t)parts.number;
     want("rehash", antientropy_rehash(replica), ANTIENTROPY_OK);
     want("open", antientropy_open(replica, 2, offer, len, &session), ANTIENTROPY_OK);
     for (asks = 0; asks < MOST_ASKS && bad < MOST_BAD; asks++) {
-        want("ask", antientropy_ask(replica, session, OFFER, ask, sizeof ask, &len), ANTIENTROPY_OK);
+        want("ask", antientropy_ask_at(replica, session, crowded, number, ask, sizeof ask, &len), ANTIENTROPY_OK);
         if (len == 0)
             break;
         len = serve(&offered, len);
         if (asks == 1)
             answer[len - 1] ^= 1;
-        got = antientropy_take(replica, session, OFFER, answer, len, &taken);
+        got = antientropy_take(replica, session, number, answer, len, &taken);
         if (got == ANTIENTROPY_OK) {
             accepted += taken.accepted;
+        } else if (got == ANTIENTROPY_CROWDED) {
+            crowded++;
         } else if (is_bad_answer(got)) {
             printf("a forged answer is refused\n");
             bad++;
         } else {
-            break; /* CROWDED or JOURNAL_FULL, say: the next ask would be for this node again */
+            break; /* JOURNAL_FULL or NO_MEMORY */
         }
     }
     /* A session that has ended is unchanged. */
@@ -133,23 +145,57 @@ static void sync(struct antientropy *replica, struct antientropy *partner)
            state == ANTIENTROPY_FINISHED ? "finished" : "not finished");
 }
 
+/* Prints the entries of a replica's journal from a number on: what calls since then have brought. */
+static void follow(struct antientropy *replica, uint64_t from)
+{
+    static const char *const sources[] = {"a put", "a copy", "a hint", "a partner"};
+    struct antientropy_counts counts;
+    uint8_t key[ANTIENTROPY_KEY_MAX], kind;
+    uint64_t key_len, len, source;
+    want("count", antientropy_count(replica, &counts), ANTIENTROPY_OK);
+    for (uint64_t n = from; n < counts.entries; n++) {
+        want("entry_key", antientropy_entry_key(replica, n, key, sizeof key, &key_len), ANTIENTROPY_OK);
+        want("entry_value", antientropy_entry_value(replica, n, &kind, text, sizeof text, &len), ANTIENTROPY_OK);
+        want("entry_source", antientropy_entry_source(replica, n, &source), ANTIENTROPY_OK);
+        printf("entry %llu: %.*s = %.*s, of %s\n", (unsigned long long)n, (int)key_len, (const char *)key, (int)len,
+               (const char *)text, sources[source]);
+    }
+}
+
+/* Prints the keys of a replica, leaf by leaf. */
+static void list(struct antientropy *replica)
+{
+    uint8_t key[ANTIENTROPY_KEY_MAX];
+    printf("keys:");
+    for (uint16_t leaf = 0; leaf < ANTIENTROPY_LEAVES_2; leaf++) {
+        uint64_t len = 0;
+        while (antientropy_key_after(replica, leaf, key, len, text, sizeof text, &len) == ANTIENTROPY_OK) {
+            memcpy(key, text, len);
+            printf(" %.*s", (int)len, (const char *)key);
+        }
+    }
+    printf("\n");
+}
+
 /* Reads the versions of a key, and puts one value in place of all of them. */
 static void merge(struct antientropy *replica, uint16_t node, const char *key, const char *value)
 {
-    struct antientropy_pair context[32], clock[32], merged[32];
-    uint64_t len, seen = 0;
-    uint8_t kind;
-    for (uint64_t n = 0; n < versions(replica, key); n++) {
-        want("value", antientropy_value(replica, (const uint8_t *)key, strlen(key), n, &kind, text, sizeof text, &len),
-             ANTIENTROPY_OK);
-        printf("%s: %.*s\n", key, (int)len, (const char *)text);
-        want("clock", antientropy_clock(replica, (const uint8_t *)key, strlen(key), n, clock, 32, &len), ANTIENTROPY_OK);
-        want("merge", antientropy_merge(context, seen, clock, len, merged, 32, &len), ANTIENTROPY_OK);
+    struct antientropy_pair context[ANTIENTROPY_CLOCK_MAX], clock[ANTIENTROPY_CLOCK_MAX], merged[ANTIENTROPY_CLOCK_MAX];
+    struct antientropy_reading reading = {.versions = 1};
+    const uint8_t *bytes = (const uint8_t *)key;
+    size_t len = strlen(key);
+    uint64_t seen = 0;
+    for (uint64_t n = 0; n < reading.versions; n++) {
+        uint32_t got = antientropy_read(replica, bytes, len, n, &reading, clock, ANTIENTROPY_CLOCK_MAX, text,
+                                        sizeof text);
+        want("read", got, ANTIENTROPY_OK);
+        printf("%s: %.*s\n", key, (int)reading.bytes, (const char *)text);
+        got = antientropy_merge(context, seen, clock, reading.pairs, merged, ANTIENTROPY_CLOCK_MAX, &seen);
+        want("merge", got, ANTIENTROPY_OK);
         memcpy(context, merged, sizeof context);
-        seen = len;
     }
     put(replica, node, key, value, context, seen);
-    want("value", antientropy_value(replica, (const uint8_t *)key, strlen(key), 1, &kind, text, sizeof text, &len),
+    want("read", antientropy_read(replica, bytes, len, 1, &reading, clock, ANTIENTROPY_CLOCK_MAX, text, sizeof text),
          ANTIENTROPY_NO_VERSION);
 }
 
@@ -206,6 +252,7 @@ int main(void)
     printf("roots equal: %s\n", equal_roots(&a, &b) ? "yes" : "no");
 
     sync(&b, &a);
+    follow(&b, 1);
     sync(&a, &b);
     printf("cart: %llu versions at a, %llu at b; order: %llu at b\n", versions(&a, "cart"), versions(&b, "cart"),
            versions(&b, "order"));
@@ -223,6 +270,7 @@ int main(void)
     want("get", antientropy_get(&a, (const uint8_t *)"order", 5, text, need, &need), ANTIENTROPY_OK);
     printf("the row of order has %llu bytes\n", (unsigned long long)need);
     renew(&b);
+    list(&b);
     antientropy_free(&a);
     antientropy_free(&b);
     want("migrate", antientropy_migrate(&a), ANTIENTROPY_EMPTY);

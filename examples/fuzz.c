@@ -77,7 +77,7 @@ static void compare(struct antientropy *replica, const struct antientropy_counts
     }
 }
 
-/* A replica with 64 open sessions, the maximum; a partner's snapshot; a message of each kind; and the rows of a leaf. */
+/* A replica with 64 open sessions, the maximum; a partner's snapshot; a message of each kind; the rows of a leaf. */
 static struct antientropy replica, partner;
 static struct antientropy_snapshot offered;
 static uint8_t offer[64], ask[64], answer[ROOM], rows[ROOM];
@@ -100,11 +100,16 @@ static void prepare(void)
         must("rows", antientropy_rows(&offered, leaf, rows, sizeof rows, &rows_len));
 }
 
-/* Passes an offer, which must open no session: it is refused, if only because there are 64. */
+/* Passes an offer, which must open no session: it is refused, if only because there are 64. Its parts can be read
+ * unless it is no offer. */
 static void bring_offer(const uint8_t *bytes, size_t len)
 {
+    struct antientropy_offer_parts parts;
     uint64_t number;
     uint32_t got = antientropy_open(&replica, 2, bytes, len, &number);
+    uint32_t read = antientropy_read_offer(bytes, len, &parts);
+    if (read != (got == ANTIENTROPY_BAD_MESSAGE ? ANTIENTROPY_BAD_MESSAGE : ANTIENTROPY_OK))
+        fail("read_offer", read);
     if (got != ANTIENTROPY_BAD_MESSAGE && got != ANTIENTROPY_OTHER_FORMAT && got != ANTIENTROPY_OTHER_RANGE
         && got != ANTIENTROPY_SESSIONS_FULL)
         fail("open", got);

@@ -1,9 +1,9 @@
 /* Why a replica that lost its entries must not return under its old node number.
  *
  * Node 1 restarts empty and takes a put under its old number: the put is lost, although it was acknowledged. Then it
- * restarts as node 3, with a sync, and takes the put again: nothing is lost, since node 2 holds the earlier versions. One
- * that no partner holds would be lost. The program prints each step, and ends with status 1 if a call returns another
- * number than the one wanted. */
+ * restarts as node 3, with a sync, and takes the put again: nothing is lost, since node 2 holds the earlier versions.
+ * One that no partner holds would be lost. The program prints each step, and ends with status 1 if a call returns
+ * another number than the one wanted. */
 #include "antientropy.h"
 
 #include <stdio.h>
@@ -50,8 +50,8 @@ static void show(struct antientropy *replica, unsigned node)
     }
 }
 
-/* Syncs a replica from a partner, and prints the number of new versions. Each call has to succeed here: examples/embed.c
- * has a sync that makes room for long answers, and bounds the bad ones. */
+/* Syncs a replica from a partner, and prints the number of new versions. Each call has to succeed here:
+ * examples/embed.c has a sync that makes room for long answers, and bounds the bad ones. */
 static void sync(struct antientropy *replica, unsigned node, struct antientropy *partner, uint16_t partner_node)
 {
     static uint8_t offer[64], ask[64], answer[1 << 16];

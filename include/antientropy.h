@@ -1,7 +1,8 @@
 /* antientropy for C: one replica of a range of a Dynamo-style store, over the proved core.
  *
  * A program makes a replica, puts and reads versions, rehashes its tree, and syncs it with another replica by messages,
- * which it carries itself. The library starts no thread, opens no file or socket, and takes no lock.
+ * which it carries itself. Hints and slots are apart, and may be left out. The library starts no thread, opens no file
+ * or socket, and takes no lock.
  * docs/EMBEDDING_C.md shows how to use it.
  *
  * RETURN VALUES
@@ -20,21 +21,26 @@
  * THE CALLER'S SIDE (nothing checks it)
  *
  * - Each pointer is valid, aligned and not NULL, even if its length is 0. Memory for out, need and the like is the
- *   caller's, and doesn't overlap the other arguments of the call. The library keeps no pointer that it is passed.
- * - A struct antientropy or struct antientropy_snapshot is initialised with `= {0}`, and its fields are left alone. It
- *   may be moved in memory between calls; of copies only one is used. All bytes zero means that it holds nothing.
- * - One call at a time on a handle, and each handle stays on the thread that filled it. Different handles may be used
- *   at once, except that a snapshot shares memory with its replica: both stay on one thread.
+ *   caller's, and doesn't overlap the other arguments of the call; no call gets one handle twice. The library keeps no
+ *   pointer that it is passed.
+ * - A handle (struct antientropy, antientropy_snapshot, antientropy_hints, antientropy_slots) is initialised with
+ *   `= {0}`, and its fields are left alone. It may be moved in memory between calls; of copies only one is used. All
+ *   bytes zero means that it holds nothing.
+ * - One call at a time on a handle. A handle may go to another thread if the program orders that: by a lock, by a
+ *   thread's start or join, or by a sequentially consistent atomic. Different handles may be used at once, even a
+ *   replica and its snapshots.
  * - No call from a signal handler, or from the forked child of a process with threads.
  * - malloc, realloc and free are of one allocator, which aligns blocks to 16 bytes.
+ * - Before a put, no held version of the key has a greater counter of the node than the context. Otherwise the put may
+ *   replace a version that its client never read. See docs/EMBEDDING_C.md, "A replica".
  * - Counters don't go back: a replica that lost entries returns under a node number that was never used (versions that
  *   no partner holds are lost then), or with every version that it ever acknowledged, showed to a reader or handed to a
  *   partner (antientropy_accept takes them in). Otherwise a put can reuse a clock that another replica holds, and is
  *   then lost silently. So responses, copies, hints and offers go out only after the versions in them are on disk. A
  *   clock has at most 32 pairs, and a number that was used stays in it. See docs/EMBEDDING_C.md, "Restarts", and
  *   examples/restart.c.
- * - A replica or snapshot that was made is freed: antientropy_free, antientropy_snapshot_free. A snapshot may outlive
- *   its replica.
+ * - What was made is freed: antientropy_free, antientropy_snapshot_free, antientropy_hints_free,
+ *   antientropy_slots_free. A snapshot may outlive its replica.
  */
 #ifndef ANTIENTROPY_H
 #define ANTIENTROPY_H
@@ -46,6 +52,36 @@
 #ifdef __cplusplus
 extern "C" {
 #endif
+
+/* The version of this header. A struct that gets a field, or a call that gets another argument, is a new soname. */
+#define ANTIENTROPY_VERSION_MAJOR 0
+#define ANTIENTROPY_VERSION_MINOR 1
+#define ANTIENTROPY_VERSION_PATCH 0
+#define ANTIENTROPY_VERSION \
+    (10000 * ANTIENTROPY_VERSION_MAJOR + 100 * ANTIENTROPY_VERSION_MINOR + ANTIENTROPY_VERSION_PATCH)
+
+/* Limits, in bytes if nothing else is said. */
+#define ANTIENTROPY_KEY_MAX 255
+#define ANTIENTROPY_VALUE_MAX_1 4096      /* a value in format 1 */
+#define ANTIENTROPY_VALUE_MAX_2 65536     /* a value in format 2 */
+#define ANTIENTROPY_CLOCK_MAX 32          /* pairs of a clock */
+#define ANTIENTROPY_VERSIONS_MAX 64       /* versions of a key */
+#define ANTIENTROPY_NODE_MAX 65535        /* the greatest node number */
+#define ANTIENTROPY_BITS_MAX 8            /* bits of a range's number */
+#define ANTIENTROPY_ENTRIES_MAX 1000000   /* entries of a journal */
+#define ANTIENTROPY_SESSIONS_MAX 1024     /* sessions of a replica, ever */
+#define ANTIENTROPY_OPEN_SESSIONS_MAX 64  /* open sessions of a replica */
+#define ANTIENTROPY_LEAVES_1 256          /* leaves of a tree of format 1 */
+#define ANTIENTROPY_LEAVES_2 4096         /* leaves of a tree of format 2 */
+#define ANTIENTROPY_NODES_1 273           /* nodes of a tree of format 1: at most so many asks in a session */
+#define ANTIENTROPY_NODES_2 4369          /* nodes of a tree of format 2 */
+#define ANTIENTROPY_ROOT_LEN 32
+#define ANTIENTROPY_OFFER_LEN 39
+#define ANTIENTROPY_ASK_LEN 8
+#define ANTIENTROPY_ROW_MAX 4215427       /* the text of a row */
+#define ANTIENTROPY_HINTS_MAX 10000       /* pending hints of a carrier */
+#define ANTIENTROPY_SLOTS_MAX 1024        /* the greatest ceiling of slots */
+#define ANTIENTROPY_NAME_MAX 14           /* a name of a number that a call returns */
 
 /* Causes of refusal. Numbers 1 to 32 are those that scripts print; docs/FORMATS.md says what to do at each. Those that
  * no call here returns are left out. */
@@ -67,19 +103,31 @@ enum {
     ANTIENTROPY_NOT_CANONICAL = 15,   /* the digest is right, but the text isn't a node's: the session has failed */
     ANTIENTROPY_OTHER_FORMAT = 16,    /* the offer is of another format */
     ANTIENTROPY_SESSIONS_FULL = 17,   /* 64 sessions are open, or there are 1,024 */
+    ANTIENTROPY_NO_SLOT = 18,         /* no slot is free, or none is lent */
+    ANTIENTROPY_CLOCK_BACK = 19,      /* the moment is before the greatest accepted one */
+    ANTIENTROPY_UNKNOWN_HINT = 20,    /* no pending hint has this number */
+    ANTIENTROPY_HINTS_FULL = 21,      /* 10,000 hints are pending, or the last number was used */
     ANTIENTROPY_GONE = 22,            /* the ask is for another offer */
-    ANTIENTROPY_BAD_RING = 27,        /* the numbers of a range are outside the limits */
+    ANTIENTROPY_BAD_RING = 27,        /* the numbers of a range or of slots are outside the limits */
     ANTIENTROPY_ROW_BROKEN = 30,      /* the bytes aren't texts of rows */
     ANTIENTROPY_BAD_MESSAGE = 31,     /* not a message, not the expected kind, or a node that isn't in the tree */
     ANTIENTROPY_NO_MEMORY = 32,       /* malloc or realloc failed */
     ANTIENTROPY_SMALL = 33,           /* the room is too small */
     ANTIENTROPY_EMPTY = 34,           /* the handle holds nothing */
     ANTIENTROPY_HELD = 35,            /* the handle holds something already */
-    ANTIENTROPY_NO_VERSION = 36       /* the key has no version of this index */
+    ANTIENTROPY_NO_VERSION = 36       /* there is no such version, entry or hint, or none that follows */
 };
 
 /* Kinds of versions. */
 enum { ANTIENTROPY_LIVE = 0, ANTIENTROPY_TOMBSTONE = 1 };
+
+/* Sources of an entry's version. */
+enum {
+    ANTIENTROPY_PUT = 0,    /* a put at this replica */
+    ANTIENTROPY_COPY = 1,   /* accepted or loaded here, or carried over by a renewal */
+    ANTIENTROPY_HINT = 2,   /* a hint that was delivered: not through this library, which takes it as a copy */
+    ANTIENTROPY_PARTNER = 3 /* a partner's, in a session */
+};
 
 /* States of a session. */
 enum {
@@ -95,8 +143,22 @@ struct antientropy {
     bool held;
 };
 
-/* A handle of a snapshot of a replica's rows. It may hold nothing. */
+/* A handle of a snapshot of a replica's rows. It may hold nothing. (C++ names it antientropy_offered, since there is a
+ * function antientropy_snapshot.) */
 struct antientropy_snapshot {
+    void *at;
+    bool held;
+};
+typedef struct antientropy_snapshot antientropy_offered;
+
+/* A handle of the hints that a node carries for others. It may hold nothing. */
+struct antientropy_hints {
+    void *at;
+    bool held;
+};
+
+/* A handle of slots for background work. It may hold nothing. */
+struct antientropy_slots {
     void *at;
     bool held;
 };
@@ -111,6 +173,28 @@ struct antientropy_pair {
 struct antientropy_receipt {
     uint64_t number;  /* the entry's place in the journal, from 0 */
     uint64_t counter; /* the node's counter in the new version's clock; the other counters are those of the context */
+};
+
+/* The sizes and the kind of a version. */
+struct antientropy_reading {
+    uint64_t versions; /* number of versions held for the key */
+    uint64_t pairs;    /* number of pairs of the version's clock */
+    uint64_t bytes;    /* number of bytes of its value */
+    uint64_t kind;     /* LIVE or TOMBSTONE */
+};
+
+/* The range and the leaf of a key. */
+struct antientropy_spot {
+    uint64_t range; /* the range of the ring, from 0 */
+    uint64_t leaf;  /* the leaf of the range's tree, from 0 */
+};
+
+/* The parts of an offer. Format and range are as received: the ring may not have them. */
+struct antientropy_offer_parts {
+    uint64_t number; /* the number that the partner gave the offer: asks and answers have it too */
+    uint64_t format;
+    uint64_t range;
+    uint8_t root[ANTIENTROPY_ROOT_LEN]; /* digest of the root: replicas with equal roots hold the same versions */
 };
 
 /* The result of taking an answer. */
@@ -135,6 +219,40 @@ struct antientropy_counts {
     uint64_t sessions;      /* sessions, ever: at 1,024 no other can be opened */
     uint64_t open_sessions; /* open sessions: at 64 no other can be opened until one has ended */
 };
+
+/* Counts of hints. */
+struct antientropy_hint_counts {
+    uint64_t pending;   /* hints that wait for their owners: at 10,000 no other can be kept */
+    uint64_t delivered; /* hints that were delivered: they are kept until a renewal */
+};
+
+/* Counts of slots. */
+struct antientropy_slot_counts {
+    uint64_t target; /* at most so many slots are lent */
+    uint64_t lent;   /* slots lent */
+    uint64_t free;   /* slots that could be lent now */
+};
+
+/* The 99th percentile of the latencies of the last minute. */
+struct antientropy_percentile {
+    uint64_t found;  /* 1 if there were samples, and 0 otherwise */
+    uint64_t micros; /* the percentile in microseconds */
+};
+
+/* ---- the library */
+
+/* Returns the version of the library, as ANTIENTROPY_VERSION. */
+uint32_t antientropy_version(void);
+
+/* Returns the name of a number that a call returned, in ASCII without a zero byte: "BadKey" for 4. Other numbers have
+ * no bytes. Refused: SMALL. */
+uint32_t antientropy_name(uint32_t number, uint8_t *out, size_t out_len, uint64_t *need);
+
+/* Returns the range and the leaf of a key, in a ring of 2^bits ranges (bits 0 to 8) of format 1 or 2. It needs no
+ * replica.
+ * Refused, in order: BAD_RING (the format or the bits), BAD_KEY. */
+uint32_t antientropy_place(uint64_t format, uint64_t bits, const uint8_t *key, size_t key_len,
+                           struct antientropy_spot *spot);
 
 /* ---- making and freeing */
 
@@ -174,8 +292,8 @@ uint32_t antientropy_count(struct antientropy *replica, struct antientropy_count
  * is in format 1), OTHER_RANGE, CLOCK_FULL and COUNTER_FULL (the context can't be raised), STALE_CONTEXT, CROWDED,
  * JOURNAL_FULL, NO_MEMORY. NO_MEMORY may be returned instead of any but EMPTY. */
 uint32_t antientropy_put(struct antientropy *replica, uint16_t node, const uint8_t *key, size_t key_len,
-                         const struct antientropy_pair *context, size_t context_len, uint8_t kind, const uint8_t *value,
-                         size_t value_len, struct antientropy_receipt *receipt);
+                         const struct antientropy_pair *context, size_t context_len, uint8_t kind,
+                         const uint8_t *value, size_t value_len, struct antientropy_receipt *receipt);
 
 /* Accepts a version of another replica, as a copy. `taken` is 1 if it is new and now an entry of the journal, 0 if it
  * was known. Refused, in order: EMPTY; BAD_CLOCK (the pairs aren't a clock), CLOCK_FULL, BAD_VALUE (unknown kind);
@@ -195,13 +313,28 @@ uint32_t antientropy_versions(struct antientropy *replica, const uint8_t *key, s
 
 /* Returns the value and the kind of one of the versions held for a key, by its index from 0.
  * Refused, in order: EMPTY, NO_VERSION, SMALL (`kind` is written anyway). */
-uint32_t antientropy_value(struct antientropy *replica, const uint8_t *key, size_t key_len, uint64_t index, uint8_t *kind,
-                           uint8_t *out, size_t out_len, uint64_t *need);
+uint32_t antientropy_value(struct antientropy *replica, const uint8_t *key, size_t key_len, uint64_t index,
+                           uint8_t *kind, uint8_t *out, size_t out_len, uint64_t *need);
 
 /* Returns the clock of one of the versions held for a key, by its index from 0: at most 32 pairs, by rising node.
  * `out_len` and `need` count pairs. Refused, in order: EMPTY, NO_VERSION, SMALL. */
 uint32_t antientropy_clock(struct antientropy *replica, const uint8_t *key, size_t key_len, uint64_t index,
                            struct antientropy_pair *out, size_t out_len, uint64_t *need);
+
+/* Returns one of the versions held for a key, by its index from 0, in one call: its clock in `pairs`, its value in
+ * `value`, and in `reading` its kind, the sizes of both, and the number of versions held.
+ * Refused, in order: EMPTY, NO_VERSION, SMALL (of the clock and the value at least one doesn't fit: `reading` is
+ * written anyway, and so is the one that fits). */
+uint32_t antientropy_read(struct antientropy *replica, const uint8_t *key, size_t key_len, uint64_t index,
+                          struct antientropy_reading *reading, struct antientropy_pair *pairs, size_t pairs_len,
+                          uint8_t *value, size_t value_len);
+
+/* Returns the least key of a leaf above a key, or the first one for a key of no bytes: so the keys of a replica are
+ * listed leaf by leaf. Leaves are counted from 0 to 255, in format 2 to 4,095. Keys that are put meanwhile are listed
+ * if they lie ahead. Refused, in order: EMPTY, BAD_MESSAGE (the tree has no such leaf), NO_VERSION (no key follows),
+ * SMALL. */
+uint32_t antientropy_key_after(struct antientropy *replica, uint16_t leaf, const uint8_t *key, size_t key_len,
+                               uint8_t *out, size_t out_len, uint64_t *need);
 
 /* Orders of two clocks. */
 enum {
@@ -213,15 +346,39 @@ enum {
 
 /* Compares two clocks. It needs no replica. Refused, in order: BAD_CLOCK and CLOCK_FULL of the first, BAD_CLOCK and
  * CLOCK_FULL of the second, NO_MEMORY, which may be returned instead of any. */
-uint32_t antientropy_compare(const struct antientropy_pair *first, size_t first_len, const struct antientropy_pair *second,
-                             size_t second_len, uint64_t *order);
+uint32_t antientropy_compare(const struct antientropy_pair *first, size_t first_len,
+                             const struct antientropy_pair *second, size_t second_len, uint64_t *order);
 
 /* Merges two clocks, for the context of a put that replaces the versions of both: the result has for each node the
  * greater counter. It needs no replica. `out_len` and `need` count pairs; there are at most 32. Refused, in order:
  * BAD_CLOCK and CLOCK_FULL of the first, BAD_CLOCK and CLOCK_FULL of the second, CLOCK_FULL (over 32 nodes), NO_MEMORY,
  * which may be returned instead of any, SMALL. */
-uint32_t antientropy_merge(const struct antientropy_pair *first, size_t first_len, const struct antientropy_pair *second,
-                           size_t second_len, struct antientropy_pair *out, size_t out_len, uint64_t *need);
+uint32_t antientropy_merge(const struct antientropy_pair *first, size_t first_len,
+                           const struct antientropy_pair *second, size_t second_len, struct antientropy_pair *out,
+                           size_t out_len, uint64_t *need);
+
+/* ---- the journal */
+
+/* Every accepted version is an entry, numbered from 0 in the order of acceptance. The new entries of a call are those
+ * from the count of entries before it to the count after it: what a put, an accept, a load or a take brought. */
+
+/* Returns the key of an entry. Refused, in order: EMPTY, NO_VERSION (no such entry), SMALL. */
+uint32_t antientropy_entry_key(struct antientropy *replica, uint64_t number, uint8_t *out, size_t out_len,
+                               uint64_t *need);
+
+/* Returns the value and the kind of an entry's version.
+ * Refused, in order: EMPTY, NO_VERSION (no such entry), SMALL (`kind` is written anyway). */
+uint32_t antientropy_entry_value(struct antientropy *replica, uint64_t number, uint8_t *kind, uint8_t *out,
+                                 size_t out_len, uint64_t *need);
+
+/* Returns the clock of an entry's version: at most 32 pairs, by rising node. `out_len` and `need` count pairs.
+ * Refused, in order: EMPTY, NO_VERSION (no such entry), SMALL. */
+uint32_t antientropy_entry_clock(struct antientropy *replica, uint64_t number, struct antientropy_pair *out,
+                                 size_t out_len, uint64_t *need);
+
+/* Returns the source of an entry's version: PUT, COPY, HINT or PARTNER. Refused, in order: EMPTY, NO_VERSION (no such
+ * entry). */
+uint32_t antientropy_entry_source(struct antientropy *replica, uint64_t number, uint64_t *source);
 
 /* ---- the tree */
 
@@ -237,10 +394,18 @@ uint32_t antientropy_snapshot(struct antientropy *replica, struct antientropy_sn
 /* Frees the snapshot that a handle holds, if it holds one. */
 void antientropy_snapshot_free(struct antientropy_snapshot *snapshot);
 
+/* Returns the digest of a snapshot's root: 32 bytes. Two replicas of a range with equal roots hold the same versions,
+ * so neither needs a session. Refused, in order: EMPTY, SMALL. */
+uint32_t antientropy_root(struct antientropy_snapshot *snapshot, uint8_t *out, size_t out_len, uint64_t *need);
+
 /* Returns the message that offers a snapshot: 39 bytes. The caller gives each of its offers a number.
  * Refused, in order: EMPTY, NO_MEMORY, SMALL. */
 uint32_t antientropy_offer(struct antientropy_snapshot *snapshot, uint32_t number, uint8_t *out, size_t out_len,
                            uint64_t *need);
+
+/* Returns the parts of a partner's offer. It needs no replica. Refused, in order: BAD_MESSAGE (the bytes aren't an
+ * offer), NO_MEMORY, which may be returned instead. */
+uint32_t antientropy_read_offer(const uint8_t *offer, size_t offer_len, struct antientropy_offer_parts *parts);
 
 /* Returns the answer to an ask for the offer of that number. The answer of a leaf has no fixed limit: one row alone can
  * have 4,215,427 bytes. Refused, in order: EMPTY, BAD_MESSAGE (the bytes aren't an ask), GONE (it is for another
@@ -255,8 +420,8 @@ uint32_t antientropy_rows(struct antientropy_snapshot *snapshot, uint16_t leaf, 
                           uint64_t *need);
 
 /* Loads rows of one leaf, in ascending order of key, as antientropy_rows or antientropy_get returns them: accepts all
- * of their versions as copies, or none. Refused, in order: EMPTY, ROW_BROKEN, OTHER_RANGE (also for rows of two leaves),
- * CROWDED, JOURNAL_FULL, NO_MEMORY, which may be returned instead of any but EMPTY. */
+ * of their versions as copies, or none. Refused, in order: EMPTY, ROW_BROKEN, OTHER_RANGE (also for rows of two
+ * leaves), CROWDED, JOURNAL_FULL, NO_MEMORY, which may be returned instead of any but EMPTY. */
 uint32_t antientropy_load(struct antientropy *replica, const uint8_t *rows, size_t rows_len,
                           struct antientropy_loaded *loaded);
 
@@ -264,13 +429,23 @@ uint32_t antientropy_load(struct antientropy *replica, const uint8_t *rows, size
 
 /* Opens a session with a partner's offer, and returns its number, from 0. The partner's number is kept in the session's
  * record; it isn't checked, and no call returns it. A session is never freed before its replica, so compare roots
- * first: bytes 7 to 38 of an offer, counted from 0. Refused, in order: EMPTY, BAD_MESSAGE, OTHER_FORMAT, OTHER_RANGE,
+ * first (antientropy_root, antientropy_read_offer). Refused, in order: EMPTY, BAD_MESSAGE, OTHER_FORMAT, OTHER_RANGE,
  * SESSIONS_FULL, DIRTY, NO_MEMORY. NO_MEMORY may be returned instead of BAD_MESSAGE. */
 uint32_t antientropy_open(struct antientropy *replica, uint16_t partner, const uint8_t *offer, size_t offer_len,
                           uint64_t *session);
 
-/* Returns the ask for the first outstanding node of a session. `number` is the number in the partner's offer: bytes 1
- * to 4, big-endian. If no node is outstanding, the session has ended, and `need` is 0.
+/* Returns the number of nodes that a session has outstanding: 0 if it has ended.
+ * Refused, in order: EMPTY, UNKNOWN_SESSION. */
+uint32_t antientropy_outstanding(struct antientropy *replica, uint64_t session, uint64_t *count);
+
+/* Returns the ask for one of the outstanding nodes of a session, by its place from 0. `number` is the number in the
+ * partner's offer. If there are no more, `need` is 0. Several asks may be on their way at once: answers are taken in
+ * any order. Each answer that is taken changes the places. Refused, in order: EMPTY, UNKNOWN_SESSION, NO_MEMORY,
+ * SMALL. */
+uint32_t antientropy_ask_at(struct antientropy *replica, uint64_t session, uint64_t place, uint32_t number,
+                            uint8_t *out, size_t out_len, uint64_t *need);
+
+/* Returns the ask for the first outstanding node of a session, as antientropy_ask_at does for place 0.
  * Refused, in order: EMPTY, UNKNOWN_SESSION, NO_MEMORY, SMALL. */
 uint32_t antientropy_ask(struct antientropy *replica, uint64_t session, uint32_t number, uint8_t *out, size_t out_len,
                          uint64_t *need);
@@ -280,7 +455,7 @@ uint32_t antientropy_ask(struct antientropy *replica, uint64_t session, uint32_t
  * NOT_CANONICAL (the session has failed), CROWDED, JOURNAL_FULL, NO_MEMORY. NO_MEMORY may be returned instead of any
  * but EMPTY. After BAD_MESSAGE, NOT_ASKED and WRONG_DIGEST ask again, with a bound on the number of bad answers. After
  * CROWDED, JOURNAL_FULL and NO_MEMORY the session stays open, and antientropy_ask names the same node: cancel the
- * session, or make the ask for another node yourself. NOT_ASKED means that the node isn't outstanding. */
+ * session, or ask for another node by antientropy_ask_at. NOT_ASKED means that the node isn't outstanding. */
 uint32_t antientropy_take(struct antientropy *replica, uint64_t session, uint32_t number, const uint8_t *answer,
                           size_t answer_len, struct antientropy_taken *taken);
 
@@ -289,6 +464,91 @@ uint32_t antientropy_cancel(struct antientropy *replica, uint64_t session);
 
 /* Returns the state of a session. Refused, in order: EMPTY, UNKNOWN_SESSION. */
 uint32_t antientropy_session(struct antientropy *replica, uint64_t session, uint64_t *state);
+
+/* ---- hints: versions that a node carries for replicas that are down */
+
+/* Makes an empty store of hints. Refused, in order: HELD (the handle holds one already), NO_MEMORY. */
+uint32_t antientropy_hints_new(struct antientropy_hints *hints);
+
+/* Frees the hints of a handle, if any. */
+void antientropy_hints_free(struct antientropy_hints *hints);
+
+/* Keeps a version for its owner, a node that is down, and returns the number of the hint, from 1. A hint is of no
+ * range: the owner checks the key and the format when it accepts the version.
+ * Refused, in order: EMPTY; BAD_CLOCK (the owner is 0, or the pairs aren't a clock), CLOCK_FULL, BAD_VALUE (unknown
+ * kind); BAD_KEY, BAD_VALUE (too long for format 2, or a tombstone that has a value), HINTS_FULL, NO_MEMORY, which may
+ * be returned instead of any but EMPTY. */
+uint32_t antientropy_hint_keep(struct antientropy_hints *hints, uint16_t owner, const uint8_t *key, size_t key_len,
+                               const struct antientropy_pair *clock, size_t clock_len, uint8_t kind,
+                               const uint8_t *value, size_t value_len, uint64_t *id);
+
+/* Returns the pending hint of an owner with the least number over `after`: 0 gives the first.
+ * Refused, in order: EMPTY, NO_VERSION (there is none). */
+uint32_t antientropy_hint_next(struct antientropy_hints *hints, uint16_t owner, uint32_t after, uint64_t *id);
+
+/* Returns the owner of a hint, pending or delivered. Refused, in order: EMPTY, NO_VERSION (no such hint). */
+uint32_t antientropy_hint_owner(struct antientropy_hints *hints, uint32_t id, uint64_t *owner);
+
+/* Returns the key of a hint. Refused, in order: EMPTY, NO_VERSION (no such hint), SMALL. */
+uint32_t antientropy_hint_key(struct antientropy_hints *hints, uint32_t id, uint8_t *out, size_t out_len,
+                              uint64_t *need);
+
+/* Returns the value and the kind of a hint's version.
+ * Refused, in order: EMPTY, NO_VERSION (no such hint), SMALL (`kind` is written anyway). */
+uint32_t antientropy_hint_value(struct antientropy_hints *hints, uint32_t id, uint8_t *kind, uint8_t *out,
+                                size_t out_len, uint64_t *need);
+
+/* Returns the clock of a hint's version: at most 32 pairs, by rising node. `out_len` and `need` count pairs.
+ * Refused, in order: EMPTY, NO_VERSION (no such hint), SMALL. */
+uint32_t antientropy_hint_clock(struct antientropy_hints *hints, uint32_t id, struct antientropy_pair *out,
+                                size_t out_len, uint64_t *need);
+
+/* Ends the wait of a pending hint, which its owner has accepted, or knew. Call it after the owner has the version on
+ * its disk. Refused, in order: EMPTY, UNKNOWN_HINT. */
+uint32_t antientropy_hint_confirm(struct antientropy_hints *hints, uint32_t id, bool known);
+
+/* Drops the delivered hints, and numbers the pending ones anew from 1, in order. Refused, in order: EMPTY,
+ * NO_MEMORY. */
+uint32_t antientropy_hints_renew(struct antientropy_hints *hints);
+
+/* Returns the counts of hints. Refused: EMPTY. */
+uint32_t antientropy_hints_count(struct antientropy_hints *hints, struct antientropy_hint_counts *counts);
+
+/* ---- slots: background work that backs off when the foreground is slow */
+
+/* A slot is a number here: that each slot lent is given back once is the program's. */
+
+/* Makes slots: none is lent, and the target is the ceiling. The target stays from the floor to the ceiling, 1 to 1,024.
+ * It falls if the latency of the foreground is above the threshold, in microseconds. Refused, in order: HELD (the
+ * handle holds slots already), BAD_RING (the floor is 0 or above the ceiling, or the ceiling above 1,024),
+ * NO_MEMORY. */
+uint32_t antientropy_slots_new(struct antientropy_slots *slots, uint32_t floor, uint32_t ceiling, uint32_t threshold);
+
+/* Frees the slots of a handle, if any. */
+void antientropy_slots_free(struct antientropy_slots *slots);
+
+/* Lends a slot, before background work. Refused, in order: EMPTY, NO_SLOT (the slots lent reach the target). */
+uint32_t antientropy_slot_lend(struct antientropy_slots *slots);
+
+/* Gives a slot back, after background work. Refused, in order: EMPTY, NO_SLOT (none is lent). */
+uint32_t antientropy_slot_give_back(struct antientropy_slots *slots);
+
+/* Takes the latency of a reply of the foreground, in microseconds, with its moment in milliseconds. The last 1,024 are
+ * kept. Refused, in order: EMPTY, CLOCK_BACK (a later moment was accepted before). */
+uint32_t antientropy_slots_sample(struct antientropy_slots *slots, uint64_t moment, uint32_t micros);
+
+/* Sets the target by the samples of the last 60,000 milliseconds, and returns their 99th percentile. Above the
+ * threshold the target becomes half, but not below the floor. At half of the threshold or less it rises by one, up to
+ * the ceiling. Without samples it is left unchanged. Refused, in order: EMPTY, CLOCK_BACK (a later moment was accepted
+ * before). */
+uint32_t antientropy_slots_adjust(struct antientropy_slots *slots, uint64_t now, struct antientropy_percentile *p99);
+
+/* Sets the target. Slots that are lent stay lent.
+ * Refused, in order: EMPTY, BAD_RING (the target is below the floor or above the ceiling). */
+uint32_t antientropy_slots_set_target(struct antientropy_slots *slots, uint32_t target);
+
+/* Returns the counts of slots. Refused: EMPTY. */
+uint32_t antientropy_slots_count(struct antientropy_slots *slots, struct antientropy_slot_counts *counts);
 
 #ifdef __cplusplus
 }

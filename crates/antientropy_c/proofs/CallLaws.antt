@@ -2,17 +2,14 @@
 use Rattle.std.proofs.Common.{◌≡◌, ℕ, List, sym, subst}
 use Rattle.std.specs.Prelude.{Bool, true, false, Result}
 use Rattle.vclock.specs.declared.refusal.Refusal.{Refusal}
-use Rattle.range_state.specs.State.{State}
-use Rattle.antientropy_c.specs.Numbers.{code_of, Returns}
-use Rattle.antientropy_c.specs.Calls.{Calls, OnHeld, Reads}
+use Rattle.antientropy_c.specs.Numbers.{code_of, Returns, EMPTY}
+use Rattle.antientropy_c.specs.Calls.{CallsOn, OnHeld, Reads}
 use Rattle.antientropy_c.specs.Hands.{HandsOut, HandsOutRight}
 use Rattle.antientropy_c.specs.Merges.{HandsClock, GivesClock}
 use Rattle.antientropy_c.specs.declared.pair.Pair.{Pair}
 use Rattle.vclock.specs.Clock.{Pairs}
 use Rattle.walk_messages.specs.Messages.{Decodes}
 use Rattle.walk_messages.specs.declared.message.Message.{Message}
-use Rattle.antientropy_c.specs.declared.replica.Replica.{Replica}
-use Rattle.antientropy_c.specs.declared.numbers.TheConstants.{EMPTY}
 
 pub on_held : (was now : Bool) (code : ℕ) (Right : Type 0) → was ≡ true → now ≡ true → Right → OnHeld was now code Right
 on_held true now code Right is_was is_now right = (is_now, right)
@@ -23,18 +20,18 @@ on_empty true now code Right is_was is_now is_code = absurd (cc)
 on_empty false now code Right is_was is_now is_code = (is_now, is_code)
 
 -- nothing was held
-pub empty : (code : ℕ) (old new : Replica) (Right : State → State → Type 0)
-    → old.held ≡ false → new.held ≡ false → code ≡ EMPTY → Calls code old new Right
-unfolding Calls
-empty code old new Right was now is_code = on_empty old.held new.held code (Right old.state new.state) was now is_code
+pub empty : {S : Type 0} (code : ℕ) (old new : Bool × S) (Right : S → S → Type 0)
+    → old.0 ≡ false → new.0 ≡ false → code ≡ EMPTY → CallsOn code old new Right
+unfolding CallsOn
+empty code old new Right was now is_code = on_empty old.0 new.0 code (Right old.1 new.1) was now is_code
 
--- a replica was held, and taken from the state s to the state t
-pub held : (code : ℕ) (old new : Replica) (Right : State → State → Type 0) (s t : State)
-    → old.held ≡ true → new.held ≡ true → s ≡ old.state → new.state ≡ t → Right s t → Calls code old new Right
-unfolding Calls
-held code old new Right s t was now is_old is_new right =
-    on_held old.held new.held code (Right old.state new.state) was now
-    (subst (λ (x : State). Right x new.state) is_old (subst (λ (x : State). Right s x) (sym is_new) right))
+-- a value was held, and taken from s to t
+pub held : {S : Type 0} (code : ℕ) (old new : Bool × S) (Right : S → S → Type 0) (s t : S)
+    → old.0 ≡ true → new.0 ≡ true → s ≡ old.1 → new.1 ≡ t → Right s t → CallsOn code old new Right
+unfolding CallsOn
+held {S} code old new Right s t was now is_old is_new right =
+    on_held old.0 new.0 code (Right old.1 new.1) was now
+    (subst (λ (x : S). Right x new.1) is_old (subst (λ (x : S). Right s x) (sym is_new) right))
 
 -- the number is that of a result
 pub returns : {T : Type 0} (code : ℕ) (Right : Result T Refusal → Type 0) (r : Result T Refusal) → code ≡ code_of r → Right r → Returns code Right

@@ -1,6 +1,9 @@
 pub mod CallLaws
 pub mod MakeLaws
-pub mod OfferLaws
+pub mod HintsWord
 pub mod PlaceWord
 pub mod PublicationWord
 pub mod ReplicaWord
+mod Sent
+pub mod KeyLaws
+pub mod SlotsWord

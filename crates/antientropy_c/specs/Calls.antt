@@ -2,7 +2,7 @@
 use Rattle.std.specs.Prelude.{◌≡◌, ℕ, Bool, true, false, List, Result, length}
 use Rattle.range_state.specs.State.{State}
 use Rattle.antientropy_c.specs.declared.replica.Replica.{Replica}
-use Rattle.antientropy_c.specs.declared.numbers.TheConstants.{EMPTY}
+use Rattle.antientropy_c.specs.Numbers.{EMPTY}
 use Rattle.vclock.specs.declared.refusal.Refusal.{Refusal}
 use Rattle.walk_messages.specs.Messages.{Decodes}
 use Rattle.walk_messages.specs.declared.message.Message.{Message}
@@ -16,9 +16,16 @@ abbrev pub OnHeld : Bool → Bool → ℕ → Type 0 → Type 0
 OnHeld true now code Right = (now ≡ true) × Right
 OnHeld false now code Right = (now ≡ false) × (code ≡ EMPTY)
 
+-- a call on a handle, by its flag and the value in it
+unfoldable pub CallsOn : {S : Type 0} → ℕ → Bool × S → Bool × S → (S → S → Type 0) → Type 0
+CallsOn code old new Right = OnHeld old.0 new.0 code (Right old.1 new.1)
+
+abbrev pub replica_in : Replica → Bool × State
+replica_in h = (h.held, h.state)
+
 -- a call on a replica, that changes its state
-unfoldable pub Calls : ℕ → Replica → Replica → (State → State → Type 0) → Type 0
-Calls code old new Right = OnHeld old.held new.held code (Right old.state new.state)
+abbrev pub Calls : ℕ → Replica → Replica → (State → State → Type 0) → Type 0
+Calls code old new Right = CallsOn code (replica_in old) (replica_in new) Right
 
 -- A statement about the bytes of a message, by their decoding.
 pub record Reads (bytes : List ℕ) (Right : Result Message Refusal → Type 0) : Type 0 where

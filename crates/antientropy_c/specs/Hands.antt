@@ -1,8 +1,8 @@
 -- The copies of bytes that C gets.
-use Rattle.std.specs.Prelude.{◌≡◌, ℕ, nat_le, List, ◌++◌, length, drop, Result, Ok, Err, if◌then◌else◌}
+use Rattle.std.specs.Prelude.{◌≡◌, ℕ, nat_le, List, ◌++◌, length, drop, Option, Some, None, Result, Ok, Err, if◌then◌else◌}
 use Rattle.vclock.specs.Refusal.{cause_number}
 use Rattle.vclock.specs.declared.refusal.Refusal.{Refusal}
-use Rattle.antientropy_c.specs.declared.numbers.TheConstants.{SMALL}
+use Rattle.antientropy_c.specs.Numbers.{SMALL, NO_VERSION}
 
 -- the caller's buffer after items were copied to its front, if all of them fit
 abbrev pub copied : {A : Type 0} → List A → List A → List A
@@ -23,3 +23,13 @@ pub record HandsOutRight (code : ℕ) (before after : ℕ × List ℕ) (Right : 
   pub told : Result (List ℕ) Refusal
   pub handed : HandsOut told code before after
   pub right : Right told
+
+-- bytes are handed out, if there are any; otherwise the result is NO_VERSION, and nothing is written
+abbrev pub HandsAny : Option (List ℕ) → ℕ → ℕ × List ℕ → ℕ × List ℕ → Type 0
+HandsAny None code before after = (code ≡ NO_VERSION) × (after.0 ≡ before.0) × (after.1 ≡ before.1)
+HandsAny (Some bytes) code before after = HandsOut (Ok bytes) code before after
+
+-- a number is stored, if there is one; otherwise the result is NO_VERSION, and nothing is written
+abbrev pub TellsAny : Option ℕ → ℕ → ℕ → ℕ → Type 0
+TellsAny None code old new = (code ≡ NO_VERSION) × (new ≡ old)
+TellsAny (Some n) code old new = (code ≡ 0) × (new ≡ n)

@@ -12,3 +12,14 @@ pub mod Sessions
 pub mod Shows
 pub mod Versions
 pub mod Loads
+pub mod Asks
+pub mod Entries
+pub mod Keys
+pub mod Library
+pub mod OfferParts
+pub mod Readings
+pub mod Spots
+pub mod Handoff
+pub mod HintHandles
+pub mod SlotCalls
+pub mod SlotHandles

@@ -13,3 +13,19 @@ pub record Returns {T : Type 0} (code : ℕ) (Right : Result T Refusal → Type 
   pub told : Result T Refusal
   pub number : code ≡ code_of told
   pub right : Right told
+
+-- the buffer is too small
+abbrev pub SMALL : ℕ
+SMALL = 33
+
+-- the handle holds nothing
+abbrev pub EMPTY : ℕ
+EMPTY = 34
+
+-- the handle holds something already
+abbrev pub HELD : ℕ
+HELD = 35
+
+-- the key has no such version, or the journal no such entry
+abbrev pub NO_VERSION : ℕ
+NO_VERSION = 36

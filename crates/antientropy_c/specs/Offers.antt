@@ -1,5 +1,5 @@
 -- Offers of a replica to another one.
-use Rattle.std.specs.Prelude.{◌≡◌, ℕ, ◌==◌, Bool, true, false, List, Result, Ok, Err, Option, OnErr, MatchBool}
+use Rattle.std.specs.Prelude.{◌≡◌, ℕ, ◌==◌, Bool, List, Result, Ok, Err, Option, MatchBool}
 use Rattle.vclock.specs.Answer.{Answers}
 use Rattle.vclock.specs.Format.{format_number}
 use Rattle.vclock.specs.declared.refusal.Refusal.{Refusal}
@@ -12,26 +12,24 @@ use Rattle.walk_messages.specs.declared.message.Message.{Message}
 use Rattle.walk_messages.specs.declared.message.Message.TheVariants as messages
 use Rattle.snapshot.specs.RowMaps.{RowMap, root_of, text_at}
 use Rattle.snapshot.specs.Snapshots.{answer_fault}
-use Rattle.antientropy_c.specs.Numbers.{Returns}
-use Rattle.antientropy_c.specs.Calls.{OnHeld}
-use Rattle.antientropy_c.specs.declared.numbers.TheConstants.{HELD}
+use Rattle.antientropy_c.specs.Calls.{CallsOn}
+use Rattle.antientropy_c.specs.Makes.{Takes, MakesIn}
 use Rattle.antientropy_c.specs.declared.publication.Publication.{Publication}
 
+abbrev pub rows_in : Publication → Bool × RowMap
+rows_in h = (h.held, h.rows)
+
 -- a call on a publication that does not change it
-unfoldable pub ShowsRows : ℕ → Publication → Publication → (RowMap → Type 0) → Type 0
-ShowsRows code old new Right = OnHeld old.held new.held code ((new.rows ≡ old.rows) × Right old.rows)
+abbrev pub ShowsRows : ℕ → Publication → Publication → (RowMap → Type 0) → Type 0
+ShowsRows code old new Right = CallsOn code (rows_in old) (rows_in new) (λ m n. (n ≡ m) × Right m)
 
 -- the publication holds the rows, or is empty on error
 abbrev pub TakesRows : Publication → Option Refusal → RowMap → Result (Unit {0}) Refusal → Type 0
-TakesRows new cause m r = Answers r cause (λ _. (new.held ≡ true) × (new.rows ≡ m)) × OnErr r (new.held ≡ false)
+TakesRows new cause m r = Takes (rows_in new) cause (λ x. x ≡ m) r
 
 -- a full publication is unchanged, and HELD is returned; otherwise the rows are published
-abbrev pub PublishedWhere : Bool → ℕ → Publication → Publication → Option Refusal → RowMap → Type 0
-PublishedWhere true code old new cause m = (new.held ≡ true) × (new.rows ≡ old.rows) × (code ≡ HELD)
-PublishedWhere false code old new cause m = Returns code (TakesRows new cause m)
-
-unfoldable pub Publishes : ℕ → Publication → Publication → Option Refusal → RowMap → Type 0
-Publishes code old new cause m = PublishedWhere old.held code old new cause m
+abbrev pub Publishes : ℕ → Publication → Publication → Option Refusal → RowMap → Type 0
+Publishes code old new cause m = MakesIn code (rows_in old) (rows_in new) cause (λ x. x ≡ m)
 
 -- the offer of some rows
 abbrev pub offer_numbered : ℕ → RowMap → Offer

@@ -1,20 +1,16 @@
 -- Sessions, as C runs them.
-use Rattle.std.specs.Prelude.{◌≡◌, ℕ, ◌==◌, List, [], length, slice_get, Option, Some, None, Result, Ok, Err, MatchBool, MatchOption}
-use Rattle.vclock.specs.Answer.{Answers}
+use Rattle.std.specs.Prelude.{◌≡◌, ℕ, ◌==◌, length, slice_get, Option, Some, None, Result, Ok, Err, MatchBool}
 use Rattle.vclock.specs.Outcome.{Does}
 use Rattle.vclock.specs.declared.refusal.Refusal.{Refusal}
 use Rattle.vclock.specs.declared.refusal.Refusal.TheVariants.{BadMessage, UnknownSession}
-use Rattle.walk_messages.specs.Messages.{message_text}
 use Rattle.walk_messages.specs.declared.message.Answer.{Answer}
 use Rattle.walk_messages.specs.declared.message.Message.{Message}
 use Rattle.walk_messages.specs.declared.message.Message.TheVariants as messages
-use Rattle.hash_tree.specs.declared.node.NodeAt.{NodeAt}
 use Rattle.sync_session.specs.TreeNodes.{as_node}
 use Rattle.sync_session.specs.declared.state.SessionState.{SessionState}
 use Rattle.sync_session.specs.declared.state.SessionState.TheVariants.{Open, Finished, Failed, Cancelled}
 use Rattle.range_state.specs.State.{State}
-use Rattle.range_state.specs.Sessions.{open_session, unknown_fault, TakesAnswer}
-use Rattle.range_state.specs.Syncs.{IsFirstOf}
+use Rattle.range_state.specs.Sessions.{open_session, TakesAnswer}
 use Rattle.range_state.specs.declared.«record».Record.{Record}
 use Rattle.range_state.specs.declared.event.AnswerTaken.{AnswerTaken}
 use Rattle.antientropy_c.specs.declared.sessions.TakenReceipt.{TakenReceipt}
@@ -30,21 +26,6 @@ Opens s partner r t (Err e) = (r ≡ Err e) × (t ≡ s)
 abbrev pub TellsNumber : Result ℕ Refusal → ℕ → ℕ → Type 0
 TellsNumber (Ok n) old new = new ≡ n
 TellsNumber (Err e) old new = new ≡ old
-
--- the message that asks for a node, or no bytes
-abbrev pub asked_bytes : ℕ → Option NodeAt → List ℕ
-asked_bytes number None = []
-asked_bytes number (Some node) = message_text (messages.Ask (record { offer = number; node = node }))
-
--- bytes that ask for the first outstanding node of a session, if any
-pub record AsksFirst (r : Record) (number : ℕ) (bytes : List ℕ) : Type 0 where
-  pub first : Option NodeAt
-  pub is_first : IsFirstOf r.session.outstanding first
-  pub says : bytes ≡ asked_bytes number first
-
--- bytes that ask for the first outstanding node of the session of that number
-abbrev pub Asks : State → ℕ → ℕ → Result (List ℕ) Refusal → Type 0
-Asks s id number r = Answers r (unknown_fault s id) (λ bytes. MatchOption (slice_get s.records id) ⊥ (λ kept. AsksFirst kept number bytes))
 
 -- an answer of the offer with that number is taken, as by seat 0, and one of another offer is refused
 abbrev pub TakesWith : State → ℕ → ℕ → Answer → Result AnswerTaken Refusal → State → Type 0

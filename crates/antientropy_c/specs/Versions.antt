@@ -5,7 +5,7 @@ use Rattle.version_set.specs.declared.version.Version.{Version}
 use Rattle.vclock.specs.Clock.{Pairs}
 use Rattle.antientropy_c.specs.Hands.{HandsOut, copied, copy_code}
 use Rattle.antientropy_c.specs.declared.pair.Pair.{Pair}
-use Rattle.antientropy_c.specs.declared.numbers.TheConstants.{NO_VERSION}
+use Rattle.antientropy_c.specs.Numbers.{NO_VERSION}
 
 -- the kind and the value of a version, if any; before and after are the stored number and the buffer
 abbrev pub ShowsValue : Option Version → ℕ → ℕ → ℕ → ℕ × List ℕ → ℕ × List ℕ → Type 0

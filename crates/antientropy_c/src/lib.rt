@@ -2,11 +2,18 @@
 //! which declares these calls.
 #![tactic(auto)]
 
+pub mod asks;
 pub mod clocks;
 pub mod counts;
+pub mod entries;
+pub mod hint_calls;
+pub mod hints;
+pub mod keys;
+pub mod library;
 pub mod lifecycle;
 pub mod loads;
 mod numbers;
+pub mod offer_parts;
 pub mod offers;
 mod output;
 pub mod pair;
@@ -14,9 +21,13 @@ mod place;
 pub mod publication;
 mod published;
 pub mod puts;
+pub mod readings;
 pub mod renewal;
 pub mod replica;
 pub mod rows;
 pub mod sessions;
+pub mod slot_calls;
+pub mod slots;
+pub mod spots;
 pub mod tree;
 pub mod versions;

@@ -41,7 +41,7 @@ pub struct LoadReceipt {
 /// Writes the texts of the rows of a leaf of a snapshot, in ascending order of key. Refused, in order: EMPTY, BadMessage
 /// (the tree has no such leaf), NoMemory, SMALL.
 #[unsafe(no_mangle)]
-#[tactic(auto, using(crate::proofs::OfferLaws::empty, crate::proofs::OfferLaws::held, crate::proofs::CallLaws::gives))]
+#[tactic(auto, using(crate::proofs::CallLaws::empty, crate::proofs::CallLaws::held, crate::proofs::CallLaws::gives))]
 pub extern "C" fn antientropy_rows(
     alloc: Global,
     publication: &mut Publication,

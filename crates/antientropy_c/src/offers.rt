@@ -1,15 +1,16 @@
 //! Offers of a replica to another one.
-ghost use Rattle.std.specs.Prelude.{◌≡◌, false, None};
+ghost use Rattle.std.specs.Prelude.{◌≡◌, false, None, Ok};
 ghost use Rattle.vclock.specs.Answer.{Answers};
 ghost use Rattle.walk_messages.specs.Messages.{message_text};
 ghost use Rattle.walk_messages.specs.declared.message.Message.TheVariants as messages;
+ghost use Rattle.snapshot.specs.RowMaps.{root_of};
 ghost use Rattle.range_state.specs.State.{rows_now, dirty_fault};
 ghost use Rattle.antientropy_c.specs.Calls.{Calls, Reads};
-ghost use Rattle.antientropy_c.specs.Hands.{HandsOutRight};
+ghost use Rattle.antientropy_c.specs.Hands.{HandsOut, HandsOutRight};
 ghost use Rattle.antientropy_c.specs.Offers.{ShowsRows, Publishes, TakesRows, offer_numbered, ServesAsk, Serves};
 
 use crate::numbers::{EMPTY, HELD, code};
-use crate::output::hand_out;
+use crate::output::{copy_out, hand_out};
 use crate::publication::Publication;
 use crate::published::Published;
 use crate::replica::Replica;
@@ -41,7 +42,7 @@ pub extern "C" fn antientropy_snapshot(
 }
 
 /// Publishes the rows of a replica.
-#[tactic(auto, using(crate::proofs::OfferLaws::already, crate::proofs::OfferLaws::published))]
+#[tactic(auto, using(crate::proofs::MakeLaws::already, crate::proofs::MakeLaws::made))]
 fn publish(alloc: Global, state: &RangeState, publication: &mut Publication) -> u32
     ensures { Publishes result publication.old publication.new (dirty_fault state.now) (rows_now state.now) }
 {
@@ -70,6 +71,26 @@ fn boxed(alloc: Global, state: &RangeState) -> Result<Box<Published, Global>, Re
     Ok(Box::new(alloc, Published::new(snapshot))?)
 }
 
+/// Copies out the digest of the root of a snapshot: 32 bytes. Refused, in order: EMPTY, SMALL.
+#[unsafe(no_mangle)]
+#[tactic(auto, using(crate::proofs::CallLaws::empty, crate::proofs::CallLaws::held))]
+pub extern "C" fn antientropy_root(
+    alloc: Global,
+    publication: &mut Publication,
+    out: &mut [u8],
+    need: &mut u64,
+) -> u32
+    ensures { ShowsRows result publication.old publication.new
+        (λ m. HandsOut (Ok (root_of m)) result (need.old, out.old) (need.new, out.new)) }
+{
+    let Some(rows) = publication.take(alloc) else {
+        return EMPTY;
+    };
+    let root = rows.snapshot().root();
+    publication.hold(rows);
+    copy_out(&root, out, need)
+}
+
 /// Frees the snapshot of a publication, if any.
 #[unsafe(no_mangle)]
 pub extern "C" fn antientropy_snapshot_free(alloc: Global, publication: &mut Publication)
@@ -80,7 +101,7 @@ pub extern "C" fn antientropy_snapshot_free(alloc: Global, publication: &mut Pub
 
 /// Writes the message of the offer with a number. Refused, in order: EMPTY, NoMemory, SMALL.
 #[unsafe(no_mangle)]
-#[tactic(auto, using(crate::proofs::OfferLaws::empty, crate::proofs::OfferLaws::held, crate::proofs::CallLaws::gives))]
+#[tactic(auto, using(crate::proofs::CallLaws::empty, crate::proofs::CallLaws::held, crate::proofs::CallLaws::gives))]
 pub extern "C" fn antientropy_offer(
     alloc: Global,
     publication: &mut Publication,
@@ -112,7 +133,7 @@ fn offer(alloc: Global, snapshot: &Snapshot, number: u32) -> Result<Text, Refusa
 /// Refused, in order: EMPTY, BadMessage (the bytes aren't an ask), Gone (the ask is for another offer), BadMessage (the
 /// tree has no such node), NoMemory, SMALL. If the bytes are an answer, NoMemory may replace BadMessage.
 #[unsafe(no_mangle)]
-#[tactic(auto, using(crate::proofs::OfferLaws::empty, crate::proofs::OfferLaws::held, crate::proofs::CallLaws::gives))]
+#[tactic(auto, using(crate::proofs::CallLaws::empty, crate::proofs::CallLaws::held, crate::proofs::CallLaws::gives))]
 pub extern "C" fn antientropy_serve(
     alloc: Global,
     publication: &mut Publication,

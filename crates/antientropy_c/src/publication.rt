@@ -24,6 +24,9 @@ impl Model for Publication {
     ghost also_owns = { λ h. publication_owns h.alloc h.held h.at h.rows };
 }
 
+// The allocator and the contents may go to another thread, and so may the handle.
+unsafe impl Send for Publication {}
+
 impl Publication {
     /// Makes an empty handle.
     fn none(alloc: Global) -> Publication

@@ -151,7 +151,7 @@ fn tell_accepted(told: &Result<Accepted, Refusal>, taken: &mut u64)
 }
 
 /// Returns the kind of a number. Refused: BadValue (it is neither 0 nor 1).
-fn kind_of(kind: u8) -> Result<Kind, Refusal>
+pub(crate) fn kind_of(kind: u8) -> Result<Kind, Refusal>
     ensures { AnswersAtOnce result (kind_fault kind) (λ k. k ≡ kind_numbered kind) }
 {
     match kind {

@@ -24,6 +24,9 @@ impl Model for Replica {
     ghost also_owns = { λ h. replica_owns h.alloc h.held h.at h.state };
 }
 
+// The allocator and the contents may go to another thread, and so may the handle.
+unsafe impl Send for Replica {}
+
 impl Replica {
     /// Makes an empty handle.
     fn none(alloc: Global) -> Replica

@@ -1,23 +1,22 @@
 //! Sessions with other replicas.
-ghost use Rattle.std.specs.Prelude.{◌≡◌, ℕ, Result};
+ghost use Rattle.std.specs.Prelude.{◌≡◌, ℕ, Result, Some, slice_get};
+ghost use Rattle.vclock.specs.Answer.{AnswersAtOnce};
 ghost use Rattle.vclock.specs.Outcome.{DoesAtOnce};
 ghost use Rattle.vclock.specs.declared.refusal.Refusal.{Refusal};
-ghost use Rattle.range_state.specs.Sessions.{cancel_session};
+ghost use Rattle.range_state.specs.Sessions.{cancel_session, unknown_fault};
 ghost use Rattle.range_state.specs.declared.event.AnswerTaken.{AnswerTaken};
 ghost use Rattle.antientropy_c.specs.Numbers.{Returns};
 ghost use Rattle.antientropy_c.specs.Calls.{Calls, Reads};
-ghost use Rattle.antientropy_c.specs.Hands.{HandsOutRight};
-ghost use Rattle.antientropy_c.specs.Sessions.{Opens, TellsNumber, Asks, TakesWith, TakesMessage, TellsTaken, number_of_state, session_seen};
+ghost use Rattle.antientropy_c.specs.Sessions.{Opens, TellsNumber, TakesWith, TakesMessage, TellsTaken, number_of_state, session_seen};
 
 use crate::numbers::{EMPTY, code};
-use crate::output::hand_out;
 use crate::replica::Replica;
-use hash_tree::{Text, hash};
-use range_state::{AnswerTaken, RangeState};
+use hash_tree::hash;
+use range_state::{AnswerTaken, RangeState, Record};
 use std::alloc::Global;
 use sync_session::SessionState;
 use vclock::Refusal;
-use walk_messages::{Answer, Ask, Message, decode, encode};
+use walk_messages::{Answer, Message, decode};
 
 /// Opens a session with a partner by the bytes of its offer, and stores the session's number, from 0.
 ///
@@ -77,44 +76,6 @@ pub(crate) fn tell_number(told: &Result<u64, Refusal>, out: &mut u64)
     if let Ok(number) = told {
         *out = *number;
     }
-}
-
-/// Writes the message that asks for the first outstanding node of a session, with the number of the partner's offer: no
-/// bytes if no node is outstanding. Refused, in order: EMPTY, UnknownSession, NoMemory, SMALL.
-#[unsafe(no_mangle)]
-#[tactic(auto, using(crate::proofs::CallLaws::empty, crate::proofs::CallLaws::held, crate::proofs::CallLaws::gives))]
-pub extern "C" fn antientropy_ask(
-    alloc: Global,
-    replica: &mut Replica,
-    session: u64,
-    number: u32,
-    out: &mut [u8],
-    need: &mut u64,
-) -> u32
-    ensures { Calls result replica.old replica.new (λ s t. (t ≡ s) × HandsOutRight result (need.old, out.old) (need.new, out.new)
-        (Asks s session number)) }
-{
-    let Some(state) = replica.take(alloc) else {
-        return EMPTY;
-    };
-    let told = ask(alloc, &state, session, number);
-    replica.hold(state);
-    hand_out(&told, out, need)
-}
-
-/// Writes the message that asks for the first outstanding node of a session.
-fn ask(alloc: Global, state: &RangeState, session: u64, number: u32) -> Result<Text, Refusal>
-    ensures { Asks state.now session number result }
-{
-    let Some(node) = state.outstanding(session)? else {
-        return Ok(Text::from(Vec::new(alloc)));
-    };
-    let ask = Ask {
-        offer: number,
-        node,
-    };
-    let bytes = encode(alloc, &Message::Ask(ask))?;
-    Ok(Text::from(bytes))
 }
 
 /// The receipt of an answer that a session took.
@@ -271,8 +232,16 @@ pub extern "C" fn antientropy_session(
 fn standing_of(state: &RangeState, session: u64) -> Result<u64, Refusal>
     ensures { result ≡ session_seen state.now session }
 {
-    if session >= state.records().len() as u64 {
-        return Err(Refusal::UnknownSession);
-    }
-    Ok(number_of(state.records()[session as usize].session().state()))
+    Ok(number_of(record_of(state, session)?.session().state()))
+}
+
+/// Returns the record of a session. Refused: UnknownSession.
+pub(crate) fn record_of(state: &RangeState, session: u64) -> Result<&Record, Refusal>
+    ensures { AnswersAtOnce result (unknown_fault state.now session)
+        (λ r. slice_get state.now.records session ≡ Some r.now) }
+{
+    state
+        .records()
+        .get(session as usize)
+        .ok_or(Refusal::UnknownSession)
 }

@@ -2,6 +2,7 @@ use Rattle.std.proofs.Common.{◌≡◌, ℕ, refl, subst}
 use Rattle.range_state.specs.State.{State}
 use Rattle.range_state.specs.Renewals.{renewed_by, renew_fault}
 use Rattle.antientropy_c.specs.declared.replica.Replica.{Replica}
+use Rattle.antientropy_c.specs.Calls.{replica_in}
 use Rattle.antientropy_c.specs.Makes.{Makes}
 use Rattle.antientropy_c.proofs.CallLaws.{held}
 use Rattle.antientropy_c.proofs.renewal.antientropy_renew.Goals as goal
@@ -17,4 +18,4 @@ returns c =
     let limit = c.args.limit in
     let s = c.in-Some.state.value in
     let made : Renews code into new limit s = subst (Renews code into new limit) c.deref.ensures c.renew-number.ensures in
-    held code c.args.from.now c.hold.new.self (λ a b. (b ≡ a) × Renews code into new limit a) s s c.in-Some.ensures.state.0 c.hold.ensures.held c.in-Some.ensures.state.1 c.hold.ensures.state (refl, made)
+    held code (replica_in c.args.from.now) (replica_in c.hold.new.self) (λ a b. (b ≡ a) × Renews code into new limit a) s s c.in-Some.ensures.state.0 c.hold.ensures.held c.in-Some.ensures.state.1 c.hold.ensures.state (refl, made)

@@ -1,0 +1,35 @@
+-- The nodes that a session has outstanding, for C.
+use Rattle.std.specs.Prelude.{◌≡◌, ℕ, List, [], length, slice_get, Option, Some, None, option_map, Result, Ok, Err, MatchOption}
+use Rattle.vclock.specs.Answer.{Answers}
+use Rattle.vclock.specs.declared.refusal.Refusal.{Refusal}
+use Rattle.vclock.specs.declared.refusal.Refusal.TheVariants.{UnknownSession}
+use Rattle.walk_messages.specs.Messages.{message_text}
+use Rattle.walk_messages.specs.declared.message.Message.TheVariants as messages
+use Rattle.hash_tree.specs.declared.node.NodeAt.{NodeAt}
+use Rattle.sync_session.specs.TreeNodes.{as_node}
+use Rattle.range_state.specs.State.{State}
+use Rattle.range_state.specs.Sessions.{unknown_fault}
+use Rattle.range_state.specs.declared.«record».Record.{Record}
+
+-- the number of nodes that a record's session has outstanding, if there is a record
+abbrev pub count_of : Option Record → Result ℕ Refusal
+count_of None = Err UnknownSession
+count_of (Some r) = Ok (length r.session.outstanding)
+
+abbrev pub outstanding_count : State → ℕ → Result ℕ Refusal
+outstanding_count s id = count_of (slice_get s.records id)
+
+-- the message that asks for a node, or no bytes
+abbrev pub asked_bytes : ℕ → Option NodeAt → List ℕ
+asked_bytes number None = []
+asked_bytes number (Some node) = message_text (messages.Ask (record { offer = number; node = node }))
+
+-- bytes that ask for the node that a session has outstanding at a place, counted from 0, if any
+pub record AsksNode (r : Record) (place number : ℕ) (bytes : List ℕ) : Type 0 where
+  pub node : Option NodeAt
+  pub is_there : option_map as_node node ≡ slice_get r.session.outstanding place
+  pub says : bytes ≡ asked_bytes number node
+
+-- bytes that ask for the node at a place of the session of that number
+abbrev pub Asks : State → ℕ → ℕ → ℕ → Result (List ℕ) Refusal → Type 0
+Asks s id place number r = Answers r (unknown_fault s id) (λ bytes. MatchOption (slice_get s.records id) ⊥ (λ kept. AsksNode kept place number bytes))

@@ -1,0 +1,128 @@
+//! Asks for the nodes that a session has outstanding.
+ghost use Rattle.std.specs.Prelude.{◌≡◌, ℕ, Result, option_map, slice_get, MatchOption};
+ghost use Rattle.vclock.specs.Answer.{AnswersAtOnce};
+ghost use Rattle.vclock.specs.declared.refusal.Refusal.{Refusal};
+ghost use Rattle.sync_session.specs.TreeNodes.{as_node};
+ghost use Rattle.range_state.specs.Sessions.{unknown_fault};
+ghost use Rattle.antientropy_c.specs.Asks.{outstanding_count, Asks};
+ghost use Rattle.antientropy_c.specs.Calls.{Calls};
+ghost use Rattle.antientropy_c.specs.Hands.{HandsOutRight};
+ghost use Rattle.antientropy_c.specs.Numbers.{Returns};
+ghost use Rattle.antientropy_c.specs.Sessions.{TellsNumber};
+
+use crate::numbers::{EMPTY, code};
+use crate::output::hand_out;
+use crate::replica::Replica;
+use crate::sessions::{record_of, tell_number};
+use hash_tree::{NodeAt, Text};
+use range_state::RangeState;
+use std::alloc::Global;
+use vclock::Refusal;
+use walk_messages::{Ask, Message, encode};
+
+/// Counts the nodes that a session has outstanding. Refused, in order: EMPTY, UnknownSession.
+#[unsafe(no_mangle)]
+#[tactic(auto, using(crate::proofs::CallLaws::empty, crate::proofs::CallLaws::held, crate::proofs::CallLaws::returns))]
+pub extern "C" fn antientropy_outstanding(
+    alloc: Global,
+    replica: &mut Replica,
+    session: u64,
+    count: &mut u64,
+) -> u32
+    ensures { Calls result replica.old replica.new (λ s t. (t ≡ s) × Returns result (λ (r : Result ℕ Refusal).
+        (r ≡ outstanding_count s session) × TellsNumber r count.old count.new)) }
+{
+    let Some(state) = replica.take(alloc) else {
+        return EMPTY;
+    };
+    let told = count_of(&state, session);
+    replica.hold(state);
+    tell_number(&told, count);
+    code(&told)
+}
+
+/// Counts the nodes that a session has outstanding. Refused: UnknownSession.
+fn count_of(state: &RangeState, session: u64) -> Result<u64, Refusal>
+    ensures { result ≡ outstanding_count state.now session }
+{
+    Ok(record_of(state, session)?.session().outstanding().len() as u64)
+}
+
+/// Writes the message that asks for the first outstanding node of a session, with the number of the partner's offer: no
+/// bytes if no node is outstanding. Refused, in order: EMPTY, UnknownSession, NoMemory, SMALL.
+#[unsafe(no_mangle)]
+#[tactic(auto, using(crate::proofs::CallLaws::empty, crate::proofs::CallLaws::held, crate::proofs::CallLaws::gives))]
+pub extern "C" fn antientropy_ask(
+    alloc: Global,
+    replica: &mut Replica,
+    session: u64,
+    number: u32,
+    out: &mut [u8],
+    need: &mut u64,
+) -> u32
+    ensures { Calls result replica.old replica.new (λ s t. (t ≡ s) × HandsOutRight result (need.old, out.old) (need.new, out.new)
+        (Asks s session 0 number)) }
+{
+    let Some(state) = replica.take(alloc) else {
+        return EMPTY;
+    };
+    let told = ask(alloc, &state, session, 0, number);
+    replica.hold(state);
+    hand_out(&told, out, need)
+}
+
+/// Writes the message that asks for one of the outstanding nodes of a session, by its place from 0 in the order in which
+/// the session asks: no bytes if fewer are outstanding. Refused, in order: EMPTY, UnknownSession, NoMemory, SMALL.
+#[unsafe(no_mangle)]
+#[tactic(auto, using(crate::proofs::CallLaws::empty, crate::proofs::CallLaws::held, crate::proofs::CallLaws::gives))]
+pub extern "C" fn antientropy_ask_at(
+    alloc: Global,
+    replica: &mut Replica,
+    session: u64,
+    place: u64,
+    number: u32,
+    out: &mut [u8],
+    need: &mut u64,
+) -> u32
+    ensures { Calls result replica.old replica.new (λ s t. (t ≡ s) × HandsOutRight result (need.old, out.old) (need.new, out.new)
+        (Asks s session place number)) }
+{
+    let Some(state) = replica.take(alloc) else {
+        return EMPTY;
+    };
+    let told = ask(alloc, &state, session, place, number);
+    replica.hold(state);
+    hand_out(&told, out, need)
+}
+
+/// Writes the message that asks for the node that a session has outstanding at a place, with the number of the partner's
+/// offer: no bytes if there is none.
+fn ask(
+    alloc: Global,
+    state: &RangeState,
+    session: u64,
+    place: u64,
+    number: u32,
+) -> Result<Text, Refusal>
+    ensures { Asks state.now session place number result }
+{
+    let Some(node) = node_at(state, session, place)? else {
+        return Ok(Text::from(Vec::new(alloc)));
+    };
+    let ask = Ask {
+        offer: number,
+        node,
+    };
+    let bytes = encode(alloc, &Message::Ask(ask))?;
+    Ok(Text::from(bytes))
+}
+
+/// Returns the node that a session has outstanding at a place, if any. Refused: UnknownSession.
+fn node_at(state: &RangeState, session: u64, place: u64) -> Result<Option<NodeAt>, Refusal>
+    ensures { AnswersAtOnce result (unknown_fault state.now session)
+        (λ node. MatchOption (slice_get state.now.records session) ⊥
+        (λ r. option_map as_node node ≡ slice_get r.session.outstanding place)) }
+{
+    let nodes = record_of(state, session)?.session().outstanding();
+    Ok(nodes.get(place as usize).copied())
+}

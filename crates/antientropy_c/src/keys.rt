@@ -1,0 +1,86 @@
+//! The keys of a leaf in order.
+ghost use Rattle.std.specs.Prelude.{◌≡◌, option_map};
+ghost use Rattle.row_bytes.specs.Rows.{is_before};
+ghost use Rattle.hash_tree.specs.Leaves.{AscendByKey};
+ghost use Rattle.antientropy_c.specs.Calls.{Calls};
+ghost use Rattle.antientropy_c.specs.Keys.{key_after, HandsKeyAfter};
+
+use crate::numbers::{EMPTY, NO_VERSION};
+use crate::output::copy_out;
+use crate::replica::Replica;
+use hash_tree::SharedLeaf;
+use key_ring::leaf_count;
+use range_state::RangeState;
+use row_bytes::Row;
+use std::alloc::Global;
+use std::cmp::Ordering;
+use vclock::Refusal;
+
+/// Copies out the least key of a leaf above a key: the first one, for a key of no bytes. Refused, in order: EMPTY,
+/// BadMessage (the tree has no such leaf), NO_VERSION (no key follows), SMALL.
+#[unsafe(no_mangle)]
+#[tactic(auto, using(crate::proofs::CallLaws::empty, crate::proofs::CallLaws::held))]
+pub extern "C" fn antientropy_key_after(
+    alloc: Global,
+    replica: &mut Replica,
+    leaf: u16,
+    key: &[u8],
+    out: &mut [u8],
+    need: &mut u64,
+) -> u32
+    ensures { Calls result replica.old replica.new (λ s t. (t ≡ s)
+        × HandsKeyAfter s leaf key.now result (need.old, out.old) (need.new, out.new)) }
+{
+    let Some(state) = replica.take(alloc) else {
+        return EMPTY;
+    };
+    let result = show_key_after(&state, leaf, key, out, need);
+    replica.hold(state);
+    result
+}
+
+/// Copies out the least key of a leaf above a key.
+fn show_key_after(state: &RangeState, leaf: u16, key: &[u8], out: &mut [u8], need: &mut u64) -> u32
+    ensures { HandsKeyAfter state.now leaf key.now result (need.old, out.old) (need.new, out.new) }
+{
+    if leaf >= leaf_count(state.config().format()) {
+        return Refusal::BadMessage.number() as u32;
+    }
+    match key_after(state.rows(leaf), key) {
+        Some(next) => copy_out(next, out, need),
+        None => NO_VERSION,
+    }
+}
+
+/// Returns the first key of a leaf above a key, if any. Of a run whose last key isn't above it, no other is read.
+fn key_after<'a>(leaf: &'a SharedLeaf, key: &[u8]) -> Option<&'a [u8]>
+    requires { AscendByKey leaf.now.rows }
+    ensures { option_map (λ k. k.now) result ≡ key_after key.now leaf.now.rows }
+{
+    let mut runs = leaf.runs();
+    while let Some(rows) = runs.next_run() {
+        if is_above(&rows[rows.len() - 1], key) {
+            return first_after(rows, key);
+        }
+    }
+    None
+}
+
+/// Returns the first key of rows above a key, if any.
+fn first_after<'a>(rows: &'a [Row], key: &[u8]) -> Option<&'a [u8]>
+    ensures { option_map (λ k. k.now) result ≡ key_after key.now rows.now }
+{
+    for row in rows {
+        if is_above(row, key) {
+            return Some(row.key.as_slice());
+        }
+    }
+    None
+}
+
+/// Returns true if the key of a row is above a key.
+fn is_above(row: &Row, key: &[u8]) -> bool
+    ensures { result ≡ is_before key.now row.now.key }
+{
+    key.cmp(row.key.as_slice()) == Ordering::Less
+}

@@ -1,0 +1,217 @@
+/* Each growth of memory in a run of the library is refused in turn. The call must return NO_MEMORY and leave the counts
+ * of the replicas as they were. Made again, it must do its work, so that each run gives the same bytes. It is linked
+ * with -Wl,--wrap=malloc,--wrap=realloc. It prints each call that was refused a growth, such as "antientropy_put
+ * NO_MEMORY", and the number of growths on standard error. It ends with status 1 if something differs. */
+#include "antientropy.h"
+
+#include <stdio.h>
+#include <stdlib.h>
+#include <string.h>
+
+enum { OFFER = 7, CALLS = 32, NAME = 40, LOG = 1 << 16, ROOM = 1 << 14, KEYS = 12 };
+
+/* Makes a call until it isn't refused for memory. */
+#define DO(name, got) \
+    do { \
+        uint32_t number; \
+        while (begin(), number = (got), refused(name, number)) \
+            ; \
+        add(&number, sizeof number); \
+    } while (0)
+
+void *__real_malloc(size_t size);
+void *__real_realloc(void *at, size_t size);
+void *__wrap_malloc(size_t size);
+void *__wrap_realloc(void *at, size_t size);
+
+/* Growths of this run so far, and the one that is refused: 0 for none. */
+static unsigned long growths, refuse;
+static int inside;
+
+static char seen[CALLS][NAME];
+static int seen_count;
+static uint8_t log_bytes[LOG], first_log[LOG], out[ROOM], text[ROOM];
+static size_t log_len, first_len;
+static struct antientropy a, b;
+static struct antientropy_hints hints;
+static struct counts {
+    struct antientropy_counts of[2];
+    struct antientropy_hint_counts hints;
+} before;
+static uint64_t need;
+
+void *__wrap_malloc(size_t size)
+{
+    return inside && ++growths == refuse ? NULL : __real_malloc(size);
+}
+
+void *__wrap_realloc(void *at, size_t size)
+{
+    return inside && ++growths == refuse ? NULL : __real_realloc(at, size);
+}
+
+static void fail(const char *what)
+{
+    printf("growth %lu: %s\n", refuse, what);
+    exit(1);
+}
+
+/* Adds bytes to the log of a run. */
+static void add(const void *bytes, size_t len)
+{
+    if (LOG - log_len < len)
+        fail("the log is full");
+    memcpy(log_bytes + log_len, bytes, len);
+    log_len += len;
+}
+
+/* The counts of both replicas and of the hints. What is empty has none. */
+static void count(struct counts *counts)
+{
+    memset(counts, 0, sizeof *counts);
+    antientropy_count(&a, &counts->of[0]);
+    antientropy_count(&b, &counts->of[1]);
+    antientropy_hints_count(&hints, &counts->hints);
+}
+
+static void begin(void)
+{
+    count(&before);
+    inside = 1;
+}
+
+/* True if a call was refused for memory. The counts must be as before: only a rehash may have made nodes clean. */
+static int refused(const char *name, uint32_t number)
+{
+    struct counts now;
+    inside = 0;
+    if (number != ANTIENTROPY_NO_MEMORY)
+        return 0;
+    count(&now);
+    if (strcmp(name, "antientropy_rehash") == 0)
+        for (int n = 0; n < 2; n++)
+            now.of[n].dirty = before.of[n].dirty;
+    if (memcmp(&now, &before, sizeof now) != 0)
+        fail(name);
+    int n = 0;
+    while (n < seen_count && strcmp(seen[n], name) != 0)
+        n++;
+    if (n == seen_count)
+        strcpy(seen[seen_count++], name);
+    return 1;
+}
+
+/* Puts a value for a key, with a context of the pairs. */
+static void put(struct antientropy *replica, uint16_t node, int key, const struct antientropy_pair *context, size_t len)
+{
+    struct antientropy_receipt receipt;
+    uint8_t name[2] = {'k', (uint8_t)key};
+    DO("antientropy_put", antientropy_put(replica, node, name, 2, context, len, ANTIENTROPY_LIVE,
+                                          (const uint8_t *)"a value of more than 14 bytes", 29, &receipt));
+    add(&receipt, sizeof receipt);
+}
+
+/* Lets replica b take what replica a has. */
+static void sync(void)
+{
+    struct antientropy_snapshot snapshot = {0};
+    struct antientropy_offer_parts parts;
+    struct antientropy_taken taken = {0};
+    uint8_t ask[ANTIENTROPY_ASK_LEN], offer[ANTIENTROPY_OFFER_LEN];
+    uint64_t session, len;
+    DO("antientropy_rehash", antientropy_rehash(&a));
+    DO("antientropy_rehash", antientropy_rehash(&b));
+    DO("antientropy_snapshot", antientropy_snapshot(&a, &snapshot));
+    DO("antientropy_offer", antientropy_offer(&snapshot, OFFER, offer, sizeof offer, &len));
+    DO("antientropy_read_offer", antientropy_read_offer(offer, sizeof offer, &parts));
+    DO("antientropy_open", antientropy_open(&b, 1, offer, sizeof offer, &session));
+    for (int turn = 0;; turn++) {
+        DO("antientropy_ask", antientropy_ask(&b, session, OFFER, ask, sizeof ask, &len));
+        DO("antientropy_ask_at", antientropy_ask_at(&b, session, 1, OFFER, out, ROOM, &need));
+        if (len == 0)
+            break;
+        DO("antientropy_serve", antientropy_serve(&snapshot, OFFER, ask, len, out, ROOM, &need));
+        if (turn == 0)
+            DO("antientropy_read_offer", antientropy_read_offer(out, need, &parts));
+        DO("antientropy_take", antientropy_take(&b, session, OFFER, out, need, &taken));
+        add(&taken, sizeof taken);
+    }
+    for (uint16_t leaf = 0; leaf < ANTIENTROPY_LEAVES_1; leaf++) {
+        DO("antientropy_rows", antientropy_rows(&snapshot, leaf, out, ROOM, &need));
+        add(out, need);
+    }
+    antientropy_snapshot_free(&snapshot);
+}
+
+/* Keeps hints, renews them, and makes slots. */
+static void keep_hints(const struct antientropy_pair *clock, size_t len)
+{
+    struct antientropy_slots slots = {0};
+    uint64_t id;
+    DO("antientropy_hints_new", antientropy_hints_new(&hints));
+    for (int n = 0; n < KEYS; n++)
+        DO("antientropy_hint_keep",
+           antientropy_hint_keep(&hints, 2, (const uint8_t *)"key", 3, clock, len, ANTIENTROPY_LIVE,
+                                 (const uint8_t *)"a value of more than 14 bytes", 29, &id));
+    DO("antientropy_hint_confirm", antientropy_hint_confirm(&hints, 1, false));
+    DO("antientropy_hints_renew", antientropy_hints_renew(&hints));
+    DO("antientropy_slots_new", antientropy_slots_new(&slots, 1, 4, 1000));
+    antientropy_slots_free(&slots);
+}
+
+/* One run: puts at both, copies, a sync, reads, a renewal, loads, a migration, hints. */
+static void run(void)
+{
+    struct antientropy_pair six[6] = {{1, 1}, {2, 1}, {3, 1}, {4, 1}, {5, 1}, {6, 1}}, merged[ANTIENTROPY_CLOCK_MAX];
+    struct antientropy_loaded loaded;
+    struct antientropy renewed = {0};
+    uint8_t key[2] = {'k', 0};
+    uint64_t taken, order;
+    log_len = 0;
+    growths = 0;
+    DO("antientropy_new", antientropy_new(&a, 1, 0, 0, 1000));
+    DO("antientropy_new", antientropy_new(&b, 1, 0, 0, 1000));
+    for (int n = 0; n < KEYS; n++)
+        put(n % 3 ? &a : &b, n % 3 ? 1 : 2, n / 2, six + 2, n % 5);
+    DO("antientropy_accept", antientropy_accept(&b, key, 2, six, 6, ANTIENTROPY_LIVE, key, 2, &taken));
+    sync();
+    DO("antientropy_compare", antientropy_compare(six, 6, six + 1, 5, &order));
+    DO("antientropy_merge", antientropy_merge(six, 6, six + 1, 5, merged, ANTIENTROPY_CLOCK_MAX, &need));
+    add(merged, need * sizeof *merged);
+    DO("antientropy_renew", antientropy_renew(&b, &renewed, 1000));
+    antientropy_free(&renewed);
+    for (int n = 0; n < KEYS / 2; n++) {
+        key[1] = (uint8_t)n;
+        DO("antientropy_get", antientropy_get(&b, key, 2, text, ROOM, &need));
+        add(text, need);
+        DO("antientropy_load", antientropy_load(&a, text, need, &loaded));
+        add(&loaded, 2 * sizeof loaded.taken);
+    }
+    DO("antientropy_migrate", antientropy_migrate(&a));
+    keep_hints(six, 6);
+    count(&before);
+    add(&before, sizeof before);
+    antientropy_free(&a);
+    antientropy_free(&b);
+    antientropy_hints_free(&hints);
+}
+
+int main(void)
+{
+    unsigned long total;
+    run();
+    total = growths;
+    memcpy(first_log, log_bytes, log_len);
+    first_len = log_len;
+    for (refuse = 1; refuse <= total; refuse++) {
+        run();
+        if (log_len != first_len || memcmp(log_bytes, first_log, log_len) != 0)
+            fail("another result");
+        if (growths <= total)
+            fail("no call was made again");
+    }
+    for (int n = 0; n < seen_count; n++)
+        printf("%s NO_MEMORY\n", seen[n]);
+    fprintf(stderr, "%lu growths refused\n", total);
+    return 0;
+}

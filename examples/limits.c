@@ -1,0 +1,133 @@
+/* The limits of the header, compared with what the library takes and refuses. It ends with status 1 if one is wrong. */
+#include "antientropy.h"
+
+#include <stdio.h>
+#include <stdlib.h>
+#include <string.h>
+
+enum { PAIRS = ANTIENTROPY_CLOCK_MAX, MANY = ANTIENTROPY_VERSIONS_MAX };
+
+static uint8_t bytes[ANTIENTROPY_ROW_MAX + 1], value[ANTIENTROPY_VALUE_MAX_2 + 1];
+static uint64_t len, taken;
+
+/* Ends the program if something isn't as the header says. */
+static void is(const char *what, int holds)
+{
+    if (!holds) {
+        printf("%s\n", what);
+        exit(1);
+    }
+}
+
+/* Accepts a version of a key of so many bytes, with a value of so many. */
+static uint32_t accept(struct antientropy *replica, size_t key_len, const struct antientropy_pair *clock, size_t pairs,
+                       size_t value_len)
+{
+    return antientropy_accept(replica, value, key_len, clock, pairs, ANTIENTROPY_LIVE, value, value_len, &taken);
+}
+
+/* Replicas of both formats: lengths, leaves, nodes. */
+static void formats(void)
+{
+    static const size_t values[] = {ANTIENTROPY_VALUE_MAX_1, ANTIENTROPY_VALUE_MAX_2};
+    static const uint16_t leaves[] = {ANTIENTROPY_LEAVES_1, ANTIENTROPY_LEAVES_2};
+    static const uint64_t nodes[] = {ANTIENTROPY_NODES_1, ANTIENTROPY_NODES_2};
+    for (int n = 0; n < 2; n++) {
+        struct antientropy replica = {0};
+        struct antientropy_pair pair = {ANTIENTROPY_NODE_MAX, 1}, over = {ANTIENTROPY_NODE_MAX + 1, 1};
+        struct antientropy_counts counts;
+        is("new", antientropy_new(&replica, n + 1, 0, 0, ANTIENTROPY_ENTRIES_MAX) == ANTIENTROPY_OK);
+        is("NODES", antientropy_count(&replica, &counts) == ANTIENTROPY_OK && counts.dirty == nodes[n]);
+        is("ENTRIES_MAX", counts.limit == ANTIENTROPY_ENTRIES_MAX);
+        is("KEY_MAX", accept(&replica, ANTIENTROPY_KEY_MAX, &pair, 1, 1) == ANTIENTROPY_OK);
+        is("KEY_MAX + 1", accept(&replica, ANTIENTROPY_KEY_MAX + 1, &pair, 1, 1) == ANTIENTROPY_BAD_KEY);
+        is("VALUE_MAX", accept(&replica, 1, &pair, 1, values[n]) == ANTIENTROPY_OK);
+        is("VALUE_MAX + 1", accept(&replica, 1, &pair, 1, values[n] + 1) == ANTIENTROPY_BAD_VALUE);
+        is("NODE_MAX + 1", accept(&replica, 1, &over, 1, 1) == ANTIENTROPY_BAD_CLOCK);
+        uint32_t last = antientropy_key_after(&replica, leaves[n] - 1, bytes, 0, bytes, sizeof bytes, &len);
+        uint32_t beyond = antientropy_key_after(&replica, leaves[n], bytes, 0, bytes, sizeof bytes, &len);
+        is("LEAVES", last == ANTIENTROPY_OK || last == ANTIENTROPY_NO_VERSION);
+        is("LEAVES + 1", beyond == ANTIENTROPY_BAD_MESSAGE);
+        antientropy_free(&replica);
+    }
+}
+
+/* The greatest row: a key of 255 bytes with 64 versions, each with a clock of 32 pairs and the longest value. */
+static void greatest_row(void)
+{
+    struct antientropy replica = {0};
+    struct antientropy_pair clock[PAIRS + 1];
+    is("new", antientropy_new(&replica, 2, 0, 0, 1000) == ANTIENTROPY_OK);
+    for (unsigned n = 0; n < MANY; n++) {
+        for (unsigned p = 0; p <= PAIRS; p++)
+            clock[p] = (struct antientropy_pair){n * (PAIRS + 1) + p + 1, 1};
+        is("CLOCK_MAX + 1", accept(&replica, 1, clock, PAIRS + 1, 1) == ANTIENTROPY_CLOCK_FULL);
+        is("CLOCK_MAX", accept(&replica, ANTIENTROPY_KEY_MAX, clock, PAIRS, ANTIENTROPY_VALUE_MAX_2) == ANTIENTROPY_OK);
+    }
+    clock[0].node = ANTIENTROPY_NODE_MAX;
+    is("VERSIONS_MAX + 1", accept(&replica, ANTIENTROPY_KEY_MAX, clock, 1, 1) == ANTIENTROPY_CROWDED);
+    is("ROW_MAX", antientropy_get(&replica, value, ANTIENTROPY_KEY_MAX, bytes, sizeof bytes, &len) == ANTIENTROPY_OK
+                      && len == ANTIENTROPY_ROW_MAX);
+    antientropy_free(&replica);
+}
+
+/* The lengths of messages, and the numbers of sessions. */
+static void sessions(void)
+{
+    struct antientropy replica = {0}, other = {0};
+    struct antientropy_snapshot snapshot = {0};
+    struct antientropy_pair pair = {1, 1};
+    uint8_t offer[ANTIENTROPY_OFFER_LEN];
+    struct antientropy_spot spot;
+    uint64_t session = 0;
+    is("place", antientropy_place(1, ANTIENTROPY_BITS_MAX, value, 1, &spot) == ANTIENTROPY_OK);
+    is("new", antientropy_new(&replica, 1, ANTIENTROPY_BITS_MAX, spot.range, 1000) == ANTIENTROPY_OK);
+    is("new", antientropy_new(&other, 1, ANTIENTROPY_BITS_MAX, spot.range, 1000) == ANTIENTROPY_OK);
+    is("accept", accept(&other, 1, &pair, 1, 1) == ANTIENTROPY_OK);
+    is("rehash", antientropy_rehash(&replica) == ANTIENTROPY_OK && antientropy_rehash(&other) == ANTIENTROPY_OK);
+    is("snapshot", antientropy_snapshot(&other, &snapshot) == ANTIENTROPY_OK);
+    is("root", antientropy_root(&snapshot, bytes, sizeof bytes, &len) == ANTIENTROPY_OK);
+    is("ROOT_LEN", len == ANTIENTROPY_ROOT_LEN);
+    is("offer", antientropy_offer(&snapshot, 1, offer, sizeof offer, &len) == ANTIENTROPY_OK);
+    is("OFFER_LEN", len == ANTIENTROPY_OFFER_LEN);
+    for (unsigned n = 0; n < ANTIENTROPY_SESSIONS_MAX; n++) {
+        is("SESSIONS_MAX", antientropy_open(&replica, 1, offer, sizeof offer, &session) == ANTIENTROPY_OK);
+        if (n == ANTIENTROPY_OPEN_SESSIONS_MAX - 1)
+            is("OPEN_SESSIONS_MAX + 1",
+               antientropy_open(&replica, 1, offer, sizeof offer, &session) == ANTIENTROPY_SESSIONS_FULL);
+        if (n >= ANTIENTROPY_OPEN_SESSIONS_MAX - 1)
+            is("cancel", antientropy_cancel(&replica, n) == ANTIENTROPY_OK);
+    }
+    is("SESSIONS_MAX + 1", antientropy_open(&replica, 1, offer, sizeof offer, &session) == ANTIENTROPY_SESSIONS_FULL);
+    is("ask", antientropy_ask(&replica, 0, 1, bytes, sizeof bytes, &len) == ANTIENTROPY_OK);
+    is("ASK_LEN", len == ANTIENTROPY_ASK_LEN);
+    antientropy_snapshot_free(&snapshot);
+    antientropy_free(&replica);
+    antientropy_free(&other);
+}
+
+/* The version and the names. */
+static void names(void)
+{
+    uint64_t longest = 0;
+    is("VERSION", antientropy_version() == ANTIENTROPY_VERSION);
+    for (uint32_t number = 0; number <= ANTIENTROPY_NO_VERSION; number++) {
+        is("name", antientropy_name(number, bytes, sizeof bytes, &len) == ANTIENTROPY_OK && len > 0);
+        longest = len > longest ? len : longest;
+    }
+    is("NAME_MAX", longest == ANTIENTROPY_NAME_MAX);
+    is("a number without a name",
+       antientropy_name(ANTIENTROPY_NO_VERSION + 1, bytes, sizeof bytes, &len) == ANTIENTROPY_OK && len == 0);
+    is("BAD_KEY", antientropy_name(ANTIENTROPY_BAD_KEY, bytes, sizeof bytes, &len) == ANTIENTROPY_OK && len == 6
+                      && memcmp(bytes, "BadKey", 6) == 0);
+}
+
+int main(void)
+{
+    formats();
+    greatest_row();
+    sessions();
+    names();
+    printf("the header's limits are the library's\n");
+    return 0;
+}

@@ -1,0 +1,412 @@
+/* Each number that a call of the header can return for a refusal, but NO_MEMORY: for that there is growths.c. It prints
+ * a line for each, such as "antientropy_put BAD_KEY", and check_c compares these with the header's lists. It ends with
+ * status 1 if a call returns another number than the one wanted. */
+#include "antientropy.h"
+
+#include <stdio.h>
+#include <stdlib.h>
+#include <string.h>
+
+enum { OFFER = 7, OTHER_OFFER = 8, PAIRS = ANTIENTROPY_CLOCK_MAX + 1, ANSWER_HEAD = 16, ROOM = 1 << 16 };
+
+#define SEE(name, number, got) see("antientropy_" #name, #number, got, ANTIENTROPY_##number)
+#define OK(got) ok(#got, got)
+
+/* SHA-256 of the text "abc" (FIPS 180-4). */
+static const uint8_t ABC_DIGEST[32] = {0xba, 0x78, 0x16, 0xbf, 0x8f, 0x01, 0xcf, 0xea, 0x41, 0x41, 0x40,
+                                       0xde, 0x5d, 0xae, 0x22, 0x23, 0xb0, 0x03, 0x61, 0xa3, 0x96, 0x17,
+                                       0x7a, 0x9c, 0xb4, 0x10, 0xff, 0x61, 0xf2, 0x00, 0x15, 0xad};
+
+static const uint8_t KEY[] = "cart", VALUE[] = "milk";
+static uint8_t LONG[ANTIENTROPY_VALUE_MAX_2 + 1], out[ROOM];
+static struct antientropy_pair many[PAIRS], pairs[ANTIENTROPY_CLOCK_MAX];
+static struct antientropy none, made;
+static struct antientropy_snapshot nothing;
+static uint64_t need;
+
+/* Prints a refusal, or ends the program if it is another. */
+static void see(const char *call, const char *number, uint32_t got, uint32_t wanted)
+{
+    if (got != wanted) {
+        printf("%s returned %u, not %s\n", call, got, number);
+        exit(1);
+    }
+    printf("%s %s\n", call, number);
+}
+
+/* Ends the program if a call was refused. */
+static void ok(const char *call, uint32_t got)
+{
+    if (got != ANTIENTROPY_OK) {
+        printf("%s returned %u\n", call, got);
+        exit(1);
+    }
+}
+
+/* Accepts versions of a key, each with a clock of its own node. */
+static void accept(struct antientropy *replica, unsigned first, unsigned count)
+{
+    for (unsigned n = 0; n < count; n++) {
+        struct antientropy_pair pair = {first + n, 1};
+        uint64_t taken;
+        OK(antientropy_accept(replica, KEY, 4, &pair, 1, ANTIENTROPY_LIVE, VALUE, 4, &taken));
+    }
+}
+
+/* A key of the other one of two ranges. */
+static uint8_t key_of_range_1(void)
+{
+    struct antientropy_spot spot;
+    for (uint8_t key = 1;; key++) {
+        OK(antientropy_place(1, 1, &key, 1, &spot));
+        if (spot.range == 1)
+            return key;
+    }
+}
+
+static void makes(void)
+{
+    struct antientropy into = {0}, full = {0};
+    struct antientropy_counts counts;
+    OK(antientropy_new(&made, 2, 0, 0, 1000));
+    OK(antientropy_new(&full, 2, 0, 0, 1000));
+    accept(&made, 1, 2);
+    SEE(new, HELD, antientropy_new(&made, 2, 0, 0, 1000));
+    SEE(new, BAD_RING, antientropy_new(&none, 3, 0, 0, 1000));
+    SEE(new, BAD_RING, antientropy_new(&none, 1, ANTIENTROPY_BITS_MAX + 1, 0, 1000));
+    SEE(new, BAD_RING, antientropy_new(&none, 1, 1, 2, 1000));
+    SEE(new, BAD_RING, antientropy_new(&none, 1, 0, 0, 0));
+    SEE(new, BAD_RING, antientropy_new(&none, 1, 0, 0, ANTIENTROPY_ENTRIES_MAX + 1));
+    SEE(renew, EMPTY, antientropy_renew(&none, &into, 1000));
+    SEE(renew, HELD, antientropy_renew(&made, &full, 1000));
+    SEE(renew, BAD_RING, antientropy_renew(&made, &into, 0));
+    SEE(renew, JOURNAL_FULL, antientropy_renew(&made, &into, 1));
+    antientropy_free(&full);
+    SEE(migrate, EMPTY, antientropy_migrate(&none));
+    SEE(count, EMPTY, antientropy_count(&none, &counts));
+    SEE(rehash, EMPTY, antientropy_rehash(&none));
+}
+
+static uint32_t put(struct antientropy *replica, uint16_t node, const uint8_t *key, size_t key_len, size_t context_len,
+                    uint8_t kind, size_t value_len)
+{
+    struct antientropy_receipt receipt;
+    return antientropy_put(replica, node, key, key_len, many, context_len, kind, LONG, value_len, &receipt);
+}
+
+static void puts_and_accepts(void)
+{
+    struct antientropy half = {0}, full = {0};
+    struct antientropy_pair top = {1, UINT64_MAX}, twice[2] = {{1, 1}, {1, 2}}, far = {1000, 1};
+    uint8_t other = key_of_range_1();
+    uint64_t taken;
+    OK(antientropy_new(&half, 1, 1, 0, 1));
+    OK(antientropy_new(&full, 2, 0, 0, ANTIENTROPY_VERSIONS_MAX + 1));
+    accept(&full, 1, ANTIENTROPY_VERSIONS_MAX);
+    SEE(put, EMPTY, put(&none, 1, KEY, 4, 0, ANTIENTROPY_LIVE, 1));
+    SEE(put, BAD_CLOCK, put(&made, 0, KEY, 4, 0, ANTIENTROPY_LIVE, 1));
+    SEE(put, CLOCK_FULL, put(&made, 1, KEY, 4, PAIRS, ANTIENTROPY_LIVE, 1));
+    SEE(put, BAD_VALUE, put(&made, 1, KEY, 4, 0, 2, 1));
+    SEE(put, BAD_KEY, put(&made, 1, KEY, 0, 0, ANTIENTROPY_LIVE, 1));
+    SEE(put, BAD_VALUE, put(&made, 1, KEY, 4, 0, ANTIENTROPY_LIVE, ANTIENTROPY_VALUE_MAX_2 + 1));
+    SEE(put, BAD_VALUE, put(&made, 1, KEY, 4, 0, ANTIENTROPY_TOMBSTONE, 1));
+    SEE(put, OTHER_RANGE, put(&half, 1, &other, 1, 0, ANTIENTROPY_LIVE, 1));
+    SEE(put, CLOCK_FULL, put(&made, PAIRS, KEY, 4, ANTIENTROPY_CLOCK_MAX, ANTIENTROPY_LIVE, 1));
+    struct antientropy_receipt receipt;
+    SEE(put, COUNTER_FULL, antientropy_put(&made, 1, KEY, 4, &top, 1, ANTIENTROPY_LIVE, VALUE, 4, &receipt));
+    SEE(put, STALE_CONTEXT, put(&made, 1, KEY, 4, 0, ANTIENTROPY_LIVE, 1));
+    SEE(put, CROWDED, put(&full, 1000, KEY, 4, 0, ANTIENTROPY_LIVE, 1));
+    OK(put(&full, 1000, LONG, 1, 0, ANTIENTROPY_LIVE, 1));
+    SEE(put, JOURNAL_FULL, put(&full, 1001, LONG, 1, 0, ANTIENTROPY_LIVE, 1));
+    SEE(accept, EMPTY, antientropy_accept(&none, KEY, 4, many, 1, 0, VALUE, 4, &taken));
+    SEE(accept, BAD_CLOCK, antientropy_accept(&made, KEY, 4, twice, 2, 0, VALUE, 4, &taken));
+    SEE(accept, CLOCK_FULL, antientropy_accept(&made, KEY, 4, many, PAIRS, 0, VALUE, 4, &taken));
+    SEE(accept, BAD_VALUE, antientropy_accept(&made, KEY, 4, many, 1, 2, VALUE, 4, &taken));
+    SEE(accept, BAD_KEY, antientropy_accept(&made, LONG, ANTIENTROPY_KEY_MAX + 1, many, 1, 0, VALUE, 4, &taken));
+    SEE(accept, OTHER_RANGE, antientropy_accept(&half, &other, 1, many, 1, 0, VALUE, 4, &taken));
+    SEE(accept, CROWDED, antientropy_accept(&full, KEY, 4, &far, 1, 0, VALUE, 4, &taken));
+    SEE(accept, JOURNAL_FULL, antientropy_accept(&full, VALUE, 4, many, 1, 0, VALUE, 4, &taken));
+    antientropy_free(&half);
+    antientropy_free(&full);
+}
+
+static void reads(void)
+{
+    struct antientropy_reading reading;
+    uint64_t count, source;
+    uint8_t kind;
+    SEE(get, EMPTY, antientropy_get(&none, KEY, 4, out, ROOM, &need));
+    SEE(get, BAD_KEY, antientropy_get(&made, KEY, 0, out, ROOM, &need));
+    SEE(get, SMALL, antientropy_get(&made, KEY, 4, out, 1, &need));
+    SEE(versions, EMPTY, antientropy_versions(&none, KEY, 4, &count));
+    SEE(value, EMPTY, antientropy_value(&none, KEY, 4, 0, &kind, out, ROOM, &need));
+    SEE(value, NO_VERSION, antientropy_value(&made, KEY, 4, 2, &kind, out, ROOM, &need));
+    SEE(value, SMALL, antientropy_value(&made, KEY, 4, 0, &kind, out, 3, &need));
+    SEE(clock, EMPTY, antientropy_clock(&none, KEY, 4, 0, pairs, 32, &need));
+    SEE(clock, NO_VERSION, antientropy_clock(&made, KEY, 4, 2, pairs, 32, &need));
+    SEE(clock, SMALL, antientropy_clock(&made, KEY, 4, 0, pairs, 0, &need));
+    SEE(read, EMPTY, antientropy_read(&none, KEY, 4, 0, &reading, pairs, 32, out, ROOM));
+    SEE(read, NO_VERSION, antientropy_read(&made, KEY, 4, 2, &reading, pairs, 32, out, ROOM));
+    SEE(read, SMALL, antientropy_read(&made, KEY, 4, 0, &reading, pairs, 0, out, ROOM));
+    SEE(read, SMALL, antientropy_read(&made, KEY, 4, 0, &reading, pairs, 32, out, 3));
+    struct antientropy_spot spot;
+    OK(antientropy_place(2, 0, KEY, 4, &spot));
+    SEE(key_after, EMPTY, antientropy_key_after(&none, (uint16_t)spot.leaf, KEY, 0, out, ROOM, &need));
+    SEE(key_after, BAD_MESSAGE, antientropy_key_after(&made, ANTIENTROPY_LEAVES_2, KEY, 0, out, ROOM, &need));
+    SEE(key_after, NO_VERSION, antientropy_key_after(&made, (uint16_t)spot.leaf, KEY, 4, out, ROOM, &need));
+    SEE(key_after, SMALL, antientropy_key_after(&made, (uint16_t)spot.leaf, KEY, 0, out, 3, &need));
+    SEE(entry_key, EMPTY, antientropy_entry_key(&none, 0, out, ROOM, &need));
+    SEE(entry_key, NO_VERSION, antientropy_entry_key(&made, 2, out, ROOM, &need));
+    SEE(entry_key, SMALL, antientropy_entry_key(&made, 0, out, 3, &need));
+    SEE(entry_value, EMPTY, antientropy_entry_value(&none, 0, &kind, out, ROOM, &need));
+    SEE(entry_value, NO_VERSION, antientropy_entry_value(&made, 2, &kind, out, ROOM, &need));
+    SEE(entry_value, SMALL, antientropy_entry_value(&made, 0, &kind, out, 3, &need));
+    SEE(entry_clock, EMPTY, antientropy_entry_clock(&none, 0, pairs, 32, &need));
+    SEE(entry_clock, NO_VERSION, antientropy_entry_clock(&made, 2, pairs, 32, &need));
+    SEE(entry_clock, SMALL, antientropy_entry_clock(&made, 0, pairs, 0, &need));
+    SEE(entry_source, EMPTY, antientropy_entry_source(&none, 0, &source));
+    SEE(entry_source, NO_VERSION, antientropy_entry_source(&made, 2, &source));
+}
+
+static void clocks(void)
+{
+    struct antientropy_pair zero = {0, 1};
+    struct antientropy_spot spot;
+    uint64_t order;
+    SEE(compare, BAD_CLOCK, antientropy_compare(many, 1, &zero, 1, &order));
+    SEE(compare, CLOCK_FULL, antientropy_compare(many, PAIRS, many, 1, &order));
+    SEE(merge, BAD_CLOCK, antientropy_merge(&zero, 1, many, 1, pairs, 32, &need));
+    SEE(merge, CLOCK_FULL, antientropy_merge(many, 1, many, PAIRS, pairs, 32, &need));
+    SEE(merge, CLOCK_FULL, antientropy_merge(many, 32, many + 32, 1, pairs, 32, &need));
+    SEE(merge, SMALL, antientropy_merge(many, 1, many, 2, pairs, 1, &need));
+    SEE(name, SMALL, antientropy_name(ANTIENTROPY_BAD_KEY, out, 5, &need));
+    SEE(place, BAD_RING, antientropy_place(3, 0, KEY, 4, &spot));
+    SEE(place, BAD_RING, antientropy_place(1, ANTIENTROPY_BITS_MAX + 1, KEY, 4, &spot));
+    SEE(place, BAD_KEY, antientropy_place(1, 0, KEY, 0, &spot));
+}
+
+/* The message that offers a replica's rows now. */
+static void offer_now(struct antientropy *replica, struct antientropy_snapshot *snapshot, uint8_t *offer)
+{
+    OK(antientropy_rehash(replica));
+    OK(antientropy_snapshot(replica, snapshot));
+    OK(antientropy_offer(snapshot, OFFER, offer, ANTIENTROPY_OFFER_LEN, &need));
+}
+
+static void snapshots_and_loads(void)
+{
+    struct antientropy_snapshot snapshot = {0};
+    struct antientropy_offer_parts parts;
+    struct antientropy_loaded loaded;
+    struct antientropy half = {0}, full = {0}, small = {0};
+    uint8_t offer[ANTIENTROPY_OFFER_LEN], ask[ANTIENTROPY_ASK_LEN] = {2, 0, 0, 0, OFFER, 0, 0, 0}, row[ROOM];
+    uint64_t row_len;
+    SEE(snapshot, DIRTY, antientropy_snapshot(&made, &snapshot));
+    offer_now(&made, &snapshot, offer);
+    SEE(snapshot, EMPTY, antientropy_snapshot(&none, &nothing));
+    SEE(snapshot, HELD, antientropy_snapshot(&made, &snapshot));
+    SEE(root, EMPTY, antientropy_root(&nothing, out, ROOM, &need));
+    SEE(root, SMALL, antientropy_root(&snapshot, out, ANTIENTROPY_ROOT_LEN - 1, &need));
+    SEE(offer, EMPTY, antientropy_offer(&nothing, OFFER, out, ROOM, &need));
+    SEE(offer, SMALL, antientropy_offer(&snapshot, OFFER, out, ANTIENTROPY_OFFER_LEN - 1, &need));
+    SEE(read_offer, BAD_MESSAGE, antientropy_read_offer(ask, sizeof ask, &parts));
+    SEE(serve, EMPTY, antientropy_serve(&nothing, OFFER, ask, sizeof ask, out, ROOM, &need));
+    SEE(serve, BAD_MESSAGE, antientropy_serve(&snapshot, OFFER, offer, sizeof offer, out, ROOM, &need));
+    SEE(serve, GONE, antientropy_serve(&snapshot, OTHER_OFFER, ask, sizeof ask, out, ROOM, &need));
+    SEE(serve, SMALL, antientropy_serve(&snapshot, OFFER, ask, sizeof ask, out, 1, &need));
+    SEE(rows, EMPTY, antientropy_rows(&nothing, 0, out, ROOM, &need));
+    SEE(rows, BAD_MESSAGE, antientropy_rows(&snapshot, ANTIENTROPY_LEAVES_2, out, ROOM, &need));
+    struct antientropy_spot spot;
+    OK(antientropy_place(2, 0, KEY, 4, &spot));
+    SEE(rows, SMALL, antientropy_rows(&snapshot, (uint16_t)spot.leaf, out, 1, &need));
+    antientropy_snapshot_free(&snapshot);
+
+    OK(antientropy_get(&made, KEY, 4, row, ROOM, &row_len));
+    OK(antientropy_new(&half, 2, 1, 0, 1000));
+    OK(antientropy_new(&full, 2, 0, 0, 1000));
+    OK(antientropy_new(&small, 2, 0, 0, 1));
+    OK(antientropy_place(2, 1, KEY, 4, &spot));
+    if (spot.range == 0) {
+        antientropy_free(&half);
+        OK(antientropy_new(&half, 2, 1, 1, 1000));
+    }
+    accept(&full, 100, ANTIENTROPY_VERSIONS_MAX);
+    SEE(load, EMPTY, antientropy_load(&none, row, row_len, &loaded));
+    SEE(load, ROW_BROKEN, antientropy_load(&made, row, row_len - 1, &loaded));
+    SEE(load, OTHER_RANGE, antientropy_load(&half, row, row_len, &loaded));
+    SEE(load, CROWDED, antientropy_load(&full, row, row_len, &loaded));
+    SEE(load, JOURNAL_FULL, antientropy_load(&small, row, row_len, &loaded));
+    antientropy_free(&half);
+    antientropy_free(&full);
+    antientropy_free(&small);
+}
+
+/* The bytes of an answer for the root. */
+static size_t root_answer(uint8_t *answer, const char *text)
+{
+    uint8_t head[ANSWER_HEAD] = {3, 0, 0, 0, OFFER, 0, 0, 0};
+    head[ANSWER_HEAD - 1] = (uint8_t)strlen(text);
+    memcpy(answer, head, ANSWER_HEAD);
+    memcpy(answer + ANSWER_HEAD, text, strlen(text));
+    return ANSWER_HEAD + strlen(text);
+}
+
+/* Takes answers from a snapshot until one is refused, and returns the refusal. */
+static uint32_t take_all(struct antientropy *replica, uint64_t session, struct antientropy_snapshot *snapshot)
+{
+    struct antientropy_taken taken;
+    uint8_t ask[ANTIENTROPY_ASK_LEN];
+    uint32_t got = ANTIENTROPY_OK;
+    uint64_t len;
+    while (got == ANTIENTROPY_OK) {
+        OK(antientropy_ask(replica, session, OFFER, ask, sizeof ask, &len));
+        OK(antientropy_serve(snapshot, OFFER, ask, len, out, ROOM, &need));
+        got = antientropy_take(replica, session, OFFER, out, need, &taken);
+    }
+    return got;
+}
+
+static void sessions(void)
+{
+    struct antientropy replica = {0}, one = {0}, half = {0}, full = {0}, small = {0};
+    struct antientropy_snapshot snapshot = {0};
+    struct antientropy_taken taken;
+    uint8_t offer[ANTIENTROPY_OFFER_LEN], forged[ANTIENTROPY_OFFER_LEN], answer[ROOM];
+    uint64_t session, count, state, other;
+    size_t len;
+    offer_now(&made, &snapshot, offer);
+    OK(antientropy_new(&replica, 2, 0, 0, 1000));
+    OK(antientropy_new(&one, 1, 0, 0, 1000));
+    OK(antientropy_new(&half, 2, 1, 1, 1000));
+    SEE(open, EMPTY, antientropy_open(&none, 2, offer, sizeof offer, &session));
+    SEE(open, BAD_MESSAGE, antientropy_open(&replica, 2, offer, sizeof offer - 1, &session));
+    SEE(open, OTHER_FORMAT, antientropy_open(&one, 2, offer, sizeof offer, &session));
+    SEE(open, OTHER_RANGE, antientropy_open(&half, 2, offer, sizeof offer, &session));
+    SEE(open, DIRTY, antientropy_open(&replica, 2, offer, sizeof offer, &session));
+    OK(antientropy_rehash(&replica));
+    OK(antientropy_open(&replica, 2, offer, sizeof offer, &session));
+    SEE(outstanding, EMPTY, antientropy_outstanding(&none, session, &count));
+    SEE(outstanding, UNKNOWN_SESSION, antientropy_outstanding(&replica, session + 1, &count));
+    SEE(ask, EMPTY, antientropy_ask(&none, session, OFFER, out, ROOM, &need));
+    SEE(ask, UNKNOWN_SESSION, antientropy_ask(&replica, session + 1, OFFER, out, ROOM, &need));
+    SEE(ask, SMALL, antientropy_ask(&replica, session, OFFER, out, ANTIENTROPY_ASK_LEN - 1, &need));
+    SEE(ask_at, EMPTY, antientropy_ask_at(&none, session, 0, OFFER, out, ROOM, &need));
+    SEE(ask_at, UNKNOWN_SESSION, antientropy_ask_at(&replica, session + 1, 0, OFFER, out, ROOM, &need));
+    SEE(ask_at, SMALL, antientropy_ask_at(&replica, session, 0, OFFER, out, ANTIENTROPY_ASK_LEN - 1, &need));
+    len = root_answer(answer, "abc");
+    SEE(take, EMPTY, antientropy_take(&none, session, OFFER, answer, len, &taken));
+    SEE(take, BAD_MESSAGE, antientropy_take(&replica, session, OTHER_OFFER, answer, len, &taken));
+    SEE(take, UNKNOWN_SESSION, antientropy_take(&replica, session + 1, OFFER, answer, len, &taken));
+    SEE(take, WRONG_DIGEST, antientropy_take(&replica, session, OFFER, answer, len, &taken));
+    memcpy(forged, offer, sizeof offer);
+    memcpy(forged + ANTIENTROPY_OFFER_LEN - ANTIENTROPY_ROOT_LEN, ABC_DIGEST, ANTIENTROPY_ROOT_LEN);
+    OK(antientropy_open(&replica, 2, forged, sizeof forged, &other));
+    SEE(take, NOT_CANONICAL, antientropy_take(&replica, other, OFFER, answer, len, &taken));
+    SEE(take, NOT_ASKED, antientropy_take(&replica, other, OFFER, answer, len, &taken));
+    SEE(cancel, EMPTY, antientropy_cancel(&none, session));
+    SEE(cancel, UNKNOWN_SESSION, antientropy_cancel(&replica, session + 2));
+    SEE(session, EMPTY, antientropy_session(&none, session, &state));
+    SEE(session, UNKNOWN_SESSION, antientropy_session(&replica, session + 2, &state));
+    for (unsigned n = 1; n < ANTIENTROPY_OPEN_SESSIONS_MAX; n++)
+        OK(antientropy_open(&replica, 2, offer, sizeof offer, &session));
+    SEE(open, SESSIONS_FULL, antientropy_open(&replica, 2, offer, sizeof offer, &session));
+
+    OK(antientropy_new(&full, 2, 0, 0, 1000));
+    OK(antientropy_new(&small, 2, 0, 0, 1));
+    accept(&full, 100, ANTIENTROPY_VERSIONS_MAX);
+    OK(antientropy_rehash(&full));
+    OK(antientropy_rehash(&small));
+    OK(antientropy_open(&full, 2, offer, sizeof offer, &session));
+    SEE(take, CROWDED, take_all(&full, session, &snapshot));
+    OK(antientropy_open(&small, 2, offer, sizeof offer, &session));
+    SEE(take, JOURNAL_FULL, take_all(&small, session, &snapshot));
+    antientropy_snapshot_free(&snapshot);
+    antientropy_free(&replica);
+    antientropy_free(&one);
+    antientropy_free(&half);
+    antientropy_free(&full);
+    antientropy_free(&small);
+}
+
+static void hints(void)
+{
+    struct antientropy_hints empty = {0}, full = {0};
+    struct antientropy_hint_counts counts;
+    uint64_t id, owner;
+    uint8_t kind;
+    OK(antientropy_hints_new(&full));
+    SEE(hints_new, HELD, antientropy_hints_new(&full));
+    SEE(hint_keep, EMPTY, antientropy_hint_keep(&empty, 2, KEY, 4, many, 1, 0, VALUE, 4, &id));
+    SEE(hint_keep, BAD_CLOCK, antientropy_hint_keep(&full, 0, KEY, 4, many, 1, 0, VALUE, 4, &id));
+    SEE(hint_keep, CLOCK_FULL, antientropy_hint_keep(&full, 2, KEY, 4, many, PAIRS, 0, VALUE, 4, &id));
+    SEE(hint_keep, BAD_VALUE, antientropy_hint_keep(&full, 2, KEY, 4, many, 1, 2, VALUE, 4, &id));
+    SEE(hint_keep, BAD_KEY, antientropy_hint_keep(&full, 2, KEY, 0, many, 1, 0, VALUE, 4, &id));
+    SEE(hint_keep, BAD_VALUE, antientropy_hint_keep(&full, 2, KEY, 4, many, 1, 1, VALUE, 4, &id));
+    for (unsigned n = 0; n < ANTIENTROPY_HINTS_MAX; n++)
+        OK(antientropy_hint_keep(&full, 2, KEY, 4, many, 1, 0, VALUE, 4, &id));
+    SEE(hint_keep, HINTS_FULL, antientropy_hint_keep(&full, 2, KEY, 4, many, 1, 0, VALUE, 4, &id));
+    SEE(hint_next, EMPTY, antientropy_hint_next(&empty, 2, 0, &id));
+    SEE(hint_next, NO_VERSION, antientropy_hint_next(&full, 3, 0, &id));
+    SEE(hint_owner, EMPTY, antientropy_hint_owner(&empty, 1, &owner));
+    SEE(hint_owner, NO_VERSION, antientropy_hint_owner(&full, 0, &owner));
+    SEE(hint_key, EMPTY, antientropy_hint_key(&empty, 1, out, ROOM, &need));
+    SEE(hint_key, NO_VERSION, antientropy_hint_key(&full, 0, out, ROOM, &need));
+    SEE(hint_key, SMALL, antientropy_hint_key(&full, 1, out, 3, &need));
+    SEE(hint_value, EMPTY, antientropy_hint_value(&empty, 1, &kind, out, ROOM, &need));
+    SEE(hint_value, NO_VERSION, antientropy_hint_value(&full, 0, &kind, out, ROOM, &need));
+    SEE(hint_value, SMALL, antientropy_hint_value(&full, 1, &kind, out, 3, &need));
+    SEE(hint_clock, EMPTY, antientropy_hint_clock(&empty, 1, pairs, 32, &need));
+    SEE(hint_clock, NO_VERSION, antientropy_hint_clock(&full, 0, pairs, 32, &need));
+    SEE(hint_clock, SMALL, antientropy_hint_clock(&full, 1, pairs, 0, &need));
+    SEE(hint_confirm, EMPTY, antientropy_hint_confirm(&empty, 1, false));
+    OK(antientropy_hint_confirm(&full, 1, false));
+    SEE(hint_confirm, UNKNOWN_HINT, antientropy_hint_confirm(&full, 1, false));
+    SEE(hints_renew, EMPTY, antientropy_hints_renew(&empty));
+    SEE(hints_count, EMPTY, antientropy_hints_count(&empty, &counts));
+    antientropy_hints_free(&full);
+}
+
+static void slots(void)
+{
+    struct antientropy_slots empty = {0}, full = {0};
+    struct antientropy_slot_counts counts;
+    struct antientropy_percentile p99;
+    OK(antientropy_slots_new(&full, 2, ANTIENTROPY_SLOTS_MAX, 1));
+    SEE(slots_new, HELD, antientropy_slots_new(&full, 1, 1, 1));
+    SEE(slots_new, BAD_RING, antientropy_slots_new(&empty, 0, 1, 1));
+    SEE(slots_new, BAD_RING, antientropy_slots_new(&empty, 2, 1, 1));
+    SEE(slots_new, BAD_RING, antientropy_slots_new(&empty, 1, ANTIENTROPY_SLOTS_MAX + 1, 1));
+    SEE(slot_lend, EMPTY, antientropy_slot_lend(&empty));
+    SEE(slot_give_back, EMPTY, antientropy_slot_give_back(&empty));
+    SEE(slot_give_back, NO_SLOT, antientropy_slot_give_back(&full));
+    for (unsigned n = 0; n < ANTIENTROPY_SLOTS_MAX; n++)
+        OK(antientropy_slot_lend(&full));
+    SEE(slot_lend, NO_SLOT, antientropy_slot_lend(&full));
+    SEE(slots_sample, EMPTY, antientropy_slots_sample(&empty, 1, 1));
+    OK(antientropy_slots_sample(&full, 5, 1));
+    SEE(slots_sample, CLOCK_BACK, antientropy_slots_sample(&full, 4, 1));
+    SEE(slots_adjust, EMPTY, antientropy_slots_adjust(&empty, 5, &p99));
+    SEE(slots_adjust, CLOCK_BACK, antientropy_slots_adjust(&full, 4, &p99));
+    SEE(slots_set_target, EMPTY, antientropy_slots_set_target(&empty, 1));
+    SEE(slots_set_target, BAD_RING, antientropy_slots_set_target(&full, 1));
+    SEE(slots_set_target, BAD_RING, antientropy_slots_set_target(&full, ANTIENTROPY_SLOTS_MAX + 1));
+    SEE(slots_count, EMPTY, antientropy_slots_count(&empty, &counts));
+    antientropy_slots_free(&full);
+}
+
+int main(void)
+{
+    for (unsigned n = 0; n < PAIRS; n++)
+        many[n] = (struct antientropy_pair){n + 1, 1};
+    memset(LONG, 'k', sizeof LONG);
+    makes();
+    puts_and_accepts();
+    reads();
+    clocks();
+    snapshots_and_loads();
+    sessions();
+    hints();
+    slots();
+    antientropy_free(&made);
+    return 0;
+}

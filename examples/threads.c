@@ -1,0 +1,135 @@
+/* A replica and its snapshots in several threads. Four threads put into one replica, which a mutex guards. A fifth
+ * makes snapshots of it under the mutex, and syncs another replica from them without it. The main thread goes on with
+ * that replica. It ends with status 1 if a call returns another number than the one wanted. */
+#define _POSIX_C_SOURCE 200809L
+#include "antientropy.h"
+
+#include <pthread.h>
+#include <stdio.h>
+#include <stdlib.h>
+#include <string.h>
+
+enum { WRITERS = 4, KEYS = 500, SYNCS = 10, ROOM = 1 << 16 };
+
+/* The replica of node 1, which all threads use. */
+static struct antientropy shared;
+static pthread_mutex_t lock = PTHREAD_MUTEX_INITIALIZER;
+
+/* Ends the program unless a call returned the number that is wanted. */
+static void want(const char *call, uint32_t got, uint32_t wanted)
+{
+    if (got != wanted) {
+        printf("%s returned %u, not %u\n", call, got, wanted);
+        exit(1);
+    }
+}
+
+/* Reads a key and puts it again, with the clock of its one version as the context. */
+static void put(const char *key)
+{
+    struct antientropy_pair context[ANTIENTROPY_CLOCK_MAX];
+    struct antientropy_reading reading = {0};
+    struct antientropy_receipt receipt;
+    const uint8_t *bytes = (const uint8_t *)key;
+    size_t len = strlen(key);
+    uint8_t value[32];
+    pthread_mutex_lock(&lock);
+    uint32_t got = antientropy_read(&shared, bytes, len, 0, &reading, context, ANTIENTROPY_CLOCK_MAX, value,
+                                    sizeof value);
+    if (got != ANTIENTROPY_NO_VERSION)
+        want("read", got, ANTIENTROPY_OK);
+    got = antientropy_put(&shared, 1, bytes, len, context, reading.pairs, ANTIENTROPY_LIVE, bytes, len, &receipt);
+    pthread_mutex_unlock(&lock);
+    want("put", got, ANTIENTROPY_OK);
+}
+
+/* A writer puts its keys twice. */
+static void *write_keys(void *name)
+{
+    char key[16];
+    for (int n = 0; n < 2 * KEYS; n++) {
+        snprintf(key, sizeof key, "%s%d", (const char *)name, n % KEYS);
+        put(key);
+    }
+    return NULL;
+}
+
+/* Makes a snapshot of the shared replica. */
+static void publish(struct antientropy_snapshot *snapshot)
+{
+    pthread_mutex_lock(&lock);
+    want("rehash", antientropy_rehash(&shared), ANTIENTROPY_OK);
+    want("snapshot", antientropy_snapshot(&shared, snapshot), ANTIENTROPY_OK);
+    pthread_mutex_unlock(&lock);
+}
+
+/* Takes what a snapshot has into another replica, and frees the snapshot. */
+static void sync_from(struct antientropy_snapshot *snapshot, struct antientropy *replica, uint32_t number)
+{
+    static _Thread_local uint8_t text[ROOM];
+    uint8_t offer[ANTIENTROPY_OFFER_LEN], ask[ANTIENTROPY_ASK_LEN];
+    struct antientropy_taken taken = {0};
+    uint64_t session, len;
+    want("rehash", antientropy_rehash(replica), ANTIENTROPY_OK);
+    want("offer", antientropy_offer(snapshot, number, offer, sizeof offer, &len), ANTIENTROPY_OK);
+    want("open", antientropy_open(replica, 1, offer, sizeof offer, &session), ANTIENTROPY_OK);
+    for (;;) {
+        want("ask", antientropy_ask(replica, session, number, ask, sizeof ask, &len), ANTIENTROPY_OK);
+        if (len == 0)
+            break;
+        want("serve", antientropy_serve(snapshot, number, ask, len, text, sizeof text, &len), ANTIENTROPY_OK);
+        want("take", antientropy_take(replica, session, number, text, len, &taken), ANTIENTROPY_OK);
+    }
+    antientropy_snapshot_free(snapshot);
+}
+
+/* The fifth thread syncs a replica from snapshots while the writers go on. */
+static void *sync_often(void *replica)
+{
+    for (uint32_t number = 1; number <= SYNCS; number++) {
+        struct antientropy_snapshot snapshot = {0};
+        publish(&snapshot);
+        sync_from(&snapshot, replica, number);
+    }
+    return NULL;
+}
+
+/* The root of a replica's rows now. */
+static void root_of(struct antientropy *replica, uint8_t *root)
+{
+    struct antientropy_snapshot snapshot = {0};
+    uint64_t len;
+    want("rehash", antientropy_rehash(replica), ANTIENTROPY_OK);
+    want("snapshot", antientropy_snapshot(replica, &snapshot), ANTIENTROPY_OK);
+    want("root", antientropy_root(&snapshot, root, ANTIENTROPY_ROOT_LEN, &len), ANTIENTROPY_OK);
+    antientropy_snapshot_free(&snapshot);
+}
+
+int main(void)
+{
+    static char names[WRITERS][2] = {"a", "b", "c", "d"};
+    uint8_t here[ANTIENTROPY_ROOT_LEN], there[ANTIENTROPY_ROOT_LEN];
+    struct antientropy other = {0};
+    struct antientropy_snapshot last = {0};
+    struct antientropy_counts counts;
+    pthread_t threads[WRITERS + 1];
+    want("new", antientropy_new(&shared, 2, 0, 0, 100000), ANTIENTROPY_OK);
+    want("new", antientropy_new(&other, 2, 0, 0, 100000), ANTIENTROPY_OK);
+    for (int n = 0; n < WRITERS; n++)
+        if (pthread_create(&threads[n], NULL, write_keys, names[n]) != 0)
+            return 1;
+    if (pthread_create(&threads[WRITERS], NULL, sync_often, &other) != 0)
+        return 1;
+    for (int n = 0; n <= WRITERS; n++)
+        pthread_join(threads[n], NULL);
+    publish(&last);
+    sync_from(&last, &other, SYNCS + 1);
+    root_of(&shared, here);
+    root_of(&other, there);
+    want("count", antientropy_count(&shared, &counts), ANTIENTROPY_OK);
+    printf("%d threads put %llu versions\n", WRITERS, (unsigned long long)counts.entries);
+    printf("roots equal: %s\n", memcmp(here, there, sizeof here) == 0 ? "yes" : "no");
+    antientropy_free(&shared);
+    antientropy_free(&other);
+    return 0;
+}
