@@ -1,0 +1,80 @@
+"""antientropy: replicas of a range of a Dynamo-style store, over the proved C library.
+
+A `Replica` holds versions of keys. `Replica.sync` takes from a partner what it lacks, by messages that the program
+carries. `Hints` and `Slots` are apart. A refused call raises `Refused`, whose subclasses are attributes of this module
+by the library's names: `antientropy.StaleContext`, `antientropy.Crowded` and so on.
+"""
+
+from __future__ import annotations
+
+from typing import Type
+
+from ._functions import compare, merge, place, read_offer
+from ._hints import Hints
+from ._library import load_library, refusal_class, version
+from ._refused import Refused
+from ._replica import Replica
+from ._session import Session
+from ._slots import Slots
+from ._snapshot import Snapshot
+from ._values import (
+    Clock,
+    ClockLike,
+    Counts,
+    Entry,
+    Hint,
+    HintCounts,
+    Kind,
+    Loaded,
+    OfferParts,
+    Order,
+    Receipt,
+    SlotCounts,
+    Source,
+    Spot,
+    State,
+    Synced,
+    Taken,
+    Version,
+)
+
+__all__ = [
+    "Clock",
+    "ClockLike",
+    "Counts",
+    "Entry",
+    "Hint",
+    "HintCounts",
+    "Hints",
+    "Kind",
+    "Loaded",
+    "OfferParts",
+    "Order",
+    "Receipt",
+    "Refused",
+    "Replica",
+    "Session",
+    "SlotCounts",
+    "Slots",
+    "Snapshot",
+    "Source",
+    "Spot",
+    "State",
+    "Synced",
+    "Taken",
+    "Version",
+    "compare",
+    "load_library",
+    "merge",
+    "place",
+    "read_offer",
+    "version",
+]
+
+
+def __getattr__(name: str) -> Type[Refused]:
+    """Returns the class of a refusal, by the library's name of it. It loads the library if none is loaded."""
+    found = refusal_class(name) if name[:1].isupper() else None
+    if found is None:
+        raise AttributeError(f"module {__name__!r} has no attribute {name!r}")
+    return found

@@ -1,0 +1,94 @@
+"""Declarations of the calls of include/antientropy.h for ctypes.
+
+A struct that a call writes is an array of 64-bit words here, whose names are those of a tuple in `_values`.
+"""
+
+from __future__ import annotations
+
+from ctypes import Structure, c_bool, c_char_p, c_size_t, c_uint8, c_uint16, c_uint32, c_uint64, c_void_p
+from typing import Any, Dict, Tuple
+
+PREFIX = "antientropy_"
+
+#: Pairs of a clock: a call returns at most so many.
+CLOCK_MAX = 32
+
+#: Bytes of a digest.
+ROOT_LEN = 32
+
+
+class HandleStruct(Structure):
+    """A handle: all four structs of the header have these fields."""
+
+    _fields_ = [("at", c_void_p), ("held", c_bool)]
+
+
+_HANDLE = (c_void_p,)
+_STRUCT = (c_void_p,)
+_NUMBER = (c_void_p,)
+_BYTES = (c_char_p, c_size_t)
+_PAIRS = (c_void_p, c_size_t)
+_OUT = (c_void_p, c_size_t, c_void_p)
+_KIND_OUT = (c_void_p, *_OUT)
+_VERSION = (*_PAIRS, c_uint8, *_BYTES)
+
+#: The result type and the argument types of each call, by its name without the prefix.
+CALLS: Dict[str, Tuple[Any, Tuple[Any, ...]]] = {
+    "version": (c_uint32, ()),
+    "name": (c_uint32, (c_uint32, *_OUT)),
+    "place": (c_uint32, (c_uint64, c_uint64, *_BYTES, *_STRUCT)),
+    "new": (c_uint32, (*_HANDLE, c_uint64, c_uint64, c_uint64, c_uint64)),
+    "free": (None, _HANDLE),
+    "renew": (c_uint32, (*_HANDLE, *_HANDLE, c_uint64)),
+    "migrate": (c_uint32, _HANDLE),
+    "count": (c_uint32, (*_HANDLE, *_STRUCT)),
+    "put": (c_uint32, (*_HANDLE, c_uint16, *_BYTES, *_VERSION, *_STRUCT)),
+    "accept": (c_uint32, (*_HANDLE, *_BYTES, *_VERSION, *_NUMBER)),
+    "get": (c_uint32, (*_HANDLE, *_BYTES, *_OUT)),
+    "versions": (c_uint32, (*_HANDLE, *_BYTES, *_NUMBER)),
+    "value": (c_uint32, (*_HANDLE, *_BYTES, c_uint64, *_KIND_OUT)),
+    "clock": (c_uint32, (*_HANDLE, *_BYTES, c_uint64, *_OUT)),
+    "read": (c_uint32, (*_HANDLE, *_BYTES, c_uint64, *_STRUCT, *_PAIRS, c_void_p, c_size_t)),
+    "key_after": (c_uint32, (*_HANDLE, c_uint16, *_BYTES, *_OUT)),
+    "compare": (c_uint32, (*_PAIRS, *_PAIRS, *_NUMBER)),
+    "merge": (c_uint32, (*_PAIRS, *_PAIRS, *_OUT)),
+    "entry_key": (c_uint32, (*_HANDLE, c_uint64, *_OUT)),
+    "entry_value": (c_uint32, (*_HANDLE, c_uint64, *_KIND_OUT)),
+    "entry_clock": (c_uint32, (*_HANDLE, c_uint64, *_OUT)),
+    "entry_source": (c_uint32, (*_HANDLE, c_uint64, *_NUMBER)),
+    "rehash": (c_uint32, _HANDLE),
+    "snapshot": (c_uint32, (*_HANDLE, *_HANDLE)),
+    "snapshot_free": (None, _HANDLE),
+    "root": (c_uint32, (*_HANDLE, *_OUT)),
+    "offer": (c_uint32, (*_HANDLE, c_uint32, *_OUT)),
+    "read_offer": (c_uint32, (*_BYTES, *_STRUCT)),
+    "serve": (c_uint32, (*_HANDLE, c_uint32, *_BYTES, *_OUT)),
+    "rows": (c_uint32, (*_HANDLE, c_uint16, *_OUT)),
+    "load": (c_uint32, (*_HANDLE, *_BYTES, *_STRUCT)),
+    "open": (c_uint32, (*_HANDLE, c_uint16, *_BYTES, *_NUMBER)),
+    "outstanding": (c_uint32, (*_HANDLE, c_uint64, *_NUMBER)),
+    "ask_at": (c_uint32, (*_HANDLE, c_uint64, c_uint64, c_uint32, *_OUT)),
+    "ask": (c_uint32, (*_HANDLE, c_uint64, c_uint32, *_OUT)),
+    "take": (c_uint32, (*_HANDLE, c_uint64, c_uint32, *_BYTES, *_STRUCT)),
+    "cancel": (c_uint32, (*_HANDLE, c_uint64)),
+    "session": (c_uint32, (*_HANDLE, c_uint64, *_NUMBER)),
+    "hints_new": (c_uint32, _HANDLE),
+    "hints_free": (None, _HANDLE),
+    "hint_keep": (c_uint32, (*_HANDLE, c_uint16, *_BYTES, *_VERSION, *_NUMBER)),
+    "hint_next": (c_uint32, (*_HANDLE, c_uint16, c_uint32, *_NUMBER)),
+    "hint_owner": (c_uint32, (*_HANDLE, c_uint32, *_NUMBER)),
+    "hint_key": (c_uint32, (*_HANDLE, c_uint32, *_OUT)),
+    "hint_value": (c_uint32, (*_HANDLE, c_uint32, *_KIND_OUT)),
+    "hint_clock": (c_uint32, (*_HANDLE, c_uint32, *_OUT)),
+    "hint_confirm": (c_uint32, (*_HANDLE, c_uint32, c_bool)),
+    "hints_renew": (c_uint32, _HANDLE),
+    "hints_count": (c_uint32, (*_HANDLE, *_STRUCT)),
+    "slots_new": (c_uint32, (*_HANDLE, c_uint32, c_uint32, c_uint32)),
+    "slots_free": (None, _HANDLE),
+    "slot_lend": (c_uint32, _HANDLE),
+    "slot_give_back": (c_uint32, _HANDLE),
+    "slots_sample": (c_uint32, (*_HANDLE, c_uint64, c_uint32)),
+    "slots_adjust": (c_uint32, (*_HANDLE, c_uint64, *_STRUCT)),
+    "slots_set_target": (c_uint32, (*_HANDLE, c_uint32)),
+    "slots_count": (c_uint32, (*_HANDLE, *_STRUCT)),
+}

@@ -1,0 +1,85 @@
+"""The frame of a checkpoint: a head, and then the rows of each leaf with their length. See docs/FORMATS.md."""
+
+from __future__ import annotations
+
+from struct import Struct
+from typing import TYPE_CHECKING, BinaryIO, Callable
+
+from ._calls import ROOT_LEN
+from ._refused import class_of
+
+if TYPE_CHECKING:
+    from ._replica import Replica
+    from ._snapshot import Snapshot
+
+_MAGIC = b"antient\x01"
+_HEAD = Struct(f">8sBBH{ROOT_LEN}s")
+_LENGTH = Struct(">Q")
+_LEAVES = {1: 256, 2: 4096}
+#: A damaged length may be huge, so a file is read in pieces.
+_PIECE = 1 << 20
+
+
+def save(file: BinaryIO, snapshot: Snapshot) -> None:
+    """Writes the checkpoint of a snapshot."""
+    _write(file, _HEAD.pack(_MAGIC, snapshot.format, snapshot.bits, snapshot.range, snapshot.root()))
+    for leaf in range(_LEAVES[snapshot.format]):
+        rows = snapshot.rows(leaf)
+        _write(file, _LENGTH.pack(len(rows)) + rows)
+
+
+def load(file: BinaryIO, new: Callable[[int, int, int], Replica]) -> Replica:
+    """Returns a replica with the rows of a checkpoint. `new` makes it for a format, bits and a range."""
+    magic, format, bits, number, root = _HEAD.unpack(_read(file, _HEAD.size))
+    if magic != _MAGIC or format not in _LEAVES:
+        raise ValueError("this is no checkpoint")
+    try:
+        replica = new(format, bits, number)
+    except class_of("BadRing") as refused:
+        raise ValueError(f"the limit, or bits {bits} and range {number} of the file, are refused") from refused
+    try:
+        _load_leaves(file, replica, _LEAVES[format])
+        if replica.root() != root:
+            raise ValueError("the checkpoint is damaged: its root differs")
+    except BaseException:
+        replica.close()
+        raise
+    return replica
+
+
+def _load_leaves(file: BinaryIO, replica: Replica, leaves: int) -> None:
+    for leaf in range(leaves):
+        rows = _read(file, _LENGTH.unpack(_read(file, _LENGTH.size))[0])
+        if rows:
+            _load_rows(replica, leaf, rows)
+    if file.read(1):
+        raise ValueError("the checkpoint is damaged: bytes follow its last leaf")
+
+
+def _load_rows(replica: Replica, leaf: int, rows: bytes) -> None:
+    try:
+        replica.load_rows(rows)
+    except (class_of("RowBroken"), class_of("OtherRange"), class_of("Crowded")) as refused:
+        raise ValueError(f"the checkpoint is damaged: the rows of leaf {leaf} are refused") from refused
+
+
+def _read(file: BinaryIO, length: int) -> bytes:
+    """Reads so many bytes."""
+    pieces = []
+    while length:
+        piece = file.read(min(length, _PIECE))
+        if not piece:
+            raise ValueError("the checkpoint is cut")
+        pieces.append(piece)
+        length -= len(piece)
+    return b"".join(pieces)
+
+
+def _write(file: BinaryIO, data: bytes) -> None:
+    """Writes all bytes: a file without a buffer may write fewer at once."""
+    rest = memoryview(data)
+    while rest:
+        written = file.write(rest)
+        if written is None:
+            raise BlockingIOError("the file takes no bytes now")
+        rest = rest[written:]

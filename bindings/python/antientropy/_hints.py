@@ -1,0 +1,69 @@
+"""Hints: versions that a node carries for replicas that are down."""
+
+from __future__ import annotations
+
+from typing import Iterator, Optional
+
+from ._convert import fits, to_bytes, to_kind, to_pairs
+from ._handle import Handle
+from ._library import current
+from ._refused import class_of
+from ._values import ClockLike, Hint, HintCounts
+
+
+class Hints(Handle):
+    """The hints that a node carries. A hint is of no range. Several threads may use hints."""
+
+    _free = "hints_free"
+
+    def __init__(self) -> None:
+        super().__init__(current())
+        self._call("hints_new")
+
+    def keep(self, owner: int, key: bytes, clock: ClockLike, value: Optional[bytes]) -> int:
+        """Keeps a version, or a tombstone for None, for its owner. Returns the number of the hint, from 1.
+
+        Raises BadClock (also if the owner is 0), ClockFull, BadKey, BadValue or HintsFull.
+        """
+        key, (kind, data) = to_bytes(key), to_kind(value)
+        args = (fits(owner, 16), key, len(key), *to_pairs(clock), kind, data, len(data))
+        return self._get_words(1, "hint_keep", *args)[0]
+
+    def next(self, owner: int, after: int = 0) -> Optional[int]:
+        """Returns the number of the owner's first pending hint over `after`, or None if there is none."""
+        try:
+            return self._get_words(1, "hint_next", fits(owner, 16), fits(after, 32))[0]
+        except class_of("NoVersion"):
+            return None
+
+    def hint(self, number: int) -> Hint:
+        """Returns a hint, pending or delivered. Raises NoVersion."""
+        fits(number, 32)
+        with self._lock:
+            owner = self._words_held(1, "hint_owner", number)[0]
+            key = self._bytes_held("hint_key", number)
+            value = self._value_held("hint_value", number)
+            clock = self._clock_held("hint_clock", number)
+        return Hint(number, owner, key, clock, value)
+
+    def pending(self, owner: int) -> Iterator[Hint]:
+        """Yields the pending hints of an owner in order. Confirm them on the way, but don't renew."""
+        number = self.next(owner)
+        while number is not None:
+            yield self.hint(number)
+            number = self.next(owner, number)
+
+    def confirm(self, number: int, known: bool = False) -> None:
+        """Ends the wait of a pending hint, after its owner has the version on its disk. Raises UnknownHint.
+
+        `known` is True if the owner knew the version.
+        """
+        self._call("hint_confirm", fits(number, 32), known)
+
+    def renew(self) -> None:
+        """Drops the delivered hints, and numbers the pending ones anew from 1, in order."""
+        self._call("hints_renew")
+
+    def count(self) -> HintCounts:
+        """Returns the counts of pending and of delivered hints."""
+        return HintCounts(*self._get_words(2, "hints_count"))

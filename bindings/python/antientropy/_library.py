@@ -1,0 +1,104 @@
+"""The shared library: where it is found, and its calls with their C types."""
+
+from __future__ import annotations
+
+import os
+from ctypes import CDLL, byref, c_uint64, create_string_buffer
+from ctypes.util import find_library
+from threading import Lock
+from typing import Any, Callable, Optional, Tuple, Type, Union
+
+from ._calls import CALLS, PREFIX
+from ._refused import Refused, class_of
+
+_MAJOR = 0
+_SONAME = f"libantientropy.so.{_MAJOR}"
+_VARIABLE = "ANTIENTROPY_LIBRARY"
+_NAME_ROOM = 64
+_NUMBERS = range(1, 256)
+
+
+class Library:
+    """A loaded library. A call is bound at its first use, so a library may lack calls that aren't used."""
+
+    def __init__(self, path: str) -> None:
+        self._dll = CDLL(path)
+        major = self.parts()[0]
+        if major != _MAJOR:
+            raise OSError(f"{path} has the major version {major}, but this package needs {_MAJOR}")
+        self.names = {number: name for number in _NUMBERS if (name := self._name(number))}
+        self.small = self._number("Small")
+        self.no_version = self._number("NoVersion")
+
+    def __getattr__(self, call: str) -> Callable[..., Any]:
+        if call not in CALLS:
+            raise AttributeError(call)
+        function = getattr(self._dll, PREFIX + call)
+        function.restype, function.argtypes = CALLS[call]
+        setattr(self, call, function)
+        return function
+
+    def parts(self) -> Tuple[int, int, int]:
+        """Returns the major, the minor and the patch number of the version."""
+        rest, patch = divmod(self.version(), 100)
+        major, minor = divmod(rest, 100)
+        return major, minor, patch
+
+    def refusal(self, call: str, number: int) -> Refused:
+        """Returns the exception of a call that returned a number other than 0."""
+        name = self.names.get(number, "")
+        return (class_of(name) if name else Refused)(call, number, name)
+
+    def check(self, call: str, *args: Any) -> None:
+        """Makes a call that needs no handle, and raises if it is refused."""
+        number = getattr(self, call)(*args)
+        if number:
+            raise self.refusal(call, number)
+
+    def _name(self, number: int) -> str:
+        room, need = create_string_buffer(_NAME_ROOM), c_uint64()
+        self.name(number, room, _NAME_ROOM, byref(need))
+        return room[: need.value].decode("ascii")
+
+    def _number(self, wanted: str) -> int:
+        return next(number for number, name in self.names.items() if name == wanted)
+
+
+_current: Optional[Library] = None
+_lock = Lock()
+
+
+def load_library(path: Union[str, os.PathLike[str]]) -> None:
+    """Loads the library from a path. Everything that is made later uses it."""
+    global _current
+    library = Library(os.fspath(path))
+    with _lock:
+        _current = library
+
+
+def current() -> Library:
+    """Returns the library in use. The first call loads it, if `load_library` didn't."""
+    global _current
+    if _current is None:
+        with _lock:
+            if _current is None:
+                _current = _load_default()
+    return _current
+
+
+def refusal_class(name: str) -> Optional[Type[Refused]]:
+    """Returns the class of a refusal by its name, or None if the library has no such name."""
+    return class_of(name) if name in current().names.values() else None
+
+
+def version() -> Tuple[int, int, int]:
+    """Returns the major, the minor and the patch number of the library's version."""
+    return current().parts()
+
+
+def _load_default() -> Library:
+    path = os.environ.get(_VARIABLE) or find_library("antientropy") or _SONAME
+    try:
+        return Library(path)
+    except OSError as error:
+        raise OSError(f"{error}: call antientropy.load_library(path), or set {_VARIABLE}") from error

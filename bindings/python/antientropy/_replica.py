@@ -1,0 +1,291 @@
+"""A replica of a range."""
+
+from __future__ import annotations
+
+from ctypes import c_uint64
+from typing import BinaryIO, Callable, Iterable, Iterator, List, Optional, Sequence, Tuple
+
+from . import _checkpoint, _sync
+from ._calls import CLOCK_MAX
+from ._convert import fits, to_bytes, to_clock, to_kind, to_pairs, to_value
+from ._handle import Handle
+from ._library import Library, current
+from ._refused import Refused, class_of
+from ._session import Session
+from ._snapshot import Snapshot
+from ._values import Clock, ClockLike, Counts, Entry, Loaded, Receipt, Source, Synced, Version
+
+_LIMIT = 1_000_000
+
+
+class Replica(Handle):
+    """A replica of one range of a ring of 2^bits ranges, in format 1 or 2, with a journal of at most `limit` entries.
+
+    Raises BadRing if a number is outside its limits. Several threads may use a replica.
+    """
+
+    _free = "free"
+
+    #: Format of the replica: 1 or 2.
+    format: int
+    #: Bits of the ring, which has 2^bits ranges.
+    bits: int
+    #: Number of the replica's range, from 0.
+    range: int
+
+    def __init__(self, format: int = 2, bits: int = 0, range: int = 0, limit: int = _LIMIT) -> None:
+        self._prepare(current(), format, bits, range)
+        self._call("new", *(fits(number, 64) for number in (format, bits, range, limit)))
+
+    def _prepare(self, library: Library, format: int, bits: int, range: int) -> None:
+        super().__init__(library)
+        self.format, self.bits, self.range = format, bits, range
+        self._reading = (c_uint64 * 4)()
+
+    def renew(self, limit: int = _LIMIT) -> Replica:
+        """Returns a new replica with the versions that are held: one entry for each, and no sessions.
+
+        This one is left unchanged: close it, and go on with the new one under the same node number. Raises BadRing
+        (the limit) or JournalFull (more versions are held than the limit).
+        """
+        renewed = type(self).__new__(type(self))
+        with self._lock:
+            renewed._prepare(self._library, self.format, self.bits, self.range)
+            self._call_held("renew", renewed._at, fits(limit, 64))
+        return renewed
+
+    def migrate(self) -> None:
+        """Converts a replica of format 1 to format 2. All nodes become dirty, and open sessions are cancelled."""
+        with self._lock:
+            self._call_held("migrate")
+            self.format = 2
+
+    def count(self) -> Counts:
+        """Returns the counts of entries, dirty nodes and sessions."""
+        return Counts(*self._get_words(5, "count"))
+
+    # ---- versions
+
+    def put(self, node: int, key: bytes, value: Optional[bytes], context: ClockLike = ()) -> Receipt:
+        """Puts a value, or a tombstone for None, at a node. The context is the clock of all that the client has read.
+
+        The new version replaces every held version whose clock is at most its clock. Raises BadClock, ClockFull,
+        BadKey, BadValue, OtherRange, CounterFull, StaleContext, Crowded or JournalFull.
+        """
+        key, (pairs, length), (kind, data) = to_bytes(key), to_pairs(context), to_kind(value)
+        fits(node, 16)
+        with self._lock:
+            words = self._words
+            number = self._library.put(
+                self._at, node, key, len(key), pairs, length, kind, data, len(data), words
+            )
+            if not number:
+                return Receipt(words[0], words[1])
+        raise self._library.refusal("put", number)
+
+    def put_many(self, node: int, items: Iterable[Tuple[bytes, Optional[bytes], ClockLike]]) -> List[Receipt]:
+        """Puts each key with its value and its context at a node, in turn, and returns the receipts.
+
+        At a refusal the puts before it stay: the exception has their receipts in `done`.
+        """
+        fits(node, 16)
+        receipts: List[Receipt] = []
+        append, put, at, lock, words = receipts.append, self._library.put, self._at, self._lock, self._words
+        for key, value, context in items:
+            key, (pairs, length), (kind, data) = to_bytes(key), to_pairs(context), to_kind(value)
+            with lock:
+                number = put(at, node, key, len(key), pairs, length, kind, data, len(data), words)
+                if not number:
+                    append(Receipt(words[0], words[1]))
+            if number:
+                raise _with_done(self._library.refusal("put", number), receipts)
+        return receipts
+
+    def accept(self, key: bytes, clock: ClockLike, value: Optional[bytes]) -> bool:
+        """Accepts a version of another replica, as a copy. Returns False if it was known.
+
+        Raises BadClock, ClockFull, BadKey, BadValue, OtherRange, Crowded or JournalFull.
+        """
+        key, (kind, data) = to_bytes(key), to_kind(value)
+        return bool(self._get_words(1, "accept", key, len(key), *to_pairs(clock), kind, data, len(data))[0])
+
+    def get(self, key: bytes) -> List[Version]:
+        """Returns all versions held for a key, as they are at one moment. Several are concurrent."""
+        key = to_bytes(key)
+        versions: List[Version] = []
+        with self._lock:
+            version = self._read_held(key, 0)
+            while version is not None:
+                versions.append(version)
+                more = len(versions) < self._reading[0]
+                version = self._read_held(key, len(versions)) if more else None
+        return versions
+
+    def versions(self, key: bytes) -> Iterator[Version]:
+        """Yields the versions held for a key, and reads each when it is its turn: don't change the key meanwhile."""
+        key, index = to_bytes(key), 0
+        while (version := self._read_or_none(key, index)) is not None:
+            yield version
+            index += 1
+
+    def count_versions(self, key: bytes) -> int:
+        """Returns the number of versions held for a key."""
+        key = to_bytes(key)
+        return self._get_words(1, "versions", key, len(key))[0]
+
+    def read(self, key: bytes, index: int) -> Version:
+        """Returns one of the versions held for a key, by its index from 0. Raises NoVersion."""
+        version = self._read_or_none(to_bytes(key), index)
+        if version is None:
+            raise self._library.refusal("read", self._library.no_version)
+        return version
+
+    def value(self, key: bytes, index: int) -> Optional[bytes]:
+        """Returns the value of one of the versions held for a key: None for a tombstone. Raises NoVersion."""
+        key = to_bytes(key)
+        with self._lock:
+            return self._value_held("value", key, len(key), fits(index, 64))
+
+    def clock(self, key: bytes, index: int) -> Clock:
+        """Returns the clock of one of the versions held for a key. Raises NoVersion."""
+        key = to_bytes(key)
+        with self._lock:
+            return self._clock_held("clock", key, len(key), fits(index, 64))
+
+    def row(self, key: bytes) -> bytes:
+        """Returns the text of the row of a key (docs/FORMATS.md), or no bytes if none is held. Raises BadKey."""
+        key = to_bytes(key)
+        return self._get_bytes("get", key, len(key))
+
+    def keys(self) -> Iterator[bytes]:
+        """Yields the keys, leaf by leaf. Keys that are put meanwhile are yielded if they lie ahead."""
+        leaf = 0
+        while True:
+            try:
+                yield from self.keys_of(leaf)
+            except class_of("BadMessage"):
+                return
+            leaf += 1
+
+    def keys_of(self, leaf: int) -> Iterator[bytes]:
+        """Yields the keys of a leaf in ascending order. Raises BadMessage if the tree has no such leaf."""
+        key = b""
+        while True:
+            try:
+                key = self._get_bytes("key_after", fits(leaf, 16), key, len(key))
+            except class_of("NoVersion"):
+                return
+            yield key
+
+    def _read_or_none(self, key: bytes, index: int) -> Optional[Version]:
+        with self._lock:
+            return self._read_held(key, fits(index, 64))
+
+    def _read_held(self, key: bytes, index: int) -> Optional[Version]:
+        """A version of a key, or None if there is no such one. `_reading` has the number of versions then."""
+        reading, words, room = self._reading, self._words, self._room
+        number = self._library.read(self._at, key, len(key), index, reading, words, CLOCK_MAX, room, len(room))
+        if not number:
+            _, pairs, size, kind = reading[:]
+            return Version(to_clock(words[: 2 * pairs]), to_value(kind, room[:size]))
+        if number == self._library.no_version:
+            return None
+        raise self._library.refusal("read", number)
+
+    # ---- the journal
+
+    def entries(self, start: int = 0) -> Iterator[Entry]:
+        """Yields the entries of the journal, from a number on. Entries are never changed."""
+        number = start
+        while True:
+            try:
+                entry = self.entry(number)
+            except class_of("NoVersion"):
+                return
+            yield entry
+            number += 1
+
+    def entry(self, number: int) -> Entry:
+        """Returns an entry of the journal, by its number from 0. Raises NoVersion."""
+        fits(number, 64)
+        with self._lock:
+            key = self._bytes_held("entry_key", number)
+            value = self._value_held("entry_value", number)
+            clock = self._clock_held("entry_clock", number)
+            source = self._words_held(1, "entry_source", number)[0]
+        return Entry(number, key, clock, value, Source(source))
+
+    # ---- the tree, offers and checkpoints
+
+    def rehash(self) -> None:
+        """Hashes all nodes of the tree that have no digest."""
+        self._call("rehash")
+
+    def snapshot(self, rehash: bool = True) -> Snapshot:
+        """Returns a snapshot of the rows now. Raises Dirty if `rehash` is False and a node has no digest."""
+        return Snapshot(self, rehash)
+
+    def root(self) -> bytes:
+        """Returns the digest of the root now. Replicas of a range with equal roots hold the same versions."""
+        with self.snapshot() as snapshot:
+            return snapshot.root()
+
+    def load_rows(self, rows: bytes) -> Loaded:
+        """Accepts all versions in rows of one leaf as copies, or none. `Snapshot.rows` and `row` return such rows.
+
+        Raises RowBroken, whose `offset` is that of the broken field, OtherRange, Crowded or JournalFull.
+        """
+        rows = to_bytes(rows)
+        with self._lock:
+            try:
+                return Loaded(*self._words_held(2, "load", rows, len(rows)))
+            except class_of("RowBroken") as refused:
+                refused.offset = self._words[2]
+                raise
+
+    def save(self, file: BinaryIO) -> int:
+        """Writes a checkpoint of the rows now (docs/FORMATS.md). Returns the number of entries that it covers.
+
+        Other threads may put meanwhile. The caller brings the file to its disk.
+        """
+        with self.snapshot() as snapshot:
+            snapshot.save(file)
+            return snapshot.entries
+
+    @classmethod
+    def load(cls, file: BinaryIO, limit: int = _LIMIT) -> Replica:
+        """Returns a new replica with the rows of a checkpoint. Raises ValueError if the file is damaged.
+
+        The root finds damage, but no forged file. Check `format`, `bits` and `range` against the configuration.
+        """
+        return _checkpoint.load(file, lambda format, bits, range: cls(format, bits, range, limit))
+
+    # ---- sessions
+
+    def open(self, partner: int, offer: bytes, rehash: bool = True) -> Session:
+        """Opens a session with a partner's offer. It is never freed before its replica, so compare roots first.
+
+        Raises BadMessage, OtherFormat, OtherRange, SessionsFull, or Dirty if `rehash` is False.
+        """
+        return Session(self, partner, offer, rehash)
+
+    def sync(
+        self,
+        partner: int,
+        offer: bytes,
+        reach: Callable[[List[bytes]], Sequence[Optional[bytes]]],
+        in_flight: int = 256,
+        most_bad: int = 8,
+    ) -> Synced:
+        """Takes the versions of a partner's offer that this replica lacks. If the roots are equal it asks nothing.
+
+        `reach` sends at most `in_flight` asks to the partner, and returns the answers in their order: None for one
+        that is missing. After more than `most_bad` bad or missing answers the sync ends unfinished. A leaf with a
+        crowded key is left. Raises what `open` raises, NotCanonical, JournalFull, and what `reach` raises.
+        """
+        return _sync.sync(self, partner, offer, reach, in_flight, most_bad)
+
+
+def _with_done(refused: Refused, receipts: List[Receipt]) -> Refused:
+    refused.done = tuple(receipts)
+    return refused

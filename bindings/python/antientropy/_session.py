@@ -1,0 +1,79 @@
+"""A session of a replica."""
+
+from __future__ import annotations
+
+from typing import TYPE_CHECKING, List, Optional
+
+from ._convert import fits, to_bytes
+from ._functions import read_offer
+from ._values import State, Taken
+
+if TYPE_CHECKING:
+    from ._replica import Replica
+
+
+class Session:
+    """A session of a replica with a partner's offer. Its calls are calls of the replica.
+
+    As a context manager it cancels the session if it is still open.
+    """
+
+    def __init__(self, replica: Replica, partner: int, offer: bytes, rehash: bool = True) -> None:
+        offer = to_bytes(offer)
+        self._replica = replica
+        #: Number that the partner gave its offer.
+        self.offer_number = read_offer(offer).number
+        fits(partner, 16)
+        with replica._lock:
+            if rehash:
+                replica._call_held("rehash")
+            #: Number of the session, from 0.
+            self.number = replica._words_held(1, "open", partner, offer, len(offer))[0]
+
+    def __enter__(self) -> Session:
+        return self
+
+    def __exit__(self, *error: object) -> None:
+        self.cancel()
+
+    @property
+    def state(self) -> State:
+        """State of the session."""
+        return State(self._replica._get_words(1, "session", self.number)[0])
+
+    @property
+    def outstanding(self) -> int:
+        """Number of nodes that are outstanding: 0 if the session has ended."""
+        return self._replica._get_words(1, "outstanding", self.number)[0]
+
+    def ask(self) -> Optional[bytes]:
+        """Returns the ask for the first outstanding node, or None if there is none."""
+        return self._replica._get_bytes("ask", self.number, self.offer_number) or None
+
+    def ask_at(self, place: int) -> Optional[bytes]:
+        """Returns the ask for an outstanding node by its place from 0, or None if there are no more.
+
+        Each answer that is taken changes the places.
+        """
+        return self._replica._get_bytes("ask_at", self.number, fits(place, 64), self.offer_number) or None
+
+    def asks(self) -> List[bytes]:
+        """Returns the asks for all outstanding nodes. They may be sent at once."""
+        replica = self._replica
+        with replica._lock:
+            count = replica._words_held(1, "outstanding", self.number)[0]
+            return [replica._bytes_held("ask_at", self.number, place, self.offer_number) for place in range(count)]
+
+    def take(self, answer: bytes) -> Taken:
+        """Takes a partner's answer, which isn't trusted. Answers may arrive in any order.
+
+        Raises BadMessage, NotAsked or WrongDigest (ask again, with a bound), NotCanonical (the session has failed),
+        Crowded or JournalFull (the node remains outstanding).
+        """
+        answer = to_bytes(answer)
+        words = self._replica._get_words(3, "take", self.number, self.offer_number, answer, len(answer))
+        return Taken(words[0], words[1], State(words[2]))
+
+    def cancel(self) -> None:
+        """Cancels the session if it is open."""
+        self._replica._call("cancel", self.number)

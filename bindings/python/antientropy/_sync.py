@@ -1,0 +1,73 @@
+"""A whole sync with a partner."""
+
+from __future__ import annotations
+
+from typing import TYPE_CHECKING, Callable, List, Optional, Sequence
+
+from ._functions import read_offer
+from ._refused import class_of
+from ._session import Session
+from ._values import State, Synced
+
+if TYPE_CHECKING:
+    from ._replica import Replica
+
+Reach = Callable[[List[bytes]], Sequence[Optional[bytes]]]
+
+#: Refusals of an answer after which the node is asked for again.
+_BAD_ANSWERS = ("BadMessage", "NotAsked", "WrongDigest")
+
+
+def sync(replica: Replica, partner: int, offer: bytes, reach: Reach, in_flight: int, most_bad: int) -> Synced:
+    """Takes the versions of an offer that a replica lacks."""
+    if in_flight < 1:
+        raise ValueError("in_flight must be at least 1")
+    if replica.root() == read_offer(offer).root:
+        return Synced(0, 0, 0, 0, [], State.FINISHED)
+    with replica.open(partner, offer) as session:
+        run = _Run(session, reach, most_bad)
+        while asks := run.open_asks():
+            for first in range(0, len(asks), in_flight):
+                run.exchange(asks[first : first + in_flight])
+    return Synced(run.accepted, run.known, run.asks, run.bad, run.crowded, session.state)
+
+
+class _Run:
+    """The counts of a sync in progress."""
+
+    def __init__(self, session: Session, reach: Reach, most_bad: int) -> None:
+        self.session, self.reach, self.most_bad = session, reach, most_bad
+        self.accepted = self.known = self.asks = self.bad = 0
+        self.crowded: List[bytes] = []
+        self._bad_answers = tuple(class_of(name) for name in _BAD_ANSWERS)
+        self._crowded_key = class_of("Crowded")
+
+    def open_asks(self) -> List[bytes]:
+        """Returns the asks for the nodes that may still be taken: none after too many bad answers."""
+        if self.bad > self.most_bad:
+            return []
+        return [ask for ask in self.session.asks() if ask not in self.crowded]
+
+    def exchange(self, asks: List[bytes]) -> None:
+        """Sends some asks, and takes their answers."""
+        if self.bad > self.most_bad:
+            return
+        answers = list(self.reach(asks))[: len(asks)]
+        self.asks += len(asks)
+        self.bad += len(asks) - len(answers)
+        for ask, answer in zip(asks, answers):
+            self._take(ask, answer)
+
+    def _take(self, ask: bytes, answer: Optional[bytes]) -> None:
+        if answer is None:
+            self.bad += 1
+            return
+        try:
+            taken = self.session.take(answer)
+        except self._crowded_key:
+            self.crowded.append(ask)
+        except self._bad_answers:
+            self.bad += 1
+        else:
+            self.accepted += taken.accepted
+            self.known += taken.known

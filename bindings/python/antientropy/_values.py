@@ -1,0 +1,170 @@
+"""The values that calls take and return."""
+
+from __future__ import annotations
+
+from enum import IntEnum
+from typing import Dict, Iterable, List, Mapping, NamedTuple, Optional, Tuple, Union
+
+#: A clock that a call returns: the counter of each node, by rising node.
+Clock = Dict[int, int]
+
+#: A clock that a call takes: the counter of each node, or pairs of a node and its counter, in any order.
+ClockLike = Union[Mapping[int, int], Iterable[Tuple[int, int]]]
+
+
+class Kind(IntEnum):
+    """Kinds of versions."""
+
+    LIVE = 0
+    TOMBSTONE = 1
+
+
+class Source(IntEnum):
+    """Sources of an entry's version."""
+
+    PUT = 0
+    COPY = 1
+    HINT = 2
+    PARTNER = 3
+
+
+class State(IntEnum):
+    """States of a session."""
+
+    OPEN = 0
+    FINISHED = 1
+    FAILED = 2
+    CANCELLED = 3
+
+
+class Order(IntEnum):
+    """Orders of two clocks."""
+
+    BEFORE = 0
+    AFTER = 1
+    EQUAL = 2
+    APART = 3
+
+
+class Version(NamedTuple):
+    """A version of a key. A tombstone has the value None."""
+
+    clock: Clock
+    value: Optional[bytes]
+
+    @property
+    def kind(self) -> Kind:
+        """LIVE or TOMBSTONE."""
+        return Kind.TOMBSTONE if self.value is None else Kind.LIVE
+
+
+class Entry(NamedTuple):
+    """An entry of a journal: an accepted version, with its key and its source."""
+
+    number: int
+    key: bytes
+    clock: Clock
+    value: Optional[bytes]
+    source: Source
+
+    @property
+    def version(self) -> Version:
+        """Version of the entry."""
+        return Version(self.clock, self.value)
+
+
+class Hint(NamedTuple):
+    """A version that is kept for its owner, a node that is down."""
+
+    number: int
+    owner: int
+    key: bytes
+    clock: Clock
+    value: Optional[bytes]
+
+    @property
+    def version(self) -> Version:
+        """Version of the hint."""
+        return Version(self.clock, self.value)
+
+
+class Receipt(NamedTuple):
+    """The result of a put: the entry's number, and the node's counter in the new version's clock.
+
+    The new clock is `{**context, node: receipt.counter}`.
+    """
+
+    number: int
+    counter: int
+
+
+class Spot(NamedTuple):
+    """The range and the leaf of a key."""
+
+    range: int
+    leaf: int
+
+
+class OfferParts(NamedTuple):
+    """The parts of an offer, as received."""
+
+    number: int
+    format: int
+    range: int
+    root: bytes
+
+
+class Taken(NamedTuple):
+    """The result of taking an answer: numbers of new and of known versions, and the state of the session."""
+
+    accepted: int
+    known: int
+    state: State
+
+
+class Loaded(NamedTuple):
+    """The result of loading rows: numbers of new and of known versions."""
+
+    taken: int
+    known: int
+
+
+class Counts(NamedTuple):
+    """Counts of a replica."""
+
+    entries: int
+    limit: int
+    dirty: int
+    sessions: int
+    open_sessions: int
+
+
+class HintCounts(NamedTuple):
+    """Counts of hints."""
+
+    pending: int
+    delivered: int
+
+
+class SlotCounts(NamedTuple):
+    """Counts of slots."""
+
+    target: int
+    lent: int
+    free: int
+
+
+class Synced(NamedTuple):
+    """The result of a sync. `crowded` has the asks for the leaves that were left, since a key in them is crowded."""
+
+    accepted: int
+    known: int
+    asks: int
+    bad: int
+    crowded: List[bytes]
+    state: State
+
+    @property
+    def finished(self) -> bool:
+        """True if each version of the offer was taken."""
+        return self.state is State.FINISHED

@@ -1,0 +1,247 @@
+"""Versions, the journal and the tree of a replica."""
+
+import unittest
+
+import antientropy
+from antientropy import Kind, Order, Receipt, Replica, Source, Version
+
+from tests.support import ReplicaCase, crowd
+
+
+class ReplicaTest(ReplicaCase):
+    def setUp(self):
+        self.replica = Replica(limit=1000)
+        self.addCleanup(self.replica.close)
+
+    def test_put_and_get(self):
+        self.assertEqual(self.replica.put(1, b"k", b"one"), Receipt(0, 1))
+        self.assertEqual(self.replica.put(1, b"k", b"two", {1: 1}), Receipt(1, 2))
+        self.assertEqual(self.replica.get(b"k"), [Version({1: 2}, b"two")])
+        self.assertEqual(self.replica.get(b"other"), [])
+
+    def test_context_as_pairs(self):
+        self.replica.put(1, b"k", b"one")
+        self.replica.put(2, b"k", b"two", [(1, 1)])
+        self.replica.put(2, b"k", b"three", iter(((2, 1), (1, 1))))
+        self.assertEqual(self.replica.get(b"k"), [Version({1: 1, 2: 2}, b"three")])
+
+    def test_tombstone(self):
+        self.replica.put(1, b"k", None)
+        (version,) = self.replica.get(b"k")
+        self.assertEqual((version.value, version.kind), (None, Kind.TOMBSTONE))
+        self.assertIsNone(self.replica.value(b"k", 0))
+        self.replica.put(1, b"k", b"", version.clock)
+        (version,) = self.replica.get(b"k")
+        self.assertEqual((version.value, version.kind), (b"", Kind.LIVE))
+
+    def test_concurrent_versions(self):
+        self.replica.put(1, b"k", b"one")
+        self.assertTrue(self.replica.accept(b"k", {2: 1}, b"two"))
+        self.assertFalse(self.replica.accept(b"k", {2: 1}, b"two"))
+        versions = [Version({1: 1}, b"one"), Version({2: 1}, b"two")]
+        self.assertEqual(self.replica.get(b"k"), versions)
+        self.assertEqual(list(self.replica.versions(b"k")), versions)
+        self.assertEqual(self.replica.count_versions(b"k"), 2)
+        self.assertEqual([self.replica.read(b"k", n) for n in range(2)], versions)
+        self.assertEqual([self.replica.value(b"k", n) for n in range(2)], [b"one", b"two"])
+        self.assertEqual([self.replica.clock(b"k", n) for n in range(2)], [{1: 1}, {2: 1}])
+
+    def test_put_many(self):
+        items = ((b"key %d" % n, b"value", ()) for n in range(10))
+        self.assertEqual(self.replica.put_many(1, items), [Receipt(n, 1) for n in range(10)])
+        self.assertEqual(self.replica.count().entries, 10)
+
+    def test_put_many_that_is_refused(self):
+        with self.assertRaises(antientropy.BadKey) as caught:
+            self.replica.put_many(1, [(b"a", b"", ()), (b"", b"", ()), (b"c", b"", ())])
+        self.assertEqual(caught.exception.done, (Receipt(0, 1),))
+        self.assertEqual(list(self.replica.keys()), [b"a"])
+
+    def test_row_of_the_page(self):
+        self.replica.put(1, b"a", b"x")
+        self.assertEqual(self.replica.row(b"a").hex(), "0001610001000100010000000000000001" + "00000001" + "78")
+        self.assertEqual(self.replica.row(b"b"), b"")
+
+    def test_great_row(self):
+        crowd(self.replica, b"k")
+        for node in range(1, 65):
+            self.replica.put(node, b"great", bytes([node]) * 65536)
+        self.assertGreater(len(self.replica.row(b"great")), 64 * 65536)
+        self.assertEqual(self.replica.get(b"great")[63].value, b"\x40" * 65536)
+
+    def test_keys(self):
+        keys = {b"key %d" % n for n in range(100)}
+        self.replica.put_many(1, ((key, b"", ()) for key in keys))
+        self.assertEqual(len(list(self.replica.keys())), 100)
+        self.assertEqual(set(self.replica.keys()), keys)
+        leaf = antientropy.place(2, 0, b"key 7").leaf
+        self.assertIn(b"key 7", list(self.replica.keys_of(leaf)))
+
+    def test_entries(self):
+        self.replica.put(1, b"a", b"x")
+        self.replica.accept(b"b", {2: 3}, None)
+        first, second = self.replica.entries()
+        self.assertEqual(first, (0, b"a", {1: 1}, b"x", Source.PUT))
+        self.assertEqual(second, (1, b"b", {2: 3}, None, Source.COPY))
+        self.assertEqual(second.version, Version({2: 3}, None))
+        self.assertEqual(list(self.replica.entries(1)), [second])
+        self.assertEqual(list(self.replica.entries(2)), [])
+
+    def test_counts_and_rehash(self):
+        self.replica.rehash()
+        self.assertEqual(self.replica.count(), (0, 1000, 0, 0, 0))
+        self.replica.put(1, b"a", b"x")
+        self.assertEqual(self.replica.count().dirty, 4)
+
+    def test_renew(self):
+        self.replica.put(1, b"a", b"x")
+        self.replica.put(1, b"a", b"y", {1: 1})
+        with self.replica.renew(5) as renewed:
+            self.assertEqual(renewed.count()[:2], (1, 5))
+            self.assertEqual(renewed.root(), self.replica.root())
+            self.assertEqual((renewed.format, renewed.bits, renewed.range), (2, 0, 0))
+
+    def test_migrate(self):
+        with Replica(1, 0, 0, 10) as replica:
+            replica.put(1, b"a", b"x")
+            replica.migrate()
+            self.assertEqual(replica.format, 2)
+            self.assertEqual(replica.root().hex()[:8], "22ba8eee")
+
+    def test_bytes_like_arguments(self):
+        self.replica.put(1, bytearray(b"a"), memoryview(b"x"))
+        self.assertEqual(self.replica.get(memoryview(b"a")), [Version({1: 1}, b"x")])
+
+    def test_arguments_of_other_types(self):
+        for args in ((1, "a", b""), (1, None, b""), (1, b"a", "x"), (1, b"a", b"", 5), ("1", b"a", b"")):
+            with self.subTest(args), self.assertRaises(TypeError):
+                self.replica.put(*args)
+        with self.assertRaises(ValueError):
+            self.replica.put(1, b"a", b"", [(1, 2, 3)])
+        self.assertEqual(self.replica.count().entries, 0)
+
+    def test_numbers_that_c_cannot_hold(self):
+        for args in ((65536, b"a", b""), (-1, b"a", b""), (1, b"a", b"", {1: 1 << 64}), (1, b"a", b"", {-1: 1})):
+            with self.subTest(args), self.assertRaises(OverflowError):
+                self.replica.put(*args)
+        with self.assertRaises(OverflowError):
+            self.replica.read(b"a", -1)
+        self.assertEqual(self.replica.count().entries, 0)
+
+
+class RefusalTest(ReplicaCase):
+    def setUp(self):
+        self.replica = Replica(bits=0, limit=70)
+        self.addCleanup(self.replica.close)
+        self.replica.put(1, b"k", b"v")
+
+    def refused(self, name, call, *args):
+        return self.assert_refused(name, self.replica, call, *args)
+
+    def test_bad_clock(self):
+        error = self.refused("BadClock", self.replica.put, 0, b"k", b"")
+        self.assertEqual((error.number, error.name, error.call), (1, "BadClock", "put"))
+        self.assertEqual(str(error), "put: BadClock (1)")
+        self.refused("BadClock", self.replica.put, 1, b"k", b"", [(1, 1), (1, 2)])
+        self.refused("BadClock", self.replica.accept, b"k", {65536: 1}, b"")
+        self.refused("BadClock", antientropy.compare, {1: 0}, {})
+        self.refused("BadClock", antientropy.merge, {1: 1}, {0: 1})
+
+    def test_clock_full(self):
+        full = {node: 1 for node in range(1, 33)}
+        self.refused("ClockFull", self.replica.put, 33, b"k", b"", full)
+        self.refused("ClockFull", antientropy.merge, full, {33: 1})
+
+    def test_counter_full(self):
+        self.refused("CounterFull", self.replica.put, 1, b"k", b"", {1: (1 << 64) - 1})
+
+    def test_bad_key(self):
+        self.refused("BadKey", self.replica.put, 1, b"", b"")
+        self.refused("BadKey", self.replica.accept, b"k" * 256, {1: 1}, b"")
+        self.refused("BadKey", self.replica.row, b"")
+        self.refused("BadKey", antientropy.place, 2, 0, b"")
+
+    def test_bad_value(self):
+        self.refused("BadValue", self.replica.put, 1, b"k", bytes(65537), {1: 1})
+        with Replica(format=1) as first:
+            self.assert_refused("BadValue", first, first.put, 1, b"k", None)
+
+    def test_stale_context(self):
+        self.refused("StaleContext", self.replica.put, 1, b"k", b"")
+
+    def test_crowded(self):
+        crowd(self.replica)
+        self.refused("Crowded", self.replica.put, 65, b"crowded", b"")
+        self.refused("Crowded", self.replica.accept, b"crowded", {65: 1}, b"")
+
+    def test_journal_full(self):
+        for n in range(69):
+            self.replica.put(1, b"key %d" % n, b"")
+        self.refused("JournalFull", self.replica.put, 1, b"other", b"")
+        self.refused("JournalFull", self.replica.renew, 1)
+
+    def test_other_range(self):
+        spot = antientropy.place(2, 1, b"k")
+        with Replica(bits=1, range=1 - spot.range) as other:
+            self.assert_refused("OtherRange", other, other.put, 1, b"k", b"")
+            self.assert_refused("OtherRange", other, other.load_rows, self.replica.row(b"k"))
+
+    def test_dirty(self):
+        self.refused("Dirty", self.replica.snapshot, False)
+        with self.replica.snapshot() as snapshot:
+            self.replica.put(1, b"other", b"")
+            self.refused("Dirty", self.replica.open, 2, snapshot.offer(1), False)
+
+    def test_bad_ring(self):
+        for args in ((3,), (2, 9), (2, 1, 2), (2, 0, 0, 0)):
+            self.refused("BadRing", Replica, *args)
+        self.refused("BadRing", antientropy.place, 3, 0, b"k")
+        self.refused("BadRing", self.replica.renew, 0)
+
+    def test_row_broken(self):
+        error = self.refused("RowBroken", self.replica.load_rows, self.replica.row(b"k") + b"\x00")
+        self.assertEqual(error.offset, len(self.replica.row(b"k")))
+
+    def test_bad_message(self):
+        self.refused("BadMessage", antientropy.read_offer, b"")
+        self.refused("BadMessage", self.replica.open, 2, b"")
+        self.refused("BadMessage", list, self.replica.keys_of(4096))
+
+    def test_no_version(self):
+        self.refused("NoVersion", self.replica.read, b"k", 1)
+        self.refused("NoVersion", self.replica.value, b"k", 1)
+        self.refused("NoVersion", self.replica.clock, b"k", 1)
+        self.refused("NoVersion", self.replica.entry, 1)
+
+    def test_empty(self):
+        self.replica.close()
+        self.replica.close()
+        for call, *args in (
+            (self.replica.put, 1, b"k", b""), (self.replica.put_many, 1, [(b"k", b"", ())]),
+            (self.replica.accept, b"k", {1: 1}, b""), (self.replica.get, b"k"), (self.replica.row, b"k"),
+            (self.replica.rehash,), (self.replica.snapshot,), (self.replica.count,), (self.replica.migrate,),
+            (self.replica.renew,), (list, self.replica.keys()), (list, self.replica.entries()),
+        ):
+            with self.subTest(call), self.assertRaises(antientropy.Empty):
+                call(*args)
+
+
+class FunctionTest(unittest.TestCase):
+    def test_place(self):
+        self.assertEqual(antientropy.place(1, 4, b"abc"), (9, 0))
+        self.assertEqual(antientropy.place(2, 4, b"message digest"), (15, 2411))
+
+    def test_compare(self):
+        self.assertIs(antientropy.compare({1: 1}, {1: 2}), Order.BEFORE)
+        self.assertIs(antientropy.compare([(2, 1), (1, 1)], {1: 1}), Order.AFTER)
+        self.assertIs(antientropy.compare({}, ()), Order.EQUAL)
+        self.assertIs(antientropy.compare({1: 1}, {2: 1}), Order.APART)
+
+    def test_merge(self):
+        self.assertEqual(antientropy.merge(), {})
+        self.assertEqual(antientropy.merge({2: 1, 1: 3}), {1: 3, 2: 1})
+        self.assertEqual(antientropy.merge({1: 3}, [(1, 1), (2, 5)], {3: 1}), {1: 3, 2: 5, 3: 1})
+
+
+if __name__ == "__main__":
+    unittest.main()

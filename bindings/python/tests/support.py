@@ -1,0 +1,60 @@
+"""What several tests use."""
+
+import os
+import subprocess
+import sys
+import unittest
+from pathlib import Path
+
+import antientropy
+from antientropy._library import current
+
+PACKAGE = Path(__file__).resolve().parents[1]
+EXAMPLES = PACKAGE / "examples"
+
+
+def lacks(call):
+    """True if the library has no such call: then tests of it are skipped."""
+    return not hasattr(current(), call)
+
+
+def reach(snapshot, number=1):
+    """A partner that is called directly."""
+    return lambda asks: [snapshot.serve(number, ask) for ask in asks]
+
+
+def sync(replica, partner):
+    """Takes what a partner has."""
+    with partner.snapshot() as snapshot:
+        return replica.sync(9, snapshot.offer(1), reach(snapshot))
+
+
+def crowd(replica, key=b"crowded", first=1):
+    """Fills a key with 64 concurrent versions."""
+    for node in range(first, first + 64):
+        replica.accept(key, {node: 1}, b"%d" % node)
+
+
+def run(*words):
+    """Runs a script with the package and the library of these tests, and returns its output."""
+    command = [sys.executable, *map(str, words)]
+    environment = {**os.environ, "PYTHONPATH": str(PACKAGE), "PYTHONDONTWRITEBYTECODE": "1"}
+    done = subprocess.run(command, env=environment, capture_output=True, text=True)
+    return done.stdout + done.stderr
+
+
+class ReplicaCase(unittest.TestCase):
+    """A test that can tell whether a replica was changed."""
+
+    def assert_refused(self, name, replica, call, *args):
+        """A call is refused by a cause, and leaves the replica unchanged. Returns the exception."""
+        before = self.state(replica)
+        with self.assertRaises(getattr(antientropy, name)) as caught:
+            call(*args)
+        self.assertEqual(caught.exception.name, name)
+        self.assertEqual(self.state(replica), before)
+        return caught.exception
+
+    def state(self, replica):
+        """All that a replica holds."""
+        return replica.count(), list(replica.entries()), [replica.row(key) for key in replica.keys()]

@@ -1,0 +1,63 @@
+"""Several threads with one replica."""
+
+import threading
+import unittest
+
+from antientropy import Replica
+
+from tests.support import reach
+
+THREADS, PUTS = 4, 500
+
+
+class ThreadsTest(unittest.TestCase):
+    def test_threads_share_a_replica(self):
+        with Replica() as replica, Replica() as copy:
+            threads = [threading.Thread(target=self.put, args=(replica, node)) for node in range(1, THREADS + 1)]
+            for thread in threads:
+                thread.start()
+            while any(thread.is_alive() for thread in threads):
+                self.sync(copy, replica)
+            for thread in threads:
+                thread.join()
+            self.sync(copy, replica)
+            self.assertEqual(replica.count().entries, THREADS * PUTS)
+            self.assertEqual(copy.root(), replica.root())
+
+    def put(self, replica, node):
+        for n in range(PUTS):
+            key = b"%d of %d" % (n, node)
+            replica.put(node, key, key)
+            self.assertEqual([version.value for version in replica.get(key)], [key])
+
+    def sync(self, copy, replica):
+        with replica.snapshot() as snapshot:
+            self.assertTrue(copy.sync(1, snapshot.offer(1), reach(snapshot)).finished)
+
+    def test_a_thread_serves_a_snapshot(self):
+        with Replica() as replica, Replica() as copy:
+            for n in range(PUTS):
+                replica.put(1, b"%d" % n, b"")
+            with replica.snapshot() as snapshot:
+                thread = threading.Thread(target=copy.sync, args=(1, snapshot.offer(1), reach(snapshot)))
+                thread.start()
+                self.put(replica, 2)
+                thread.join()
+            self.assertEqual(copy.count().entries, PUTS)
+
+    def test_a_lock_for_each_handle(self):
+        with Replica() as replica, replica.snapshot() as snapshot, Replica() as other:
+            locks = {id(handle._lock) for handle in (replica, snapshot, other)}
+            self.assertEqual(len(locks), 3)
+            done = threading.Event()
+            thread = threading.Thread(target=lambda: (replica.put(1, b"k", b""), done.set()))
+            with replica._lock:
+                thread.start()
+                self.assertFalse(done.wait(0.05))
+                snapshot.root()
+            thread.join()
+            self.assertTrue(done.is_set())
+
+
+if __name__ == "__main__":
+    unittest.main()
