@@ -1,0 +1,1481 @@
+/// antientropy for C++17: replicas of a range of a Dynamo-style store, over the proved C library.
+///
+/// A `Replica` holds versions of keys. `Replica::sync` takes from a partner what it lacks, by messages that the program
+/// carries. `Hints` and `Slots` are apart. docs/EMBEDDING_C.md says what a program owes, above all that counters don't
+/// go back. README.md shows how to use this header.
+///
+/// RESULTS. A call that can be refused returns a `Result`: a value, or the `Refusal` of the first cause in the call's
+/// list. A refused call changes nothing, except as antientropy.h says. What isn't there is no refusal: the value is a
+/// std::optional, and has none. This header throws no exception. Those of the standard library pass through it
+/// (std::bad_alloc, or what a stream throws on demand), and so do those of a `Reach`.
+///
+/// OBJECTS. All classes with a handle are moved, not copied. A call of an object that was closed or moved from is
+/// refused as Empty: no doc comment repeats it. The same holds for NoMemory, which may come instead of other causes.
+///
+/// NUMBERS have the types of C, so a number that a type can't hold is cut before the call: -Wconversion warns of that.
+/// Text and bytes go in as std::string_view, and come out as std::string.
+///
+/// THREADS. No class takes a lock: one call at a time on an object. Even a call that reads counts, so it isn't const. A
+/// `Session` and a `Sequence` of a replica count as the replica, a `Loan` as its slots. A replica and its snapshots are
+/// apart, and may be used at once. Call nothing in a signal handler, or in the forked child of a process with threads.
+#ifndef ANTIENTROPY_HPP
+#define ANTIENTROPY_HPP
+
+#ifdef ANTIENTROPY_H
+#error "include antientropy.hpp without antientropy.h: its struct antientropy has the name of the namespace"
+#endif
+
+#include <stdbool.h>
+#include <stddef.h>
+#include <stdint.h>
+
+#include <algorithm>
+#include <cassert>
+#include <cstddef>
+#include <cstdint>
+#include <functional>
+#include <initializer_list>
+#include <istream>
+#include <iterator>
+#include <memory>
+#include <optional>
+#include <ostream>
+#include <string>
+#include <string_view>
+#include <utility>
+#include <variant>
+#include <vector>
+
+namespace antientropy {
+
+/// The names of the C header. They are in a namespace, since C has a struct antientropy.
+namespace c {
+#include "antientropy.h"
+}
+
+// ---- refusals and results
+
+/// Causes of refusal, with the numbers of the header. docs/FORMATS.md says what to do at each.
+enum class Refusal : std::uint32_t {
+    BadClock = c::ANTIENTROPY_BAD_CLOCK,
+    ClockFull = c::ANTIENTROPY_CLOCK_FULL,
+    CounterFull = c::ANTIENTROPY_COUNTER_FULL,
+    BadKey = c::ANTIENTROPY_BAD_KEY,
+    BadValue = c::ANTIENTROPY_BAD_VALUE,
+    StaleContext = c::ANTIENTROPY_STALE_CONTEXT,
+    Crowded = c::ANTIENTROPY_CROWDED,
+    JournalFull = c::ANTIENTROPY_JOURNAL_FULL,
+    OtherRange = c::ANTIENTROPY_OTHER_RANGE,
+    Dirty = c::ANTIENTROPY_DIRTY,
+    UnknownSession = c::ANTIENTROPY_UNKNOWN_SESSION,
+    NotAsked = c::ANTIENTROPY_NOT_ASKED,
+    WrongDigest = c::ANTIENTROPY_WRONG_DIGEST,
+    NotCanonical = c::ANTIENTROPY_NOT_CANONICAL,
+    OtherFormat = c::ANTIENTROPY_OTHER_FORMAT,
+    SessionsFull = c::ANTIENTROPY_SESSIONS_FULL,
+    NoSlot = c::ANTIENTROPY_NO_SLOT,
+    ClockBack = c::ANTIENTROPY_CLOCK_BACK,
+    UnknownHint = c::ANTIENTROPY_UNKNOWN_HINT,
+    HintsFull = c::ANTIENTROPY_HINTS_FULL,
+    Gone = c::ANTIENTROPY_GONE,
+    BadRing = c::ANTIENTROPY_BAD_RING,
+    RowBroken = c::ANTIENTROPY_ROW_BROKEN,
+    BadMessage = c::ANTIENTROPY_BAD_MESSAGE,
+    NoMemory = c::ANTIENTROPY_NO_MEMORY,
+    Small = c::ANTIENTROPY_SMALL,
+    Empty = c::ANTIENTROPY_EMPTY,
+    Held = c::ANTIENTROPY_HELD,
+    NoVersion = c::ANTIENTROPY_NO_VERSION,
+};
+
+/// What `Result` and `FileResult` share: a value, or an error. Test it before its value is used.
+template <class T, class E>
+class Either {
+public:
+    Either(T value) : held_(std::in_place_index<0>, std::move(value)) {}
+    Either(E error) : held_(std::in_place_index<1>, std::move(error)) {}
+
+    /// True if there is a value.
+    explicit operator bool() const noexcept { return held_.index() == 0; }
+
+    /// The value.
+    T &operator*() & { return *held(); }
+    const T &operator*() const & { return *held(); }
+    /// The value of a temporary, moved out of it.
+    T operator*() && { return std::move(*held()); }
+
+    /// Access to the value.
+    T *operator->() { return held(); }
+    const T *operator->() const { return held(); }
+
+protected:
+    /// The error, if there is no value.
+    const E &failure() const {
+        assert(!*this);
+        return *std::get_if<1>(&held_);
+    }
+
+private:
+    T *held() {
+        assert(*this);
+        return std::get_if<0>(&held_);
+    }
+    const T *held() const {
+        assert(*this);
+        return std::get_if<0>(&held_);
+    }
+
+    std::variant<T, E> held_;
+};
+
+/// The result of a call: a value, or the cause for which the call was refused.
+template <class T>
+class [[nodiscard]] Result : public Either<T, Refusal> {
+public:
+    using Either<T, Refusal>::Either;
+
+    /// The cause, if there is no value.
+    Refusal refusal() const { return this->failure(); }
+};
+
+/// The result of a call that returns no value.
+template <>
+class [[nodiscard]] Result<void> {
+public:
+    Result() = default;
+    Result(Refusal refusal) : refusal_(refusal) {}
+
+    /// True if the call wasn't refused.
+    explicit operator bool() const noexcept { return !refusal_; }
+
+    /// The cause, if the call was refused.
+    Refusal refusal() const {
+        assert(refusal_);
+        return *refusal_;
+    }
+
+private:
+    std::optional<Refusal> refusal_;
+};
+
+/// Why a checkpoint wasn't written or loaded.
+enum class Fault {
+    NotWritten, ///< the stream failed
+    NoCheckpoint, ///< the bytes don't begin as a checkpoint of format 1 or 2 does
+    Cut, ///< the file ends early, or can't be read
+    Damaged, ///< its numbers or rows are refused, its root differs, or bytes follow
+    Refused ///< a call was refused for a cause that isn't the file's: BadRing (the limit), JournalFull, NoMemory, Empty
+};
+
+/// The error of a checkpoint. `refusal` is that of the call that was refused, if any.
+struct FileError {
+    Fault fault;
+    std::optional<Refusal> refusal;
+};
+
+/// The result of a call that writes or reads a checkpoint: a value, or an error that is no refusal.
+template <class T>
+class [[nodiscard]] FileResult : public Either<T, FileError> {
+public:
+    using Either<T, FileError>::Either;
+
+    /// The error, if there is no value.
+    const FileError &error() const { return this->failure(); }
+};
+
+// ---- the values that calls take and return
+
+/// Kinds of versions.
+enum class Kind : std::uint8_t { Live = c::ANTIENTROPY_LIVE, Tombstone = c::ANTIENTROPY_TOMBSTONE };
+
+/// Sources of an entry's version: a put here, a copy, a hint, or a partner in a session.
+enum class Source : std::uint64_t {
+    Put = c::ANTIENTROPY_PUT,
+    Copy = c::ANTIENTROPY_COPY,
+    Hint = c::ANTIENTROPY_HINT,
+    Partner = c::ANTIENTROPY_PARTNER
+};
+
+/// States of a session.
+enum class State : std::uint64_t {
+    Open = c::ANTIENTROPY_OPEN,
+    Finished = c::ANTIENTROPY_FINISHED,
+    Failed = c::ANTIENTROPY_FAILED,
+    Cancelled = c::ANTIENTROPY_CANCELLED
+};
+
+/// Orders of two clocks. Versions under clocks that are apart are concurrent.
+enum class Order : std::uint64_t {
+    Before = c::ANTIENTROPY_BEFORE,
+    After = c::ANTIENTROPY_AFTER,
+    Equal = c::ANTIENTROPY_EQUAL,
+    Apart = c::ANTIENTROPY_APART
+};
+
+/// What became of a version that was handed in: it was known, or is new and now an entry of the journal.
+enum class Accepted : std::uint64_t { Known = 0, New = 1 };
+
+/// A pair of a clock: `node` and its `counter`.
+using Pair = c::antientropy_pair;
+
+/// A clock: pairs of a node and its counter. The library returns them by rising node, and takes them in any order.
+class Clock {
+public:
+    Clock() = default;
+    Clock(std::initializer_list<Pair> pairs) : pairs_(pairs) {}
+    Clock(const Pair *first, const Pair *last) : pairs_(first, last) {}
+
+    /// Adds a pair. Nothing checks it before a call takes the clock.
+    void add(std::uint64_t node, std::uint64_t counter) { pairs_.push_back({node, counter}); }
+
+    /// The pairs.
+    const Pair *begin() const noexcept { return pairs_.data(); }
+    const Pair *end() const noexcept { return pairs_.data() + pairs_.size(); }
+    std::size_t size() const noexcept { return pairs_.size(); }
+    bool empty() const noexcept { return pairs_.empty(); }
+
+    /// True if both have the same pairs in the same order. `compare` compares what clocks have seen.
+    friend bool operator==(const Clock &first, const Clock &second) {
+        const auto equal = [](const Pair &a, const Pair &b) { return a.node == b.node && a.counter == b.counter; };
+        return std::equal(first.begin(), first.end(), second.begin(), second.end(), equal);
+    }
+    friend bool operator!=(const Clock &first, const Clock &second) { return !(first == second); }
+
+private:
+    std::vector<Pair> pairs_;
+};
+
+/// The kind and the bytes of a value. A tombstone has no bytes.
+struct Value {
+    Kind kind = Kind::Live;
+    std::string bytes;
+};
+
+/// A version of a key. A tombstone has an empty value.
+struct Version {
+    Clock clock;
+    Kind kind = Kind::Live;
+    std::string value;
+
+    friend bool operator==(const Version &first, const Version &second) {
+        return first.clock == second.clock && first.kind == second.kind && first.value == second.value;
+    }
+    friend bool operator!=(const Version &first, const Version &second) { return !(first == second); }
+};
+
+/// An entry of a journal: an accepted version with its key, its source and its number from 0.
+struct Entry {
+    std::uint64_t number;
+    std::string key;
+    Version version;
+    Source source;
+};
+
+/// A version that is kept for its owner, a node that is down. Numbers begin at 1.
+struct Hint {
+    std::uint32_t number;
+    std::uint64_t owner;
+    std::string key;
+    Version version;
+};
+
+/// The result of a put: the entry's `number`, and the node's `counter` in the new version's clock.
+using Receipt = c::antientropy_receipt;
+
+/// The `range` and the `leaf` of a key.
+using Spot = c::antientropy_spot;
+
+/// Counts of a replica: `entries`, their `limit`, `dirty` nodes, `sessions` ever, and `open_sessions`.
+using Counts = c::antientropy_counts;
+
+/// Counts of hints: `pending` and `delivered`.
+using HintCounts = c::antientropy_hint_counts;
+
+/// Counts of slots: `target`, `lent` and `free`.
+using SlotCounts = c::antientropy_slot_counts;
+
+/// The parts of an offer, as received: the ring may not have the format or the range.
+struct OfferParts {
+    std::uint64_t number;
+    std::uint64_t format;
+    std::uint64_t range;
+    std::string root;
+};
+
+/// The result of taking an answer: numbers of new and of known versions, and the state of the session.
+struct Taken {
+    std::uint64_t accepted;
+    std::uint64_t known;
+    State state;
+};
+
+/// The result of loading rows: numbers of new and of known versions.
+struct Loaded {
+    std::uint64_t taken;
+    std::uint64_t known;
+};
+
+/// The result of a sync. `crowded` has the asks for the leaves that were left, since a key in them is crowded.
+struct Synced {
+    std::uint64_t accepted = 0;
+    std::uint64_t known = 0;
+    std::uint64_t asks = 0;
+    std::uint64_t bad = 0;
+    std::vector<std::string> crowded;
+    State state = State::Finished;
+
+    /// True if each version of the offer was taken.
+    bool finished() const noexcept { return state == State::Finished; }
+};
+
+/// Carries asks to a partner, and returns the answers in their order: none for one that is missing.
+using Reach = std::function<std::vector<std::optional<std::string>>(const std::vector<std::string> &)>;
+
+/// What a range-for goes through, once. The loop ends after the last value, or at a refusal, which `refusal` returns
+/// then. It may outlive its object.
+template <class T>
+class Sequence {
+public:
+    using Next = std::function<Result<std::optional<T>>()>;
+
+    /// An iterator of one pass.
+    class Iterator {
+    public:
+        using iterator_category = std::input_iterator_tag;
+        using value_type = T;
+        using difference_type = std::ptrdiff_t;
+        using pointer = T *;
+        using reference = T &;
+
+        explicit Iterator(Sequence *of = nullptr) : of_(of) {}
+        reference operator*() const { return *of_->current_; }
+        pointer operator->() const { return &*of_->current_; }
+        Iterator &operator++() {
+            if (!of_->step()) of_ = nullptr;
+            return *this;
+        }
+        void operator++(int) { ++*this; }
+        friend bool operator==(Iterator first, Iterator second) { return first.of_ == second.of_; }
+        friend bool operator!=(Iterator first, Iterator second) { return first.of_ != second.of_; }
+
+    private:
+        Sequence *of_;
+    };
+
+    explicit Sequence(Next next) : next_(std::move(next)) {}
+    Sequence(Sequence &&) = default;
+    Sequence &operator=(Sequence &&) = default;
+
+    /// Reads the next value. Call it once.
+    Iterator begin() { return ++Iterator(this); }
+    Iterator end() { return Iterator(); }
+
+    /// The refusal that ended the loop, if any.
+    std::optional<Refusal> refusal() const noexcept { return refusal_; }
+
+private:
+    bool step() {
+        auto next = next_();
+        if (next) {
+            current_ = std::move(*next);
+        } else {
+            current_.reset();
+            refusal_ = next.refusal();
+        }
+        return current_.has_value();
+    }
+
+    Next next_;
+    std::optional<T> current_;
+    std::optional<Refusal> refusal_;
+};
+
+// ---- between C and C++
+
+namespace detail {
+
+using ReplicaHandle = c::antientropy;
+
+/// A pointer that is never NULL, as C asks.
+inline const std::uint8_t *data(std::string_view bytes) {
+    return reinterpret_cast<const std::uint8_t *>(bytes.data() ? bytes.data() : "");
+}
+
+inline const Pair *data(const Clock &clock) {
+    static const Pair none = {};
+    return clock.empty() ? &none : clock.begin();
+}
+
+inline std::uint8_t *room(std::string &bytes) { return reinterpret_cast<std::uint8_t *>(bytes.data()); }
+
+inline std::string text(const std::uint8_t *bytes, std::uint64_t length) {
+    return std::string(reinterpret_cast<const char *>(bytes), length);
+}
+
+inline Result<void> done(std::uint32_t number) {
+    if (number != c::ANTIENTROPY_OK) return static_cast<Refusal>(number);
+    return {};
+}
+
+/// The result of a call that wrote a value.
+template <class T>
+Result<T> result(std::uint32_t number, T value) {
+    if (number != c::ANTIENTROPY_OK) return static_cast<Refusal>(number);
+    return value;
+}
+
+/// The result of a call of which NoVersion is no refusal.
+template <class T>
+Result<std::optional<T>> or_none(Result<T> result) {
+    if (result) return std::optional<T>(std::move(*result));
+    if (result.refusal() == Refusal::NoVersion) return std::optional<T>();
+    return result.refusal();
+}
+
+/// Bytes that fit here need no second call.
+inline constexpr std::size_t first_room = 4096;
+
+/// The bytes of a call that takes room, its length, and where to write the length of the bytes.
+template <class Call>
+Result<std::string> bytes(Call call) {
+    std::uint8_t first[first_room];
+    std::uint64_t need = 0;
+    std::uint32_t number = call(first, sizeof first, &need);
+    if (number == c::ANTIENTROPY_OK) return text(first, need);
+    if (number != c::ANTIENTROPY_SMALL) return static_cast<Refusal>(number);
+    std::string larger(need, '\0');
+    number = call(room(larger), larger.size(), &need);
+    return result(number, std::move(larger));
+}
+
+/// Each clock fits here.
+inline constexpr std::size_t pairs_room = ANTIENTROPY_CLOCK_MAX;
+
+/// The clock of a call that takes room for pairs.
+template <class Call>
+Result<Clock> clock(Call call) {
+    Pair pairs[pairs_room];
+    std::uint64_t need = 0;
+    const std::uint32_t number = call(pairs, pairs_room, &need);
+    if (number != c::ANTIENTROPY_OK) return static_cast<Refusal>(number);
+    return Clock(pairs, pairs + need);
+}
+
+/// The value of a call that takes room, and where to write the kind.
+template <class Call>
+Result<Value> value(Call call) {
+    std::uint8_t kind = 0;
+    auto read = bytes([&](auto... out) { return call(&kind, out...); });
+    if (!read) return read.refusal();
+    return Value{static_cast<Kind>(kind), std::move(*read)};
+}
+
+/// The version of which one call returns the value, and another one the clock.
+template <class ValueCall, class ClockCall>
+Result<Version> version(ValueCall value_call, ClockCall clock_call) {
+    auto read = value(value_call);
+    if (!read) return read.refusal();
+    auto seen = clock(clock_call);
+    if (!seen) return seen.refusal();
+    return Version{std::move(*seen), read->kind, std::move(read->bytes)};
+}
+
+/// A handle that several objects share. It is never NULL: one that was moved from holds nothing.
+template <class C>
+class Shared {
+public:
+    Shared() : at_(std::make_shared<C>()) {}
+
+    C *get() {
+        if (!at_) at_ = std::make_shared<C>();
+        return at_.get();
+    }
+    bool moved() const noexcept { return !at_; }
+
+private:
+    std::shared_ptr<C> at_;
+};
+
+/// The owner of a handle, which frees it. Objects that share the handle find it empty then.
+template <class C, void (*Free)(C *)>
+class Owner {
+public:
+    Owner() = default;
+    Owner(Owner &&) noexcept = default;
+    Owner &operator=(Owner &&other) noexcept {
+        if (this == &other) return *this;
+        close();
+        shared_ = std::move(other.shared_);
+        return *this;
+    }
+    ~Owner() { close(); }
+
+    C *get() { return shared_.get(); }
+
+    Shared<C> share() {
+        shared_.get();
+        return shared_;
+    }
+
+    void close() noexcept {
+        if (!shared_.moved()) Free(shared_.get());
+    }
+
+private:
+    Shared<C> shared_;
+};
+
+// ---- reads that objects and their sequences share
+
+/// One of the versions held for a key. `held` gets their number.
+inline Result<Version> read_version(ReplicaHandle *replica, std::string_view key, std::uint64_t index,
+                                    std::uint64_t &held) {
+    c::antientropy_reading reading = {};
+    Pair pairs[pairs_room];
+    const auto read = [&](std::uint8_t *out, std::size_t length) {
+        return c::antientropy_read(replica, data(key), key.size(), index, &reading, pairs, pairs_room, out, length);
+    };
+    std::uint8_t first[first_room];
+    std::string value;
+    std::uint32_t number = read(first, sizeof first);
+    if (number == c::ANTIENTROPY_OK) {
+        value = text(first, reading.bytes);
+    } else if (number == c::ANTIENTROPY_SMALL) {
+        value.resize(reading.bytes);
+        number = read(room(value), value.size());
+    }
+    if (number != c::ANTIENTROPY_OK) return static_cast<Refusal>(number);
+    held = reading.versions;
+    return Version{Clock(pairs, pairs + reading.pairs), static_cast<Kind>(reading.kind), std::move(value)};
+}
+
+inline Result<std::optional<Version>> read_version(ReplicaHandle *replica, std::string_view key, std::uint64_t index) {
+    std::uint64_t held = 0;
+    return or_none(read_version(replica, key, index, held));
+}
+
+inline Result<std::optional<std::string>> key_after(ReplicaHandle *replica, std::uint16_t leaf, std::string_view key) {
+    return or_none(bytes(
+        [&](auto... out) { return c::antientropy_key_after(replica, leaf, data(key), key.size(), out...); }));
+}
+
+/// The keys of all leaves, one at a time.
+class Keys {
+public:
+    explicit Keys(Shared<ReplicaHandle> replica) : replica_(std::move(replica)) {}
+
+    Result<std::optional<std::string>> operator()() {
+        while (true) {
+            auto next = key_after(replica_.get(), leaf_, key_);
+            if (!next && next.refusal() == Refusal::BadMessage) return std::optional<std::string>();
+            if (!next) return next;
+            key_ = next->value_or("");
+            if (*next) return next;
+            leaf_++;
+        }
+    }
+
+private:
+    Shared<ReplicaHandle> replica_;
+    std::uint16_t leaf_ = 0;
+    std::string key_;
+};
+
+inline Result<Entry> entry(ReplicaHandle *replica, std::uint64_t number) {
+    auto key = bytes([&](auto... out) { return c::antientropy_entry_key(replica, number, out...); });
+    if (!key) return key.refusal();
+    auto held = version([&](auto... out) { return c::antientropy_entry_value(replica, number, out...); },
+                        [&](auto... out) { return c::antientropy_entry_clock(replica, number, out...); });
+    if (!held) return held.refusal();
+    std::uint64_t source = 0;
+    const auto refused = c::antientropy_entry_source(replica, number, &source);
+    return result(refused, Entry{number, std::move(*key), std::move(*held), static_cast<Source>(source)});
+}
+
+inline Result<std::optional<std::uint32_t>> hint_after(c::antientropy_hints *hints, std::uint16_t owner,
+                                                       std::uint32_t after) {
+    std::uint64_t id = 0;
+    const auto number = c::antientropy_hint_next(hints, owner, after, &id);
+    return or_none(result(number, static_cast<std::uint32_t>(id)));
+}
+
+inline Result<Hint> hint(c::antientropy_hints *hints, std::uint32_t id) {
+    std::uint64_t owner = 0;
+    const auto number = c::antientropy_hint_owner(hints, id, &owner);
+    if (number != c::ANTIENTROPY_OK) return static_cast<Refusal>(number);
+    auto key = bytes([&](auto... out) { return c::antientropy_hint_key(hints, id, out...); });
+    if (!key) return key.refusal();
+    auto kept = version([&](auto... out) { return c::antientropy_hint_value(hints, id, out...); },
+                        [&](auto... out) { return c::antientropy_hint_clock(hints, id, out...); });
+    if (!kept) return kept.refusal();
+    return Hint{id, owner, std::move(*key), std::move(*kept)};
+}
+
+/// The pending hint after another one.
+inline Result<std::optional<Hint>> pending_after(c::antientropy_hints *hints, std::uint16_t owner,
+                                                 std::uint32_t after) {
+    const auto id = hint_after(hints, owner, after);
+    if (!id) return id.refusal();
+    if (!*id) return std::optional<Hint>();
+    return or_none(hint(hints, **id));
+}
+
+// ---- the frame of a checkpoint (docs/FORMATS.md)
+
+inline constexpr std::string_view magic("antient\x01", 8);
+inline constexpr std::size_t head_length = magic.size() + 4 + ANTIENTROPY_ROOT_LEN;
+
+/// A damaged length may be huge, so a file is read in pieces.
+inline constexpr std::uint64_t piece_length = 1 << 20;
+
+inline unsigned leaves_of(std::uint64_t format) { return format == 1 ? ANTIENTROPY_LEAVES_1 : ANTIENTROPY_LEAVES_2; }
+
+/// The bytes of a number, the greatest first.
+inline std::string to_bytes(std::uint64_t number, unsigned length) {
+    std::string bytes;
+    while (length-- > 0) bytes.push_back(static_cast<char>(number >> (8 * length)));
+    return bytes;
+}
+
+inline std::uint64_t to_number(std::string_view bytes) {
+    std::uint64_t number = 0;
+    for (const char byte : bytes) number = number << 8 | static_cast<unsigned char>(byte);
+    return number;
+}
+
+inline std::optional<std::string> read_bytes(std::istream &file, std::uint64_t length) {
+    std::string bytes;
+    while (bytes.size() < length) {
+        const std::size_t before = bytes.size(), piece = std::min(length - before, piece_length);
+        bytes.resize(before + piece);
+        if (!file.read(&bytes[before], static_cast<std::streamsize>(piece))) return std::nullopt;
+    }
+    return bytes;
+}
+
+/// The text of a leaf, after its length.
+inline std::optional<std::string> read_leaf(std::istream &file) {
+    const auto length = read_bytes(file, 8);
+    if (!length) return std::nullopt;
+    return read_bytes(file, to_number(*length));
+}
+
+/// The head of a checkpoint.
+struct Head {
+    std::uint64_t format, bits, range;
+    std::string root;
+};
+
+inline std::string to_bytes(const Head &head) {
+    return std::string(magic) + to_bytes(head.format, 1) + to_bytes(head.bits, 1) + to_bytes(head.range, 2) + head.root;
+}
+
+inline FileResult<Head> read_head(std::istream &file) {
+    const auto bytes = read_bytes(file, head_length);
+    if (!bytes) return FileError{Fault::Cut, std::nullopt};
+    const std::string_view head = *bytes, numbers = head.substr(magic.size());
+    const Head read{to_number(numbers.substr(0, 1)), to_number(numbers.substr(1, 1)), to_number(numbers.substr(2, 2)),
+                    std::string(numbers.substr(4))};
+    const bool known = head.substr(0, magic.size()) == magic && (read.format == 1 || read.format == 2);
+    if (!known) return FileError{Fault::NoCheckpoint, std::nullopt};
+    return read;
+}
+
+} // namespace detail
+
+// ---- calls that need no replica
+
+/// Returns the version of the library, as ANTIENTROPY_VERSION.
+inline std::uint32_t version() { return c::antientropy_version(); }
+
+/// Returns the library's name of a cause: "BadKey" for BadKey. Other numbers have no name.
+inline std::string name(Refusal refusal) {
+    const auto number = static_cast<std::uint32_t>(refusal);
+    auto found = detail::bytes([&](auto... out) { return c::antientropy_name(number, out...); });
+    return found ? *std::move(found) : std::string();
+}
+
+/// Returns the range and the leaf of a key, in a ring of 2^bits ranges (bits 0 to 8) of format 1 or 2.
+/// Refused, in order: BadRing, BadKey.
+inline Result<Spot> place(std::uint64_t format, std::uint64_t bits, std::string_view key) {
+    Spot spot = {};
+    const auto number = c::antientropy_place(format, bits, detail::data(key), key.size(), &spot);
+    return detail::result(number, spot);
+}
+
+/// Compares two clocks. Refused, in order: BadClock and ClockFull of the first, then of the second.
+inline Result<Order> compare(const Clock &first, const Clock &second) {
+    std::uint64_t order = 0;
+    const auto number =
+        c::antientropy_compare(detail::data(first), first.size(), detail::data(second), second.size(), &order);
+    return detail::result(number, static_cast<Order>(order));
+}
+
+/// Merges two clocks. Refused, in order: BadClock and ClockFull of the first, then of the second; ClockFull (over 32
+/// nodes).
+inline Result<Clock> merge(const Clock &first, const Clock &second) {
+    return detail::clock([&](auto... out) {
+        return c::antientropy_merge(detail::data(first), first.size(), detail::data(second), second.size(), out...);
+    });
+}
+
+/// Merges the clocks of versions, for the context of a put that replaces them all. Refused as `merge` of two clocks.
+inline Result<Clock> merge(const std::vector<Version> &versions) {
+    Result<Clock> merged = Clock();
+    for (const Version &version : versions) {
+        merged = merge(*merged, version.clock);
+        if (!merged) return merged;
+    }
+    return merged;
+}
+
+/// Returns the parts of a partner's offer. Refused: BadMessage (the bytes aren't an offer).
+inline Result<OfferParts> read_offer(std::string_view offer) {
+    c::antientropy_offer_parts parts = {};
+    const auto number = c::antientropy_read_offer(detail::data(offer), offer.size(), &parts);
+    if (number != c::ANTIENTROPY_OK) return static_cast<Refusal>(number);
+    return OfferParts{parts.number, parts.format, parts.range, detail::text(parts.root, sizeof parts.root)};
+}
+
+// ---- snapshots
+
+/// The rows of a replica at one moment. It serves a partner's asks while the replica goes on, and may outlive it.
+/// `Replica::snapshot` makes it.
+class Snapshot {
+public:
+    /// Frees the memory now.
+    void close() noexcept { handle_.close(); }
+
+    /// Number of the journal's entries at the moment of the snapshot.
+    std::uint64_t entries() const noexcept { return entries_; }
+
+    /// Returns the digest of the root: 32 bytes. Replicas of a range with equal roots hold the same versions.
+    Result<std::string> root() {
+        return detail::bytes([&](auto... out) { return c::antientropy_root(at(), out...); });
+    }
+
+    /// Returns the message that offers the snapshot: 39 bytes. The caller gives each of its offers a number.
+    Result<std::string> offer(std::uint32_t number) {
+        return detail::bytes([&](auto... out) { return c::antientropy_offer(at(), number, out...); });
+    }
+
+    /// Returns the answer to an ask for the offer of that number: it has no fixed limit.
+    /// Refused, in order: BadMessage (the bytes aren't an ask), Gone (it is for another offer), BadMessage (the node
+    /// isn't in the tree).
+    Result<std::string> serve(std::uint32_t number, std::string_view ask) {
+        return detail::bytes([&](auto... out) {
+            return c::antientropy_serve(at(), number, detail::data(ask), ask.size(), out...);
+        });
+    }
+
+    /// Returns the texts of the rows of a leaf, from 0. Refused: BadMessage (the tree has no such leaf).
+    Result<std::string> rows(std::uint16_t leaf) {
+        return detail::bytes([&](auto... out) { return c::antientropy_rows(at(), leaf, out...); });
+    }
+
+    /// Writes a checkpoint of the rows (docs/FORMATS.md), and returns the number of the journal's entries that are in
+    /// it. The caller brings the file to its disk. Errors: NotWritten, Refused.
+    FileResult<std::uint64_t> save(std::ostream &file) {
+        auto digest = root();
+        if (!digest) return FileError{Fault::Refused, digest.refusal()};
+        file << detail::to_bytes(detail::Head{format_, bits_, range_, std::move(*digest)});
+        for (unsigned leaf = 0; leaf < detail::leaves_of(format_) && file; leaf++) {
+            const auto texts = rows(static_cast<std::uint16_t>(leaf));
+            if (!texts) return FileError{Fault::Refused, texts.refusal()};
+            file << detail::to_bytes(texts->size(), 8) << *texts;
+        }
+        if (!file.flush()) return FileError{Fault::NotWritten, std::nullopt};
+        return entries_;
+    }
+
+private:
+    friend class Replica;
+
+    Snapshot(std::uint64_t format, std::uint64_t bits, std::uint64_t range)
+        : format_(format), bits_(bits), range_(range) {}
+
+    c::antientropy_offered *at() { return handle_.get(); }
+
+    detail::Owner<c::antientropy_offered, c::antientropy_snapshot_free> handle_;
+    std::uint64_t format_, bits_, range_, entries_ = 0;
+};
+
+// ---- sessions
+
+/// A session of a replica with a partner's offer. Its calls are calls of the replica. It stays valid if the replica is
+/// moved; once the replica is freed they are refused as Empty. The destructor cancels the session if it is open.
+/// `Replica::open` makes it.
+class Session {
+public:
+    Session(Session &&) noexcept = default;
+    Session &operator=(Session &&other) noexcept {
+        if (this == &other) return *this;
+        end();
+        replica_ = std::move(other.replica_);
+        number_ = other.number_;
+        offer_ = other.offer_;
+        return *this;
+    }
+    ~Session() { end(); }
+
+    /// Number of the session, from 0.
+    std::uint64_t number() const noexcept { return number_; }
+
+    /// Number that the partner gave its offer.
+    std::uint32_t offer_number() const noexcept { return offer_; }
+
+    /// Returns the state of the session.
+    Result<State> state() {
+        std::uint64_t state = 0;
+        const auto number = c::antientropy_session(at(), number_, &state);
+        return detail::result(number, static_cast<State>(state));
+    }
+
+    /// Returns the number of nodes that are outstanding: 0 if the session has ended.
+    Result<std::uint64_t> outstanding() {
+        std::uint64_t count = 0;
+        const auto number = c::antientropy_outstanding(at(), number_, &count);
+        return detail::result(number, count);
+    }
+
+    /// Returns the ask for the first outstanding node, or none.
+    Result<std::optional<std::string>> ask() {
+        return or_none(detail::bytes([&](auto... out) { return c::antientropy_ask(at(), number_, offer_, out...); }));
+    }
+
+    /// Returns the ask for an outstanding node by its place from 0, or none if there are no more. Each answer that is
+    /// taken changes the places.
+    Result<std::optional<std::string>> ask_at(std::uint64_t place) {
+        return or_none(
+            detail::bytes([&](auto... out) { return c::antientropy_ask_at(at(), number_, place, offer_, out...); }));
+    }
+
+    /// Returns the asks for all outstanding nodes. They may be sent at once.
+    Result<std::vector<std::string>> asks() {
+        const auto count = outstanding();
+        if (!count) return count.refusal();
+        std::vector<std::string> asks;
+        asks.reserve(*count);
+        while (asks.size() < *count) {
+            auto ask = ask_at(asks.size());
+            if (!ask) return ask.refusal();
+            asks.push_back(std::move(**ask));
+        }
+        return asks;
+    }
+
+    /// Takes a partner's answer, which isn't trusted. Answers may arrive in any order.
+    /// Refused, in order: BadMessage, NotAsked, WrongDigest (ask again after these, with a bound), NotCanonical (the
+    /// session has failed), Crowded, JournalFull (the node remains outstanding after these).
+    Result<Taken> take(std::string_view answer) {
+        c::antientropy_taken taken = {};
+        const auto number =
+            c::antientropy_take(at(), number_, offer_, detail::data(answer), answer.size(), &taken);
+        return detail::result(number, Taken{taken.accepted, taken.known, static_cast<State>(taken.state)});
+    }
+
+    /// Cancels the session if it is open.
+    Result<void> cancel() { return detail::done(c::antientropy_cancel(at(), number_)); }
+
+private:
+    friend class Replica;
+
+    Session(detail::Shared<detail::ReplicaHandle> replica, std::uint64_t number, std::uint32_t offer)
+        : replica_(std::move(replica)), number_(number), offer_(offer) {}
+
+    detail::ReplicaHandle *at() { return replica_.get(); }
+
+    static Result<std::optional<std::string>> or_none(Result<std::string> ask) {
+        if (!ask) return ask.refusal();
+        if (ask->empty()) return std::optional<std::string>();
+        return std::optional<std::string>(std::move(*ask));
+    }
+
+    void end() noexcept {
+        if (!replica_.moved()) c::antientropy_cancel(replica_.get(), number_);
+    }
+
+    detail::Shared<detail::ReplicaHandle> replica_;
+    std::uint64_t number_;
+    std::uint32_t offer_;
+};
+
+namespace detail {
+
+/// A sync in progress: a session, its partner, and the counts.
+class Run {
+public:
+    Run(Session session, const Reach &reach, std::size_t in_flight, std::uint64_t most_bad)
+        : session_(std::move(session)), reach_(reach), in_flight_(std::max<std::size_t>(in_flight, 1)),
+          most_bad_(most_bad) {}
+
+    Result<Synced> finish() {
+        while (true) {
+            const auto asks = open_asks();
+            if (!asks) return asks.refusal();
+            if (asks->empty()) return end();
+            const auto sent = exchange_all(*asks);
+            if (!sent) return sent.refusal();
+        }
+    }
+
+private:
+    bool gives_up() const { return synced_.bad > most_bad_; }
+
+    bool is_crowded(const std::string &ask) const {
+        return std::find(synced_.crowded.begin(), synced_.crowded.end(), ask) != synced_.crowded.end();
+    }
+
+    /// The asks for the nodes that may still be taken: none after too many bad answers.
+    Result<std::vector<std::string>> open_asks() {
+        if (gives_up()) return std::vector<std::string>();
+        auto asks = session_.asks();
+        if (!asks) return asks;
+        const auto crowded = [&](const std::string &ask) { return is_crowded(ask); };
+        asks->erase(std::remove_if(asks->begin(), asks->end(), crowded), asks->end());
+        return asks;
+    }
+
+    /// Exchanges so many asks at a time.
+    Result<void> exchange_all(const std::vector<std::string> &asks) {
+        for (std::size_t first = 0; first < asks.size() && !gives_up(); first += in_flight_) {
+            const auto from = asks.begin() + static_cast<std::ptrdiff_t>(first);
+            const auto count = std::min(in_flight_, asks.size() - first);
+            const auto sent = exchange({from, from + static_cast<std::ptrdiff_t>(count)});
+            if (!sent) return sent;
+        }
+        return {};
+    }
+
+    /// Sends some asks, and takes their answers.
+    Result<void> exchange(const std::vector<std::string> &asks) {
+        auto answers = reach_(asks);
+        answers.resize(asks.size());
+        synced_.asks += asks.size();
+        for (const auto &answer : answers) {
+            const auto taken = take(answer);
+            if (!taken) return taken;
+        }
+        return {};
+    }
+
+    Result<void> take(const std::optional<std::string> &answer) {
+        if (!answer) {
+            synced_.bad++;
+            return {};
+        }
+        const auto taken = session_.take(*answer);
+        if (!taken) return pass(*answer, taken.refusal());
+        synced_.accepted += taken->accepted;
+        synced_.known += taken->known;
+        return {};
+    }
+
+    /// Goes on after a crowded leaf and after a bad answer. Other refusals end the sync.
+    Result<void> pass(const std::string &answer, Refusal refusal) {
+        switch (refusal) {
+        case Refusal::Crowded: leave(answer); return {};
+        case Refusal::BadMessage:
+        case Refusal::NotAsked:
+        case Refusal::WrongDigest: synced_.bad++; return {};
+        default: return refusal;
+        }
+    }
+
+    /// Leaves the node of a crowded answer. The answer names it as its ask does, in all bytes of an ask but the first:
+    /// the partner may have sent it for another ask, or twice.
+    void leave(const std::string &answer) {
+        std::string ask = ask_kind + answer.substr(1, ANTIENTROPY_ASK_LEN - 1);
+        if (is_crowded(ask)) {
+            synced_.bad++;
+        } else {
+            synced_.crowded.push_back(std::move(ask));
+        }
+    }
+
+    Result<Synced> end() {
+        const auto cancelled = session_.cancel();
+        if (!cancelled) return cancelled.refusal();
+        const auto state = session_.state();
+        if (!state) return state.refusal();
+        synced_.state = *state;
+        return std::move(synced_);
+    }
+
+    static constexpr char ask_kind = 2;
+
+    Session session_;
+    const Reach &reach_;
+    std::size_t in_flight_;
+    std::uint64_t most_bad_;
+    Synced synced_;
+};
+
+} // namespace detail
+
+// ---- replicas
+
+/// A replica of one range of a ring of 2^bits ranges.
+class Replica {
+public:
+    /// Makes a replica of range number `range`, from 0, in format 1 (256 leaves, no tombstones) or 2 (4,096 leaves),
+    /// with a journal of at most `limit` entries. Refused: BadRing (a number is outside its limits).
+    static Result<Replica> make(std::uint64_t format = 2, std::uint64_t bits = 0, std::uint64_t range = 0,
+                                std::uint64_t limit = ANTIENTROPY_ENTRIES_MAX) {
+        Replica made(format, bits, range);
+        const auto number = c::antientropy_new(made.at(), format, bits, range, limit);
+        return detail::result(number, std::move(made));
+    }
+
+    /// Returns a new replica with the rows of a checkpoint, and a journal of at most `limit` entries. The root finds
+    /// damage, but no forged file. Check `format`, `bits` and `range` against the configuration.
+    /// Errors: NoCheckpoint, Cut, Damaged, Refused.
+    static FileResult<Replica> load(std::istream &file, std::uint64_t limit = ANTIENTROPY_ENTRIES_MAX) {
+        const auto head = detail::read_head(file);
+        if (!head) return head.error();
+        auto loaded = make_for(*head, limit);
+        if (!loaded) return loaded;
+        const auto error = loaded->load_leaves(file);
+        if (error) return *error;
+        const auto digest = loaded->root();
+        if (!digest) return refused(digest.refusal());
+        if (*digest != head->root) return FileError{Fault::Damaged, std::nullopt};
+        return loaded;
+    }
+
+    /// Format of the replica (1 or 2), bits of its ring, and number of its range.
+    std::uint64_t format() const noexcept { return format_; }
+    std::uint64_t bits() const noexcept { return bits_; }
+    std::uint64_t range() const noexcept { return range_; }
+
+    /// Frees the memory now.
+    void close() noexcept { handle_.close(); }
+
+    /// Returns a new replica with the versions that are held: one entry for each, and no sessions. This one is left
+    /// unchanged: close it, and go on with the new one under the same node number.
+    /// Refused, in order: BadRing (the limit), JournalFull (more versions are held than the limit).
+    Result<Replica> renew(std::uint64_t limit = ANTIENTROPY_ENTRIES_MAX) {
+        Replica made(format_, bits_, range_);
+        const auto number = c::antientropy_renew(at(), made.at(), limit);
+        return detail::result(number, std::move(made));
+    }
+
+    /// Converts a replica of format 1 to format 2. All nodes become dirty, and open sessions are cancelled.
+    Result<void> migrate() {
+        const auto migrated = detail::done(c::antientropy_migrate(at()));
+        if (migrated) format_ = 2;
+        return migrated;
+    }
+
+    /// Returns the counts of entries, dirty nodes and sessions.
+    Result<Counts> count() {
+        Counts counts = {};
+        const auto number = c::antientropy_count(at(), &counts);
+        return detail::result(number, counts);
+    }
+
+    // ---- versions
+
+    /// Puts a value, or a tombstone for std::nullopt, for a key at a node, 1 to 65,535. The context is the clock of all
+    /// that the client has read. The new version replaces every held version whose clock is at most its clock, even one
+    /// that the client hasn't read.
+    /// Refused, in order: BadClock (the node is 0, or the context isn't a clock), ClockFull (the context), BadKey,
+    /// BadValue (too long, or a tombstone in format 1), OtherRange, ClockFull and CounterFull (the context can't be
+    /// raised), StaleContext, Crowded, JournalFull.
+    Result<Receipt> put(std::uint16_t node, std::string_view key, std::optional<std::string_view> value,
+                        const Clock &context = {}) {
+        const std::uint8_t kind = value ? c::ANTIENTROPY_LIVE : c::ANTIENTROPY_TOMBSTONE;
+        const std::string_view bytes = value.value_or(std::string_view());
+        Receipt receipt = {};
+        const auto number =
+            c::antientropy_put(at(), node, detail::data(key), key.size(), detail::data(context), context.size(), kind,
+                               detail::data(bytes), bytes.size(), &receipt);
+        return detail::result(number, receipt);
+    }
+
+    /// No value: write std::nullopt for a tombstone.
+    Result<Receipt> put(std::uint16_t, std::string_view, std::nullptr_t, const Clock & = {}) = delete;
+
+    /// Accepts a version of another replica, as a copy.
+    /// Refused, in order: BadClock, ClockFull, BadValue (unknown kind), BadKey, BadValue, OtherRange; then, if it is
+    /// new, Crowded, JournalFull.
+    Result<Accepted> accept(std::string_view key, const Version &version) {
+        std::uint64_t taken = 0;
+        const auto number =
+            c::antientropy_accept(at(), detail::data(key), key.size(), detail::data(version.clock),
+                                  version.clock.size(), static_cast<std::uint8_t>(version.kind),
+                                  detail::data(version.value), version.value.size(), &taken);
+        return detail::result(number, static_cast<Accepted>(taken));
+    }
+
+    /// Returns all versions held for a key. Several are concurrent.
+    Result<std::vector<Version>> get(std::string_view key) {
+        std::vector<Version> versions;
+        std::uint64_t held = 1;
+        while (versions.size() < held) {
+            auto version = detail::or_none(detail::read_version(at(), key, versions.size(), held));
+            if (!version) return version.refusal();
+            if (!*version) break;
+            versions.push_back(std::move(**version));
+        }
+        return versions;
+    }
+
+    /// Goes through the versions held for a key, and reads each when it is its turn: don't change the key meanwhile.
+    Sequence<Version> versions(std::string_view key) {
+        const auto next = [replica = handle_.share(), of = std::string(key), index = std::uint64_t(0)]() mutable {
+            return detail::read_version(replica.get(), of, index++);
+        };
+        return Sequence<Version>(next);
+    }
+
+    /// Returns the number of versions held for a key.
+    Result<std::uint64_t> count_versions(std::string_view key) {
+        std::uint64_t count = 0;
+        const auto number = c::antientropy_versions(at(), detail::data(key), key.size(), &count);
+        return detail::result(number, count);
+    }
+
+    /// Returns one of the versions held for a key, by its index from 0, or none.
+    Result<std::optional<Version>> read(std::string_view key, std::uint64_t index) {
+        return detail::read_version(at(), key, index);
+    }
+
+    /// Returns the value of one of the versions held for a key, by its index from 0, or none.
+    Result<std::optional<Value>> value(std::string_view key, std::uint64_t index) {
+        return detail::or_none(detail::value([&](auto... out) {
+            return c::antientropy_value(at(), detail::data(key), key.size(), index, out...);
+        }));
+    }
+
+    /// Returns the clock of one of the versions held for a key, by its index from 0, or none.
+    Result<std::optional<Clock>> clock(std::string_view key, std::uint64_t index) {
+        return detail::or_none(detail::clock([&](auto... out) {
+            return c::antientropy_clock(at(), detail::data(key), key.size(), index, out...);
+        }));
+    }
+
+    /// Returns the text of the row of a key (docs/FORMATS.md), or no bytes if none is held. Refused: BadKey.
+    Result<std::string> row(std::string_view key) {
+        return detail::bytes(
+            [&](auto... out) { return c::antientropy_get(at(), detail::data(key), key.size(), out...); });
+    }
+
+    /// Goes through the keys, leaf by leaf. Keys that are put meanwhile are met if they lie ahead.
+    Sequence<std::string> keys() { return Sequence<std::string>(detail::Keys(handle_.share())); }
+
+    /// Goes through the keys of a leaf, from 0, in ascending order. Refused: BadMessage (the tree has no such leaf).
+    Sequence<std::string> keys_of(std::uint16_t leaf) {
+        const auto next = [replica = handle_.share(), leaf, key = std::string()]() mutable {
+            auto found = detail::key_after(replica.get(), leaf, key);
+            if (found && *found) key = **found;
+            return found;
+        };
+        return Sequence<std::string>(next);
+    }
+
+    /// Returns the least key of a leaf above a key, or the first one for a key of no bytes; none if no key follows.
+    /// Refused: BadMessage (the tree has no such leaf).
+    Result<std::optional<std::string>> key_after(std::uint16_t leaf, std::string_view key) {
+        return detail::key_after(at(), leaf, key);
+    }
+
+    // ---- the journal
+
+    /// Goes through the entries of the journal, from a number on. Entries are never changed.
+    Sequence<Entry> entries(std::uint64_t start = 0) {
+        const auto next = [replica = handle_.share(), number = start]() mutable {
+            return detail::or_none(detail::entry(replica.get(), number++));
+        };
+        return Sequence<Entry>(next);
+    }
+
+    /// Returns an entry of the journal, by its number from 0, or none.
+    Result<std::optional<Entry>> entry(std::uint64_t number) { return detail::or_none(detail::entry(at(), number)); }
+
+    // ---- the tree, offers and checkpoints
+
+    /// Hashes all nodes of the tree that have no digest.
+    Result<void> rehash() { return detail::done(c::antientropy_rehash(at())); }
+
+    /// Returns a snapshot of the rows now, after a rehash unless `rehash` is false.
+    /// Refused: Dirty (a node has no digest, and `rehash` is false).
+    Result<Snapshot> snapshot(bool rehash = true) {
+        const auto hashed = rehash ? this->rehash() : Result<void>();
+        if (!hashed) return hashed.refusal();
+        Snapshot made(format_, bits_, range_);
+        const auto number = c::antientropy_snapshot(at(), made.at());
+        if (number != c::ANTIENTROPY_OK) return static_cast<Refusal>(number);
+        const auto counts = count();
+        if (!counts) return counts.refusal();
+        made.entries_ = counts->entries;
+        return made;
+    }
+
+    /// Returns the digest of the root now, after a rehash: 32 bytes. Replicas of a range with equal roots hold the same
+    /// versions.
+    Result<std::string> root() {
+        auto now = snapshot();
+        if (!now) return now.refusal();
+        return now->root();
+    }
+
+    /// Accepts all versions in rows of one leaf as copies, or none. `Snapshot::rows` and `row` return such rows. At
+    /// RowBroken `broken` gets the offset in bytes of the broken field.
+    /// Refused, in order: RowBroken, OtherRange (also for rows of two leaves), Crowded, JournalFull.
+    Result<Loaded> load_rows(std::string_view rows, std::uint64_t *broken = nullptr) {
+        c::antientropy_loaded loaded = {};
+        const auto number = c::antientropy_load(at(), detail::data(rows), rows.size(), &loaded);
+        if (number == c::ANTIENTROPY_ROW_BROKEN && broken) *broken = loaded.offset;
+        return detail::result(number, Loaded{loaded.taken, loaded.known});
+    }
+
+    /// Writes a checkpoint of the rows now (docs/FORMATS.md), and returns the number of entries that are in it: a log
+    /// goes on with the entry of that number. The caller brings the file to its disk. Errors: NotWritten, Refused.
+    FileResult<std::uint64_t> save(std::ostream &file) {
+        auto now = snapshot();
+        if (!now) return refused(now.refusal());
+        return now->save(file);
+    }
+
+    // ---- sessions
+
+    /// Opens a session with a partner's offer, after a rehash unless `rehash` is false. The partner's number is
+    /// recorded, and not checked. A session's record is never freed before its replica, so compare roots first.
+    /// Refused, in order: BadMessage, OtherFormat, OtherRange, SessionsFull, Dirty (`rehash` is false).
+    Result<Session> open(std::uint16_t partner, std::string_view offer, bool rehash = true) {
+        const auto hashed = rehash ? this->rehash() : Result<void>();
+        if (!hashed) return hashed.refusal();
+        const auto parts = read_offer(offer);
+        if (!parts) return parts.refusal();
+        std::uint64_t session = 0;
+        const auto number = c::antientropy_open(at(), partner, detail::data(offer), offer.size(), &session);
+        if (number != c::ANTIENTROPY_OK) return static_cast<Refusal>(number);
+        return Session(handle_.share(), session, static_cast<std::uint32_t>(parts->number));
+    }
+
+    /// Takes the versions of a partner's offer that this replica lacks. If the roots are equal it asks nothing.
+    /// `reach` gets at most `in_flight` asks at once, and at least one. After more than `most_bad` bad or missing
+    /// answers the sync ends unfinished. A leaf with a crowded key is left. At a refusal the versions taken before it
+    /// stay.
+    /// Refused, in order: BadMessage, OtherFormat, OtherRange, SessionsFull; later NotCanonical or JournalFull.
+    Result<Synced> sync(std::uint16_t partner, std::string_view offer, const Reach &reach, std::size_t in_flight = 256,
+                        std::uint64_t most_bad = 8) {
+        const auto here = root();
+        if (!here) return here.refusal();
+        const auto there = read_offer(offer);
+        if (!there) return there.refusal();
+        if (*here == there->root) return Synced{};
+        auto session = open(partner, offer);
+        if (!session) return session.refusal();
+        return detail::Run(std::move(*session), reach, in_flight, most_bad).finish();
+    }
+
+private:
+    Replica(std::uint64_t format, std::uint64_t bits, std::uint64_t range)
+        : format_(format), bits_(bits), range_(range) {}
+
+    detail::ReplicaHandle *at() { return handle_.get(); }
+
+    static FileError refused(Refusal refusal) { return {Fault::Refused, refusal}; }
+
+    /// Makes a replica for a checkpoint: BadRing is damage, unless the limit is the cause.
+    static FileResult<Replica> make_for(const detail::Head &head, std::uint64_t limit) {
+        const auto limited = make(head.format, 0, 0, limit);
+        if (!limited) return refused(limited.refusal());
+        auto made = make(head.format, head.bits, head.range, limit);
+        if (made) return *std::move(made);
+        if (made.refusal() != Refusal::BadRing) return refused(made.refusal());
+        return FileError{Fault::Damaged, Refusal::BadRing};
+    }
+
+    std::optional<FileError> load_leaves(std::istream &file) {
+        for (unsigned leaf = 0; leaf < detail::leaves_of(format_); leaf++) {
+            const auto rows = detail::read_leaf(file);
+            if (!rows) return FileError{Fault::Cut, std::nullopt};
+            const auto error = load_leaf(*rows);
+            if (error) return error;
+        }
+        if (file.peek() != std::istream::traits_type::eof()) return FileError{Fault::Damaged, std::nullopt};
+        return std::nullopt;
+    }
+
+    std::optional<FileError> load_leaf(const std::string &rows) {
+        if (rows.empty()) return std::nullopt;
+        const auto loaded = load_rows(rows);
+        if (loaded) return std::nullopt;
+        switch (loaded.refusal()) {
+        case Refusal::RowBroken:
+        case Refusal::OtherRange:
+        case Refusal::Crowded: return FileError{Fault::Damaged, loaded.refusal()};
+        default: return refused(loaded.refusal());
+        }
+    }
+
+    detail::Owner<detail::ReplicaHandle, c::antientropy_free> handle_;
+    std::uint64_t format_, bits_, range_;
+};
+
+// ---- hints
+
+/// Versions that a node carries for replicas that are down. A hint is of no range.
+class Hints {
+public:
+    /// Makes an empty store of hints.
+    static Result<Hints> make() {
+        Hints made;
+        const auto number = c::antientropy_hints_new(made.at());
+        return detail::result(number, std::move(made));
+    }
+
+    /// Frees the memory now.
+    void close() noexcept { handle_.close(); }
+
+    /// Keeps a version for its owner, and returns the number of the hint, from 1. The owner checks the key's range and
+    /// the format when it accepts the version.
+    /// Refused, in order: BadClock (also if the owner is 0), ClockFull, BadValue (unknown kind), BadKey, BadValue,
+    /// HintsFull.
+    Result<std::uint32_t> keep(std::uint16_t owner, std::string_view key, const Version &version) {
+        std::uint64_t id = 0;
+        const auto number =
+            c::antientropy_hint_keep(at(), owner, detail::data(key), key.size(), detail::data(version.clock),
+                                     version.clock.size(), static_cast<std::uint8_t>(version.kind),
+                                     detail::data(version.value), version.value.size(), &id);
+        return detail::result(number, static_cast<std::uint32_t>(id));
+    }
+
+    /// Returns the number of the owner's first pending hint over `after`, or none.
+    Result<std::optional<std::uint32_t>> next(std::uint16_t owner, std::uint32_t after = 0) {
+        return detail::hint_after(at(), owner, after);
+    }
+
+    /// Returns a hint, pending or delivered, or none.
+    Result<std::optional<Hint>> hint(std::uint32_t number) { return detail::or_none(detail::hint(at(), number)); }
+
+    /// Goes through the pending hints of an owner in order. Confirm them on the way, but don't renew.
+    Sequence<Hint> pending(std::uint16_t owner) {
+        const auto next = [hints = handle_.share(), owner, after = std::uint32_t(0)]() mutable {
+            auto found = detail::pending_after(hints.get(), owner, after);
+            if (found && *found) after = (*found)->number;
+            return found;
+        };
+        return Sequence<Hint>(next);
+    }
+
+    /// Ends the wait of a pending hint, after its owner has the version on its disk. `accepted` is what the owner's
+    /// `Replica::accept` returned. Refused: UnknownHint.
+    Result<void> confirm(std::uint32_t number, Accepted accepted = Accepted::New) {
+        return detail::done(c::antientropy_hint_confirm(at(), number, accepted == Accepted::Known));
+    }
+
+    /// Drops the delivered hints, and numbers the pending ones anew from 1, in order.
+    Result<void> renew() { return detail::done(c::antientropy_hints_renew(at())); }
+
+    /// Returns the counts of pending and of delivered hints.
+    Result<HintCounts> count() {
+        HintCounts counts = {};
+        const auto number = c::antientropy_hints_count(at(), &counts);
+        return detail::result(number, counts);
+    }
+
+private:
+    Hints() = default;
+
+    c::antientropy_hints *at() { return handle_.get(); }
+
+    detail::Owner<c::antientropy_hints, c::antientropy_hints_free> handle_;
+};
+
+// ---- slots
+
+/// A slot that is lent until the end of this object. `Slots::lent` makes it.
+class Loan {
+public:
+    Loan(Loan &&) noexcept = default;
+    Loan &operator=(Loan &&other) noexcept {
+        if (this == &other) return *this;
+        end();
+        slots_ = std::move(other.slots_);
+        return *this;
+    }
+    ~Loan() { end(); }
+
+private:
+    friend class Slots;
+
+    explicit Loan(detail::Shared<c::antientropy_slots> slots) : slots_(std::move(slots)) {}
+
+    void end() noexcept {
+        if (!slots_.moved()) c::antientropy_slot_give_back(slots_.get());
+    }
+
+    detail::Shared<c::antientropy_slots> slots_;
+};
+
+/// Slots for background work, which backs off when the foreground is slow. Their target stays from the floor to the
+/// ceiling.
+class Slots {
+public:
+    /// Makes slots: none is lent, and the target is the ceiling, at most 1,024. The target falls if the latency of the
+    /// foreground is above the threshold, in microseconds. Refused: BadRing (the floor or the ceiling).
+    static Result<Slots> make(std::uint32_t floor, std::uint32_t ceiling, std::uint32_t threshold) {
+        Slots made;
+        const auto number = c::antientropy_slots_new(made.at(), floor, ceiling, threshold);
+        return detail::result(number, std::move(made));
+    }
+
+    /// Frees the memory now.
+    void close() noexcept { handle_.close(); }
+
+    /// Lends a slot, before background work. Refused: NoSlot (the slots lent reach the target).
+    Result<void> lend() { return detail::done(c::antientropy_slot_lend(at())); }
+
+    /// Gives a slot back, after background work. Refused: NoSlot (none is lent).
+    Result<void> give_back() { return detail::done(c::antientropy_slot_give_back(at())); }
+
+    /// Lends a slot until the end of the object that it returns. Refused: NoSlot.
+    Result<Loan> lent() {
+        const auto lent = lend();
+        if (!lent) return lent.refusal();
+        return Loan(handle_.share());
+    }
+
+    /// Takes the latency of a reply in microseconds, with its moment in milliseconds. Refused: ClockBack (a later
+    /// moment was accepted before).
+    Result<void> sample(std::uint64_t moment, std::uint32_t micros) {
+        return detail::done(c::antientropy_slots_sample(at(), moment, micros));
+    }
+
+    /// Sets the target by the samples of the last 60,000 milliseconds, and returns their 99th percentile in
+    /// microseconds. Without samples it returns none, and the target is left unchanged. Refused: ClockBack.
+    Result<std::optional<std::uint64_t>> adjust(std::uint64_t now) {
+        c::antientropy_percentile percentile = {};
+        const auto number = c::antientropy_slots_adjust(at(), now, &percentile);
+        std::optional<std::uint64_t> micros;
+        if (percentile.found != 0) micros = percentile.micros;
+        return detail::result(number, micros);
+    }
+
+    /// Sets the target. Slots that are lent stay lent. Refused: BadRing (below the floor or above the ceiling).
+    Result<void> set_target(std::uint32_t target) {
+        return detail::done(c::antientropy_slots_set_target(at(), target));
+    }
+
+    /// Returns the target, and the counts of slots that are lent and free.
+    Result<SlotCounts> count() {
+        SlotCounts counts = {};
+        const auto number = c::antientropy_slots_count(at(), &counts);
+        return detail::result(number, counts);
+    }
+
+private:
+    Slots() = default;
+
+    c::antientropy_slots *at() { return handle_.get(); }
+
+    detail::Owner<c::antientropy_slots, c::antientropy_slots_free> handle_;
+};
+
+} // namespace antientropy
+
+#endif

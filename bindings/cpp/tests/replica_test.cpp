@@ -1,0 +1,391 @@
+// Replicas, checkpoints, hints, slots, and the calls that need no replica.
+#include "support.hpp"
+
+#include <sstream>
+#include <type_traits>
+
+namespace {
+
+std::string fault_of(const FileError &error) {
+    const char *names[] = {"NotWritten", "NoCheckpoint", "Cut", "Damaged", "Refused"};
+    return std::string(names[static_cast<int>(error.fault)]) + (error.refusal ? ' ' + name(*error.refusal) : "");
+}
+
+/// The error of a load, or "loaded".
+std::string load(const std::string &bytes, std::uint64_t limit = 100) {
+    std::istringstream file(bytes);
+    const auto loaded = Replica::load(file, limit);
+    return loaded ? "loaded" : fault_of(loaded.error());
+}
+
+std::string saved(Replica &replica) {
+    std::ostringstream file;
+    CHECK(replica.save(file));
+    return file.str();
+}
+
+void functions() {
+    CHECK(antientropy::version() / 10000 == ANTIENTROPY_VERSION_MAJOR);
+    CHECK(name(Refusal::BadKey) == "BadKey");
+    CHECK(name(Refusal::NotCanonical) == "NotCanonical");
+    CHECK(name(static_cast<Refusal>(99)).empty());
+    const Spot spot = sure(place(2, 8, "cart"));
+    CHECK(spot.range < 256 && spot.leaf < 4096);
+    REFUSED(BadRing, place(3, 0, "cart"));
+    REFUSED(BadKey, place(2, 0, ""));
+}
+
+void clocks() {
+    CHECK(sure(compare({{1, 1}}, {{1, 2}})) == Order::Before);
+    CHECK(sure(compare({{1, 2}}, {{1, 1}})) == Order::After);
+    CHECK(sure(compare({{2, 1}, {1, 2}}, {{1, 2}, {2, 1}})) == Order::Equal);
+    CHECK(sure(compare({{1, 1}}, {{2, 1}})) == Order::Apart);
+    REFUSED(BadClock, compare({{0, 1}}, {}));
+    CHECK(sure(merge({{1, 1}, {2, 3}}, {{1, 2}})) == Clock{{1, 2}, {2, 3}});
+    CHECK(sure(merge({}, {})).empty());
+    CHECK(sure(merge(std::vector<Version>{{{{1, 1}}, Kind::Live, ""}, {{{2, 1}}, Kind::Live, ""}})).size() == 2);
+    Clock large;
+    for (std::uint64_t node = 1; node <= 33; node++) large.add(node, 1);
+    REFUSED(ClockFull, merge(large, {}));
+    REFUSED(ClockFull, merge(std::vector<Version>{{large, Kind::Live, ""}, {}}));
+    CHECK(Clock{{1, 1}} != Clock{{1, 2}});
+}
+
+void offers() {
+    Replica replica = sure(Replica::make());
+    const auto parts = sure(read_offer(sure(sure(replica.snapshot()).offer(7))));
+    CHECK(parts.number == 7 && parts.format == 2 && parts.range == 0 && parts.root == sure(replica.root()));
+    CHECK(parts.root.size() == ANTIENTROPY_ROOT_LEN);
+    REFUSED(BadMessage, read_offer({}));
+}
+
+void puts_and_reads() {
+    Replica replica = sure(Replica::make());
+    const Receipt first = sure(replica.put(1, "cart", "milk"));
+    CHECK(first.number == 0 && first.counter == 1);
+    const Version milk{{{1, 1}}, Kind::Live, "milk"}, eggs{{{2, 1}}, Kind::Live, "eggs"};
+    CHECK(sure(replica.accept("cart", eggs)) == Accepted::New);
+    CHECK(sure(replica.accept("cart", eggs)) == Accepted::Known);
+    const std::vector<Version> both = {milk, eggs};
+    CHECK(sure(replica.get("cart")) == both);
+    CHECK(all(replica.versions(std::string("cart"))) == both);
+    CHECK(sure(replica.count_versions("cart")) == 2);
+    CHECK(sure(replica.read("cart", 1)) == eggs);
+    CHECK(sure(replica.value("cart", 1))->bytes == "eggs");
+    CHECK(sure(replica.clock("cart", 1)) == Clock{{2, 1}});
+    CHECK(sure(replica.row("cart")).size() > 8);
+    CHECK(sure(replica.put(1, "cart", std::nullopt, sure(merge(both)))).counter == 2);
+    const Version gone{{{1, 2}, {2, 1}}, Kind::Tombstone, ""};
+    CHECK(sure(replica.get("cart")) == std::vector<Version>{gone});
+    CHECK(sure(replica.value("cart", 0))->kind == Kind::Tombstone);
+}
+
+void nothing_is_there() {
+    Replica replica = sure(Replica::make());
+    CHECK(sure(replica.get("cart")).empty());
+    CHECK(all(replica.versions("cart")).empty());
+    CHECK(!sure(replica.read("cart", 0)));
+    CHECK(!sure(replica.value("cart", 0)));
+    CHECK(!sure(replica.clock("cart", 0)));
+    CHECK(sure(replica.row("cart")).empty());
+    CHECK(!sure(replica.entry(0)));
+    CHECK(!sure(replica.key_after(0, "")));
+    CHECK(all(replica.keys()).empty());
+}
+
+void refused_puts() {
+    Replica replica = sure(Replica::make(1, 0, 0, 100));
+    REFUSED(BadClock, replica.put(0, "key", "value"));
+    REFUSED(BadClock, replica.put(1, "key", "value", {{1, 0}}));
+    REFUSED(CounterFull, replica.put(1, "key", "value", {{1, UINT64_MAX}}));
+    REFUSED(BadKey, replica.put(1, "", "value"));
+    REFUSED(BadKey, replica.put(1, std::string(256, 'k'), "value"));
+    REFUSED(BadKey, replica.row({}));
+    REFUSED(BadValue, replica.put(1, "key", std::nullopt));
+    REFUSED(BadValue, replica.put(1, "key", std::string(ANTIENTROPY_VALUE_MAX_1 + 1, 'v')));
+    REFUSED(BadValue, replica.accept("key", {{{1, 1}}, static_cast<Kind>(2), ""}));
+    CHECK(sure(replica.count()).entries == 0);
+    crowd(replica, "key");
+    REFUSED(StaleContext, replica.put(1, "key", "value"));
+    REFUSED(Crowded, replica.put(100, "key", "value"));
+    for (int n = 0; n < 36; n++) sure(replica.put(1, "key " + std::to_string(n), ""));
+    REFUSED(JournalFull, replica.put(1, "other", ""));
+}
+
+void large_values() {
+    Replica replica = sure(Replica::make());
+    const std::string large(ANTIENTROPY_VALUE_MAX_2, 'v'), binary("a\0b", 3);
+    sure(replica.put(1, "large", large));
+    sure(replica.put(1, binary, binary));
+    CHECK(sure(replica.read("large", 0))->value == large);
+    CHECK(sure(replica.value("large", 0))->bytes == large);
+    CHECK(sure(replica.row("large")).size() > large.size());
+    CHECK(sure(replica.entry(0))->version.value == large);
+    CHECK(sure(replica.read(binary, 0))->value == binary);
+}
+
+void keys() {
+    Replica replica = sure(Replica::make());
+    for (const char *key : {"a", "b", "c"}) sure(replica.put(1, key, ""));
+    auto met = all(replica.keys());
+    std::sort(met.begin(), met.end());
+    CHECK(met == std::vector<std::string>{"a", "b", "c"});
+    const auto leaf = static_cast<std::uint16_t>(sure(place(2, 0, "b")).leaf);
+    CHECK(all(replica.keys_of(leaf)) == std::vector<std::string>{"b"});
+    CHECK(sure(replica.key_after(leaf, "")) == "b");
+    CHECK(!sure(replica.key_after(leaf, "b")));
+    REFUSED(BadMessage, replica.key_after(4096, ""));
+    REFUSED(BadMessage, ended(replica.keys_of(4096)));
+}
+
+void journal() {
+    Replica replica = sure(Replica::make());
+    sure(replica.put(1, "a", "1"));
+    sure(replica.accept("b", {{{2, 5}}, Kind::Tombstone, ""}));
+    const auto entries = all(replica.entries());
+    CHECK(entries.size() == 2 && entries[0].source == Source::Put && entries[1].source == Source::Copy);
+    CHECK(entries[1].number == 1 && entries[1].key == "b");
+    CHECK(entries[1].version == Version{{{2, 5}}, Kind::Tombstone, ""});
+    CHECK(all(replica.entries(1)).size() == 1);
+    CHECK(sure(replica.entry(0))->key == "a");
+}
+
+void rows() {
+    Replica from = sure(Replica::make()), into = sure(Replica::make());
+    sure(from.put(1, "cart", "milk"));
+    const std::string row = sure(from.row("cart"));
+    CHECK(sure(into.load_rows(row)).taken == 1);
+    CHECK(sure(into.load_rows(row)).known == 1);
+    CHECK(sure(from.root()) == sure(into.root()));
+    std::uint64_t broken = 0;
+    REFUSED(RowBroken, into.load_rows(row.substr(0, row.size() - 1), &broken));
+    CHECK(broken > 0);
+    REFUSED(RowBroken, into.load_rows("x"));
+}
+
+void ranges() {
+    REFUSED(BadRing, Replica::make(3));
+    REFUSED(BadRing, Replica::make(2, 0, 1));
+    REFUSED(BadRing, Replica::make(2, 0, 0, 0));
+    const auto range = sure(place(2, 1, "cart")).range;
+    Replica own = sure(Replica::make(2, 1, range)), other = sure(Replica::make(2, 1, 1 - range));
+    CHECK(own.format() == 2 && own.bits() == 1 && own.range() == range);
+    sure(own.put(1, "cart", "milk"));
+    REFUSED(OtherRange, other.put(1, "cart", "milk"));
+    REFUSED(OtherRange, other.load_rows(sure(own.row("cart"))));
+}
+
+void renewal_and_migration() {
+    Replica replica = sure(Replica::make(1, 0, 0, 10));
+    sure(replica.put(1, "cart", "milk"));
+    sure(replica.put(1, "cart", "eggs", {{1, 1}}));
+    Replica renewed = sure(replica.renew(5));
+    CHECK(sure(renewed.count()).entries == 1 && sure(renewed.count()).limit == 5);
+    CHECK(sure(renewed.root()) == sure(replica.root()));
+    REFUSED(BadRing, replica.renew(0));
+    sure(renewed.migrate());
+    CHECK(renewed.format() == 2 && sure(renewed.count()).dirty > 0);
+    REFUSED(Dirty, renewed.snapshot(false));
+    sure(renewed.rehash());
+    CHECK(sure(renewed.count()).dirty == 0 && renewed.snapshot(false));
+}
+
+template <class T>
+constexpr bool moves_only = std::is_nothrow_move_constructible_v<T> && std::is_nothrow_move_assignable_v<T> &&
+                            !std::is_copy_constructible_v<T> && !std::is_copy_assignable_v<T>;
+
+static_assert(moves_only<Replica> && moves_only<Snapshot> && moves_only<Hints> && moves_only<Slots>);
+static_assert(moves_only<Session> && moves_only<Loan>);
+
+template <class T, class = void>
+constexpr bool is_value = false;
+template <class T>
+constexpr bool is_value<T, std::void_t<decltype(std::declval<Replica>().put(1, "key", std::declval<T>()))>> = true;
+
+static_assert(is_value<const char *> && is_value<std::string> && is_value<std::nullopt_t>);
+static_assert(!is_value<std::nullptr_t>);
+
+void moves() {
+    Replica first = sure(Replica::make());
+    sure(first.put(1, "cart", "milk"));
+    auto keys = first.keys();
+    Replica second = std::move(first);
+    CHECK(sure(second.count_versions("cart")) == 1);
+    CHECK(all(std::move(keys)).size() == 1);
+    REFUSED(Empty, first.get("cart"));
+    REFUSED(Empty, first.put(1, "cart", ""));
+    REFUSED(Empty, ended(first.keys()));
+    first = sure(Replica::make());
+    CHECK(sure(first.get("cart")).empty());
+    first = std::move(second);
+    CHECK(sure(first.get("cart")).size() == 1);
+    Replica &same = first;
+    first = std::move(same);
+    CHECK(sure(first.get("cart")).size() == 1);
+}
+
+void closed() {
+    Replica replica = sure(Replica::make());
+    sure(replica.put(1, "cart", "milk"));
+    Snapshot snapshot = sure(replica.snapshot());
+    auto entries = replica.entries();
+    replica.close();
+    replica.close();
+    REFUSED(Empty, ended(std::move(entries)));
+    REFUSED(Empty, replica.count());
+    REFUSED(Empty, replica.renew());
+    REFUSED(Empty, replica.root());
+    REFUSED(Empty, replica.migrate());
+    REFUSED(Empty, ended(replica.versions("cart")));
+    CHECK(snapshot.entries() == 1 && snapshot.root());
+    snapshot.close();
+    REFUSED(Empty, snapshot.root());
+    std::ostringstream file;
+    CHECK(fault_of(snapshot.save(file).error()) == "Refused Empty");
+    CHECK(fault_of(replica.save(file).error()) == "Refused Empty");
+}
+
+void checkpoints() {
+    Replica replica = sure(Replica::make(1, 0, 0, 10));
+    sure(replica.put(1, "cart", "milk"));
+    std::stringstream file;
+    const auto covered = replica.save(file);
+    CHECK(covered && *covered == 1);
+    auto loaded = Replica::load(file);
+    CHECK(loaded && loaded->format() == 1 && *loaded->get("cart") == *replica.get("cart"));
+    CHECK(saved(*loaded) == saved(replica));
+    Replica other = sure(Replica::make(2, 8, 3));
+    CHECK(load(saved(other)) == "loaded");
+    std::ostringstream failing;
+    failing.setstate(std::ios::badbit);
+    CHECK(fault_of(replica.save(failing).error()) == "NotWritten");
+}
+
+/// The example of docs/FORMATS.md: the live row of format 1, in leaf 12 of 256.
+void checkpoint_of_the_page() {
+    Replica replica = sure(Replica::make(1));
+    sure(replica.put(1, "a", "x"));
+    const std::string head = from_hex("616e7469656e740101000000");
+    const std::string root = from_hex("bcf422e0df449d89564e74e43e2f066e3f948254e49cd9f115f866907188dc49");
+    const std::string row = from_hex("0000000000000015") + sure(replica.row("a"));
+    CHECK(saved(replica) == head + root + std::string(12 * 8, '\0') + row + std::string(243 * 8, '\0'));
+    CHECK(saved(replica).size() == 2113);
+}
+
+void damaged_checkpoints() {
+    Replica replica = sure(Replica::make(1, 0, 0, 10));
+    sure(replica.put(1, "cart", "milk"));
+    const std::string bytes = saved(replica);
+    CHECK(load(bytes) == "loaded");
+    for (std::size_t length = 0; length < bytes.size(); length += 7) CHECK(load(bytes.substr(0, length)) == "Cut");
+    CHECK(load(bytes + '\0') == "Damaged");
+    for (std::size_t at = 0; at < bytes.size(); at++) {
+        std::string changed = bytes;
+        changed[at] = static_cast<char>(changed[at] ^ 0x41);
+        CHECK(load(changed) != "loaded");
+        CHECK(load(changed).substr(0, 7) != "Refused");
+    }
+    CHECK(load("") == "Cut");
+    CHECK(load("ANTIENT" + bytes.substr(7)) == "NoCheckpoint");
+    CHECK(load(bytes, 0) == "Refused BadRing");
+    std::string bits = bytes;
+    bits[9] = 9;
+    CHECK(load(bits) == "Damaged BadRing");
+    sure(replica.put(1, "gift", ""));
+    CHECK(load(saved(replica), 1) == "Refused JournalFull");
+}
+
+void hints() {
+    Hints hints = sure(Hints::make());
+    const Version tea{{{1, 2}}, Kind::Live, "tea"}, gone{{{1, 3}}, Kind::Tombstone, ""};
+    CHECK(sure(hints.keep(2, "cart", tea)) == 1);
+    CHECK(sure(hints.keep(3, "cart", tea)) == 2);
+    CHECK(sure(hints.keep(2, "gift", gone)) == 3);
+    CHECK(sure(hints.next(2)) == 1u);
+    CHECK(sure(hints.next(2, 1)) == 3u);
+    CHECK(!sure(hints.next(2, 3)));
+    const auto hint = sure(hints.hint(3));
+    CHECK(hint->number == 3 && hint->owner == 2 && hint->key == "gift" && hint->version == gone);
+    CHECK(!sure(hints.hint(4)));
+    for (const auto &met : hints.pending(2)) CHECK(hints.confirm(met.number, Accepted::Known));
+    CHECK(all(hints.pending(2)).empty() && all(hints.pending(3)).size() == 1);
+    CHECK(sure(hints.count()).pending == 1 && sure(hints.count()).delivered == 2);
+    sure(hints.renew());
+    CHECK(sure(hints.count()).delivered == 0 && sure(hints.next(3)) == 1u);
+}
+
+void refused_hints() {
+    Hints hints = sure(Hints::make());
+    REFUSED(BadClock, hints.keep(0, "cart", {}));
+    REFUSED(BadKey, hints.keep(2, "", {{{1, 1}}, Kind::Live, ""}));
+    REFUSED(BadValue, hints.keep(2, "cart", {{{1, 1}}, Kind::Tombstone, "value"}));
+    REFUSED(UnknownHint, hints.confirm(1));
+    Hints moved = std::move(hints);
+    REFUSED(Empty, hints.count());
+    REFUSED(Empty, ended(hints.pending(2)));
+    moved.close();
+    REFUSED(Empty, moved.renew());
+    REFUSED(Empty, moved.next(2));
+    REFUSED(Empty, moved.hint(1));
+}
+
+void slots() {
+    Slots slots = sure(Slots::make(1, 2, 1000));
+    sure(slots.lend());
+    {
+        Loan loan = sure(slots.lent());
+        REFUSED(NoSlot, slots.lent());
+        Loan moved = std::move(loan);
+        CHECK(sure(slots.count()).lent == 2);
+    }
+    CHECK(sure(slots.count()).lent == 1 && sure(slots.count()).free == 1);
+    sure(slots.give_back());
+    REFUSED(NoSlot, slots.give_back());
+    CHECK(!sure(slots.adjust(5)));
+    sure(slots.sample(10, 5000));
+    CHECK(sure(slots.adjust(11)) == 5000u);
+    CHECK(sure(slots.count()).target == 1);
+    sure(slots.set_target(2));
+}
+
+void refused_slots() {
+    REFUSED(BadRing, Slots::make(0, 4, 1000));
+    Slots slots = sure(Slots::make(1, 2, 1000));
+    REFUSED(BadRing, slots.set_target(3));
+    sure(slots.sample(10, 1));
+    REFUSED(ClockBack, slots.sample(9, 1));
+    REFUSED(ClockBack, slots.adjust(9));
+    Slots moved = std::move(slots);
+    REFUSED(Empty, slots.lend());
+    Loan loan = sure(moved.lent());
+    moved = sure(Slots::make(1, 2, 1000));
+    CHECK(sure(moved.count()).lent == 0);
+    moved.close();
+    REFUSED(Empty, moved.adjust(1));
+}
+
+} // namespace
+
+int main() {
+    return run({{"functions", functions},
+                {"clocks", clocks},
+                {"offers", offers},
+                {"puts and reads", puts_and_reads},
+                {"nothing is there", nothing_is_there},
+                {"refused puts", refused_puts},
+                {"large values", large_values},
+                {"keys", keys},
+                {"journal", journal},
+                {"rows", rows},
+                {"ranges", ranges},
+                {"renewal and migration", renewal_and_migration},
+                {"moves", moves},
+                {"closed", closed},
+                {"checkpoints", checkpoints},
+                {"checkpoint of the page", checkpoint_of_the_page},
+                {"damaged checkpoints", damaged_checkpoints},
+                {"hints", hints},
+                {"refused hints", refused_hints},
+                {"slots", slots},
+                {"refused slots", refused_slots}});
+}

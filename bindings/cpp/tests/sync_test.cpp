@@ -1,0 +1,258 @@
+// Snapshots, sessions and syncs.
+#include "support.hpp"
+
+#include <thread>
+
+namespace {
+
+using Asks = std::vector<std::string>;
+using Answers = std::vector<std::optional<std::string>>;
+
+/// A partner that is called directly.
+Answers serve(Snapshot &snapshot, const Asks &asks) {
+    Answers answers;
+    for (const auto &ask : asks) answers.push_back(sure(snapshot.serve(1, ask)));
+    return answers;
+}
+
+Reach reach(Snapshot &snapshot) {
+    return [&](const Asks &asks) { return serve(snapshot, asks); };
+}
+
+Replica filled(int keys) {
+    Replica replica = sure(Replica::make(2, 0, 0, 10'000));
+    for (int n = 0; n < keys; n++) sure(replica.put(1, "key " + std::to_string(n), "value"));
+    return replica;
+}
+
+/// Takes what a partner has.
+Synced sync(Replica &replica, Replica &partner) {
+    Snapshot snapshot = sure(partner.snapshot());
+    return sure(replica.sync(9, sure(snapshot.offer(1)), reach(snapshot)));
+}
+
+std::string ask_of(std::uint64_t leaf) {
+    return std::string("\x02\0\0\0\x01\x03", 6) + static_cast<char>(leaf >> 8) + static_cast<char>(leaf);
+}
+
+void snapshots() {
+    Replica replica = filled(50);
+    Snapshot snapshot = sure(replica.snapshot());
+    CHECK(snapshot.entries() == 50 && sure(snapshot.offer(1)).size() == ANTIENTROPY_OFFER_LEN);
+    REFUSED(Gone, snapshot.serve(2, ask_of(0)));
+    REFUSED(BadMessage, snapshot.serve(1, ""));
+    REFUSED(BadMessage, snapshot.rows(4096));
+    const auto leaf = static_cast<std::uint16_t>(sure(place(2, 0, "key 3")).leaf);
+    CHECK(sure(snapshot.rows(leaf)).find(sure(replica.row("key 3"))) != std::string::npos);
+    sure(replica.put(1, "later", ""));
+    REFUSED(Dirty, replica.snapshot(false));
+    REFUSED(Dirty, replica.open(1, sure(snapshot.offer(1)), false));
+    CHECK(sure(replica.root()) != sure(snapshot.root()));
+    Snapshot moved = std::move(snapshot);
+    replica.close();
+    CHECK(moved.root());
+    REFUSED(Empty, snapshot.root());
+    REFUSED(Empty, snapshot.serve(1, ask_of(0)));
+}
+
+void session() {
+    Replica a = filled(50), b = sure(Replica::make());
+    Snapshot offered = sure(a.snapshot());
+    Session session = sure(b.open(1, sure(offered.offer(1))));
+    CHECK(session.number() == 0 && session.offer_number() == 1 && sure(session.outstanding()) == 1);
+    CHECK(sure(session.state()) == State::Open && sure(session.ask()) == sure(session.asks())[0]);
+    std::uint64_t accepted = 0;
+    for (auto asks = sure(session.asks()); !asks.empty(); asks = sure(session.asks())) {
+        CHECK(sure(session.ask_at(asks.size() - 1)) == asks.back());
+        CHECK(!sure(session.ask_at(asks.size())));
+        for (auto ask = asks.rbegin(); ask != asks.rend(); ++ask) {
+            accepted += sure(session.take(sure(offered.serve(1, *ask)))).accepted;
+        }
+    }
+    CHECK(accepted == 50 && sure(session.state()) == State::Finished && !sure(session.ask()));
+    CHECK(sure(b.entry(0))->source == Source::Partner && sure(a.root()) == sure(b.root()));
+    sure(session.cancel());
+    CHECK(sure(session.state()) == State::Finished);
+}
+
+void bad_answers() {
+    Replica a = filled(50), b = sure(Replica::make());
+    Snapshot offered = sure(a.snapshot());
+    Session session = sure(b.open(1, sure(offered.offer(1))));
+    const std::string answer = sure(offered.serve(1, *sure(session.ask())));
+    REFUSED(BadMessage, session.take(""));
+    REFUSED(WrongDigest, session.take(answer.substr(0, answer.size() - 1) + '?'));
+    sure(session.take(answer));
+    REFUSED(NotAsked, session.take(answer));
+}
+
+void refused_offers() {
+    Replica replica = filled(1), first = sure(Replica::make(1)), other = sure(Replica::make(2, 1, 1));
+    const std::string offer = sure(sure(replica.snapshot()).offer(1));
+    REFUSED(BadMessage, other.open(1, ""));
+    REFUSED(BadMessage, other.sync(1, "", nullptr));
+    REFUSED(OtherFormat, first.open(1, offer));
+    REFUSED(OtherRange, other.sync(1, offer, nullptr));
+    Replica full = sure(Replica::make());
+    std::vector<Session> sessions;
+    while (sessions.size() < ANTIENTROPY_OPEN_SESSIONS_MAX) sessions.push_back(sure(full.open(1, offer)));
+    REFUSED(SessionsFull, full.open(1, offer));
+    sessions.pop_back();
+    CHECK(full.open(1, offer));
+}
+
+void moved_sessions() {
+    Replica a = filled(1), b = sure(Replica::make());
+    const std::string offer = sure(sure(a.snapshot()).offer(1));
+    Session first = sure(b.open(1, offer));
+    Replica moved = std::move(b);
+    CHECK(sure(first.state()) == State::Open);
+    Session second = std::move(first);
+    REFUSED(Empty, first.state());
+    CHECK(sure(second.state()) == State::Open);
+    second = sure(moved.open(1, offer));
+    CHECK(second.number() == 1 && sure(moved.count()).open_sessions == 1);
+    { const Session last = std::move(second); }
+    CHECK(sure(moved.count()).open_sessions == 0);
+    Session open = sure(moved.open(1, offer));
+    moved.close();
+    REFUSED(Empty, open.asks());
+    REFUSED(Empty, open.ask());
+    REFUSED(Empty, open.take(""));
+    REFUSED(Empty, open.cancel());
+}
+
+void whole_sync() {
+    Replica a = filled(300), b = sure(Replica::make());
+    Snapshot snapshot = sure(a.snapshot());
+    std::size_t most = 0;
+    const auto counting = [&](const Asks &asks) {
+        most = std::max(most, asks.size());
+        return serve(snapshot, asks);
+    };
+    const std::string offer = sure(snapshot.offer(1));
+    const Synced synced = sure(b.sync(1, offer, counting, 10));
+    CHECK(synced.finished() && synced.accepted == 300 && synced.bad == 0 && synced.crowded.empty() && most == 10);
+    CHECK(sure(a.root()) == sure(b.root()) && sure(b.count()).sessions == 1);
+    const Synced again = sure(b.sync(1, offer, nullptr));
+    CHECK(again.finished() && again.asks == 0 && sure(b.count()).sessions == 1);
+    sure(b.put(2, "other", ""));
+    CHECK(sync(a, b).accepted == 1 && sync(b, a).asks == 0);
+}
+
+void one_ask_at_once() {
+    Replica a = filled(20), b = sure(Replica::make());
+    Snapshot snapshot = sure(a.snapshot());
+    CHECK(sure(b.sync(1, sure(snapshot.offer(1)), reach(snapshot), 0)).finished());
+}
+
+void crowded_leaf_is_passed() {
+    Replica a = filled(300), b = sure(Replica::make());
+    crowd(a, "key");
+    sure(b.accept("key", {{{100, 1}}, Kind::Live, "one more"}));
+    Snapshot snapshot = sure(a.snapshot());
+    const std::string offer = sure(snapshot.offer(1));
+    const Asks left = {ask_of(sure(place(2, 0, "key")).leaf)};
+    const Synced synced = sure(b.sync(1, offer, reach(snapshot)));
+    CHECK(synced.accepted == 300 && synced.state == State::Cancelled && synced.crowded == left && synced.bad == 0);
+    const auto backwards = [&](const Asks &asks) { return serve(snapshot, Asks(asks.rbegin(), asks.rend())); };
+    CHECK(sure(b.sync(1, offer, backwards)).crowded == left);
+}
+
+/// A partner sends the answer of a crowded leaf for each ask.
+void crowded_answers_end() {
+    Replica a = filled(300), b = sure(Replica::make());
+    crowd(a, "key");
+    sure(b.accept("key", {{{100, 1}}, Kind::Live, "one more"}));
+    Snapshot snapshot = sure(a.snapshot());
+    const std::string crowded = ask_of(sure(place(2, 0, "key")).leaf);
+    const auto repeating = [&](const Asks &asks) {
+        const bool leaves = asks[0][5] == 3;
+        return serve(snapshot, leaves ? Asks(asks.size(), crowded) : asks);
+    };
+    const Synced synced = sure(b.sync(1, sure(snapshot.offer(1)), repeating));
+    CHECK(synced.crowded == Asks{crowded} && synced.bad > 8 && synced.accepted == 0 && !synced.finished());
+}
+
+void bad_partners_are_bounded() {
+    Replica a = filled(300), b = sure(Replica::make());
+    Snapshot snapshot = sure(a.snapshot());
+    const std::string offer = sure(snapshot.offer(1));
+    const auto lies = [&](const Asks &asks) {
+        auto answers = serve(snapshot, asks);
+        for (auto &answer : answers) answer->back() ^= 1;
+        return answers;
+    };
+    const Synced lied = sure(b.sync(1, offer, lies, 256, 5));
+    CHECK(lied.bad == 6 && lied.asks == 6 && lied.state == State::Cancelled);
+    const Synced lost = sure(b.sync(1, offer, [](const Asks &) { return Answers(); }, 256, 3));
+    CHECK(lost.bad == 4 && !lost.finished());
+    const auto talks = [](const Asks &) { return Answers(5'000, ""); };
+    CHECK(sure(b.sync(1, offer, talks, 256, 3)).bad == 4);
+    const auto stutters = [&, round = 0](const Asks &asks) mutable {
+        return ++round == 3 ? Answers{std::nullopt} : serve(snapshot, asks);
+    };
+    const Synced stuttered = sure(b.sync(1, offer, stutters, 4));
+    CHECK(stuttered.finished() && stuttered.bad > 0 && stuttered.accepted == 300);
+}
+
+/// An offer whose root is the digest of the text "junk": the text has the right digest, but isn't a node's.
+void not_canonical() {
+    Replica replica = sure(Replica::make());
+    const std::string root = from_hex("ef875a1705a5fdac206be996f4dc1f726ea6b68861eb741c37def7277f179e37");
+    const std::string offer = from_hex("01000000010200") + root;
+    const std::string answer = from_hex("03000000010000000000000000000004") + "junk";
+    Session session = sure(replica.open(1, offer));
+    REFUSED(NotCanonical, session.take(answer));
+    CHECK(sure(session.state()) == State::Failed && !sure(session.ask()));
+    REFUSED(NotCanonical, replica.sync(1, offer, [&](const Asks &) { return Answers{answer}; }));
+    CHECK(sure(replica.count()).entries == 0);
+}
+
+void a_sync_is_refused() {
+    Replica a = filled(300), small = sure(Replica::make(2, 0, 0, 10));
+    Snapshot snapshot = sure(a.snapshot());
+    const std::string offer = sure(snapshot.offer(1));
+    REFUSED(JournalFull, small.sync(1, offer, reach(snapshot)));
+    CHECK(sure(small.count()).open_sessions == 0);
+    try {
+        const Reach fails = [](const Asks &) -> Answers { throw 1; };
+        (void)small.sync(1, offer, fails);
+        CHECK(false);
+    } catch (int) {
+        CHECK(sure(small.count()).open_sessions == 0);
+    }
+    const Reach closes = [&](const Asks &asks) {
+        small.close();
+        return serve(snapshot, asks);
+    };
+    REFUSED(Empty, small.sync(1, offer, closes));
+}
+
+void a_snapshot_serves_from_another_thread() {
+    Replica a = filled(300), b = sure(Replica::make());
+    Snapshot snapshot = sure(a.snapshot());
+    Synced synced;
+    std::thread other([&] { synced = sure(b.sync(1, sure(snapshot.offer(1)), reach(snapshot))); });
+    for (int n = 0; n < 1000; n++) sure(a.put(1, "new " + std::to_string(n), ""));
+    other.join();
+    CHECK(synced.accepted == 300 && sync(b, a).accepted == 1000);
+}
+
+} // namespace
+
+int main() {
+    return run({{"snapshots", snapshots},
+                {"session", session},
+                {"bad answers", bad_answers},
+                {"refused offers", refused_offers},
+                {"moved sessions", moved_sessions},
+                {"whole sync", whole_sync},
+                {"one ask at once", one_ask_at_once},
+                {"crowded leaf is passed", crowded_leaf_is_passed},
+                {"crowded answers end", crowded_answers_end},
+                {"bad partners are bounded", bad_partners_are_bounded},
+                {"not canonical", not_canonical},
+                {"a sync is refused", a_sync_is_refused},
+                {"a snapshot serves from another thread", a_snapshot_serves_from_another_thread}});
+}

@@ -1,0 +1,30 @@
+#![doc = include_str!("../README.md")]
+#![deny(missing_docs, unsafe_op_in_unsafe_fn)]
+#![warn(clippy::all, clippy::undocumented_unsafe_blocks)]
+
+mod checkpoint;
+mod functions;
+mod handle;
+mod hints;
+mod refusal;
+mod replica;
+mod session;
+mod slots;
+mod snapshot;
+mod sync;
+mod sys;
+mod values;
+
+pub use checkpoint::{CheckpointError, Damage};
+pub use functions::{compare, merge, place, read_offer, version};
+pub use hints::Hints;
+pub use refusal::Refusal;
+pub use replica::{Config, Replica, RowsRefused};
+pub use session::{Session, SessionId};
+pub use slots::Slots;
+pub use snapshot::Snapshot;
+pub use sync::{Bounds, Synced};
+pub use values::{
+    Clock, Counts, Entry, Hint, HintCounts, Kind, Loaded, OfferParts, Order, Pair, Receipt, Root, SlotCounts, Source,
+    Spot, State, Taken, Version,
+};

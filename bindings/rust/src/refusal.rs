@@ -1,0 +1,143 @@
+//! Causes of refusal.
+
+use std::error::Error;
+use std::fmt;
+
+use crate::handle::fill;
+use crate::sys;
+
+/// Bytes of the longest name.
+const NAME_ROOM: usize = 64;
+
+macro_rules! refusals {
+    ($($(#[$doc:meta])* $name:ident = $number:literal,)*) => {
+        /// The cause for which the library refused a call. Except as the header says, a refused call changes nothing.
+        ///
+        /// The page `docs/FORMATS.md` says what to do at each cause.
+        ///
+        /// ```
+        /// use antientropy::Refusal;
+        /// assert_eq!(Refusal::from(6), Refusal::StaleContext);
+        /// assert_eq!(Refusal::StaleContext.number(), 6);
+        /// assert_eq!(Refusal::StaleContext.to_string(), "StaleContext");
+        /// ```
+        #[derive(Clone, Copy, Debug, PartialEq, Eq, Hash)]
+        #[non_exhaustive]
+        pub enum Refusal {
+            $($(#[$doc])* $name,)*
+            /// A number that this crate doesn't know.
+            Other(u32),
+        }
+
+        impl From<u32> for Refusal {
+            fn from(number: u32) -> Refusal {
+                match number {
+                    $($number => Refusal::$name,)*
+                    other => Refusal::Other(other),
+                }
+            }
+        }
+
+        impl Refusal {
+            /// Returns the number that the header has for the cause.
+            pub fn number(self) -> u32 {
+                match self {
+                    $(Refusal::$name => $number,)*
+                    Refusal::Other(number) => number,
+                }
+            }
+        }
+    };
+}
+
+refusals! {
+    /// A pair has node 0, a node over 65,535 or counter 0, or a node is there twice.
+    BadClock = 1,
+    /// The clock would have more than 32 pairs.
+    ClockFull = 2,
+    /// The counter to raise is 2^64 - 1.
+    CounterFull = 3,
+    /// The key has no byte, or over 255.
+    BadKey = 4,
+    /// Too long; a tombstone with a value, or in format 1; or an unknown kind.
+    BadValue = 5,
+    /// A held version has seen all of the new version's clock.
+    StaleContext = 6,
+    /// The key would have over 64 versions.
+    Crowded = 7,
+    /// The journal has no room for the entries.
+    JournalFull = 8,
+    /// A key or an offer is of another range, or the rows are of two leaves.
+    OtherRange = 9,
+    /// Some node of the tree has no digest: rehash.
+    Dirty = 10,
+    /// No session has this number.
+    UnknownSession = 12,
+    /// The node isn't outstanding.
+    NotAsked = 13,
+    /// The text's digest isn't the expected one.
+    WrongDigest = 14,
+    /// The digest is right, but the text isn't a node's: the session has failed.
+    NotCanonical = 15,
+    /// The offer is of another format.
+    OtherFormat = 16,
+    /// 64 sessions are open, or there are 1,024.
+    SessionsFull = 17,
+    /// No slot is free, or none is lent.
+    NoSlot = 18,
+    /// The moment is before the greatest accepted one.
+    ClockBack = 19,
+    /// No pending hint has this number.
+    UnknownHint = 20,
+    /// 10,000 hints are pending, or the last number was used.
+    HintsFull = 21,
+    /// The ask is for another offer.
+    Gone = 22,
+    /// The numbers of a range or of slots are outside the limits.
+    BadRing = 27,
+    /// The bytes aren't texts of rows.
+    RowBroken = 30,
+    /// Not a message, not the expected kind, or a node that isn't in the tree.
+    BadMessage = 31,
+    /// Malloc or realloc failed.
+    NoMemory = 32,
+    /// The room is too small.
+    Small = 33,
+    /// The handle holds nothing.
+    Empty = 34,
+    /// The handle holds something already.
+    Held = 35,
+    /// There is no such version, entry or hint, or none that follows.
+    NoVersion = 36,
+}
+
+/// Writes the name that the library has for the number.
+impl fmt::Display for Refusal {
+    fn fmt(&self, out: &mut fmt::Formatter<'_>) -> fmt::Result {
+        let number = self.number();
+        // SAFETY: no handle; the rest as in `sys`.
+        let name = unsafe { fill::<u8, NAME_ROOM>(|room, len, need| sys::antientropy_name(number, room, len, need)) };
+        match name {
+            Ok(name) if !name.is_empty() => out.write_str(&String::from_utf8_lossy(&name)),
+            _ => write!(out, "refusal {number}"),
+        }
+    }
+}
+
+impl Error for Refusal {}
+
+/// Returns the result of a call that returned a number.
+pub(crate) fn check(number: u32) -> Result<(), Refusal> {
+    match number {
+        0 => Ok(()),
+        refused => Err(refused.into()),
+    }
+}
+
+/// Turns "there is no such version, entry or hint" into `None`.
+pub(crate) fn found<T>(result: Result<T, Refusal>) -> Result<Option<T>, Refusal> {
+    match result {
+        Err(Refusal::NoVersion) => Ok(None),
+        other => other.map(Some),
+    }
+}

@@ -1,0 +1,496 @@
+//! A replica of a range.
+
+use std::error::Error;
+use std::io::{Read, Write};
+use std::{fmt, iter};
+
+use crate::checkpoint::{self, CheckpointError};
+use crate::functions::read_offer;
+use crate::handle::{bytes, clock, value, written, Owned, CLOCK_MAX};
+use crate::refusal::{check, found, Refusal};
+use crate::session::{Session, SessionId};
+use crate::snapshot::Snapshot;
+use crate::sync::{self, Bounds, Synced};
+use crate::sys;
+use crate::values::{kind_of, Clock, Counts, Entry, Kind, Loaded, Pair, Receipt, Root, Source, Version};
+
+/// The numbers of a replica.
+///
+/// ```
+/// use antientropy::{Config, Replica};
+/// let replica = Replica::new(Config { bits: 4, range: 9, ..Config::default() })?;
+/// assert_eq!((replica.format(), replica.bits(), replica.range()), (2, 4, 9));
+/// # Ok::<(), antientropy::Refusal>(())
+/// ```
+#[derive(Clone, Copy, Debug, PartialEq, Eq, Hash)]
+pub struct Config {
+    /// Format of the tree: 1 (256 leaves, no tombstones) or 2 (4,096 leaves).
+    pub format: u8,
+    /// Bits of the ring, which has 2^bits ranges: 0 to 8.
+    pub bits: u8,
+    /// Number of the range, from 0.
+    pub range: u16,
+    /// Maximum number of the journal's entries, 1 to 1,000,000.
+    pub limit: u64,
+}
+
+/// The one range of a ring of 0 bits, in format 2, with the greatest limit.
+impl Default for Config {
+    fn default() -> Config {
+        Config { format: 2, bits: 0, range: 0, limit: 1_000_000 }
+    }
+}
+
+/// A replica of one range of a ring.
+///
+/// Each call takes `&mut self`, since the library may use the memory of a handle even for a read. A lock around a
+/// replica lets threads share it.
+///
+/// ```
+/// use antientropy::{merge, Clock, Config, Replica};
+/// let mut replica = Replica::new(Config::default())?;
+/// replica.put(1, b"cart", Some(b"milk"), &Clock::new())?;
+/// let versions = replica.get(b"cart")?;
+/// let context = merge(versions.iter().map(|version| &version.clock))?;
+/// replica.put(1, b"cart", Some(b"milk, eggs"), &context)?;
+/// assert_eq!(replica.count_versions(b"cart")?, 1);
+/// # Ok::<(), antientropy::Refusal>(())
+/// ```
+#[derive(Debug)]
+pub struct Replica {
+    handle: Owned,
+    config: Config,
+}
+
+impl Replica {
+    /// Makes an empty replica. Refused as `BadRing` if a number is outside its limits.
+    pub fn new(config: Config) -> Result<Replica, Refusal> {
+        let Config { format, bits, range, limit } = config;
+        let handle = Owned::make(sys::antientropy_free, |raw| {
+            // SAFETY: the handle is empty and a local one.
+            unsafe { sys::antientropy_new(raw, format.into(), bits.into(), range.into(), limit) }
+        })?;
+        Ok(Replica { handle, config })
+    }
+
+    /// Returns a new replica with the versions that are held: one entry for each, and no sessions.
+    ///
+    /// This one is left unchanged: drop it, and go on with the new one under the same node number. Refused as `BadRing`
+    /// (the limit) or `JournalFull` (more versions are held than the limit).
+    pub fn renew(&mut self, limit: u64) -> Result<Replica, Refusal> {
+        let from = self.handle.raw();
+        let handle = Owned::make(sys::antientropy_free, |into| {
+            // SAFETY: as in `sys`; `into` is empty and a local one.
+            unsafe { sys::antientropy_renew(from, into, limit) }
+        })?;
+        Ok(Replica { handle, config: Config { limit, ..self.config } })
+    }
+
+    /// Converts a replica of format 1 to format 2. All nodes become dirty, and open sessions are cancelled.
+    pub fn migrate(&mut self) -> Result<(), Refusal> {
+        // SAFETY: as in `sys`.
+        check(unsafe { sys::antientropy_migrate(self.handle.raw()) })?;
+        self.config.format = 2;
+        Ok(())
+    }
+
+    /// Returns the format of the replica.
+    pub fn format(&self) -> u8 {
+        self.config.format
+    }
+
+    /// Returns the bits of the ring.
+    pub fn bits(&self) -> u8 {
+        self.config.bits
+    }
+
+    /// Returns the number of the range.
+    pub fn range(&self) -> u16 {
+        self.config.range
+    }
+
+    /// Returns the counts of entries, dirty nodes and sessions.
+    pub fn count(&mut self) -> Result<Counts, Refusal> {
+        written(|counts| {
+            // SAFETY: as in `sys`.
+            unsafe { sys::antientropy_count(self.handle.raw(), counts) }
+        })
+    }
+}
+
+/// Versions.
+impl Replica {
+    /// Puts a value, or a tombstone for `None`, at a node. The context is the clock of all that the client has read.
+    ///
+    /// The new version replaces each held version whose clock is at most its clock. Refused as `BadClock`,
+    /// `ClockFull`, `BadKey`, `BadValue`, `OtherRange`, `CounterFull`, `StaleContext`, `Crowded` or `JournalFull`.
+    pub fn put(&mut self, node: u16, key: &[u8], value: Option<&[u8]>, context: &Clock) -> Result<Receipt, Refusal> {
+        let (kind, data, pairs) = (kind_of(value) as u8, value.unwrap_or_default(), context.pairs());
+        written(|receipt| {
+            // SAFETY: as in `sys`.
+            unsafe {
+                sys::antientropy_put(
+                    self.handle.raw(),
+                    node,
+                    key.as_ptr(),
+                    key.len(),
+                    pairs.as_ptr(),
+                    pairs.len(),
+                    kind,
+                    data.as_ptr(),
+                    data.len(),
+                    receipt,
+                )
+            }
+        })
+    }
+
+    /// Accepts a version of another replica, as a copy. Returns false if it was known.
+    ///
+    /// Refused as `BadClock`, `ClockFull`, `BadKey`, `BadValue`, `OtherRange`, `Crowded` or `JournalFull`.
+    pub fn accept(&mut self, key: &[u8], version: &Version) -> Result<bool, Refusal> {
+        let (kind, data) = (version.kind() as u8, version.value.as_deref().unwrap_or_default());
+        let pairs = version.clock.pairs();
+        let taken: u64 = written(|taken| {
+            // SAFETY: as in `sys`.
+            unsafe {
+                sys::antientropy_accept(
+                    self.handle.raw(),
+                    key.as_ptr(),
+                    key.len(),
+                    pairs.as_ptr(),
+                    pairs.len(),
+                    kind,
+                    data.as_ptr(),
+                    data.len(),
+                    taken,
+                )
+            }
+        })?;
+        Ok(taken != 0)
+    }
+
+    /// Returns all versions held for a key. Several are concurrent.
+    pub fn get(&mut self, key: &[u8]) -> Result<Vec<Version>, Refusal> {
+        let mut versions = Vec::new();
+        while let Some((version, held)) = self.read_counted(key, versions.len() as u64)? {
+            versions.push(version);
+            if versions.len() as u64 == held {
+                break;
+            }
+        }
+        Ok(versions)
+    }
+
+    /// Returns an iterator over the versions held for a key, which reads each when it is its turn.
+    pub fn versions<'a>(&'a mut self, key: &'a [u8]) -> impl Iterator<Item = Result<Version, Refusal>> + 'a {
+        let indexes = 0..;
+        indexes.map_while(move |index| self.read(key, index).transpose())
+    }
+
+    /// Returns the number of versions held for a key.
+    pub fn count_versions(&mut self, key: &[u8]) -> Result<u64, Refusal> {
+        written(|count| {
+            // SAFETY: as in `sys`.
+            unsafe { sys::antientropy_versions(self.handle.raw(), key.as_ptr(), key.len(), count) }
+        })
+    }
+
+    /// Returns one of the versions held for a key, by its index from 0.
+    pub fn read(&mut self, key: &[u8], index: u64) -> Result<Option<Version>, Refusal> {
+        Ok(self.read_counted(key, index)?.map(|(version, _)| version))
+    }
+
+    /// Returns the kind and the value of one of the versions held for a key. A tombstone's value has no bytes.
+    pub fn value(&mut self, key: &[u8], index: u64) -> Result<Option<(Kind, Vec<u8>)>, Refusal> {
+        let (handle, at, key_len) = (self.handle.raw(), key.as_ptr(), key.len());
+        // SAFETY: as in `sys`.
+        found(unsafe {
+            value(|kind, out, len, need| sys::antientropy_value(handle, at, key_len, index, kind, out, len, need))
+        })
+    }
+
+    /// Returns the clock of one of the versions held for a key.
+    pub fn clock(&mut self, key: &[u8], index: u64) -> Result<Option<Clock>, Refusal> {
+        let (handle, at, key_len) = (self.handle.raw(), key.as_ptr(), key.len());
+        // SAFETY: as in `sys`.
+        found(unsafe { clock(|out, len, need| sys::antientropy_clock(handle, at, key_len, index, out, len, need)) })
+    }
+
+    /// Returns the text of the row of a key (`docs/FORMATS.md`), or `None` if no version is held. Refused as `BadKey`.
+    pub fn row(&mut self, key: &[u8]) -> Result<Option<Vec<u8>>, Refusal> {
+        let handle = self.handle.raw();
+        // SAFETY: as in `sys`.
+        let row =
+            unsafe { bytes(|out, len, need| sys::antientropy_get(handle, key.as_ptr(), key.len(), out, len, need)) }?;
+        Ok(Some(row).filter(|row| !row.is_empty()))
+    }
+
+    /// Returns the least key of a leaf above a key, or the first one for a key of no bytes.
+    ///
+    /// Refused as `BadMessage` if the tree has no such leaf.
+    pub fn key_after(&mut self, leaf: u16, key: &[u8]) -> Result<Option<Vec<u8>>, Refusal> {
+        let (handle, at, key_len) = (self.handle.raw(), key.as_ptr(), key.len());
+        // SAFETY: as in `sys`.
+        found(unsafe { bytes(|out, len, need| sys::antientropy_key_after(handle, leaf, at, key_len, out, len, need)) })
+    }
+
+    /// Returns an iterator over the keys, leaf by leaf.
+    ///
+    /// ```
+    /// # use antientropy::{Clock, Config, Replica};
+    /// # let mut replica = Replica::new(Config::default())?;
+    /// replica.put(1, b"cart", Some(b"milk"), &Clock::new())?;
+    /// let keys: Result<Vec<_>, _> = replica.keys().collect();
+    /// assert_eq!(keys?, [b"cart"]);
+    /// # Ok::<(), antientropy::Refusal>(())
+    /// ```
+    pub fn keys(&mut self) -> impl Iterator<Item = Result<Vec<u8>, Refusal>> + '_ {
+        let mut last = Some((0, Vec::new()));
+        iter::from_fn(move || {
+            let (leaf, key) = last.take()?;
+            let next = self.key_from(leaf, &key).transpose()?;
+            last = next.as_ref().ok().cloned();
+            Some(next.map(|(_, key)| key))
+        })
+    }
+
+    /// Returns an iterator over the keys of a leaf, in ascending order. Its first result is a refusal as `BadMessage`
+    /// if the tree has no such leaf.
+    pub fn keys_of(&mut self, leaf: u16) -> impl Iterator<Item = Result<Vec<u8>, Refusal>> + '_ {
+        let mut last = Some(Vec::new());
+        iter::from_fn(move || {
+            let next = self.key_after(leaf, &last.take()?).transpose()?;
+            last = next.as_ref().ok().cloned();
+            Some(next)
+        })
+    }
+
+    /// Returns the key after a key of a leaf, in this leaf or in those after it, with its leaf.
+    fn key_from(&mut self, first: u16, key: &[u8]) -> Result<Option<(u16, Vec<u8>)>, Refusal> {
+        let mut after = key;
+        for leaf in first.. {
+            match self.key_after(leaf, after) {
+                Ok(Some(key)) => return Ok(Some((leaf, key))),
+                Ok(None) => after = &[],
+                Err(Refusal::BadMessage) => break,
+                Err(refusal) => return Err(refusal),
+            }
+        }
+        Ok(None)
+    }
+
+    /// Returns one of the versions held for a key, with the number of all.
+    fn read_counted(&mut self, key: &[u8], index: u64) -> Result<Option<(Version, u64)>, Refusal> {
+        let (handle, at, key_len) = (self.handle.raw(), key.as_ptr(), key.len());
+        let mut reading = sys::Reading::default();
+        let mut pairs = [Pair::default(); CLOCK_MAX];
+        // SAFETY: as in `sys`. The pairs always fit, so SMALL means that the value doesn't.
+        let value = found(unsafe {
+            bytes(|out, len, need| {
+                let to = pairs.as_mut_ptr();
+                let number = sys::antientropy_read(handle, at, key_len, index, &mut reading, to, CLOCK_MAX, out, len);
+                *need = reading.bytes;
+                number
+            })
+        })?;
+        Ok(value.map(|value| {
+            let clock = Clock::from(pairs[..reading.pairs as usize].to_vec());
+            (Version::of(clock, (Kind::from_number(reading.kind), value)), reading.versions)
+        }))
+    }
+}
+
+/// The journal.
+impl Replica {
+    /// Returns an entry of the journal, by its number from 0.
+    pub fn entry(&mut self, number: u64) -> Result<Option<Entry>, Refusal> {
+        found(self.entry_parts(number))
+    }
+
+    /// Returns an iterator over the entries of the journal, from a number on. Entries are never changed.
+    ///
+    /// ```
+    /// # use antientropy::{Clock, Config, Replica};
+    /// # let mut replica = Replica::new(Config::default())?;
+    /// replica.put(1, b"cart", Some(b"milk"), &Clock::new())?;
+    /// let logged = replica.count()?.entries;
+    /// replica.put(1, b"gift", Some(b"wrapped"), &Clock::new())?;
+    /// for entry in replica.entries(logged) {
+    ///     assert_eq!(entry?.key, b"gift");
+    /// }
+    /// # Ok::<(), antientropy::Refusal>(())
+    /// ```
+    pub fn entries(&mut self, start: u64) -> impl Iterator<Item = Result<Entry, Refusal>> + '_ {
+        (start..).map_while(move |number| self.entry(number).transpose())
+    }
+
+    fn entry_parts(&mut self, number: u64) -> Result<Entry, Refusal> {
+        let handle = self.handle.raw();
+        // SAFETY: as in `sys`, for the four calls.
+        let (key, value, clock, source) = unsafe {
+            (
+                bytes(|out, len, need| sys::antientropy_entry_key(handle, number, out, len, need))?,
+                value(|kind, out, len, need| sys::antientropy_entry_value(handle, number, kind, out, len, need))?,
+                clock(|out, len, need| sys::antientropy_entry_clock(handle, number, out, len, need))?,
+                written(|source| sys::antientropy_entry_source(handle, number, source))?,
+            )
+        };
+        Ok(Entry { number, key, version: Version::of(clock, value), source: Source::from_number(source) })
+    }
+}
+
+/// The tree, offers and checkpoints.
+impl Replica {
+    /// Hashes all nodes of the tree that have no digest.
+    pub fn rehash(&mut self) -> Result<(), Refusal> {
+        // SAFETY: as in `sys`.
+        check(unsafe { sys::antientropy_rehash(self.handle.raw()) })
+    }
+
+    /// Rehashes, and returns a snapshot of the rows now.
+    pub fn snapshot(&mut self) -> Result<Snapshot, Refusal> {
+        self.rehash()?;
+        self.snapshot_if_clean()
+    }
+
+    /// Returns a snapshot of the rows now. Refused as `Dirty` if a node has no digest.
+    pub fn snapshot_if_clean(&mut self) -> Result<Snapshot, Refusal> {
+        let from = self.handle.raw();
+        let handle = Owned::make(sys::antientropy_snapshot_free, |into| {
+            // SAFETY: as in `sys`; `into` is empty and a local one.
+            unsafe { sys::antientropy_snapshot(from, into) }
+        })?;
+        Ok(Snapshot::of(handle, self.config, self.count()?.entries))
+    }
+
+    /// Returns the digest of the root now. Replicas of a range with equal roots hold the same versions.
+    pub fn root(&mut self) -> Result<Root, Refusal> {
+        self.snapshot()?.root()
+    }
+
+    /// Accepts all versions in rows of one leaf as copies, or none.
+    ///
+    /// [`Snapshot::rows`] and [`Replica::row`] return such rows. Refused as `RowBroken`, `OtherRange`, `Crowded` or
+    /// `JournalFull`.
+    pub fn load_rows(&mut self, rows: &[u8]) -> Result<Loaded, RowsRefused> {
+        let mut loaded = sys::Loaded::default();
+        // SAFETY: as in `sys`.
+        check(unsafe { sys::antientropy_load(self.handle.raw(), rows.as_ptr(), rows.len(), &mut loaded) }).map_err(
+            |refusal| RowsRefused { refusal, offset: (refusal == Refusal::RowBroken).then_some(loaded.offset) },
+        )?;
+        Ok(Loaded { taken: loaded.taken, known: loaded.known })
+    }
+
+    /// Writes a checkpoint of the rows now (`docs/FORMATS.md`). Returns the number of entries that it covers.
+    ///
+    /// The caller brings the file to its disk. A log goes on at the entry of the number returned.
+    ///
+    /// ```
+    /// # use antientropy::{Clock, Config, Replica};
+    /// # let mut replica = Replica::new(Config::default())?;
+    /// # replica.put(1, b"cart", Some(b"milk"), &Clock::new())?;
+    /// let mut file = Vec::new();
+    /// assert_eq!(replica.save(&mut file)?, 1);
+    /// let mut loaded = Replica::load(&mut file.as_slice(), 1_000_000)?;
+    /// assert_eq!(loaded.root()?, replica.root()?);
+    /// # Ok::<(), Box<dyn std::error::Error>>(())
+    /// ```
+    pub fn save(&mut self, file: &mut (impl Write + ?Sized)) -> Result<u64, CheckpointError> {
+        let mut snapshot = self.snapshot()?;
+        snapshot.save(file)?;
+        Ok(snapshot.entries())
+    }
+
+    /// Returns a new replica with the rows of a checkpoint, and a journal of at most `limit` entries.
+    ///
+    /// The root finds damage, but no forged file. Compare `format`, `bits` and `range` with your configuration. Refused
+    /// as `BadRing` (the file's bits or range, or the limit) or `JournalFull`.
+    pub fn load(file: &mut (impl Read + ?Sized), limit: u64) -> Result<Replica, CheckpointError> {
+        checkpoint::load(file, limit)
+    }
+}
+
+/// Sessions.
+impl Replica {
+    /// Rehashes, and opens a session with a partner's offer. It is never freed before its replica, so compare roots
+    /// first. Refused as `BadMessage`, `OtherFormat`, `OtherRange` or `SessionsFull`.
+    pub fn open(&mut self, partner: u16, offer: &[u8]) -> Result<SessionId, Refusal> {
+        self.rehash()?;
+        self.open_if_clean(partner, offer)
+    }
+
+    /// Opens a session with a partner's offer. Refused as `open`, or as `Dirty` if a node has no digest.
+    pub fn open_if_clean(&mut self, partner: u16, offer: &[u8]) -> Result<SessionId, Refusal> {
+        let parts = read_offer(offer)?;
+        let number = written(|session| {
+            // SAFETY: as in `sys`.
+            unsafe { sys::antientropy_open(self.handle.raw(), partner, offer.as_ptr(), offer.len(), session) }
+        })?;
+        Ok(SessionId { number, offer: parts.number })
+    }
+
+    /// Returns a session, for some calls.
+    pub fn session(&mut self, id: SessionId) -> Session<'_> {
+        Session::of(&mut self.handle, id)
+    }
+
+    /// Takes the versions of a partner's offer that this replica lacks. If the roots are equal it asks nothing.
+    ///
+    /// `reach` sends asks to the partner, and returns the answers in their order: `None` for one that is missing.
+    /// Answers that are missing at the end are left out: after a lost link it returns an empty list. The sync has the
+    /// bounds of [`Bounds::default`].
+    ///
+    /// Refused as `open`, and as `NotCanonical` or `JournalFull`. A leaf with a crowded key is left.
+    ///
+    /// ```
+    /// # use antientropy::{Clock, Config, Replica};
+    /// # let (mut a, mut b) = (Replica::new(Config::default())?, Replica::new(Config::default())?);
+    /// a.put(1, b"cart", Some(b"milk"), &Clock::new())?;
+    /// let mut offered = a.snapshot()?;
+    /// let offer = offered.offer(7)?;
+    /// let synced = b.sync(1, &offer, |asks| asks.iter().map(|ask| offered.serve(7, ask).ok()).collect())?;
+    /// assert!(synced.finished() && synced.accepted == 1);
+    /// # Ok::<(), antientropy::Refusal>(())
+    /// ```
+    pub fn sync<R>(&mut self, partner: u16, offer: &[u8], reach: R) -> Result<Synced, Refusal>
+    where
+        R: FnMut(&[Vec<u8>]) -> Vec<Option<Vec<u8>>>,
+    {
+        self.sync_within(Bounds::default(), partner, offer, reach)
+    }
+
+    /// Takes the versions of a partner's offer as [`sync`](Replica::sync), within other bounds.
+    pub fn sync_within<R>(&mut self, bounds: Bounds, partner: u16, offer: &[u8], reach: R) -> Result<Synced, Refusal>
+    where
+        R: FnMut(&[Vec<u8>]) -> Vec<Option<Vec<u8>>>,
+    {
+        sync::sync(self, bounds, partner, offer, reach)
+    }
+}
+
+/// The refusal of rows to load.
+#[derive(Clone, Copy, Debug, PartialEq, Eq, Hash)]
+pub struct RowsRefused {
+    /// Cause of the refusal.
+    pub refusal: Refusal,
+    /// Offset of the broken field in bytes, after `RowBroken`.
+    pub offset: Option<u64>,
+}
+
+impl fmt::Display for RowsRefused {
+    fn fmt(&self, out: &mut fmt::Formatter<'_>) -> fmt::Result {
+        match self.offset {
+            Some(offset) => write!(out, "{} at byte {}", self.refusal, offset),
+            None => self.refusal.fmt(out),
+        }
+    }
+}
+
+impl Error for RowsRefused {}
+
+impl From<RowsRefused> for Refusal {
+    fn from(refused: RowsRefused) -> Refusal {
+        refused.refusal
+    }
+}

@@ -1,0 +1,276 @@
+//! The declarations of `include/antientropy.h`. `tests/header.rs` compares them with the header.
+//!
+//! A call is sound under these conditions, to which the SAFETY comments of the other modules refer:
+//!
+//! - The handle is that of an `Owned`, which is borrowed exclusively: so one call at a time is on it.
+//! - A pointer with a length is that of one slice. An empty slice has an aligned pointer other than NULL.
+//! - A result goes to a local variable or to room for the length that is passed, and overlaps nothing.
+
+use std::ffi::c_void;
+
+use crate::values::{Counts, HintCounts, Pair, Receipt, Root, SlotCounts};
+
+/// A handle. The four structs of handles in the header have these fields.
+#[repr(C)]
+pub struct Handle {
+    pub at: *mut c_void,
+    pub held: bool,
+}
+
+#[repr(C)]
+#[derive(Default)]
+pub struct Reading {
+    pub versions: u64,
+    pub pairs: u64,
+    pub bytes: u64,
+    pub kind: u64,
+}
+
+#[repr(C)]
+#[derive(Default)]
+pub struct Spot {
+    pub range: u64,
+    pub leaf: u64,
+}
+
+#[repr(C)]
+#[derive(Default)]
+pub struct OfferParts {
+    pub number: u64,
+    pub format: u64,
+    pub range: u64,
+    pub root: Root,
+}
+
+#[repr(C)]
+#[derive(Default)]
+pub struct Taken {
+    pub accepted: u64,
+    pub known: u64,
+    pub state: u64,
+}
+
+#[repr(C)]
+#[derive(Default)]
+pub struct Loaded {
+    pub taken: u64,
+    pub known: u64,
+    pub offset: u64,
+}
+
+#[repr(C)]
+#[derive(Default)]
+pub struct Percentile {
+    pub found: u64,
+    pub micros: u64,
+}
+
+extern "C" {
+    pub fn antientropy_version() -> u32;
+    pub fn antientropy_name(number: u32, out: *mut u8, out_len: usize, need: *mut u64) -> u32;
+    pub fn antientropy_place(format: u64, bits: u64, key: *const u8, key_len: usize, spot: *mut Spot) -> u32;
+    pub fn antientropy_new(replica: *mut Handle, format: u64, bits: u64, range: u64, limit: u64) -> u32;
+    pub fn antientropy_free(replica: *mut Handle);
+    pub fn antientropy_renew(from: *mut Handle, into: *mut Handle, limit: u64) -> u32;
+    pub fn antientropy_migrate(replica: *mut Handle) -> u32;
+    pub fn antientropy_count(replica: *mut Handle, counts: *mut Counts) -> u32;
+    pub fn antientropy_put(
+        replica: *mut Handle,
+        node: u16,
+        key: *const u8,
+        key_len: usize,
+        context: *const Pair,
+        context_len: usize,
+        kind: u8,
+        value: *const u8,
+        value_len: usize,
+        receipt: *mut Receipt,
+    ) -> u32;
+    pub fn antientropy_accept(
+        replica: *mut Handle,
+        key: *const u8,
+        key_len: usize,
+        clock: *const Pair,
+        clock_len: usize,
+        kind: u8,
+        value: *const u8,
+        value_len: usize,
+        taken: *mut u64,
+    ) -> u32;
+    pub fn antientropy_get(
+        replica: *mut Handle,
+        key: *const u8,
+        key_len: usize,
+        out: *mut u8,
+        out_len: usize,
+        need: *mut u64,
+    ) -> u32;
+    pub fn antientropy_versions(replica: *mut Handle, key: *const u8, key_len: usize, count: *mut u64) -> u32;
+    pub fn antientropy_value(
+        replica: *mut Handle,
+        key: *const u8,
+        key_len: usize,
+        index: u64,
+        kind: *mut u8,
+        out: *mut u8,
+        out_len: usize,
+        need: *mut u64,
+    ) -> u32;
+    pub fn antientropy_clock(
+        replica: *mut Handle,
+        key: *const u8,
+        key_len: usize,
+        index: u64,
+        out: *mut Pair,
+        out_len: usize,
+        need: *mut u64,
+    ) -> u32;
+    pub fn antientropy_read(
+        replica: *mut Handle,
+        key: *const u8,
+        key_len: usize,
+        index: u64,
+        reading: *mut Reading,
+        pairs: *mut Pair,
+        pairs_len: usize,
+        value: *mut u8,
+        value_len: usize,
+    ) -> u32;
+    pub fn antientropy_key_after(
+        replica: *mut Handle,
+        leaf: u16,
+        key: *const u8,
+        key_len: usize,
+        out: *mut u8,
+        out_len: usize,
+        need: *mut u64,
+    ) -> u32;
+    pub fn antientropy_compare(
+        first: *const Pair,
+        first_len: usize,
+        second: *const Pair,
+        second_len: usize,
+        order: *mut u64,
+    ) -> u32;
+    pub fn antientropy_merge(
+        first: *const Pair,
+        first_len: usize,
+        second: *const Pair,
+        second_len: usize,
+        out: *mut Pair,
+        out_len: usize,
+        need: *mut u64,
+    ) -> u32;
+    pub fn antientropy_entry_key(
+        replica: *mut Handle,
+        number: u64,
+        out: *mut u8,
+        out_len: usize,
+        need: *mut u64,
+    ) -> u32;
+    pub fn antientropy_entry_value(
+        replica: *mut Handle,
+        number: u64,
+        kind: *mut u8,
+        out: *mut u8,
+        out_len: usize,
+        need: *mut u64,
+    ) -> u32;
+    pub fn antientropy_entry_clock(
+        replica: *mut Handle,
+        number: u64,
+        out: *mut Pair,
+        out_len: usize,
+        need: *mut u64,
+    ) -> u32;
+    pub fn antientropy_entry_source(replica: *mut Handle, number: u64, source: *mut u64) -> u32;
+    pub fn antientropy_rehash(replica: *mut Handle) -> u32;
+    pub fn antientropy_snapshot(replica: *mut Handle, snapshot: *mut Handle) -> u32;
+    pub fn antientropy_snapshot_free(snapshot: *mut Handle);
+    pub fn antientropy_root(snapshot: *mut Handle, out: *mut u8, out_len: usize, need: *mut u64) -> u32;
+    pub fn antientropy_offer(snapshot: *mut Handle, number: u32, out: *mut u8, out_len: usize, need: *mut u64) -> u32;
+    pub fn antientropy_read_offer(offer: *const u8, offer_len: usize, parts: *mut OfferParts) -> u32;
+    pub fn antientropy_serve(
+        snapshot: *mut Handle,
+        number: u32,
+        ask: *const u8,
+        ask_len: usize,
+        out: *mut u8,
+        out_len: usize,
+        need: *mut u64,
+    ) -> u32;
+    pub fn antientropy_rows(snapshot: *mut Handle, leaf: u16, out: *mut u8, out_len: usize, need: *mut u64) -> u32;
+    pub fn antientropy_load(replica: *mut Handle, rows: *const u8, rows_len: usize, loaded: *mut Loaded) -> u32;
+    pub fn antientropy_open(
+        replica: *mut Handle,
+        partner: u16,
+        offer: *const u8,
+        offer_len: usize,
+        session: *mut u64,
+    ) -> u32;
+    pub fn antientropy_outstanding(replica: *mut Handle, session: u64, count: *mut u64) -> u32;
+    pub fn antientropy_ask_at(
+        replica: *mut Handle,
+        session: u64,
+        place: u64,
+        number: u32,
+        out: *mut u8,
+        out_len: usize,
+        need: *mut u64,
+    ) -> u32;
+    pub fn antientropy_ask(
+        replica: *mut Handle,
+        session: u64,
+        number: u32,
+        out: *mut u8,
+        out_len: usize,
+        need: *mut u64,
+    ) -> u32;
+    pub fn antientropy_take(
+        replica: *mut Handle,
+        session: u64,
+        number: u32,
+        answer: *const u8,
+        answer_len: usize,
+        taken: *mut Taken,
+    ) -> u32;
+    pub fn antientropy_cancel(replica: *mut Handle, session: u64) -> u32;
+    pub fn antientropy_session(replica: *mut Handle, session: u64, state: *mut u64) -> u32;
+    pub fn antientropy_hints_new(hints: *mut Handle) -> u32;
+    pub fn antientropy_hints_free(hints: *mut Handle);
+    pub fn antientropy_hint_keep(
+        hints: *mut Handle,
+        owner: u16,
+        key: *const u8,
+        key_len: usize,
+        clock: *const Pair,
+        clock_len: usize,
+        kind: u8,
+        value: *const u8,
+        value_len: usize,
+        id: *mut u64,
+    ) -> u32;
+    pub fn antientropy_hint_next(hints: *mut Handle, owner: u16, after: u32, id: *mut u64) -> u32;
+    pub fn antientropy_hint_owner(hints: *mut Handle, id: u32, owner: *mut u64) -> u32;
+    pub fn antientropy_hint_key(hints: *mut Handle, id: u32, out: *mut u8, out_len: usize, need: *mut u64) -> u32;
+    pub fn antientropy_hint_value(
+        hints: *mut Handle,
+        id: u32,
+        kind: *mut u8,
+        out: *mut u8,
+        out_len: usize,
+        need: *mut u64,
+    ) -> u32;
+    pub fn antientropy_hint_clock(hints: *mut Handle, id: u32, out: *mut Pair, out_len: usize, need: *mut u64) -> u32;
+    pub fn antientropy_hint_confirm(hints: *mut Handle, id: u32, known: bool) -> u32;
+    pub fn antientropy_hints_renew(hints: *mut Handle) -> u32;
+    pub fn antientropy_hints_count(hints: *mut Handle, counts: *mut HintCounts) -> u32;
+    pub fn antientropy_slots_new(slots: *mut Handle, floor: u32, ceiling: u32, threshold: u32) -> u32;
+    pub fn antientropy_slots_free(slots: *mut Handle);
+    pub fn antientropy_slot_lend(slots: *mut Handle) -> u32;
+    pub fn antientropy_slot_give_back(slots: *mut Handle) -> u32;
+    pub fn antientropy_slots_sample(slots: *mut Handle, moment: u64, micros: u32) -> u32;
+    pub fn antientropy_slots_adjust(slots: *mut Handle, now: u64, p99: *mut Percentile) -> u32;
+    pub fn antientropy_slots_set_target(slots: *mut Handle, target: u32) -> u32;
+    pub fn antientropy_slots_count(slots: *mut Handle, counts: *mut SlotCounts) -> u32;
+}

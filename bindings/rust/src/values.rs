@@ -1,0 +1,289 @@
+//! The values that calls take and return.
+
+use std::fmt;
+
+/// A pair of a clock: a node and its counter.
+#[repr(C)]
+#[derive(Clone, Copy, Debug, Default, PartialEq, Eq, Hash)]
+pub struct Pair {
+    /// Number of the node, 1 to 65,535 in a valid clock.
+    pub node: u64,
+    /// Number of puts at the node that the clock has seen.
+    pub counter: u64,
+}
+
+/// A clock: the pairs of nodes and counters that a version or a context has.
+///
+/// A call takes the pairs in any order, and returns them by rising node. `==` compares the lists of pairs;
+/// [`compare`](crate::compare) and [`merge`](crate::merge) are the library's.
+///
+/// ```
+/// use antientropy::Clock;
+/// let clock = Clock::from([(1, 7), (3, 2)]);
+/// assert_eq!(clock.counter(3), Some(2));
+/// assert!(Clock::new().pairs().is_empty());
+/// ```
+#[derive(Clone, Default, PartialEq, Eq, Hash)]
+pub struct Clock(Vec<Pair>);
+
+impl Clock {
+    /// Returns the clock that has seen nothing: the context of a client that has read no version.
+    pub const fn new() -> Clock {
+        Clock(Vec::new())
+    }
+
+    /// Returns the pairs.
+    pub fn pairs(&self) -> &[Pair] {
+        &self.0
+    }
+
+    /// Returns the counter of a node, if the clock has a pair of it.
+    pub fn counter(&self, node: u64) -> Option<u64> {
+        self.0.iter().find(|pair| pair.node == node).map(|pair| pair.counter)
+    }
+}
+
+impl From<Vec<Pair>> for Clock {
+    fn from(pairs: Vec<Pair>) -> Clock {
+        Clock(pairs)
+    }
+}
+
+impl<const N: usize> From<[(u64, u64); N]> for Clock {
+    fn from(pairs: [(u64, u64); N]) -> Clock {
+        pairs.into_iter().collect()
+    }
+}
+
+impl FromIterator<(u64, u64)> for Clock {
+    fn from_iter<I: IntoIterator<Item = (u64, u64)>>(pairs: I) -> Clock {
+        Clock(pairs.into_iter().map(|(node, counter)| Pair { node, counter }).collect())
+    }
+}
+
+impl fmt::Debug for Clock {
+    fn fmt(&self, out: &mut fmt::Formatter<'_>) -> fmt::Result {
+        out.debug_map().entries(self.0.iter().map(|pair| (pair.node, pair.counter))).finish()
+    }
+}
+
+/// An enum whose members have the numbers of the header.
+macro_rules! numbered {
+    ($(#[$doc:meta])* $name:ident { $($(#[$member_doc:meta])* $member:ident = $number:literal,)* }) => {
+        $(#[$doc])*
+        #[derive(Clone, Copy, Debug, PartialEq, Eq, Hash)]
+        pub enum $name {
+            $($(#[$member_doc])* $member = $number,)*
+        }
+
+        impl $name {
+            /// Returns the member of a number that the library returned.
+            pub(crate) fn from_number(number: u64) -> $name {
+                match number {
+                    $($number => $name::$member,)*
+                    other => unreachable!("the library has no {} {}", stringify!($name), other),
+                }
+            }
+        }
+    };
+}
+
+numbered! {
+    /// Kinds of versions.
+    Kind {
+        /// The version has a value.
+        Live = 0,
+        /// The version says that the key was removed.
+        Tombstone = 1,
+    }
+}
+
+numbered! {
+    /// Sources of an entry's version.
+    Source {
+        /// A put at this replica.
+        Put = 0,
+        /// A copy: accepted or loaded here, or carried over by a renewal.
+        Copy = 1,
+        /// A hint that was delivered: not through the C library, which takes it as a copy.
+        Hint = 2,
+        /// A partner's version, taken in a session.
+        Partner = 3,
+    }
+}
+
+numbered! {
+    /// States of a session.
+    State {
+        /// Some node is outstanding.
+        Open = 0,
+        /// Each ask was answered.
+        Finished = 1,
+        /// An answer had the right digest, but its text can't be a node's.
+        Failed = 2,
+        /// It was ended before it was finished.
+        Cancelled = 3,
+    }
+}
+
+numbered! {
+    /// Orders of two clocks.
+    Order {
+        /// The second has seen everything the first has, and more.
+        Before = 0,
+        /// The first has seen everything the second has, and more.
+        After = 1,
+        /// Both have seen the same.
+        Equal = 2,
+        /// Each has seen something the other hasn't: versions under them are concurrent.
+        Apart = 3,
+    }
+}
+
+/// A version of a key.
+#[derive(Clone, Debug, PartialEq, Eq, Hash)]
+pub struct Version {
+    /// Clock of the version.
+    pub clock: Clock,
+    /// Value of the version: `None` for a tombstone.
+    pub value: Option<Vec<u8>>,
+}
+
+impl Version {
+    /// Returns the kind of the version.
+    pub fn kind(&self) -> Kind {
+        kind_of(self.value.as_deref())
+    }
+
+    /// Returns a version that a call returned in parts.
+    pub(crate) fn of(clock: Clock, (kind, value): (Kind, Vec<u8>)) -> Version {
+        Version { clock, value: (kind == Kind::Live).then_some(value) }
+    }
+}
+
+/// Returns the kind of a version by its value.
+pub(crate) fn kind_of(value: Option<&[u8]>) -> Kind {
+    match value {
+        Some(_) => Kind::Live,
+        None => Kind::Tombstone,
+    }
+}
+
+/// An entry of a journal: an accepted version, with its key and its source.
+#[derive(Clone, Debug, PartialEq, Eq, Hash)]
+pub struct Entry {
+    /// Number of the entry, from 0.
+    pub number: u64,
+    /// Key of the version.
+    pub key: Vec<u8>,
+    /// The version itself.
+    pub version: Version,
+    /// Source of the version.
+    pub source: Source,
+}
+
+/// A version that is kept for its owner, a node that is down.
+#[derive(Clone, Debug, PartialEq, Eq, Hash)]
+pub struct Hint {
+    /// Number of the hint, from 1.
+    pub number: u32,
+    /// Node for which the version is kept.
+    pub owner: u16,
+    /// Key of the version.
+    pub key: Vec<u8>,
+    /// The version itself.
+    pub version: Version,
+}
+
+/// The result of a put.
+#[repr(C)]
+#[derive(Clone, Copy, Debug, Default, PartialEq, Eq, Hash)]
+pub struct Receipt {
+    /// Number of the entry in the journal: [`Replica::entry`](crate::Replica::entry) returns the version for copies.
+    pub number: u64,
+    /// The node's counter in the new version's clock. The other counters are those of the context.
+    pub counter: u64,
+}
+
+/// The range and the leaf of a key.
+#[derive(Clone, Copy, Debug, PartialEq, Eq, Hash)]
+pub struct Spot {
+    /// Number of the range in the ring, from 0.
+    pub range: u16,
+    /// Number of the leaf in the range's tree, from 0.
+    pub leaf: u16,
+}
+
+/// A digest of a root, 32 bytes. Replicas of a range with equal roots hold the same versions.
+pub type Root = [u8; 32];
+
+/// The parts of an offer. Format and range are as received: the ring may not have them.
+#[derive(Clone, Copy, Debug, PartialEq, Eq, Hash)]
+pub struct OfferParts {
+    /// Number that the partner gave the offer.
+    pub number: u32,
+    /// Format of the partner's tree.
+    pub format: u8,
+    /// Number of the partner's range.
+    pub range: u16,
+    /// Digest of the partner's root.
+    pub root: Root,
+}
+
+/// The result of taking an answer.
+#[derive(Clone, Copy, Debug, PartialEq, Eq, Hash)]
+pub struct Taken {
+    /// Number of new versions: they are now entries of the journal.
+    pub accepted: u64,
+    /// Number of known versions.
+    pub known: u64,
+    /// State of the session.
+    pub state: State,
+}
+
+/// The result of loading rows.
+#[derive(Clone, Copy, Debug, PartialEq, Eq, Hash)]
+pub struct Loaded {
+    /// Number of new versions: they are now entries of the journal.
+    pub taken: u64,
+    /// Number of known versions.
+    pub known: u64,
+}
+
+/// Counts of a replica.
+#[repr(C)]
+#[derive(Clone, Copy, Debug, Default, PartialEq, Eq, Hash)]
+pub struct Counts {
+    /// Entries of the journal.
+    pub entries: u64,
+    /// Maximum number of entries.
+    pub limit: u64,
+    /// Nodes of the tree that have no digest.
+    pub dirty: u64,
+    /// Sessions, ever: at 1,024 no other can be opened.
+    pub sessions: u64,
+    /// Open sessions: at 64 no other can be opened until one has ended.
+    pub open_sessions: u64,
+}
+
+/// Counts of hints.
+#[repr(C)]
+#[derive(Clone, Copy, Debug, Default, PartialEq, Eq, Hash)]
+pub struct HintCounts {
+    /// Hints that wait for their owners.
+    pub pending: u64,
+    /// Hints that were delivered: they are kept until a renewal.
+    pub delivered: u64,
+}
+
+/// Counts of slots.
+#[repr(C)]
+#[derive(Clone, Copy, Debug, Default, PartialEq, Eq, Hash)]
+pub struct SlotCounts {
+    /// Maximum number of slots that are lent.
+    pub target: u64,
+    /// Slots lent.
+    pub lent: u64,
+    /// Slots that could be lent now.
+    pub free: u64,
+}

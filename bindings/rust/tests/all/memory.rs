@@ -1,0 +1,52 @@
+//! A drop frees what a handle holds.
+
+use std::fs;
+
+use antientropy::{Hints, Slots};
+
+use crate::support::{live, replica, NONE};
+
+const VALUE: &[u8] = &[b'v'; 65_536];
+const KEYS: u8 = 64;
+const SLOTS_LEN: usize = 20 << 10;
+
+/// Returns the memory of the process in bytes: pages have 4,096.
+fn resident() -> usize {
+    let statm = fs::read_to_string("/proc/self/statm").unwrap();
+    statm.split(' ').nth(1).unwrap().parse::<usize>().unwrap() * 4096
+}
+
+/// Makes something of so many bytes again and again: without frees the process would grow by 128 MiB.
+#[track_caller]
+fn assert_freed(bytes: usize, make: impl Fn()) {
+    let before = resident();
+    (0..(128 << 20) / bytes).for_each(|_| make());
+    assert!(resident() < before + (64 << 20));
+}
+
+#[test]
+fn replicas_and_snapshots() {
+    assert_freed(VALUE.len() * usize::from(KEYS), || {
+        let mut replica = replica();
+        for n in 0..KEYS {
+            replica.put(1, &[n], Some(VALUE), &NONE).unwrap();
+        }
+        let mut snapshot = replica.snapshot().unwrap();
+        drop(replica);
+        snapshot.root().unwrap();
+    });
+}
+
+#[test]
+fn hints() {
+    assert_freed(VALUE.len(), || {
+        Hints::new().unwrap().keep(1, b"key", &live([(1, 1)], VALUE)).unwrap();
+    });
+}
+
+#[test]
+fn slots() {
+    assert_freed(SLOTS_LEN, || {
+        Slots::new(1, 4, 1).unwrap().lend().unwrap();
+    });
+}

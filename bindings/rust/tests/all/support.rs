@@ -1,0 +1,64 @@
+//! Helpers of several tests.
+
+use std::fmt::Debug;
+
+use antientropy::{Clock, Config, Counts, Entry, Refusal, Replica, Snapshot, Version};
+
+pub const NONE: Clock = Clock::new();
+
+/// Returns an empty replica of the default ring.
+pub fn replica() -> Replica {
+    with_limit(20_000)
+}
+
+/// Returns an empty replica with a journal of so many entries.
+pub fn with_limit(limit: u64) -> Replica {
+    Replica::new(Config { limit, ..Config::default() }).unwrap()
+}
+
+/// Returns a replica with `keys` keys, put at node 1.
+pub fn filled(keys: usize) -> Replica {
+    let mut replica = replica();
+    for n in 0..keys {
+        replica.put(1, format!("key {n}").as_bytes(), Some(b"value"), &NONE).unwrap();
+    }
+    replica
+}
+
+/// Returns a live version.
+pub fn live<const N: usize>(pairs: [(u64, u64); N], value: &[u8]) -> Version {
+    Version { clock: Clock::from(pairs), value: Some(value.to_vec()) }
+}
+
+/// Fills a key with 64 concurrent versions.
+pub fn crowd(replica: &mut Replica, key: &[u8]) {
+    for node in 1..=64 {
+        assert!(replica.accept(key, &live([(node, 1)], b"crowd")).unwrap());
+    }
+}
+
+/// Returns the answers of a partner that is called directly.
+pub fn serve(snapshot: &mut Snapshot, number: u32, asks: &[Vec<u8>]) -> Vec<Option<Vec<u8>>> {
+    asks.iter().map(|ask| snapshot.serve(number, ask).ok()).collect()
+}
+
+type Held = (Counts, Vec<Entry>, Vec<Vec<u8>>);
+
+/// Returns all that a replica holds.
+pub fn state(replica: &mut Replica) -> Held {
+    let keys: Vec<_> = replica.keys().map(Result::unwrap).collect();
+    let rows = keys.iter().map(|key| replica.row(key).unwrap().unwrap()).collect();
+    (replica.count().unwrap(), replica.entries(0).map(Result::unwrap).collect(), rows)
+}
+
+/// A call is refused by a cause, and leaves the replica unchanged.
+#[track_caller]
+pub fn assert_refused<T: Debug>(
+    cause: Refusal,
+    replica: &mut Replica,
+    call: impl FnOnce(&mut Replica) -> Result<T, Refusal>,
+) {
+    let before = state(replica);
+    assert_eq!(call(replica).unwrap_err(), cause);
+    assert_eq!(state(replica), before);
+}
