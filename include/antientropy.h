@@ -385,6 +385,11 @@ uint32_t antientropy_entry_source(struct antientropy *replica, uint64_t number, 
 /* Hashes all nodes that have no digest. Refused, in order: EMPTY, NO_MEMORY. */
 uint32_t antientropy_rehash(struct antientropy *replica);
 
+/* Hashes at most `most` of the nodes that have no digest though all their children have one, and returns the number of
+ * nodes that have none then. A program that repeats it until that is 0 can make other calls between; with `most` 0 no
+ * node is hashed. Refused, in order: EMPTY, NO_MEMORY. */
+uint32_t antientropy_rehash_some(struct antientropy *replica, uint64_t most, uint64_t *left);
+
 /* ---- offers */
 
 /* Makes a snapshot of the rows now. It shares them with the replica, which copies those that it changes later.
