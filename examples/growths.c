@@ -119,6 +119,8 @@ static void sync(void)
     struct antientropy_taken taken = {0};
     uint8_t ask[ANTIENTROPY_ASK_LEN], offer[ANTIENTROPY_OFFER_LEN];
     uint64_t session, len;
+    DO("antientropy_rehash_some", antientropy_rehash_some(&a, 2, &len));
+    add(&len, sizeof len);
     DO("antientropy_rehash", antientropy_rehash(&a));
     DO("antientropy_rehash", antientropy_rehash(&b));
     DO("antientropy_snapshot", antientropy_snapshot(&a, &snapshot));

@@ -85,6 +85,7 @@ static void makes(void)
     SEE(migrate, EMPTY, antientropy_migrate(&none));
     SEE(count, EMPTY, antientropy_count(&none, &counts));
     SEE(rehash, EMPTY, antientropy_rehash(&none));
+    SEE(rehash_some, EMPTY, antientropy_rehash_some(&none, 1, &need));
 }
 
 static uint32_t put(struct antientropy *replica, uint16_t node, const uint8_t *key, size_t key_len, size_t context_len,

@@ -9,7 +9,7 @@
 #include <stdlib.h>
 #include <string.h>
 
-enum { WRITERS = 4, KEYS = 500, SYNCS = 10, ROOM = 1 << 16 };
+enum { WRITERS = 4, KEYS = 500, SYNCS = 10, ROOM = 1 << 16, PORTION = 64 };
 
 /* The replica of node 1, which all threads use. */
 static struct antientropy shared;
@@ -54,9 +54,21 @@ static void *write_keys(void *name)
     return NULL;
 }
 
-/* Makes a snapshot of the shared replica. */
+/* Hashes the shared replica's tree in portions, so that writers needn't wait for all of it. */
+static void rehash_in_portions(void)
+{
+    uint64_t left;
+    do {
+        pthread_mutex_lock(&lock);
+        want("rehash_some", antientropy_rehash_some(&shared, PORTION, &left), ANTIENTROPY_OK);
+        pthread_mutex_unlock(&lock);
+    } while (left > PORTION);
+}
+
+/* Makes a snapshot of the shared replica. What the writers made dirty since the last portion is hashed with it. */
 static void publish(struct antientropy_snapshot *snapshot)
 {
+    rehash_in_portions();
     pthread_mutex_lock(&lock);
     want("rehash", antientropy_rehash(&shared), ANTIENTROPY_OK);
     want("snapshot", antientropy_snapshot(&shared, snapshot), ANTIENTROPY_OK);

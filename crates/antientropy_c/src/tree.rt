@@ -1,13 +1,15 @@
 //! Rehashing in the caller's thread.
-ghost use Rattle.std.specs.Prelude.{◌≡◌, Result, None};
+ghost use Rattle.std.specs.Prelude.{◌≡◌, ℕ, Result, None};
 ghost use Rattle.vclock.specs.Answer.{Answers};
 ghost use Rattle.vclock.specs.declared.refusal.Refusal.{Refusal};
-ghost use Rattle.range_state.specs.Trees.{rehashed, IsSameRange};
+ghost use Rattle.range_state.specs.Trees.{rehashed, HashesSome, IsSameRange};
 ghost use Rattle.antientropy_c.specs.Numbers.{Returns};
 ghost use Rattle.antientropy_c.specs.Calls.{Calls};
+ghost use Rattle.antientropy_c.specs.Sessions.{TellsNumber};
 
 use crate::numbers::{EMPTY, code};
 use crate::replica::Replica;
+use crate::sessions::tell_number;
 use range_state::RangeState;
 use std::alloc::Global;
 use vclock::Refusal;
@@ -35,4 +37,34 @@ fn rehash(alloc: Global, state: &mut RangeState) -> Result<(), Refusal>
 {
     state.rehash_here(alloc)?;
     Ok(())
+}
+
+/// Hashes at most `most` of the dirty nodes whose children are clean, and stores the number of nodes that are dirty then.
+/// Refused, in order: EMPTY, NoMemory. On error the replica is unchanged.
+#[unsafe(no_mangle)]
+#[tactic(auto, using(crate::proofs::CallLaws::empty, crate::proofs::CallLaws::held, crate::proofs::CallLaws::returns))]
+pub extern "C" fn antientropy_rehash_some(
+    alloc: Global,
+    replica: &mut Replica,
+    most: u64,
+    left: &mut u64,
+) -> u32
+    ensures { Calls result replica.old replica.new (λ s t. Returns result (λ (r : Result ℕ Refusal).
+        HashesSome r most s t × TellsNumber r left.old left.new)) }
+{
+    let Some(mut state) = replica.take(alloc) else {
+        return EMPTY;
+    };
+    let told = rehash_some(alloc, &mut state, most);
+    replica.hold(state);
+    tell_number(&told, left);
+    code(&told)
+}
+
+/// Hashes at most `most` of the dirty nodes whose children are clean, and returns the number of nodes that are dirty
+/// then.
+fn rehash_some(alloc: Global, state: &mut RangeState, most: u64) -> Result<u64, Refusal>
+    ensures { HashesSome result most state.old state.new }
+{
+    Ok(state.rehash_some(alloc, most as usize)? as u64)
 }

@@ -1,12 +1,13 @@
 -- Making nodes clean, one after another, until all are.
-use Rattle.std.proofs.Common.{◌≡◌, ℕ, zero, suc, ◌+◌, ◌*◌, ◌-◌, ◌^◌, ◌<◌, ◌≤◌, Bool, true, false, cond, is_some, is_none, ◌&&◌, Option, Some, None, List, [], ◌∷◌, ◌++◌, length, take, drop, map, set, get_or, refl, sym, ap, subst, ◌∙◌, arith, inl, inr}
+use Rattle.std.proofs.Common.{◌≡◌, ℕ, zero, suc, ◌+◌, ◌*◌, ◌-◌, ◌^◌, ◌<◌, ◌≤◌, Bool, true, false, cond, is_some, is_none, ◌&&◌, Option, Some, None, List, [], ◌∷◌, ◌++◌, length, take, drop, map, set, get_or, refl, sym, ap, subst, ◌∙◌, arith, inl, inr, Contains}
 use Rattle.std.specs.Prelude.{nat_eq, IsTrue}
 use Rattle.std.specs.List.{All, range_with_len}
 use Rattle.std.specs.Cmp.Lexicographic.{pointwise}
 use Rattle.std.proofs.lemmas.Bool.{cases_eq}
 use Rattle.std.proofs.lemmas.Cmp.{nat_list_eq_equiv}
-use Rattle.std.proofs.lemmas.List.{get_or-set_same, get_or-set_other, get_or_default, get_or-take, get_or-drop, get_or-map, length-set, length-take, length-drop, length-map, take-append-drop, drop-drop}
-use Rattle.std.proofs.lemmas.List.Elements.{All-take, All-filter, All-get_or, All-from_get_or}
+use Rattle.std.proofs.lemmas.List.{get_or-set_same, get_or-set_other, get_or_default, get_or-take, get_or-drop, get_or-map, length-set, length-take, length-drop, length-map, take-append-drop, drop-drop, map_more, take_all}
+use Rattle.std.proofs.lemmas.List.Elements.{All-take, All-filter, All-get_or, All-from_get_or, Contains-append_left, Contains-push, Contains-push_cases}
+use Rattle.std.proofs.lemmas.Simd.{map-map}
 use Rattle.std.proofs.lemmas.List.FromFn.{fill_by_all, length-range_with_len, get_or-range_with_len}
 use Rattle.std.proofs.lemmas.List.Sums.{list_all-from_AllPass, length-filter, sum_by-set}
 use Rattle.sha2.specs.Sha256.{sha256}
@@ -20,7 +21,8 @@ use Rattle.hash_tree.proofs.ReadyLaws.{ready_parts, none_ready, clean_all}
 use Rattle.rehash.specs.Jobs.{NodeText}
 use Rattle.range_state.specs.Rows.{rows_of}
 use Rattle.range_state.specs.State.{State, IsRight, IsJob, AreJobs, has_tree_node, place_of, text_in, leaf_in, is_current, installed}
-use Rattle.range_state.specs.Trees.{level_digests, digests_below, rehashed, IsSameRange}
+use Rattle.range_state.proofs.ReconcileLaws.{some_dirty}
+use Rattle.range_state.specs.Trees.{level_digests, digests_below, rehashed, HasHashed, IsSameRange}
 
 abbrev Marks : Type 0
 Marks = List (Option (List ℕ))
@@ -46,6 +48,13 @@ dirty_fewer marks place d within dirty =
     let one : ◌≡◌ {A = ℕ} (cond (is_none (kept_digest marks place)) 1 0) 1 = ap (λ (o : Option (List ℕ)). cond (is_none o) 1 0) dirty in
     omega (arith, one, dirty-set marks place d within)
 
+-- a clean node stays clean
+clean-set : (marks : Marks) (place other : ℕ) (d : List ℕ) → other < length marks → is_some (kept_digest marks other) ≡ true → is_some (kept_digest (set marks place (Some d)) other) ≡ true
+clean-set marks place other d inside was = elim (cases_eq other place) [
+  | inl here ↦ ap (λ (o : Option (List ℕ)). is_some o) (ap (λ (p : ℕ). kept_digest (set marks place (Some d)) p) here ∙ get_or-set_same marks place (Some d) None (omega (arith, here)))
+  | inr elsewhere ↦ ap (λ (o : Option (List ℕ)). is_some o) (get_or-set_other marks place other (Some d) None elsewhere) ∙ was
+]
+
 -- clean children stay clean
 children-set : (marks : Marks) (place other : ℕ) (d : List ℕ) → are_clean (children_of marks other) ≡ true → are_clean (children_of (set marks place (Some d)) other) ≡ true
 children-set marks place other d clean =
@@ -53,13 +62,7 @@ children-set marks place other d clean =
     list_all-from_AllPass is_some (children_of new other) (λ j e less.
     let sixteen : j < 16 = omega (arith, length-take 16 (drop (16 * other + 1) new)) in
     let inside : 16 * other + 1 + j < length marks = omega (arith, length-take 16 (drop (16 * other + 1) new), length-drop (16 * other + 1) new, length-set marks place (Some d)) in
-    subst (λ (o : Option (List ℕ)). is_some o ≡ true) (sym (child_at new other j sixteen) ∙ get_or_default (children_of new other) j None e less) (at (16 * other + 1 + j) inside (clean_child marks other j clean sixteen inside)))
-  where
-    at : (child : ℕ) → child < length marks → is_some (kept_digest marks child) ≡ true → is_some (kept_digest (set marks place (Some d)) child) ≡ true
-    at child inside was = elim (cases_eq child place) [
-      | inl here ↦ ap (λ (o : Option (List ℕ)). is_some o) (ap (λ (p : ℕ). kept_digest (set marks place (Some d)) p) here ∙ get_or-set_same marks place (Some d) None (omega (arith, here)))
-      | inr elsewhere ↦ ap (λ (o : Option (List ℕ)). is_some o) (get_or-set_other marks place child (Some d) None elsewhere) ∙ was
-    ]
+    subst (λ (o : Option (List ℕ)). is_some o ≡ true) (sym (child_at new other j sixteen) ∙ get_or_default (children_of new other) j None e less) (clean-set marks place (16 * other + 1 + j) d inside (clean_child marks other j clean sixteen inside)))
 
 middle : (a b c d : Bool) → (b ≡ true → d ≡ true) → (a && b && c) ≡ true → (a && d && c) ≡ true
 middle true true true d f h = rw (f refl) refl
@@ -78,7 +81,7 @@ still_current s node other text digested current =
 
 -- the state after that many of the nodes
 pub record IsCleaning (start : State) (nodes : List NodeAt) (texts : List (List ℕ)) (done : ℕ) (s : State) : Type 0 where
-  pub same : IsSameRange start s
+  pub hashed : HasHashed (map place_of (take done nodes)) start s
   pub long : length s.marks ≡ length start.marks
   pub current : (i : ℕ) (node : NodeAt) (text : List ℕ) → i < length nodes → IsTrue (is_current s (get_or nodes i node) (get_or texts i text))
   pub none : done ≡ 0 → s ≡ start
@@ -88,16 +91,51 @@ pub record IsCleaning (start : State) (nodes : List NodeAt) (texts : List (List 
 elsewhere : (marks : Marks) (dirty clean : ℕ) (d : List ℕ) → kept_digest marks dirty ≡ None → kept_digest marks clean ≡ Some d → clean ≡ dirty → ⊥
 elsewhere marks dirty clean d none some same = let clash : no_digest ≡ Some d = sym none ∙ ap (kept_digest marks) (sym same) ∙ some in cc
 
-pub cleaning_next : (start : State) (nodes : List NodeAt) (texts : List (List ℕ)) (done : ℕ) (s t : State) (node : NodeAt) (text : List ℕ) → IsCleaning start nodes texts done s
-    → place_of node < length start.marks → kept_digest start.marks (place_of node) ≡ None → t ≡ installed s node text → IsCleaning start nodes texts (done + 1) t
-cleaning_next start nodes texts done s t node text was within dirty is =
-    subst (λ (u : State). IsCleaning start nodes texts (done + 1) u) (sym is) (record {
+-- a clean node is in the tree
+clean-inside : (marks : Marks) (place : ℕ) → is_some (kept_digest marks place) ≡ true → place < length marks
+clean-inside [] place clean = absurd (let no : false ≡ true = clean in cc)
+clean-inside (m ∷ ms) zero clean = omega arith
+clean-inside (m ∷ ms) (suc place) clean = omega (arith, clean-inside ms place clean)
+
+-- At first no node was made clean.
+pub hashed_none : (s : State) → HasHashed [] s s
+hashed_none s = record {
+  same = record { config = refl; entries = refl; records = refl; kept = λ place d h. h };
+  clean = λ place h. absurd (omega (arith, h.1));
+  others = λ place h. refl;
+}
+
+hashed_next : (places : List ℕ) (start s : State) (node : NodeAt) (text : List ℕ) → HasHashed places start s → length s.marks ≡ length start.marks
+    → place_of node < length start.marks → kept_digest start.marks (place_of node) ≡ None → HasHashed (places ++ place_of node ∷ []) start (installed s node text)
+hashed_next places start s node text was long within dirty =
+    let here = place_of node in
+    let new = set s.marks here (Some (sha256 text)) in
+    record {
       same = record {
         config = was.same.config;
         entries = was.same.entries;
         records = was.same.records;
-        kept = λ place d h. get_or-set_other s.marks (place_of node) place (Some (sha256 text)) None (elsewhere start.marks (place_of node) place d dirty h) ∙ was.same.kept place d h;
+        kept = λ place d h. get_or-set_other s.marks here place (Some (sha256 text)) None (elsewhere start.marks here place d dirty h) ∙ was.same.kept place d h;
       };
+      clean = λ place h. elim (Contains-push_cases places here place h) [
+        | inl old ↦ clean-set s.marks here place (sha256 text) (clean-inside s.marks place (was.clean place old)) (was.clean place old)
+        | inr now ↦ ap (λ (o : Option (List ℕ)). is_some o) (ap (λ (p : ℕ). kept_digest new p) (sym now) ∙ get_or-set_same s.marks here (Some (sha256 text)) None (omega (arith, long)))
+      ];
+      others = λ place h. get_or-set_other s.marks here place (Some (sha256 text)) None (λ e. h (subst (λ (p : ℕ). Contains (places ++ here ∷ []) p) (sym e) (Contains-push places here)))
+          ∙ was.others place (λ old. h (Contains-append_left places (here ∷ []) place old));
+    }
+
+-- Once all nodes were made clean, their places are those of the list.
+pub cleaned : (start : State) (nodes : List NodeAt) (texts : List (List ℕ)) (s : State) → IsCleaning start nodes texts (length nodes) s → HasHashed (map place_of nodes) start s
+cleaned start nodes texts s was = subst (λ (xs : List NodeAt). HasHashed (map place_of xs) start s) (take_all (length nodes) nodes (omega arith)) was.hashed
+
+pub cleaning_next : (start : State) (nodes : List NodeAt) (texts : List (List ℕ)) (done : ℕ) (s t : State) (node : NodeAt) (text : List ℕ) → IsCleaning start nodes texts done s → done < length nodes → get_or nodes done node ≡ node
+    → place_of node < length start.marks → kept_digest start.marks (place_of node) ≡ None → t ≡ installed s node text → IsCleaning start nodes texts (done + 1) t
+cleaning_next start nodes texts done s t node text was less at within dirty is =
+    let places : map place_of (take done nodes) ++ place_of node ∷ [] ≡ map place_of (take (done + 1) nodes) =
+    ap (λ (n : NodeAt). map place_of (take done nodes) ++ place_of n ∷ []) (sym at) ∙ sym (map_more place_of nodes done node less) in
+    subst (λ (u : State). IsCleaning start nodes texts (done + 1) u) (sym is) (record {
+      hashed = subst (λ (xs : List ℕ). HasHashed xs start (installed s node text)) places (hashed_next (map place_of (take done nodes)) start s node text was.hashed was.long within dirty);
       long = length-set s.marks (place_of node) (Some (sha256 text)) ∙ was.long;
       current = λ i n u less. still_current s (get_or nodes i n) node (get_or texts i u) text (was.current i n u less);
       none = λ e. absurd (omega arith);
@@ -149,6 +187,11 @@ jobs_dirty s most jobs nodes are ns i node less =
     let here : get_or places i 0 < length s.marks = All-get_or (λ (p : ℕ). p < length s.marks) places i 0 short (ready_within s.marks most) in
     (omega (arith, place, here), ap (λ (x : NodeAt). kept_digest s.marks (place_of x)) n ∙ (ready_parts s.marks (place_of (get_or jobs i job).node) (all_get (IsJob s) jobs i job are.each within).ready).0)
 
+-- The places of the jobs' nodes.
+pub jobs_places : (s t : State) (most : ℕ) (jobs : List NodeText) (nodes : List NodeAt) → AreJobs s most jobs → nodes ≡ map (λ (job : NodeText). job.node) jobs → HasHashed (map place_of nodes) s t → HasHashed (take most (ready_from s.marks 0)) s t
+jobs_places s t most jobs nodes are ns was =
+    subst (λ (places : List ℕ). HasHashed places s t) (ap (map place_of) ns ∙ map-map place_of (λ (job : NodeText). job.node) jobs ∙ are.nodes) was
+
 -- Where there is no job, all nodes are clean.
 pub no_jobs : (s : State) (most : ℕ) (jobs : List NodeText) → AreJobs s most jobs → 0 < most → length jobs ≡ 0 → are_clean s.marks ≡ true
 no_jobs s most jobs are some none =
@@ -158,6 +201,14 @@ no_jobs s most jobs are some none =
     nil : (xs : List ℕ) → length xs ≡ 0 → xs ≡ []
     nil [] e = refl
     nil (x ∷ xs) e = absurd (omega arith)
+
+-- A round makes some node clean, or all are.
+pub fewer : (was now : Marks) (any : Bool) → (any ≡ true → dirty_count now < dirty_count was) → (any ≡ false → are_clean now ≡ true) → 0 < dirty_count was → dirty_count now < dirty_count was
+fewer was now true more none some = more refl
+fewer was now false more none some = elim (cases_eq (dirty_count now) 0) [
+  | inl all ↦ omega (arith, all, some)
+  | inr other ↦ absurd (let clash : true ≡ false = sym (none refl) ∙ some_dirty now (omega arith) in cc)
+]
 
 -- ---- all nodes clean
 

@@ -4,10 +4,10 @@
 //!
 //! - [`config`]: the number of a range, its format, and the limit of its journal.
 //! - [`state`]: the state and its calls: `put`, `accept`, `get`, `versions` and `rows`; for the tree `take_job`,
-//!   `take_jobs`, `install`, `digest_at`, `dirty_count`, `rehash`, `rehash_here` and `snapshot`; for sessions with
-//!   partners `open_session`, `take_answer`, `cancel_session`, `records` and `open_sessions`, and `sync_with` for a whole
-//!   session; `reconcile` for a session each way; `migrate` to format 2; `renewed` for a new range that begins with the
-//!   versions held.
+//!   `take_jobs`, `install`, `digest_at`, `dirty_count`, `rehash`, `rehash_here`, `rehash_some` and `snapshot`; for
+//!   sessions with partners `open_session`, `take_answer`, `cancel_session`, `records` and `open_sessions`, and
+//!   `sync_with` for a whole session; `reconcile` for a session each way; `migrate` to format 2; `renewed` for a new range
+//!   that begins with the versions held.
 //! - [`record`]: a session of a range, and its partner.
 //! - [`event`], [`run`]: the calls as events, and lists of events.
 //! - [`laws`]: laws proved from the definitions, such as that a range that finished a session holds the versions that

@@ -156,6 +156,47 @@ fn a_range_is_rehashed_in_the_callers_thread(rt: HostRuntime) -> Result<(), Fail
     expect_rehash_here(&rt, alloc, &mut new_range(alloc, 1, 1_000)?)
 }
 
+/// Asserts that a portion of the nodes is hashed, and how many are dirty then.
+fn expect_portion(
+    alloc: Global,
+    state: &mut RangeState,
+    most: usize,
+    left: usize,
+) -> Result<(), Fail> {
+    let counted = state.rehash_some(alloc, most)?;
+    expect(counted == left, "the nodes that are left are counted")?;
+    expect(state.dirty_count() == left, "only a portion is hashed")
+}
+
+/// Asserts that a new range is rehashed in portions, and has the root then that `rehash` makes: 100 of the 256 leaves; the
+/// other 156, and the 6 nodes whose 16 children are among the 100; the other 10 nodes above leaves; and the root.
+fn expect_portions(
+    rt: &(impl Threads + Sync),
+    alloc: Global,
+    state: &mut RangeState,
+) -> Result<(), Fail> {
+    put_a(alloc, state, &[])?;
+    for (most, left) in [
+        (0usize, 273usize),
+        (100, 173),
+        (300, 11),
+        (300, 1),
+        (1, 0),
+        (1, 0),
+    ] {
+        expect_portion(alloc, state, most, left)?;
+    }
+    let root = node_at(0, 0)?;
+    let other = range_of_a(rt, alloc)?.digest_at(root);
+    expect(state.digest_at(root) == other, "it has the same root")
+}
+
+#[test]
+fn a_range_is_rehashed_in_portions(rt: HostRuntime) -> Result<(), Fail> {
+    let alloc = rt.alloc();
+    expect_portions(&rt, alloc, &mut new_range(alloc, 1, 1_000)?)
+}
+
 /// Asserts that two workers take different jobs.
 fn expect_different(alloc: Global, state: &RangeState) -> Result<(), Fail> {
     let first = state.take_job(alloc, 0)?.ok_or("no job")?;

@@ -36,7 +36,8 @@ pub(crate) fn show_all<R: Print + AllocGlobal + Threads + Sync>(rt: &R) -> io::R
     show(rt, "hash_all", hash_some(rt, alloc))?;
     show(rt, "hash_here", hash_some_here(alloc))?;
     show(rt, "RangeState::rehash", rehash(rt, alloc))?;
-    show(rt, "RangeState::rehash_here", rehash_here(rt, alloc))
+    show(rt, "RangeState::rehash_here", rehash_here(rt, alloc))?;
+    show(rt, "RangeState::rehash_some", rehash_some(alloc))
 }
 
 fn marks(alloc: Global) -> Result<u64, Refusal> {
@@ -137,6 +138,16 @@ fn rehash_here(rt: &(impl Threads + Sync), alloc: Global) -> Result<u64, Refusal
     let mut state = range(alloc)?;
     let hashed = state.rehash_here(alloc);
     count_clean(rt, alloc, &state, hashed)
+}
+
+/// Hashes twenty nodes of a range, and returns the number of nodes that are dirty then.
+fn rehash_some(alloc: Global) -> Result<u64, Refusal> {
+    let mut state = range(alloc)?;
+    let dirty = state.dirty_count();
+    match state.rehash_some(alloc, 20) {
+        Ok(left) => Ok(left as u64),
+        Err(refusal) => Err(unchanged(refusal, Ok(state.dirty_count() == dirty))),
+    }
 }
 
 /// Returns the number of nodes that a rehash has hashed, plus one if the root is clean. A refused rehash leaves some of

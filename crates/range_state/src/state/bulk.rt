@@ -1,10 +1,10 @@
 //! Rehashing a whole tree.
-ghost use Rattle.std.specs.Prelude.{◌≡◌, ◌<◌, ⊤, ℕ, List, length, map, slice_index_or, false, IsTrue, IfOk, OnOk, None};
+ghost use Rattle.std.specs.Prelude.{◌≡◌, ◌<◌, ⊤, ℕ, List, length, map, take, slice_index_or, false, IsTrue, IfOk, IfErr, OnOk, None};
 ghost use Rattle.vclock.specs.Answer.{Answers};
-ghost use Rattle.hash_tree.specs.Nodes.{are_clean, dirty_count, kept_digest};
+ghost use Rattle.hash_tree.specs.Nodes.{are_clean, dirty_count, kept_digest, ready_from};
 ghost use Rattle.hash_tree.specs.declared.node.NodeAt.{NodeAt};
 ghost use Rattle.range_state.specs.State.{is_current, place_of};
-ghost use Rattle.range_state.specs.Trees.{rehashed, IsSameRange};
+ghost use Rattle.range_state.specs.Trees.{rehashed, HasHashed, HashesSome, IsSameRange};
 
 use crate::state::RangeState;
 use hash_tree::{Hashed, NodeAt};
@@ -50,6 +50,21 @@ impl RangeState {
         self.rehash_by(&hash, alloc)
     }
 
+    /// Hashes at most `most` of the dirty nodes whose children are clean, from the root down, in the caller's thread, and
+    /// returns the number of nodes that are dirty then. A caller that repeats it until that is 0 can do other work
+    /// between.
+    ///
+    /// Refused: NoMemory. Then the state is unchanged.
+    pub fn rehash_some(&mut self, alloc: Global, most: usize) -> Result<usize, Refusal>
+        ensures { HashesSome result most self.old self.new }
+    {
+        let hash = |ready: Vec<Job>| -> Result<Vec<Hashed>, Refusal>
+            ensures { Answers result None (λ all. all.items ≡ map (λ j. j.text) ready.items) }
+        { hash_here(alloc, ready) };
+        self.rehash_ready(&hash, alloc, most)?;
+        Ok(self.dirty_count())
+    }
+
     /// Hashes every dirty node by a function that hashes jobs.
     fn rehash_by<F: Fn(Vec<Job>) -> Result<Vec<Hashed>, Refusal>>(
         &mut self,
@@ -64,27 +79,30 @@ impl RangeState {
         ensures same { IsSameRange self.old self.new }
     {
         let dirty = self.dirty_count() as u64;
-        while self.rehash_ready(hash, alloc)? {}
+        while self.rehash_ready(hash, alloc, usize::MAX)? {}
         // Called for its clause alone: the state is right.
         let _right = self.journal();
         Ok(dirty)
     }
 
-    /// Hashes each dirty node whose children are clean, and makes it clean. Returns true if there was any.
+    /// Hashes at most `most` of the dirty nodes whose children are clean, and makes them clean. Returns true if there was
+    /// any.
     fn rehash_ready<F: Fn(Vec<Job>) -> Result<Vec<Hashed>, Refusal>>(
         &mut self,
         hash: &F,
         alloc: Global,
+        most: usize,
     ) -> Result<bool, Refusal>
         requires callable { F.IsAlwaysCallable hash.now }
         requires hashes { (jobs : _) (hashed : _) → F.post hash.now jobs hashed
             → Answers hashed None (λ all. all.items ≡ map (λ j. j.text) jobs.items) }
         ensures memory { Answers result None (λ _. ⊤) }
         ensures more { IfOk result (λ any. IsTrue any → dirty_count self.new.marks < dirty_count self.old.marks) }
-        ensures none { IfOk result (λ any. any ≡ false → IsTrue (are_clean self.new.marks)) }
-        ensures same { IsSameRange self.old self.new }
+        ensures none { IfOk result (λ any. any ≡ false → 0 < most → IsTrue (are_clean self.new.marks)) }
+        ensures ok { OnOk result (HasHashed (take most (ready_from self.old.marks 0)) self.old self.new) }
+        ensures err { IfErr result (λ _. self.new ≡ self.old) }
     {
-        let jobs = self.take_jobs(alloc, usize::MAX)?;
+        let jobs = self.take_jobs(alloc, most)?;
         let nodes = nodes_of(alloc, &jobs)?;
         let hashed = hash(jobs)?;
         self.make_all_clean(&nodes, &hashed);
@@ -100,7 +118,7 @@ impl RangeState {
             → place_of (slice_index_or nodes.now i node) < length self.old.marks }
         requires dirty { (i : ℕ) (node : NodeAt) → i < length nodes.now
             → kept_digest self.old.marks (place_of (slice_index_or nodes.now i node)) ≡ None }
-        ensures same { IsSameRange self.old self.new }
+        ensures hashed { HasHashed (map place_of nodes.now) self.old self.new }
         ensures none { length nodes.now ≡ 0 → self.new ≡ self.old }
         ensures fewer { 0 < length nodes.now → dirty_count self.new.marks < dirty_count self.old.marks }
     {

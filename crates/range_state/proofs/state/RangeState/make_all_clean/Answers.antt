@@ -1,4 +1,4 @@
-use Rattle.std.proofs.Common.{◌≡◌, ◌<◌, length, None, arith, sym, subst}
+use Rattle.std.proofs.Common.{rules, ◌≡◌, ◌<◌, length, None, arith, sym, subst}
 use Rattle.hash_tree.specs.declared.node.NodeAt.{NodeAt}
 use Rattle.hash_tree.specs.Nodes.{kept_digest}
 use Rattle.range_state.specs.State.{place_of}
@@ -14,4 +14,4 @@ loop-i-preserved c =
     let back = sym c.index-nodes-i.is in
     let has = subst (λ (n : NodeAt). place_of n < length start.marks) back (c.requires.has i node less) in
     let dirty = subst (λ (n : NodeAt). kept_digest start.marks (place_of n) ≡ None) back (c.requires.dirty i node less) in
-    cleaning_next start c.args.nodes.now c.args.hashed.now i c.loop-i.self c.make_clean.new.self node c.index-hashed-i.result c.loop-i.invariant has dirty c.make_clean.ensures
+    cleaning_next start c.args.nodes.now c.args.hashed.now i c.loop-i.self c.make_clean.new.self node c.index-hashed-i.result c.loop-i.invariant less (search rules) has dirty c.make_clean.ensures
