@@ -221,6 +221,13 @@ class Replica(Handle):
         """Hashes all nodes of the tree that have no digest."""
         self._call("rehash")
 
+    def rehash_some(self, most: int) -> int:
+        """Hashes at most `most` of the nodes that have no digest though all their children have one.
+
+        Returns the number of nodes that have none then. Repeat it until that is 0: other calls may come between.
+        """
+        return self._get_words(1, "rehash_some", fits(most, 64))[0]
+
     def snapshot(self, rehash: bool = True) -> Snapshot:
         """Returns a snapshot of the rows now. Raises Dirty if `rehash` is False and a node has no digest."""
         return Snapshot(self, rehash)

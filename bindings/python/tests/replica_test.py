@@ -93,6 +93,22 @@ class ReplicaTest(ReplicaCase):
         self.replica.put(1, b"a", b"x")
         self.assertEqual(self.replica.count().dirty, 4)
 
+    def test_rehash_some(self):
+        with Replica(format=1) as replica, Replica(format=1) as other:
+            for each in (replica, other):
+                each.put_many(1, ((b"key %d" % n, b"value") for n in range(50)))
+            dirty = replica.count().dirty
+            self.assertGreater(dirty, 50)
+            self.assertEqual(replica.rehash_some(0), dirty)
+            for left in reversed(range(dirty)):
+                self.assertEqual(replica.rehash_some(1), left)
+                self.assertEqual(replica.count().dirty, left)
+            self.assertEqual(replica.rehash_some(1), 0)
+            with replica.snapshot(rehash=False) as snapshot:
+                self.assertEqual(snapshot.root(), other.root())
+            with self.assertRaises(OverflowError):
+                replica.rehash_some(-1)
+
     def test_renew(self):
         self.replica.put(1, b"a", b"x")
         self.replica.put(1, b"a", b"y", {1: 1})
@@ -219,7 +235,7 @@ class RefusalTest(ReplicaCase):
         for call, *args in (
             (self.replica.put, 1, b"k", b""), (self.replica.put_many, 1, [(b"k", b"", ())]),
             (self.replica.accept, b"k", {1: 1}, b""), (self.replica.get, b"k"), (self.replica.row, b"k"),
-            (self.replica.rehash,), (self.replica.snapshot,), (self.replica.count,), (self.replica.migrate,),
+            (self.replica.rehash,), (self.replica.rehash_some, 1), (self.replica.snapshot,), (self.replica.count,), (self.replica.migrate,),
             (self.replica.renew,), (list, self.replica.keys()), (list, self.replica.entries()),
         ):
             with self.subTest(call), self.assertRaises(antientropy.Empty):
