@@ -278,7 +278,8 @@ class RefusalTest(ReplicaCase):
             (self.replica.put, 1, b"k", b""), (self.replica.put_many, 1, [(b"k", b"", ())]),
             (self.replica.accept, b"k", {1: 1}, b""), (self.replica.get, b"k"), (self.replica.row, b"k"),
             (self.replica.rehash,), (self.replica.rehash_some, 1), (self.replica.snapshot,),
-            (self.replica.count,), (self.replica.migrate,), (self.replica.renew,), (list, self.replica.keys()), (list, self.replica.entries()),
+            (self.replica.count,), (self.replica.migrate,), (self.replica.renew,),
+            (list, self.replica.keys()), (list, self.replica.entries()),
         ):
             with self.subTest(call), self.assertRaises(antientropy.Empty):
                 call(*args)
