@@ -1198,6 +1198,14 @@ public:
     /// Hashes all nodes of the tree that have no digest.
     Result<void> rehash() { return detail::done(c::antientropy_rehash(at())); }
 
+    /// Hashes at most `most` of the nodes that have no digest though all their children have one. Returns the number of
+    /// nodes that have none then. Repeat it until that is 0: other calls may come between.
+    Result<std::uint64_t> rehash_some(std::uint64_t most) {
+        std::uint64_t left = 0;
+        const auto number = c::antientropy_rehash_some(at(), most, &left);
+        return detail::result(number, left);
+    }
+
     /// Returns a snapshot of the rows now, after a rehash unless `rehash` is false.
     /// Refused: Dirty (a node has no digest, and `rehash` is false).
     Result<Snapshot> snapshot(bool rehash = true) {

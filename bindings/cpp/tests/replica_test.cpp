@@ -175,6 +175,24 @@ void ranges() {
     REFUSED(OtherRange, other.load_rows(sure(own.row("cart"))));
 }
 
+void rehash_by_steps() {
+    Replica replica = sure(Replica::make(1)), other = sure(Replica::make(1));
+    for (int n = 0; n < 50; n++) {
+        sure(replica.put(1, "key " + std::to_string(n), "value"));
+        sure(other.put(1, "key " + std::to_string(n), "value"));
+    }
+    std::uint64_t left = sure(replica.count()).dirty;
+    CHECK(left > 50);
+    CHECK(sure(replica.rehash_some(0)) == left);
+    while (left > 0) {
+        left--;
+        CHECK(sure(replica.rehash_some(1)) == left);
+        CHECK(sure(replica.count()).dirty == left);
+    }
+    CHECK(sure(replica.rehash_some(1)) == 0);
+    CHECK(sure(sure(replica.snapshot(false)).root()) == sure(other.root()));
+}
+
 void renewal_and_migration() {
     Replica replica = sure(Replica::make(1, 0, 0, 10));
     sure(replica.put(1, "cart", "milk"));
@@ -236,6 +254,7 @@ void closed() {
     REFUSED(Empty, replica.renew());
     REFUSED(Empty, replica.root());
     REFUSED(Empty, replica.migrate());
+    REFUSED(Empty, replica.rehash_some(1));
     REFUSED(Empty, ended(replica.versions("cart")));
     CHECK(snapshot.entries() == 1 && snapshot.root());
     snapshot.close();
@@ -378,6 +397,7 @@ int main() {
                 {"journal", journal},
                 {"rows", rows},
                 {"ranges", ranges},
+                {"rehash by steps", rehash_by_steps},
                 {"renewal and migration", renewal_and_migration},
                 {"moves", moves},
                 {"closed", closed},

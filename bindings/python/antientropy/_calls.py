@@ -57,6 +57,7 @@ CALLS: Dict[str, Tuple[Any, Tuple[Any, ...]]] = {
     "entry_clock": (c_uint32, (*_HANDLE, c_uint64, *_OUT)),
     "entry_source": (c_uint32, (*_HANDLE, c_uint64, *_NUMBER)),
     "rehash": (c_uint32, _HANDLE),
+    "rehash_some": (c_uint32, (*_HANDLE, c_uint64, *_NUMBER)),
     "snapshot": (c_uint32, (*_HANDLE, *_HANDLE)),
     "snapshot_free": (None, _HANDLE),
     "root": (c_uint32, (*_HANDLE, *_OUT)),

@@ -38,6 +38,12 @@ class Library:
         setattr(self, call, function)
         return function
 
+    def prepared(self, call: str) -> Callable[..., Any]:
+        """Returns a call that takes ctypes objects and bytes as they are: it converts and checks no argument."""
+        function = self._dll[PREFIX + call]
+        function.restype = CALLS[call][0]
+        return function
+
     def parts(self) -> Tuple[int, int, int]:
         """Returns the major, the minor and the patch number of the version."""
         rest, patch = divmod(self.version(), 100)

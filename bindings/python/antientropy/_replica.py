@@ -3,17 +3,18 @@
 from __future__ import annotations
 
 from ctypes import c_uint64
-from typing import BinaryIO, Callable, Iterable, Iterator, List, Optional, Sequence, Tuple
+from typing import BinaryIO, Callable, Iterable, Iterator, List, Optional, Sequence
 
 from . import _checkpoint, _sync
 from ._calls import CLOCK_MAX
 from ._convert import fits, to_bytes, to_clock, to_kind, to_pairs, to_value
 from ._handle import Handle
 from ._library import Library, current
-from ._refused import Refused, class_of
+from ._puts import put_many
+from ._refused import class_of
 from ._session import Session
 from ._snapshot import Snapshot
-from ._values import Clock, ClockLike, Counts, Entry, Loaded, Receipt, Source, Synced, Version
+from ._values import Clock, ClockLike, Counts, Entry, Loaded, Put, Receipt, Source, Synced, Version
 
 _LIMIT = 1_000_000
 
@@ -83,23 +84,13 @@ class Replica(Handle):
                 return Receipt(words[0], words[1])
         raise self._library.refusal("put", number)
 
-    def put_many(self, node: int, items: Iterable[Tuple[bytes, Optional[bytes], ClockLike]]) -> List[Receipt]:
-        """Puts each key with its value and its context at a node, in turn, and returns the receipts.
+    def put_many(self, node: int, items: Iterable[Put]) -> List[Receipt]:
+        """Puts each item at a node, in turn, and returns the receipts. An item is a key, a value and maybe a context.
 
-        At a refusal the puts before it stay: the exception has their receipts in `done`.
+        It is faster than a loop of puts. At a refusal the puts before it stay: the exception has their receipts in
+        `done`. Other threads may make calls between two puts, and `items` may read the replica.
         """
-        fits(node, 16)
-        receipts: List[Receipt] = []
-        append, put, at, lock, words = receipts.append, self._library.put, self._at, self._lock, self._words
-        for key, value, context in items:
-            key, (pairs, length), (kind, data) = to_bytes(key), to_pairs(context), to_kind(value)
-            with lock:
-                number = put(at, node, key, len(key), pairs, length, kind, data, len(data), words)
-                if not number:
-                    append(Receipt(words[0], words[1]))
-            if number:
-                raise _with_done(self._library.refusal("put", number), receipts)
-        return receipts
+        return put_many(self, node, items)
 
     def accept(self, key: bytes, clock: ClockLike, value: Optional[bytes]) -> bool:
         """Accepts a version of another replica, as a copy. Returns False if it was known.
@@ -221,6 +212,13 @@ class Replica(Handle):
         """Hashes all nodes of the tree that have no digest."""
         self._call("rehash")
 
+    def rehash_some(self, most: int) -> int:
+        """Hashes at most `most` of the nodes that have no digest though all their children have one.
+
+        Returns the number of nodes that have none then. Repeat it until that is 0: other calls may come between.
+        """
+        return self._get_words(1, "rehash_some", fits(most, 64))[0]
+
     def snapshot(self, rehash: bool = True) -> Snapshot:
         """Returns a snapshot of the rows now. Raises Dirty if `rehash` is False and a node has no digest."""
         return Snapshot(self, rehash)
@@ -284,8 +282,3 @@ class Replica(Handle):
         crowded key is left. Raises what `open` raises, NotCanonical, JournalFull, and what `reach` raises.
         """
         return _sync.sync(self, partner, offer, reach, in_flight, most_bad)
-
-
-def _with_done(refused: Refused, receipts: List[Receipt]) -> Refused:
-    refused.done = tuple(receipts)
-    return refused

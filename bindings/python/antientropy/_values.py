@@ -88,6 +88,10 @@ class Hint(NamedTuple):
         return Version(self.clock, self.value)
 
 
+#: A put of `Replica.put_many`: a key, a value or None for a tombstone, and a context if it isn't empty.
+Put = Union[Tuple[bytes, Optional[bytes]], Tuple[bytes, Optional[bytes], ClockLike]]
+
+
 class Receipt(NamedTuple):
     """The result of a put: the entry's number, and the node's counter in the new version's clock.
 

@@ -47,15 +47,57 @@ class ReplicaTest(ReplicaCase):
         self.assertEqual([self.replica.clock(b"k", n) for n in range(2)], [{1: 1}, {2: 1}])
 
     def test_put_many(self):
-        items = ((b"key %d" % n, b"value", ()) for n in range(10))
+        items = ((b"key %d" % n, b"value") for n in range(10))
         self.assertEqual(self.replica.put_many(1, items), [Receipt(n, 1) for n in range(10)])
         self.assertEqual(self.replica.count().entries, 10)
+        self.assertEqual(self.replica.put_many(1, ()), [])
+
+    def test_put_many_of_all_kinds(self):
+        items = [
+            (b"a", b"x"), (b"a", b"y", {1: 1}), [bytearray(b"b"), memoryview(b"z")], (b"b", None, iter([(1, 1)])),
+            (b"c", b"", ()), (b"c", None, {2: 7, 1: 1}), (b"d" * 255, b"v" * 65536, {}),
+        ]
+        receipts = self.replica.put_many(1, items)
+        with Replica() as other:
+            items[3] = (b"b", None, [(1, 1)])
+            self.assertEqual(receipts, [other.put(1, *item) for item in items])
+            self.assertEqual(list(self.replica.entries()), list(other.entries()))
+        self.assertEqual(receipts[:4], [(0, 1), (1, 2), (2, 1), (3, 2)])
+        self.assertEqual(self.replica.get(b"c"), [Version({1: 2, 2: 7}, None)])
+
+    def test_put_many_of_what_it_reads(self):
+        def counted():
+            for n in range(5):
+                (version,) = self.replica.get(b"k")
+                yield b"k", b"%d" % n, version.clock
+
+        self.replica.put(1, b"k", b"first")
+        self.assertEqual([receipt.counter for receipt in self.replica.put_many(1, counted())], [2, 3, 4, 5, 6])
+        self.assertEqual(self.replica.get(b"k"), [Version({1: 6}, b"4")])
 
     def test_put_many_that_is_refused(self):
         with self.assertRaises(antientropy.BadKey) as caught:
-            self.replica.put_many(1, [(b"a", b"", ()), (b"", b"", ()), (b"c", b"", ())])
-        self.assertEqual(caught.exception.done, (Receipt(0, 1),))
-        self.assertEqual(list(self.replica.keys()), [b"a"])
+            self.replica.put_many(1, [(b"a", b""), (b"b", b""), (b"", b""), (b"c", b"")])
+        self.assertEqual(caught.exception.done, (Receipt(0, 1), Receipt(1, 1)))
+        self.assertEqual((caught.exception.call, caught.exception.number), ("put", 4))
+        self.assertEqual(set(self.replica.keys()), {b"a", b"b"})
+        with self.assertRaises(antientropy.BadClock) as caught:
+            self.replica.put_many(0, [(b"c", b"")])
+        self.assertEqual(caught.exception.done, ())
+
+    def test_put_many_of_other_types(self):
+        wrong = [
+            (TypeError, ("c", b"")), (TypeError, (b"c", "x")), (TypeError, (None, b"")), (TypeError, (b"c", b"", 5)),
+            (TypeError, 7), (ValueError, (b"c",)), (ValueError, (b"c", b"", (), ())),
+            (OverflowError, (b"c", b"", {1: -1})),
+        ]
+        for n, (error, item) in enumerate(wrong):
+            with self.subTest(item), self.assertRaises(error):
+                self.replica.put_many(1, [(b"before %d" % n, b""), item, (b"after", b"")])
+        for node in (-1, 65536):
+            with self.assertRaises(OverflowError):
+                self.replica.put_many(node, [(b"after", b"")])
+        self.assertEqual(set(self.replica.keys()), {b"before %d" % n for n in range(len(wrong))})
 
     def test_row_of_the_page(self):
         self.replica.put(1, b"a", b"x")
@@ -71,7 +113,7 @@ class ReplicaTest(ReplicaCase):
 
     def test_keys(self):
         keys = {b"key %d" % n for n in range(100)}
-        self.replica.put_many(1, ((key, b"", ()) for key in keys))
+        self.replica.put_many(1, ((key, b"") for key in keys))
         self.assertEqual(len(list(self.replica.keys())), 100)
         self.assertEqual(set(self.replica.keys()), keys)
         leaf = antientropy.place(2, 0, b"key 7").leaf
@@ -92,6 +134,22 @@ class ReplicaTest(ReplicaCase):
         self.assertEqual(self.replica.count(), (0, 1000, 0, 0, 0))
         self.replica.put(1, b"a", b"x")
         self.assertEqual(self.replica.count().dirty, 4)
+
+    def test_rehash_some(self):
+        with Replica(format=1) as replica, Replica(format=1) as other:
+            for each in (replica, other):
+                each.put_many(1, ((b"key %d" % n, b"value") for n in range(50)))
+            dirty = replica.count().dirty
+            self.assertGreater(dirty, 50)
+            self.assertEqual(replica.rehash_some(0), dirty)
+            for left in reversed(range(dirty)):
+                self.assertEqual(replica.rehash_some(1), left)
+                self.assertEqual(replica.count().dirty, left)
+            self.assertEqual(replica.rehash_some(1), 0)
+            with replica.snapshot(rehash=False) as snapshot:
+                self.assertEqual(snapshot.root(), other.root())
+            with self.assertRaises(OverflowError):
+                replica.rehash_some(-1)
 
     def test_renew(self):
         self.replica.put(1, b"a", b"x")
@@ -219,8 +277,9 @@ class RefusalTest(ReplicaCase):
         for call, *args in (
             (self.replica.put, 1, b"k", b""), (self.replica.put_many, 1, [(b"k", b"", ())]),
             (self.replica.accept, b"k", {1: 1}, b""), (self.replica.get, b"k"), (self.replica.row, b"k"),
-            (self.replica.rehash,), (self.replica.snapshot,), (self.replica.count,), (self.replica.migrate,),
-            (self.replica.renew,), (list, self.replica.keys()), (list, self.replica.entries()),
+            (self.replica.rehash,), (self.replica.rehash_some, 1), (self.replica.snapshot,),
+            (self.replica.count,), (self.replica.migrate,), (self.replica.renew,),
+            (list, self.replica.keys()), (list, self.replica.entries()),
         ):
             with self.subTest(call), self.assertRaises(antientropy.Empty):
                 call(*args)

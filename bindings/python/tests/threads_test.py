@@ -45,6 +45,23 @@ class ThreadsTest(unittest.TestCase):
                 thread.join()
             self.assertEqual(copy.count().entries, PUTS)
 
+    def test_many_puts_at_once(self):
+        with Replica() as replica:
+            receipts = {}
+            nodes = range(1, THREADS + 1)
+            threads = [threading.Thread(target=self.put_many, args=(replica, node, receipts)) for node in nodes]
+            for thread in threads:
+                thread.start()
+            for thread in threads:
+                thread.join()
+            numbers = sorted(receipt.number for each in receipts.values() for receipt in each)
+            self.assertEqual(numbers, list(range(THREADS * PUTS)))
+            for node, each in receipts.items():
+                self.assertEqual([replica.entry(receipt.number).clock for receipt in each], [{node: 1}] * PUTS)
+
+    def put_many(self, replica, node, receipts):
+        receipts[node] = replica.put_many(node, ((b"%d of %d" % (n, node), b"value") for n in range(PUTS)))
+
     def test_a_lock_for_each_handle(self):
         with Replica() as replica, replica.snapshot() as snapshot, Replica() as other:
             locks = {id(handle._lock) for handle in (replica, snapshot, other)}

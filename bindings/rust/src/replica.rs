@@ -348,6 +348,25 @@ impl Replica {
         check(unsafe { sys::antientropy_rehash(self.handle.raw()) })
     }
 
+    /// Hashes at most `most` of the nodes that have no digest though all their children have one.
+    ///
+    /// Returns the number of nodes that have none then. Repeat it until that is 0: other calls may come between.
+    ///
+    /// ```
+    /// # use antientropy::{Clock, Config, Replica};
+    /// # let mut replica = Replica::new(Config::default())?;
+    /// replica.put(1, b"cart", Some(b"milk"), &Clock::new())?;
+    /// while replica.rehash_some(100)? > 0 {}
+    /// replica.snapshot_if_clean()?;
+    /// # Ok::<(), antientropy::Refusal>(())
+    /// ```
+    pub fn rehash_some(&mut self, most: u64) -> Result<u64, Refusal> {
+        written(|left| {
+            // SAFETY: as in `sys`.
+            unsafe { sys::antientropy_rehash_some(self.handle.raw(), most, left) }
+        })
+    }
+
     /// Rehashes, and returns a snapshot of the rows now.
     pub fn snapshot(&mut self) -> Result<Snapshot, Refusal> {
         self.rehash()?;

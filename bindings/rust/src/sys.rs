@@ -185,6 +185,7 @@ extern "C" {
     ) -> u32;
     pub fn antientropy_entry_source(replica: *mut Handle, number: u64, source: *mut u64) -> u32;
     pub fn antientropy_rehash(replica: *mut Handle) -> u32;
+    pub fn antientropy_rehash_some(replica: *mut Handle, most: u64, left: *mut u64) -> u32;
     pub fn antientropy_snapshot(replica: *mut Handle, snapshot: *mut Handle) -> u32;
     pub fn antientropy_snapshot_free(snapshot: *mut Handle);
     pub fn antientropy_root(snapshot: *mut Handle, out: *mut u8, out_len: usize, need: *mut u64) -> u32;

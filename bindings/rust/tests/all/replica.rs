@@ -94,6 +94,26 @@ fn counts_and_renewal() {
 }
 
 #[test]
+fn rehash_by_steps() {
+    let [mut replica, mut other] = [(); 2].map(|()| {
+        let mut replica = Replica::new(Config { format: 1, ..Config::default() }).unwrap();
+        for n in 0..50 {
+            replica.put(1, format!("key {n}").as_bytes(), Some(b"value"), &NONE).unwrap();
+        }
+        replica
+    });
+    let dirty = replica.count().unwrap().dirty;
+    assert!(dirty > 50);
+    assert_eq!(replica.rehash_some(0), Ok(dirty));
+    for left in (0..dirty).rev() {
+        assert_eq!(replica.rehash_some(1), Ok(left));
+        assert_eq!(replica.count().unwrap().dirty, left);
+    }
+    assert_eq!(replica.rehash_some(1), Ok(0));
+    assert_eq!(replica.snapshot_if_clean().unwrap().root(), other.root());
+}
+
+#[test]
 fn migration() {
     let mut replica = Replica::new(Config { format: 1, ..Config::default() }).unwrap();
     replica.put(1, b"cart", Some(b"milk"), &NONE).unwrap();

@@ -1,0 +1,328 @@
+"""The store of examples/sqlite_store.py: what it acknowledged survives SIGKILL, and no counter goes back.
+
+SIGKILL can't show a missing fsync: the kernel still has what a killed process has written.
+"""
+
+import json
+import os
+import random
+import resource
+import shutil
+import signal
+import sqlite3
+import sys
+import tempfile
+import threading
+import time
+import unittest
+from pathlib import Path
+
+import antientropy
+from antientropy import Order, Replica, Version
+
+from tests.store_process import Died, StoreProcess, create, sync
+from tests.support import EXAMPLES
+
+sys.path.insert(0, str(EXAMPLES))
+from sqlite_store import SqliteStore  # noqa: E402
+
+KILLS, KEYS, LIMIT = 50, 12, 80
+
+#: A folder in memory, if the system has one: to a killed process it is as good as a disk.
+MEMORY = next(filter(os.path.isdir, ["/dev/shm"]), None)
+
+
+def rows_of(path):
+    """The entries on the disk, by number. A copy of the file is read, so that the store recovers its file itself."""
+    with tempfile.TemporaryDirectory() as folder:
+        for suffix in ("", "-wal"):
+            if Path(f"{path}{suffix}").exists():
+                shutil.copy(f"{path}{suffix}", folder)
+        database = sqlite3.connect(Path(folder) / path.name)
+        rows = database.execute("SELECT number, key, clock, kind, value FROM entry ORDER BY number").fetchall()
+        database.close()
+    return [(number, key, dict(json.loads(clock)), None if kind else value) for number, key, clock, kind, value in rows]
+
+
+class Ledger:
+    """What a store has acknowledged or shown, and the greatest counter of its node for each key."""
+
+    def __init__(self, node):
+        self.node = node
+        self.versions = []
+        self.counters = {}
+
+    def note(self, key, version):
+        """Notes a version that the store has acknowledged or shown."""
+        self.versions.append((key, version))
+        self.counters[key] = max(self.counters.get(key, 0), version.clock.get(self.node, 0))
+
+    def lost(self, replica):
+        """The versions that a replica neither holds nor covers."""
+        return [(key, version) for key, version in self.versions if not is_kept(version, replica.get(key))]
+
+
+def is_kept(version, held):
+    """True if a version is held, or one that has seen it."""
+    return any(other == version or antientropy.compare(version.clock, other.clock) is Order.BEFORE for other in held)
+
+
+class Node:
+    """A node under test: the file, the process and the ledger of its store."""
+
+    def __init__(self, folder, number):
+        self.number, self.path, self.ledger = number, Path(folder) / f"{number}.db", Ledger(number)
+        self.process = None
+        self.entries, self.root = [], Replica().root()
+        create(self.path, number)
+
+    def get(self, key):
+        """Reads a key."""
+        versions = [to_version(said) for said in self.process.ask("get", key.hex())]
+        for version in versions:
+            self.ledger.note(key, version)
+        return versions
+
+    def put(self, key, value):
+        """Reads a key and puts it. Returns the new counter, and the greatest one of the node before."""
+        context = antientropy.merge(*(version.clock for version in self.get(key)))
+        before = self.ledger.counters.get(key, 0)
+        _, counter = self.process.ask("put", key.hex(), value and value.hex(), list(context.items()))
+        self.ledger.note(key, Version({**context, self.number: counter}, value))
+        return counter, before
+
+    def accept(self, key, clock, value):
+        """Hands in a copy of another node."""
+        self.process.ask("accept", key.hex(), list(clock.items()), value.hex())
+        self.ledger.note(key, Version(clock, value))
+
+    def journal(self):
+        """The entries of the store."""
+        return [(number, bytes.fromhex(key), *to_version(said)) for number, key, *said in self.process.ask("entries", 0)]
+
+    def root_now(self):
+        """The root of the store."""
+        return antientropy.read_offer(bytes.fromhex(self.process.ask("offer"))).root
+
+
+def to_version(said):
+    """A version that a store said."""
+    clock, value = said
+    return Version(dict(clock), None if value is None else bytes.fromhex(value))
+
+
+def greatest(node, entries):
+    """The greatest counter of a node for each key."""
+    counters = {}
+    for _, key, clock, _ in entries:
+        counters[key] = max(counters.get(key, 0), clock.get(node, 0))
+    return counters
+
+
+class KillTest(unittest.TestCase):
+    """Two stores are used, and one after another killed: nothing is lost, and no counter goes back."""
+
+    def setUp(self):
+        seed = int(os.environ.get("SEED", time.time_ns() % 1_000_000))
+        print(f"SEED={seed}")
+        self.random = random.Random(seed)
+        folder = tempfile.TemporaryDirectory(dir=MEMORY)
+        self.addCleanup(folder.cleanup)
+        self.nodes = [Node(folder.name, number) for number in (1, 2)]
+        self.steps = 0
+
+    def test_kills(self):
+        for _ in range(KILLS):
+            self.start_all()
+            victim = self.random.choice(self.nodes)
+            self.random.choice((self.kill_after_a_step, self.kill_at_any_time, self.kill_at_the_start))(victim)
+            self.check_end(victim)
+            self.check_disk(victim)
+        self.start_all()
+        first, second = self.nodes
+        sync(first.process, second.process, second.number)
+        sync(second.process, first.process, first.number)
+        self.assertEqual(first.root_now(), second.root_now())
+        for node in self.nodes:
+            node.process.kill()
+            self.check_end(node)
+            self.check_disk(node)
+
+    # ---- use and death
+
+    def start_all(self):
+        """Starts the stores that have died, and checks what they came back with."""
+        for node in self.nodes:
+            if node.process is None:
+                node.process = StoreProcess(node.path, LIMIT)
+                self.assertEqual(node.process.start(), node.number)
+                self.assertEqual((node.journal(), node.root_now()), (node.entries, node.root))
+        self.check_counters(*self.nodes)
+        self.check_counters(*reversed(self.nodes))
+
+    def kill_after_a_step(self, victim):
+        """Kills a store as soon as it has answered."""
+        for _ in range(self.random.randrange(60)):
+            self.step(self.random.choice(self.nodes))
+        self.step(victim)
+        victim.process.kill()
+
+    def kill_at_any_time(self, victim):
+        """Kills a store while it is used."""
+        timer = threading.Timer(self.random.uniform(0, 0.1), victim.process.kill)
+        timer.start()
+        try:
+            while True:
+                self.step(self.random.choice(self.nodes))
+        except Died as died:
+            self.assertIs(died.process, victim.process)
+        timer.join()
+
+    def kill_at_the_start(self, victim):
+        """Kills a store, and once more while it starts."""
+        victim.process.kill()
+        self.check_end(victim)
+        victim.process = StoreProcess(victim.path, LIMIT)
+        time.sleep(self.random.uniform(0, 0.15))
+        victim.process.kill()
+
+    def step(self, node):
+        """Uses a store."""
+        self.steps += 1
+        key, value = b"key %d" % self.random.randrange(KEYS), b"value %d" % self.steps
+        (other,) = (each for each in self.nodes if each is not node)
+        step = self.random.randrange(100)
+        if step < 60:
+            counter, before = node.put(key, None if step < 5 else value)
+            self.assertGreater(counter, before, "a counter went back")
+        elif step < 75:
+            node.get(key)
+        elif step < 82:
+            node.accept(key, {9: self.steps}, value)
+        elif step < 94:
+            sync(node.process, other.process, other.number)
+        else:
+            node.process.ask("renew")
+
+    # ---- checks
+
+    def check_end(self, node):
+        """A store ended because it was killed."""
+        status, errors = node.process.end()
+        self.assertEqual((status, errors), (-signal.SIGKILL, ""))
+        node.process = None
+
+    def check_disk(self, node):
+        """The disk has what the store acknowledged. Its entries make a replica, as the store must at its next start."""
+        node.entries = rows_of(node.path)
+        with Replica(limit=LIMIT) as replica:
+            for place, (number, *version) in enumerate(node.entries):
+                self.assertEqual(number, place)
+                self.assertTrue(replica.accept(*version))
+            self.assertEqual(node.ledger.lost(replica), [])
+            node.root = replica.root()
+
+    def check_counters(self, node, partner):
+        """A partner has no counter of a node that the node itself has forgotten."""
+        known = greatest(node.number, node.journal())
+        for key, counter in greatest(node.number, partner.journal()).items():
+            self.assertGreaterEqual(known.get(key, 0), counter)
+
+
+class StoreTest(unittest.TestCase):
+    """A store in this process."""
+
+    def setUp(self):
+        folder = tempfile.TemporaryDirectory(dir=MEMORY)
+        self.addCleanup(folder.cleanup)
+        self.path = Path(folder.name) / "1.db"
+        SqliteStore.create(self.path, 1)
+
+    def open(self, limit=100):
+        store = SqliteStore(self.path, limit)
+        self.addCleanup(store.close)
+        return store
+
+    def reopened(self, store, limit=100):
+        store.close()
+        return self.open(limit)
+
+    def test_versions_of_all_kinds(self):
+        store = self.open()
+        store.put(b"a", b"x")
+        store.put(b"a", b"", {1: 1})
+        store.put(b"b", None)
+        store.accept(b"c", {9: (1 << 64) - 1, 1: 1}, bytes(65536))
+        held = [store.get(key) for key in (b"a", b"b", b"c")]
+        store = self.reopened(store)
+        self.assertEqual([store.get(key) for key in (b"a", b"b", b"c")], held)
+        self.assertEqual(held[:2], [[Version({1: 2}, b"")], [Version({1: 1}, None)]])
+        self.assertEqual(store.put(b"a", b"y", {1: 2}), (4, 3))
+
+    def test_rows(self):
+        store = self.open()
+        store.put(b"a", b"x")
+        store.accept(b"b", [(2, 3), (1, 1)], None)
+        self.assertEqual(rows_of(self.path), [(0, b"a", {1: 1}, b"x"), (1, b"b", {1: 1, 2: 3}, None)])
+
+    def test_refused_calls_leave_no_row(self):
+        store = self.open()
+        store.put(b"a", b"x")
+        with self.assertRaises(antientropy.StaleContext):
+            store.put(b"a", b"y")
+        self.assertFalse(store.accept(b"a", {1: 1}, b"x"))
+        self.assertEqual(len(rows_of(self.path)), 1)
+
+    def test_renewal(self):
+        store = self.open()
+        for n in range(10):
+            store.put(b"a", b"%d" % n, {1: n} if n else {})
+        store.put(b"b", b"x")
+        store.renew()
+        self.assertEqual(sorted(row[1:] for row in rows_of(self.path)), [(b"a", {1: 10}, b"9"), (b"b", {1: 1}, b"x")])
+        self.assertEqual(store.put(b"a", b"y", {1: 10}), (2, 11))
+        self.assertEqual(rows_of(self.path)[2], (2, b"a", {1: 11}, b"y"))
+
+    def test_a_full_journal_is_renewed(self):
+        store = self.open(limit=3)
+        for n in range(10):
+            self.assertEqual(store.put(b"a", b"%d" % n, {1: n} if n else {}).counter, n + 1)
+            self.assertEqual(rows_of(self.path)[-1], (len(rows_of(self.path)) - 1, b"a", {1: n + 1}, b"%d" % n))
+        store.put(b"b", b"")
+        store.put(b"c", b"")
+        with self.assertRaises(antientropy.JournalFull):
+            store.put(b"d", b"")
+        store = self.reopened(store, limit=3)
+        self.assertEqual(store.get(b"a"), [Version({1: 10}, b"9")])
+
+    def test_a_sync_with_a_full_journal(self):
+        store = self.open(limit=5)
+        for n in range(4):
+            store.put(b"a", b"%d" % n, {1: n} if n else {})
+        with Replica() as partner:
+            partner.put_many(2, ((b"key %d" % n, b"") for n in range(4)))
+            with partner.snapshot() as offered:
+                reach = lambda asks: [offered.serve(1, ask) for ask in asks]  # noqa: E731
+                self.assertTrue(store.sync(2, offered.offer(1), reach).finished)
+        self.assertEqual(len(rows_of(self.path)), 5)
+
+    def test_a_sync_that_breaks(self):
+        store = self.open()
+
+        def reach(asks):
+            if len(served) == 1:
+                raise ConnectionError
+            served.append(asks)
+            return [offered.serve(1, ask) for ask in asks]
+
+        for depth in range(4):
+            served = [None] * -depth
+        with Replica() as partner:
+            partner.put_many(2, ((b"key %d" % n, b"") for n in range(4)))
+            with partner.snapshot() as offered, self.assertRaises(ConnectionError):
+                store.sync(2, offered.offer(1), reach)
+        self.assertEqual(len(rows_of(self.path)), len(list(store.entries())))
+
+
+if __name__ == "__main__":
+    unittest.main()
