@@ -219,10 +219,9 @@ impl Replica {
 
     /// Returns the text of the row of a key (`docs/FORMATS.md`), or `None` if no version is held. Refused as `BadKey`.
     pub fn row(&mut self, key: &[u8]) -> Result<Option<Vec<u8>>, Refusal> {
-        let handle = self.handle.raw();
+        let (handle, at, key_len) = (self.handle.raw(), key.as_ptr(), key.len());
         // SAFETY: as in `sys`.
-        let row =
-            unsafe { bytes(|out, len, need| sys::antientropy_get(handle, key.as_ptr(), key.len(), out, len, need)) }?;
+        let row = unsafe { bytes(|out, len, need| sys::antientropy_get(handle, at, key_len, out, len, need)) }?;
         Ok(Some(row).filter(|row| !row.is_empty()))
     }
 

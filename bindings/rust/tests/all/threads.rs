@@ -1,6 +1,6 @@
 //! Handles that go to other threads.
 
-use std::sync::{mpsc, Arc, Mutex};
+use std::sync::{mpsc, Mutex};
 use std::thread;
 
 use antientropy::{Hints, Replica, Slots, Snapshot};
@@ -32,18 +32,15 @@ fn a_replica_moves_to_another_thread() {
 
 #[test]
 fn a_lock_lets_threads_share_a_replica() {
-    let shared = Arc::new(Mutex::new(replica()));
-    let writers: Vec<_> = (1..=4)
-        .map(|node| {
-            let shared = Arc::clone(&shared);
-            thread::spawn(move || {
-                for n in 0..200 {
-                    shared.lock().unwrap().put(node, format!("{node} {n}").as_bytes(), Some(b""), &NONE).unwrap();
-                }
-            })
-        })
-        .collect();
-    writers.into_iter().for_each(|writer| writer.join().unwrap());
+    let shared = Mutex::new(replica());
+    let put = |node: u16, n: u64| {
+        shared.lock().unwrap().put(node, format!("{node} {n}").as_bytes(), Some(b""), &NONE).unwrap();
+    };
+    thread::scope(|scope| {
+        for node in 1..=4 {
+            scope.spawn(move || (0..200).for_each(|n| put(node, n)));
+        }
+    });
     assert_eq!(shared.lock().unwrap().count().unwrap().entries, 800);
 }
 
