@@ -15,13 +15,14 @@ import tempfile
 import threading
 import time
 import unittest
+from contextlib import closing
 from pathlib import Path
 
 import antientropy
 from antientropy import Order, Replica, Version
 
 from tests.store_process import Died, StoreProcess, create, sync
-from tests.support import EXAMPLES
+from tests.support import EXAMPLES, reach
 
 sys.path.insert(0, str(EXAMPLES))
 from sqlite_store import SqliteStore  # noqa: E402
@@ -162,7 +163,7 @@ class KillTest(unittest.TestCase):
 
     def kill_after_a_step(self, victim):
         """Kills a store as soon as it has answered."""
-        for _ in range(self.random.randrange(60)):
+        for _ in range(self.random.randrange(30)):
             self.step(self.random.choice(self.nodes))
         self.step(victim)
         victim.process.kill()
@@ -295,33 +296,97 @@ class StoreTest(unittest.TestCase):
         store = self.reopened(store, limit=3)
         self.assertEqual(store.get(b"a"), [Version({1: 10}, b"9")])
 
-    def test_a_sync_with_a_full_journal(self):
+    def test_syncs(self):
         store = self.open(limit=5)
         for n in range(4):
             store.put(b"a", b"%d" % n, {1: n} if n else {})
         with Replica() as partner:
             partner.put_many(2, ((b"key %d" % n, b"") for n in range(4)))
             with partner.snapshot() as offered:
-                reach = lambda asks: [offered.serve(1, ask) for ask in asks]  # noqa: E731
-                self.assertTrue(store.sync(2, offered.offer(1), reach).finished)
-        self.assertEqual(len(rows_of(self.path)), 5)
+                self.assertTrue(store.sync(2, offered.offer(1), reach(offered)).finished)
+                self.assertEqual(store.sync(2, store.snapshot().offer(1), reach(offered)).asks, 0)
+        self.assertEqual(len(rows_of(self.path)), 5, "the journal was full, and is renewed")
+        with store.snapshot() as snapshot:
+            root = snapshot.root()
+        with self.reopened(store, limit=5).snapshot() as snapshot:
+            self.assertEqual(snapshot.root(), root)
 
     def test_a_sync_that_breaks(self):
-        store = self.open()
+        """The link is lost after the first 256 leaves: what they brought is on the disk."""
+        store, calls = self.open(limit=5000), []
 
-        def reach(asks):
-            if len(served) == 1:
+        def reach_at_first(asks):
+            calls.append(len(asks))
+            if calls.count(256) > 2:
                 raise ConnectionError
-            served.append(asks)
-            return [offered.serve(1, ask) for ask in asks]
+            return reach(offered)(asks)
 
-        for depth in range(4):
-            served = [None] * -depth
         with Replica() as partner:
-            partner.put_many(2, ((b"key %d" % n, b"") for n in range(4)))
+            partner.put_many(2, ((b"key %d" % n, b"") for n in range(2000)))
             with partner.snapshot() as offered, self.assertRaises(ConnectionError):
-                store.sync(2, offered.offer(1), reach)
-        self.assertEqual(len(rows_of(self.path)), len(list(store.entries())))
+                store.sync(2, offered.offer(1), reach_at_first)
+        self.assertGreater(len(store.entries()), 0)
+        self.assertEqual(len(rows_of(self.path)), len(store.entries()))
+
+    def test_a_lost_file_is_not_made_anew(self):
+        lost = self.path.with_name("lost.db")
+        with self.assertRaises(sqlite3.OperationalError):
+            SqliteStore(lost)
+        self.assertFalse(lost.exists())
+
+    def test_a_file_is_made_once(self):
+        self.open().put(b"a", b"x")
+        with self.assertRaises(sqlite3.OperationalError):
+            SqliteStore.create(self.path, 1)
+        self.assertEqual(len(rows_of(self.path)), 1)
+
+    def test_a_file_has_one_store(self):
+        self.open()
+        with self.assertRaises(sqlite3.OperationalError):
+            self.open()
+
+    def test_a_row_that_is_gone_or_changed(self):
+        changes = ["DELETE FROM entry WHERE number = 1", "UPDATE entry SET clock = '[[1, 1]]' WHERE number = 1"]
+        for change in changes:
+            with self.subTest(change):
+                path = self.path.with_name(f"{len(change)}.db")
+                SqliteStore.create(path, 1)
+                store = SqliteStore(path)
+                for n in range(3):
+                    store.put(b"a", b"x", {1: n} if n else {})
+                store.close()
+                with closing(sqlite3.connect(path)) as database, database:
+                    database.execute(change)
+                with self.assertRaisesRegex(ValueError, "entry 1 isn't"):
+                    SqliteStore(path)
+
+    def test_too_many_rows_for_the_limit(self):
+        store = self.open()
+        for n in range(3):
+            store.put(b"%d" % n, b"")
+        with self.assertRaises(antientropy.JournalFull):
+            self.reopened(store, limit=2)
+
+    def test_a_commit_is_synced(self):
+        """SQLite is asked for an fsync at each commit. Whether the disk obeys isn't tested."""
+        database = self.open()._database
+        self.assertEqual(database.execute("PRAGMA journal_mode").fetchone(), ("wal",))
+        self.assertEqual(database.execute("PRAGMA synchronous").fetchone(), (2,))
+
+    def test_a_failed_commit_ends_the_process(self):
+        """Files may have at most so many bytes: nothing that didn't fit was acknowledged."""
+        most = 200_000
+        process = StoreProcess(self.path, 1000, lambda: resource.setrlimit(resource.RLIMIT_FSIZE, (most, most)))
+        process.start()
+        acknowledged = 0
+        with self.assertRaises(Died):
+            while acknowledged < 100:
+                process.ask("put", (b"%d" % acknowledged).hex(), bytes(4096).hex(), [])
+                acknowledged += 1
+        status, errors = process.end()
+        self.assertEqual((status, errors[:31]), (1, "the entries aren't on the disk:"))
+        self.assertGreater(acknowledged, 10)
+        self.assertEqual(len(self.open(limit=1000).entries()), acknowledged)
 
 
 if __name__ == "__main__":
