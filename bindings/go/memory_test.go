@@ -7,7 +7,6 @@ import (
 	"runtime"
 	"strings"
 	"testing"
-	"time"
 
 	"antientropy"
 )
@@ -56,17 +55,29 @@ var makers = map[string]maker{
 	}},
 }
 
-// freed makes 256 MiB of handles, and checks that the process grows by less than 96 MiB.
+// collect waits until the collector has finalized what was dropped before.
+func collect() {
+	for n := 0; n < 2; n++ { // those of the first collection are finalized in any order
+		done := make(chan bool)
+		runtime.SetFinalizer(new([64]byte), func(*[64]byte) { close(done) })
+		runtime.GC()
+		<-done
+	}
+}
+
+// freed makes 128 MiB of handles, and checks that the process grows by less than 64 MiB. All are made by one thread,
+// since malloc keeps free memory apart for each.
 func freed(t *testing.T, m maker, close bool) {
-	before := resident()
-	for made := 0; made < 256*mebibyte; made += m.bytes {
-		m.make(close)
-		if made%(8*mebibyte) < m.bytes {
-			runtime.GC()
-			time.Sleep(2 * time.Millisecond) // for the finalizers
+	runtime.LockOSThread()
+	defer runtime.UnlockOSThread()
+	collect()
+	before, step := resident(), 1+8*mebibyte/m.bytes
+	for n := 0; n*m.bytes < 128*mebibyte; n++ {
+		if m.make(close); n%step == 0 {
+			collect()
 		}
 	}
-	if grown := resident() - before; grown > 96*mebibyte {
+	if grown := resident() - before; grown > 64*mebibyte {
 		t.Errorf("the process has grown by %d MiB", grown/mebibyte)
 	}
 }

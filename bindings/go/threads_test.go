@@ -73,7 +73,7 @@ func TestTheCollectorClosesNoHandleInUse(t *testing.T) {
 	done := make(chan bool)
 	go func() {
 		defer close(done)
-		for n := 0; n < 200; n++ {
+		for n := 0; n < 50; n++ {
 			equal(t, must(newReplica().Root()), must(newReplica().Root()))
 			session := must(newReplica().Open(1, must(must(filled(1).Snapshot()).Offer(1))))
 			equal(t, len(must(session.Asks())), 1)
