@@ -1,5 +1,16 @@
 #include "calls.h"
 
+struct antientropy_go_receipt antientropy_go_put(antientropy_go_handle *replica, uint16_t node, const uint8_t *key,
+                                                 size_t key_len, const struct antientropy_pair *context,
+                                                 size_t context_len, uint8_t kind, const uint8_t *value,
+                                                 size_t value_len)
+{
+    struct antientropy_go_receipt result = {0};
+    result.number = antientropy_put((struct antientropy *)replica, node, key, key_len, context, context_len, kind,
+                                    value, value_len, &result.receipt);
+    return result;
+}
+
 /* Returns the number of bytes of a record, with those that follow it. */
 static uint64_t size_of(const struct antientropy_go_record *record)
 {
@@ -19,7 +30,7 @@ static uint32_t fit(uint64_t bytes, size_t out_len, uint64_t *need)
     return bytes <= out_len ? ANTIENTROPY_OK : ANTIENTROPY_SMALL;
 }
 
-uint32_t antientropy_go_read(struct antientropy *replica, const uint8_t *key, size_t key_len, uint64_t index,
+uint32_t antientropy_go_read(antientropy_go_handle *replica, const uint8_t *key, size_t key_len, uint64_t index,
                              uint64_t most, uint8_t *out, size_t out_len, uint64_t *need)
 {
     struct antientropy_go_record spare;
@@ -31,8 +42,8 @@ uint32_t antientropy_go_read(struct antientropy *replica, const uint8_t *key, si
         struct antientropy_go_record *record = fits ? (struct antientropy_go_record *)(out + used) : &spare;
         uint8_t *bytes = fits ? bytes_of(record) : out;
         size_t len = fits ? out_len - used - sizeof spare : 0;
-        uint32_t got = antientropy_read(replica, key, key_len, index, &reading, record->clock, ANTIENTROPY_CLOCK_MAX,
-                                        bytes, len);
+        uint32_t got = antientropy_read((struct antientropy *)replica, key, key_len, index, &reading, record->clock,
+                                        ANTIENTROPY_CLOCK_MAX, bytes, len);
         if (got == ANTIENTROPY_NO_VERSION)
             break;
         if (got != ANTIENTROPY_OK && got != ANTIENTROPY_SMALL)

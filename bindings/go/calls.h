@@ -1,10 +1,25 @@
-/* Calls that join several of the library's, so that a method of the package crosses from Go to C once.
+/* Calls over the library's, for which a method of the package crosses from Go to C once, and without other costs.
  *
- * They are refused as the calls that they join. */
+ * They are refused as the calls that they make. */
 #ifndef ANTIENTROPY_GO_CALLS_H
 #define ANTIENTROPY_GO_CALLS_H
 
 #include <antientropy.h>
+
+/* The memory of a handle. Go searches the arguments of a call for pointers to Go's memory, unless they are bytes. */
+typedef uint8_t antientropy_go_handle;
+
+/* The result of a put. Go would allocate memory for a receipt that is written through a pointer. */
+struct antientropy_go_receipt {
+    uint32_t number; /* the number that antientropy_put returned */
+    struct antientropy_receipt receipt;
+};
+
+/* Puts a version. */
+struct antientropy_go_receipt antientropy_go_put(antientropy_go_handle *replica, uint16_t node, const uint8_t *key,
+                                                 size_t key_len, const struct antientropy_pair *context,
+                                                 size_t context_len, uint8_t kind, const uint8_t *value,
+                                                 size_t value_len);
 
 /* A version. The bytes of its key and of its value follow it, and then bytes up to a multiple of 8. */
 struct antientropy_go_record {
@@ -21,7 +36,7 @@ struct antientropy_go_record {
 #define ANTIENTROPY_GO_ROOM_MIN (sizeof(struct antientropy_go_record) + ANTIENTROPY_KEY_MAX)
 
 /* Writes a record for each version held for a key, from an index on: at most `most`. If there is none, `need` is 0. */
-uint32_t antientropy_go_read(struct antientropy *replica, const uint8_t *key, size_t key_len, uint64_t index,
+uint32_t antientropy_go_read(antientropy_go_handle *replica, const uint8_t *key, size_t key_len, uint64_t index,
                              uint64_t most, uint8_t *out, size_t out_len, uint64_t *need);
 
 /* Writes the record of an entry. */

@@ -31,8 +31,8 @@ func emptyHandles() []handle {
 	}
 }
 
-// callMethod calls a method with arguments that are 0, except that bytes are an offer. It returns the method's error, or
-// that of the scanner that the method returns.
+// callMethod calls a method with arguments that are 0, except that bytes are an offer. It returns the error of the
+// method, or of the scanner that the method returns.
 func callMethod(method reflect.Value) error {
 	var arguments []reflect.Value
 	for i := 0; i < method.Type().NumIn(); i++ {

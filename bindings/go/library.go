@@ -12,6 +12,7 @@
 // The page docs/EMBEDDING_C.md has the duties of the program, above all that counters don't go back when it restarts.
 package antientropy
 
+// #cgo CFLAGS: -O2
 // #cgo !antientropy_shared LDFLAGS: -l:libantientropy.a
 // #cgo antientropy_shared LDFLAGS: -lantientropy
 // #include <antientropy.h>

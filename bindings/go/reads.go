@@ -24,16 +24,19 @@ func (r *Replica) Read(key []byte, index uint64) (version Version, found bool, e
 // read returns the versions held for a key, from an index on: at most `most`. The caller holds the lock.
 func (r *Replica) read(key []byte, index, most uint64) ([]Version, error) {
 	bytes, number := r.room.fill(func(out *C.uint8_t, outLen C.size_t) C.uint32_t {
-		return C.antientropy_go_read(&r.handle, bytesAt(key), C.size_t(len(key)), C.uint64_t(index), C.uint64_t(most),
+		return C.antientropy_go_read(r.memory(), bytesAt(key), C.size_t(len(key)), C.uint64_t(index), C.uint64_t(most),
 			out, outLen, &r.room.need)
 	})
-	var versions []Version
+	if len(bytes) == 0 {
+		return nil, check(number)
+	}
+	versions := make([]Version, 0, 1)
 	for len(bytes) > 0 {
 		var first record
 		first, bytes = firstRecord(bytes)
 		versions = append(versions, first.version())
 	}
-	return versions, check(number)
+	return versions, nil
 }
 
 // Versions returns a scanner of the versions held for a key, which reads each when it is its turn.

@@ -39,7 +39,7 @@ const (
 	ErrNoMemory       Refusal = C.ANTIENTROPY_NO_MEMORY       // malloc or realloc failed
 	ErrSmall          Refusal = C.ANTIENTROPY_SMALL           // the room is too small: no method returns it
 	ErrEmpty          Refusal = C.ANTIENTROPY_EMPTY           // the handle holds nothing: it was closed
-	ErrHeld           Refusal = C.ANTIENTROPY_HELD            // the handle holds something: no method returns it
+	ErrHeld           Refusal = C.ANTIENTROPY_HELD            // the handle holds one: no method returns it
 	ErrNoVersion      Refusal = C.ANTIENTROPY_NO_VERSION      // nothing is found: methods return false instead
 )
 

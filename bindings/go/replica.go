@@ -1,11 +1,12 @@
 package antientropy
 
-// #include <antientropy.h>
+// #include "calls.h"
 import "C"
 
 import (
 	"runtime"
 	"sync"
+	"unsafe"
 )
 
 // A Config has the numbers of a replica.
@@ -76,6 +77,11 @@ func (r *Replica) Renew(limit uint64) (*Replica, error) {
 	return renewed, nil
 }
 
+// memory returns the memory of the handle, for the calls that are made most.
+func (r *Replica) memory() *C.antientropy_go_handle {
+	return (*C.antientropy_go_handle)(unsafe.Pointer(&r.handle))
+}
+
 // Migrate converts a replica of format 1 to format 2. All nodes become dirty, and open sessions are cancelled.
 func (r *Replica) Migrate() error {
 	r.lock.Lock()
@@ -130,12 +136,11 @@ func (r *Replica) PutTombstone(node uint16, key []byte, context Clock) (Receipt,
 }
 
 func (r *Replica) put(node uint16, key []byte, context Clock, kind Kind, value []byte) (Receipt, error) {
-	var receipt C.struct_antientropy_receipt
 	r.lock.Lock()
 	defer r.lock.Unlock()
-	number := C.antientropy_put(&r.handle, C.uint16_t(node), bytesAt(key), C.size_t(len(key)), pairsAt(context),
-		C.size_t(len(context)), C.uint8_t(kind), bytesAt(value), C.size_t(len(value)), &receipt)
-	return Receipt{Number: uint64(receipt.number), Counter: uint64(receipt.counter)}, check(number)
+	got := C.antientropy_go_put(r.memory(), C.uint16_t(node), bytesAt(key), C.size_t(len(key)), pairsAt(context),
+		C.size_t(len(context)), C.uint8_t(kind), bytesAt(value), C.size_t(len(value)))
+	return Receipt{Number: uint64(got.receipt.number), Counter: uint64(got.receipt.counter)}, check(got.number)
 }
 
 // Accept accepts a version of another replica, as a copy. It returns false if the version was known.

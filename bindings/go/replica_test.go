@@ -221,7 +221,8 @@ func TestRefusedKinds(t *testing.T) {
 		{Clock: clock(1, 1), Value: []byte("value"), Kind: antientropy.Tombstone},
 		{Clock: clock(1, 1), Kind: 2},
 	} {
-		unchanged(t, r, antientropy.ErrBadValue, func() error { _, err := r.Accept([]byte("key"), version); return err })
+		accept := func() error { _, err := r.Accept([]byte("key"), version); return err }
+		unchanged(t, r, antientropy.ErrBadValue, accept)
 	}
 }
 
@@ -248,7 +249,10 @@ func TestCrowded(t *testing.T) {
 func TestJournalFull(t *testing.T) {
 	r := withLimit(1)
 	put(r, "key", "")
-	unchanged(t, r, antientropy.ErrJournalFull, func() error { _, err := r.Put(1, []byte("other"), nil, nil); return err })
+	unchanged(t, r, antientropy.ErrJournalFull, func() error {
+		_, err := r.Put(1, []byte("other"), nil, nil)
+		return err
+	})
 }
 
 func TestRowsAreLoaded(t *testing.T) {

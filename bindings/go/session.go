@@ -115,8 +115,8 @@ func (s *Session) AskAt(place uint64) (ask []byte, found bool, err error) {
 	r.lock.Lock()
 	defer r.lock.Unlock()
 	return r.room.copyIfAny(func(out *C.uint8_t, outLen C.size_t) C.uint32_t {
-		return C.antientropy_ask_at(&r.handle, C.uint64_t(s.number), C.uint64_t(place), C.uint32_t(s.offer), out, outLen,
-			&r.room.need)
+		return C.antientropy_ask_at(&r.handle, C.uint64_t(s.number), C.uint64_t(place), C.uint32_t(s.offer), out,
+			outLen, &r.room.need)
 	})
 }
 
