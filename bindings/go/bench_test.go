@@ -18,8 +18,9 @@ type bencher struct {
 	value   [32]byte
 }
 
+// newBencher returns a bencher with an empty replica of format 1, as bench/calls.c has it.
 func newBencher() *bencher {
-	config := antientropy.Config{Format: 2, Limit: antientropy.EntriesMax}
+	config := antientropy.Config{Format: 1, Limit: antientropy.EntriesMax}
 	return &bencher{replica: must(antientropy.NewReplica(config))}
 }
 

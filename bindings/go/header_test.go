@@ -83,6 +83,32 @@ func TestEachRefusalOfTheHeader(t *testing.T) {
 	equal(t, strings.Count(source, "Refusal = C."), len(causes))
 }
 
+// Each limit of the header is a constant of the same name.
+func TestLimitsOfTheHeader(t *testing.T) {
+	source := textOf(t, "library.go")
+	limits := regexp.MustCompile(`(?m)^#define ANTIENTROPY_(\w+) \d+`).FindAllStringSubmatch(header(t), -1)
+	count := 0
+	for _, limit := range limits {
+		if name := limit[1]; !strings.HasPrefix(name, "VERSION_M") && name != "VERSION_PATCH" && name != "NAME_MAX" {
+			constant := regexp.MustCompile(`(?m)^\s+` + camel(name) + ` += C\.ANTIENTROPY_` + name + ` *$`)
+			equal(t, []any{name, constant.MatchString(source)}, []any{name, true})
+			count++
+		}
+	}
+	equal(t, strings.Count(source, "= C."), count)
+}
+
+// A method holds the lock to its end, which also keeps the collector from closing the handle meanwhile.
+func TestEachLockIsHeldToTheEnd(t *testing.T) {
+	source := textOf(t, "*.go")
+	locks := regexp.MustCompile(`\.Lock\(\)`).FindAllString(source, -1)
+	held := regexp.MustCompile(`(\S+)\.Lock\(\)\n\s+defer (\S+)\.Unlock\(\)`).FindAllStringSubmatch(source, -1)
+	for _, pair := range held {
+		equal(t, pair[2], pair[1])
+	}
+	equal(t, []any{len(locks) > 40, len(held)}, []any{true, len(locks)})
+}
+
 func TestEnumsOfTheHeader(t *testing.T) {
 	numbers := numbers(t)
 	for name, number := range map[string]uint64{
