@@ -8,7 +8,7 @@ import (
 	"antientropy"
 )
 
-// Replicas of the benchmarks have so many keys of 10 bytes or less, with values of 32 bytes.
+// benchKeys is the number of keys of a benchmark. A key has at most 10 bytes, and a value 32.
 const benchKeys = 100_000
 
 // A bencher makes keys and values in the same memory each time.

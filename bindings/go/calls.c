@@ -23,7 +23,7 @@ static uint8_t *bytes_of(struct antientropy_go_record *record)
     return (uint8_t *)(record + 1);
 }
 
-/* Returns the result of a call that needs so many bytes of room. */
+/* Returns the result of a call that needs a number of bytes of room. */
 static uint32_t fit(uint64_t bytes, size_t out_len, uint64_t *need)
 {
     *need = bytes;

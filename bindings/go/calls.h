@@ -1,4 +1,4 @@
-/* Calls over the library's, for which a method of the package crosses from Go to C once, and without other costs.
+/* Calls over the library's, by which a method of the package crosses from Go to C once.
  *
  * They are refused as the calls that they make. */
 #ifndef ANTIENTROPY_GO_CALLS_H
@@ -32,7 +32,7 @@ struct antientropy_go_record {
     struct antientropy_pair clock[ANTIENTROPY_CLOCK_MAX];
 };
 
-/* The room of a call that writes records is aligned for them, and has at least so many bytes. */
+/* Minimum room of a call that writes records, in bytes. The room is aligned for records. */
 #define ANTIENTROPY_GO_ROOM_MIN (sizeof(struct antientropy_go_record) + ANTIENTROPY_KEY_MAX)
 
 /* Writes a record for each version held for a key, from an index on: at most `most`. If there is none, `need` is 0. */

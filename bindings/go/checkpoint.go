@@ -134,8 +134,8 @@ func (r *Replica) loadLeaf(in io.Reader, leaf int) error {
 	return err
 }
 
-// readRows reads a length, and so many bytes. A damaged length may be huge, so the memory grows with the bytes that are
-// there.
+// readRows reads a length, and that number of bytes. A damaged length may be huge, so the memory grows with the bytes
+// that are there.
 func readRows(in io.Reader) ([]byte, error) {
 	var length uint64
 	if err := readField(in, &length); err != nil {

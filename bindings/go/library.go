@@ -4,7 +4,7 @@
 // carries. [Hints] and [Slots] are apart.
 //
 // A call that the library refuses returns a [Refusal] as its error, and changes nothing: compare it by [errors.Is] with
-// [ErrStaleContext], [ErrCrowded] and so on. What isn't there is no error: then the result named found is false.
+// [ErrStaleContext], [ErrCrowded] and so on. Absence is no error: the result named found is false then.
 //
 // Goroutines may share all objects, since each handle has a lock. Close frees the memory, and so does the garbage
 // collector later. Calls after Close are refused as [ErrEmpty].
@@ -32,7 +32,7 @@ const (
 	OpenSessionsMax = C.ANTIENTROPY_OPEN_SESSIONS_MAX // open sessions of a replica
 	Leaves1         = C.ANTIENTROPY_LEAVES_1          // leaves of a tree of format 1
 	Leaves2         = C.ANTIENTROPY_LEAVES_2          // leaves of a tree of format 2
-	Nodes1          = C.ANTIENTROPY_NODES_1           // nodes of a tree of format 1: at most so many asks in a session
+	Nodes1          = C.ANTIENTROPY_NODES_1           // nodes of a tree of format 1: maximum number of a session's asks
 	Nodes2          = C.ANTIENTROPY_NODES_2           // nodes of a tree of format 2
 	RootLen         = C.ANTIENTROPY_ROOT_LEN
 	OfferLen        = C.ANTIENTROPY_OFFER_LEN

@@ -20,7 +20,7 @@ func resident() int {
 	return pages * os.Getpagesize()
 }
 
-// A maker makes handles that hold so many bytes, and closes them or leaves them to the collector.
+// A maker makes handles that hold a number of bytes, and closes them or leaves them to the collector.
 type maker struct {
 	bytes int
 	make  func(close bool)
@@ -68,6 +68,9 @@ func collect() {
 // freed makes 128 MiB of handles, and checks that the process grows by less than 64 MiB. All are made by one thread,
 // since malloc keeps free memory apart for each.
 func freed(t *testing.T, m maker, close bool) {
+	if testing.Short() {
+		t.Skip("it takes seconds")
+	}
 	runtime.LockOSThread()
 	defer runtime.UnlockOSThread()
 	collect()

@@ -33,7 +33,7 @@ const (
 	ErrUnknownHint    Refusal = C.ANTIENTROPY_UNKNOWN_HINT    // no pending hint has this number
 	ErrHintsFull      Refusal = C.ANTIENTROPY_HINTS_FULL      // 10,000 hints are pending, or the last number was used
 	ErrGone           Refusal = C.ANTIENTROPY_GONE            // the ask is for another offer
-	ErrBadRing        Refusal = C.ANTIENTROPY_BAD_RING        // the numbers of a range or of slots are beyond the limits
+	ErrBadRing        Refusal = C.ANTIENTROPY_BAD_RING        // numbers of a range or of slots are beyond the limits
 	ErrRowBroken      Refusal = C.ANTIENTROPY_ROW_BROKEN      // the bytes aren't texts of rows
 	ErrBadMessage     Refusal = C.ANTIENTROPY_BAD_MESSAGE     // not the expected message, or no such node in the tree
 	ErrNoMemory       Refusal = C.ANTIENTROPY_NO_MEMORY       // malloc or realloc failed

@@ -8,7 +8,7 @@ import (
 
 const guardLen = 64
 
-// guard gives a room some bytes after its end, which no call may write. It returns them.
+// guard makes a room with some bytes after its end, which no call may write. It returns those bytes.
 func guard(r *room) []byte {
 	memory := bytes.Repeat([]byte{0xa5}, roomLen+guardLen)
 	r.bytes = memory[:roomLen:roomLen]

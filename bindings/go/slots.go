@@ -19,7 +19,7 @@ type Slots struct {
 
 // SlotCounts are the counts of slots.
 type SlotCounts struct {
-	Target uint64 // at most so many slots are lent
+	Target uint64 // maximum number of slots that are lent
 	Lent   uint64 // slots lent
 	Free   uint64 // slots that could be lent now
 }

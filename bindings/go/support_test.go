@@ -43,12 +43,12 @@ func newReplica() *antientropy.Replica {
 	return withLimit(20_000)
 }
 
-// withLimit returns an empty replica with a journal of so many entries.
+// withLimit returns an empty replica with a journal of at most limit entries.
 func withLimit(limit uint64) *antientropy.Replica {
 	return must(antientropy.NewReplica(antientropy.Config{Format: 2, Limit: limit}))
 }
 
-// filled returns a replica with so many keys, put at node 1.
+// filled returns a replica with a number of keys, put at node 1.
 func filled(keys int) *antientropy.Replica {
 	r := newReplica()
 	for n := 0; n < keys; n++ {

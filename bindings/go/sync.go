@@ -117,7 +117,7 @@ func (s *syncRun) openAsks() ([][]byte, error) {
 	return open, err
 }
 
-// atOnce returns the number of asks to send at once, of so many.
+// atOnce returns the number of asks to send at once, of those that remain.
 func (s *syncRun) atOnce(asks int) int {
 	switch most := s.bounds.InFlight; {
 	case most < 1:
