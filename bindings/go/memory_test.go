@@ -32,11 +32,13 @@ var makers = map[string]maker{
 		for n := 0; n < 64; n++ {
 			must(r.Put(1, []byte{byte(n)}, value, nil))
 		}
-		snapshot := must(r.Snapshot())
+		snapshot, renewed := must(r.Snapshot()), must(r.Renew(64))
 		if close {
 			check(r.Close())
 			must(snapshot.Root())
 			check(snapshot.Close())
+			must(renewed.Count())
+			check(renewed.Close())
 		}
 	}},
 	"hints": {antientropy.ValueMax2, func(close bool) {
@@ -48,7 +50,9 @@ var makers = map[string]maker{
 	}},
 	"slots": {20 << 10, func(close bool) {
 		slots := must(antientropy.NewSlots(1, 4, 1))
-		check(slots.Lend())
+		for n := uint64(0); n < 1024; n++ {
+			check(slots.Sample(n, 1))
+		}
 		if close {
 			check(slots.Close())
 		}

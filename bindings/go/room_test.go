@@ -15,6 +15,12 @@ func guard(r *room) []byte {
 	return memory[roomLen:]
 }
 
+func TestNoPointerIsNull(t *testing.T) {
+	if bytesAt(nil) == nil || bytesAt([]byte{}) == nil || pairsAt(nil) == nil || pairsAt(Clock{}) == nil {
+		t.Error("there is a pointer NULL")
+	}
+}
+
 // Results of all lengths around that of a room: the calls write what they return, and nothing after the room.
 func TestResultsAroundTheLengthOfARoom(t *testing.T) {
 	for length := roomLen - recordLen - 16; length <= roomLen+16; length++ {
