@@ -27,8 +27,9 @@ func pairsAt(clock Clock) *C.struct_antientropy_pair {
 // clockOf returns a copy of pairs that a call wrote.
 func clockOf(pairs []C.struct_antientropy_pair) Clock {
 	clock := make(Clock, len(pairs))
-	for i, pair := range pairs {
-		clock[i] = Pair{Node: uint64(pair.node), Counter: uint64(pair.counter)}
+	for i := range pairs {
+		clock[i].Node = uint64(pairs[i].node)
+		clock[i].Counter = uint64(pairs[i].counter)
 	}
 	return clock
 }
