@@ -1,0 +1,84 @@
+// Outage shows an outage and its repair: two replicas write apart, take over what they lack, and merge the key that both
+// wrote.
+package main
+
+import (
+	"fmt"
+	"log"
+	"strings"
+
+	"antientropy"
+)
+
+const (
+	nodeA = 1
+	nodeB = 2
+)
+
+// must ends the program if a call was refused.
+func must[T any](result T, err error) T {
+	if err != nil {
+		log.Fatal(err)
+	}
+	return result
+}
+
+// sync takes what the partner has. Here its snapshot is called directly; elsewhere the messages go over a network.
+func sync(replica, partner *antientropy.Replica, node uint16) antientropy.Synced {
+	snapshot := must(partner.Snapshot())
+	defer snapshot.Close()
+	return must(replica.Sync(node, must(snapshot.Offer(1)), func(asks [][]byte) ([][]byte, error) {
+		answers := make([][]byte, len(asks))
+		for i, ask := range asks {
+			answers[i], _ = snapshot.Serve(1, ask) // nil if it is refused
+		}
+		return answers, nil
+	}))
+}
+
+// count returns a number of versions in words.
+func count(number uint64) string {
+	if number == 1 {
+		return "1 version"
+	}
+	return fmt.Sprint(number, " versions")
+}
+
+// equal returns "yes" if the roots are equal.
+func equal(a, b *antientropy.Replica) string {
+	if must(a.Root()) == must(b.Root()) {
+		return "yes"
+	}
+	return "no"
+}
+
+// values returns the values of a key.
+func values(replica *antientropy.Replica, key string) string {
+	var values []string
+	for _, version := range must(replica.Get([]byte(key))) {
+		values = append(values, string(version.Value))
+	}
+	return strings.Join(values, " | ")
+}
+
+func main() {
+	config := antientropy.Config{Format: 2, Limit: antientropy.EntriesMax}
+	a, b := must(antientropy.NewReplica(config)), must(antientropy.NewReplica(config))
+	must(a.Put(nodeA, []byte("order"), []byte("paid"), nil))
+	sync(b, a, nodeA)
+	must(a.Put(nodeA, []byte("cart"), []byte("milk"), nil))
+	must(a.Put(nodeA, []byte("gift"), []byte("wrapped"), nil))
+	must(b.Put(nodeB, []byte("cart"), []byte("eggs"), nil))
+	fmt.Printf("a has %d keys, b has %d\n", len(must(a.Keys().All())), len(must(b.Keys().All())))
+	fmt.Println("roots equal:", equal(a, b))
+	fmt.Println("b took", count(sync(b, a, nodeA).Accepted))
+	fmt.Println("a took", count(sync(a, b, nodeB).Accepted))
+	if values(a, "cart") == values(b, "cart") {
+		fmt.Println("cart at both:", values(a, "cart"))
+	}
+	context := must(antientropy.MergeVersions(must(a.Get([]byte("cart")))))
+	must(a.Put(nodeA, []byte("cart"), []byte("milk, eggs"), context))
+	sync(b, a, nodeA)
+	fmt.Println("merged:", values(b, "cart"))
+	fmt.Println("roots equal:", equal(a, b))
+}

@@ -1,0 +1,129 @@
+package antientropy
+
+// #include "calls.h"
+import "C"
+
+import (
+	"runtime"
+	"sync"
+)
+
+// Hints are the versions that a node carries for replicas that are down. A hint is of no range. Goroutines may share
+// them. A copy must not be used.
+type Hints struct {
+	lock   sync.Mutex
+	handle C.struct_antientropy_hints
+	room   room
+}
+
+// A Hint is a version that is kept for its owner, a node that is down.
+type Hint struct {
+	Number  uint32 // number of the hint, from 1
+	Owner   uint16 // node for which the version is kept
+	Key     []byte // key of the version
+	Version Version
+}
+
+// HintCounts are the counts of hints.
+type HintCounts struct {
+	Pending   uint64 // hints that wait for their owners: at 10,000 no other can be kept
+	Delivered uint64 // hints that were delivered: they are kept until a renewal
+}
+
+// NewHints makes an empty store of hints.
+func NewHints() (*Hints, error) {
+	h := new(Hints)
+	if err := check(C.antientropy_hints_new(&h.handle)); err != nil {
+		return nil, err
+	}
+	runtime.SetFinalizer(h, (*Hints).Close)
+	return h, nil
+}
+
+// Close frees the memory. Later calls are refused as [ErrEmpty]; another Close does nothing. The error is nil.
+func (h *Hints) Close() error {
+	h.lock.Lock()
+	defer h.lock.Unlock()
+	C.antientropy_hints_free(&h.handle)
+	return nil
+}
+
+// Keep keeps a version for its owner. It returns the number of the hint, from 1.
+//
+// Refused as [ErrBadClock] (also if the owner is 0), [ErrClockFull], [ErrBadKey], [ErrBadValue] or [ErrHintsFull].
+func (h *Hints) Keep(owner uint16, key []byte, version Version) (number uint32, err error) {
+	var id C.uint64_t
+	clock, value := version.Clock, version.Value
+	h.lock.Lock()
+	defer h.lock.Unlock()
+	err = check(C.antientropy_hint_keep(&h.handle, C.uint16_t(owner), bytesAt(key), C.size_t(len(key)), pairsAt(clock),
+		C.size_t(len(clock)), C.uint8_t(version.Kind), bytesAt(value), C.size_t(len(value)), &id))
+	return uint32(id), err
+}
+
+// NextPending returns the owner's pending hint with the least number over `after`: 0 gives the first.
+func (h *Hints) NextPending(owner uint16, after uint32) (hint Hint, found bool, err error) {
+	h.lock.Lock()
+	defer h.lock.Unlock()
+	return h.read(func(out *C.uint8_t, outLen C.size_t) C.uint32_t {
+		return C.antientropy_go_hint_next(&h.handle, C.uint16_t(owner), C.uint32_t(after), out, outLen, &h.room.need)
+	})
+}
+
+// Pending returns a scanner of the pending hints of an owner, in order. Confirm them on the way, but don't renew.
+func (h *Hints) Pending(owner uint16) *Scanner[Hint] {
+	var after uint32
+	return scan(func() (Hint, bool, error) {
+		hint, found, err := h.NextPending(owner, after)
+		after = hint.Number
+		return hint, found, err
+	})
+}
+
+// Hint returns a hint, pending or delivered.
+func (h *Hints) Hint(number uint32) (hint Hint, found bool, err error) {
+	h.lock.Lock()
+	defer h.lock.Unlock()
+	return h.read(func(out *C.uint8_t, outLen C.size_t) C.uint32_t {
+		return C.antientropy_go_hint(&h.handle, C.uint32_t(number), out, outLen, &h.room.need)
+	})
+}
+
+// read returns the hint that a call writes as a record. The caller holds the lock.
+func (h *Hints) read(call func(out *C.uint8_t, outLen C.size_t) C.uint32_t) (hint Hint, found bool, err error) {
+	bytes, number := h.room.fill(call)
+	if found, err = isFound(number); !found {
+		return Hint{}, false, err
+	}
+	read, _ := firstRecord(bytes)
+	return Hint{
+		Number:  uint32(read.head.number),
+		Owner:   uint16(read.head.origin),
+		Key:     clone(read.key),
+		Version: read.version(),
+	}, true, nil
+}
+
+// Confirm ends the wait of a pending hint, after its owner has the version on its disk. Known is true if the owner knew
+// the version. Refused as [ErrUnknownHint].
+func (h *Hints) Confirm(number uint32, known bool) error {
+	h.lock.Lock()
+	defer h.lock.Unlock()
+	return check(C.antientropy_hint_confirm(&h.handle, C.uint32_t(number), C.bool(known)))
+}
+
+// Renew drops the delivered hints, and numbers the pending ones anew from 1, in order.
+func (h *Hints) Renew() error {
+	h.lock.Lock()
+	defer h.lock.Unlock()
+	return check(C.antientropy_hints_renew(&h.handle))
+}
+
+// Count returns the counts of pending and of delivered hints.
+func (h *Hints) Count() (HintCounts, error) {
+	var counts C.struct_antientropy_hint_counts
+	h.lock.Lock()
+	defer h.lock.Unlock()
+	err := check(C.antientropy_hints_count(&h.handle, &counts))
+	return HintCounts{Pending: uint64(counts.pending), Delivered: uint64(counts.delivered)}, err
+}

@@ -1,0 +1,95 @@
+package antientropy_test
+
+import (
+	"strings"
+	"testing"
+
+	"antientropy"
+)
+
+func TestKeptAndConfirmed(t *testing.T) {
+	hints, key := must(antientropy.NewHints()), []byte("cart")
+	tea := live(1, 1, "tea")
+	tombstone := antientropy.Version{Clock: clock(3, 1, 1, 2), Kind: antientropy.Tombstone}
+	equal(t, must(hints.Keep(2, key, tea)), uint32(1))
+	equal(t, must(hints.Keep(3, key, tea)), uint32(2))
+	equal(t, must(hints.Keep(2, []byte("list"), tombstone)), uint32(3))
+	kept := antientropy.Version{Clock: clock(1, 2, 3, 1), Value: []byte{}, Kind: antientropy.Tombstone}
+	first := antientropy.Hint{Number: 1, Owner: 2, Key: key, Version: tea}
+	third := antientropy.Hint{Number: 3, Owner: 2, Key: []byte("list"), Version: kept}
+	hint, found, err := hints.Hint(1)
+	equal(t, []any{hint, found, err}, []any{first, true, nil})
+	hint, found, err = hints.NextPending(2, 1)
+	equal(t, []any{hint, found, err}, []any{third, true, nil})
+	equal(t, must(hints.Pending(2).All()), []antientropy.Hint{first, third})
+	check(hints.Confirm(1, false))
+	equal(t, must(hints.Count()), antientropy.HintCounts{Pending: 2, Delivered: 1})
+	hint, found, err = hints.Hint(1)
+	equal(t, []any{hint, found, err}, []any{first, true, nil})
+	check(hints.Renew())
+	equal(t, must(hints.Count()), antientropy.HintCounts{Pending: 2, Delivered: 0})
+	third.Number = 2
+	equal(t, must(hints.Pending(2).All()), []antientropy.Hint{third})
+}
+
+func TestDelivered(t *testing.T) {
+	hints, owner := must(antientropy.NewHints()), newReplica()
+	must(hints.Keep(2, []byte("cart"), live(1, 1, "milk")))
+	must(hints.Keep(2, []byte("list"), live(1, 1, strings.Repeat("long", 10_000))))
+	must(owner.Accept([]byte("cart"), live(1, 1, "milk")))
+	pending := hints.Pending(2)
+	for pending.Next() {
+		hint := pending.Item()
+		accepted := must(owner.Accept(hint.Key, hint.Version))
+		equal(t, accepted, hint.Number == 2)
+		check(hints.Confirm(hint.Number, !accepted))
+	}
+	check(pending.Err())
+	equal(t, must(hints.Count()), antientropy.HintCounts{Pending: 0, Delivered: 2})
+	equal(t, must(owner.Get([]byte("list"))), []antientropy.Version{live(1, 1, strings.Repeat("long", 10_000))})
+}
+
+func TestNoHints(t *testing.T) {
+	hints := must(antientropy.NewHints())
+	for _, number := range []uint32{0, 1} {
+		_, found, err := hints.Hint(number)
+		equal(t, []any{found, err}, []any{false, nil})
+	}
+	_, found, err := hints.NextPending(2, 0)
+	equal(t, []any{found, err}, []any{false, nil})
+	equal(t, len(must(hints.Pending(2).All())), 0)
+}
+
+func TestRefusedHints(t *testing.T) {
+	hints := must(antientropy.NewHints())
+	for _, kept := range []struct {
+		cause   antientropy.Refusal
+		owner   uint16
+		key     string
+		version antientropy.Version
+	}{
+		{antientropy.ErrBadClock, 0, "cart", live(1, 1, "")},
+		{antientropy.ErrBadClock, 2, "cart", live(0, 1, "")},
+		{antientropy.ErrClockFull, 2, "cart", antientropy.Version{Clock: clockOfNodes(33)}},
+		{antientropy.ErrBadKey, 2, "", live(1, 1, "")},
+		{antientropy.ErrBadValue, 2, "cart", live(1, 1, strings.Repeat("v", 65_537))},
+		{antientropy.ErrBadValue, 2, "cart", antientropy.Version{Clock: clock(1, 1), Kind: 2}},
+	} {
+		_, err := hints.Keep(kept.owner, []byte(kept.key), kept.version)
+		refused(t, err, kept.cause)
+	}
+	refused(t, hints.Confirm(1, true), antientropy.ErrUnknownHint)
+	equal(t, must(hints.Count()), antientropy.HintCounts{})
+	must(hints.Keep(2, []byte("cart"), live(1, 1, "")))
+	check(hints.Confirm(1, true))
+	refused(t, hints.Confirm(1, true), antientropy.ErrUnknownHint)
+}
+
+func TestHintsFull(t *testing.T) {
+	hints := must(antientropy.NewHints())
+	for n := 0; n < antientropy.HintsMax; n++ {
+		must(hints.Keep(2, []byte("cart"), live(1, 1, "")))
+	}
+	_, err := hints.Keep(2, []byte("cart"), live(1, 1, ""))
+	refused(t, err, antientropy.ErrHintsFull)
+}

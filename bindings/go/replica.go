@@ -1,0 +1,158 @@
+package antientropy
+
+// #include "calls.h"
+import "C"
+
+import (
+	"runtime"
+	"sync"
+	"unsafe"
+)
+
+// A Config has the numbers of a replica.
+type Config struct {
+	Format uint8  // format of the tree: 1 (256 leaves, no tombstones) or 2 (4,096 leaves)
+	Bits   uint8  // bits of the ring, which has 2^Bits ranges: 0 to 8
+	Range  uint16 // number of the range, from 0
+	Limit  uint64 // maximum number of the journal's entries, 1 to EntriesMax
+}
+
+// A Replica is a replica of one range of a ring. Goroutines may share it. A copy must not be used.
+type Replica struct {
+	lock   sync.Mutex
+	handle C.struct_antientropy
+	config Config
+	room   room
+}
+
+// Counts are the counts of a replica.
+type Counts struct {
+	Entries      uint64 // entries of the journal
+	Limit        uint64 // maximum number of entries
+	Dirty        uint64 // nodes of the tree that have no digest
+	Sessions     uint64 // sessions, ever: at 1,024 no other can be opened
+	OpenSessions uint64 // open sessions: at 64 no other can be opened until one has ended
+}
+
+// A Receipt is the result of a put.
+type Receipt struct {
+	Number  uint64 // number of the entry in the journal: Replica.Entry returns the version for copies
+	Counter uint64 // the node's counter in the new version's clock; the other counters are those of the context
+}
+
+// NewReplica makes an empty replica. Refused as [ErrBadRing] if a number is outside its limits.
+func NewReplica(config Config) (*Replica, error) {
+	r := &Replica{config: config}
+	bits, number, limit := C.uint64_t(config.Bits), C.uint64_t(config.Range), C.uint64_t(config.Limit)
+	if err := check(C.antientropy_new(&r.handle, C.uint64_t(config.Format), bits, number, limit)); err != nil {
+		return nil, err
+	}
+	runtime.SetFinalizer(r, (*Replica).Close)
+	return r, nil
+}
+
+// Close frees the memory. Later calls are refused as [ErrEmpty]; another Close does nothing. The error is nil.
+//
+// Each method holds the lock to its end, so the garbage collector doesn't close a replica that is in use.
+func (r *Replica) Close() error {
+	r.lock.Lock()
+	defer r.lock.Unlock()
+	C.antientropy_free(&r.handle)
+	return nil
+}
+
+// Renew returns a new replica with the versions that are held: one entry for each, and no sessions.
+//
+// This one is left unchanged: close it, and go on with the new one under the same node number. Refused as [ErrBadRing]
+// (the limit) or [ErrJournalFull] (more versions are held than the limit).
+func (r *Replica) Renew(limit uint64) (*Replica, error) {
+	r.lock.Lock()
+	defer r.lock.Unlock()
+	renewed := &Replica{config: r.config}
+	renewed.config.Limit = limit
+	if err := check(C.antientropy_renew(&r.handle, &renewed.handle, C.uint64_t(limit))); err != nil {
+		return nil, err
+	}
+	runtime.SetFinalizer(renewed, (*Replica).Close)
+	return renewed, nil
+}
+
+// memory returns the memory of the handle, for the calls that are made most.
+func (r *Replica) memory() *C.antientropy_go_handle {
+	return (*C.antientropy_go_handle)(unsafe.Pointer(&r.handle))
+}
+
+// Migrate converts a replica of format 1 to format 2. All nodes become dirty, and open sessions are cancelled.
+func (r *Replica) Migrate() error {
+	r.lock.Lock()
+	defer r.lock.Unlock()
+	if err := check(C.antientropy_migrate(&r.handle)); err != nil {
+		return err
+	}
+	r.config.Format = 2
+	return nil
+}
+
+// Config returns the numbers of the replica. Its format is 2 after [Replica.Migrate].
+func (r *Replica) Config() Config {
+	r.lock.Lock()
+	defer r.lock.Unlock()
+	return r.config
+}
+
+// Count returns the counts of entries, dirty nodes and sessions.
+func (r *Replica) Count() (Counts, error) {
+	r.lock.Lock()
+	defer r.lock.Unlock()
+	return r.count()
+}
+
+// count returns the counts. The caller holds the lock.
+func (r *Replica) count() (Counts, error) {
+	var counts C.struct_antientropy_counts
+	err := check(C.antientropy_count(&r.handle, &counts))
+	return Counts{
+		Entries:      uint64(counts.entries),
+		Limit:        uint64(counts.limit),
+		Dirty:        uint64(counts.dirty),
+		Sessions:     uint64(counts.sessions),
+		OpenSessions: uint64(counts.open_sessions),
+	}, err
+}
+
+// Put puts a value for a key at a node. The context is the merged clock of all versions that the client has read.
+//
+// The new version replaces each held version whose clock is at most its clock. Refused as [ErrBadClock],
+// [ErrClockFull], [ErrBadKey], [ErrBadValue], [ErrOtherRange], [ErrCounterFull], [ErrStaleContext], [ErrCrowded] or
+// [ErrJournalFull].
+func (r *Replica) Put(node uint16, key, value []byte, context Clock) (Receipt, error) {
+	return r.put(node, key, context, Live, value)
+}
+
+// PutTombstone puts a tombstone, which says that the key was removed. Refused as [Replica.Put], and as [ErrBadValue] in
+// format 1.
+func (r *Replica) PutTombstone(node uint16, key []byte, context Clock) (Receipt, error) {
+	return r.put(node, key, context, Tombstone, nil)
+}
+
+func (r *Replica) put(node uint16, key []byte, context Clock, kind Kind, value []byte) (Receipt, error) {
+	r.lock.Lock()
+	defer r.lock.Unlock()
+	got := C.antientropy_go_put(r.memory(), C.uint16_t(node), bytesAt(key), C.size_t(len(key)), pairsAt(context),
+		C.size_t(len(context)), C.uint8_t(kind), bytesAt(value), C.size_t(len(value)))
+	return Receipt{Number: uint64(got.receipt.number), Counter: uint64(got.receipt.counter)}, check(got.number)
+}
+
+// Accept accepts a version of another replica, as a copy. It returns false if the version was known.
+//
+// Refused as [ErrBadClock], [ErrClockFull], [ErrBadKey], [ErrBadValue], [ErrOtherRange], [ErrCrowded] or
+// [ErrJournalFull].
+func (r *Replica) Accept(key []byte, version Version) (bool, error) {
+	var taken C.uint64_t
+	clock, value := version.Clock, version.Value
+	r.lock.Lock()
+	defer r.lock.Unlock()
+	number := C.antientropy_accept(&r.handle, bytesAt(key), C.size_t(len(key)), pairsAt(clock), C.size_t(len(clock)),
+		C.uint8_t(version.Kind), bytesAt(value), C.size_t(len(value)), &taken)
+	return taken != 0, check(number)
+}

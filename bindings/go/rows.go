@@ -1,0 +1,42 @@
+package antientropy
+
+// #include <antientropy.h>
+import "C"
+
+import "fmt"
+
+// Loaded is the result of loading rows.
+type Loaded struct {
+	Taken uint64 // number of new versions: they are now entries of the journal
+	Known uint64 // number of known versions
+}
+
+// A RowError is a refusal of rows as [ErrRowBroken], with the place of the damage.
+type RowError struct {
+	Offset uint64 // offset of the broken field, in bytes
+}
+
+// Error returns the name of the refusal, and the offset.
+func (e *RowError) Error() string {
+	return fmt.Sprintf("%v at byte %d", ErrRowBroken, e.Offset)
+}
+
+// Unwrap returns [ErrRowBroken].
+func (e *RowError) Unwrap() error {
+	return ErrRowBroken
+}
+
+// LoadRows accepts all versions in rows of one leaf as copies, or none. [Snapshot.Rows] and [Replica.Row] return such
+// rows.
+//
+// Refused as [ErrRowBroken] by a [RowError], and as [ErrOtherRange], [ErrCrowded] or [ErrJournalFull].
+func (r *Replica) LoadRows(rows []byte) (Loaded, error) {
+	var loaded C.struct_antientropy_loaded
+	r.lock.Lock()
+	defer r.lock.Unlock()
+	err := check(C.antientropy_load(&r.handle, bytesAt(rows), C.size_t(len(rows)), &loaded))
+	if err == ErrRowBroken {
+		err = &RowError{Offset: uint64(loaded.offset)}
+	}
+	return Loaded{Taken: uint64(loaded.taken), Known: uint64(loaded.known)}, err
+}

@@ -1,0 +1,156 @@
+package antientropy
+
+// #include "calls.h"
+import "C"
+
+// A State is the state of a session.
+type State uint64
+
+// States of a session.
+const (
+	StateOpen      State = C.ANTIENTROPY_OPEN      // some node is outstanding
+	StateFinished  State = C.ANTIENTROPY_FINISHED  // each ask was answered
+	StateFailed    State = C.ANTIENTROPY_FAILED    // an answer had the right digest, but its text can't be a node's
+	StateCancelled State = C.ANTIENTROPY_CANCELLED // it was ended before it was finished
+)
+
+// String returns the name of the state.
+func (s State) String() string {
+	return nameOf(uint64(s), "Open", "Finished", "Failed", "Cancelled")
+}
+
+// Taken is the result of taking an answer.
+type Taken struct {
+	Accepted uint64 // number of new versions: they are now entries of the journal
+	Known    uint64 // number of known versions
+	State    State  // state of the session
+}
+
+// A Session is a session of a replica with a partner's offer. Its calls are calls of the replica, so others, even puts,
+// may come between.
+type Session struct {
+	replica *Replica
+	number  uint64
+	offer   uint32
+}
+
+// Open rehashes, and opens a session with a partner's offer. It is never freed before its replica, so compare roots
+// first.
+//
+// Refused as [ErrBadMessage], [ErrOtherFormat], [ErrOtherRange] or [ErrSessionsFull].
+func (r *Replica) Open(partner uint16, offer []byte) (*Session, error) {
+	r.lock.Lock()
+	defer r.lock.Unlock()
+	if err := r.rehash(); err != nil {
+		return nil, err
+	}
+	return r.open(partner, offer)
+}
+
+// OpenIfClean opens a session with a partner's offer. Refused as [Replica.Open], or as [ErrDirty] if a node has no
+// digest.
+func (r *Replica) OpenIfClean(partner uint16, offer []byte) (*Session, error) {
+	r.lock.Lock()
+	defer r.lock.Unlock()
+	return r.open(partner, offer)
+}
+
+// open opens a session. The caller holds the lock.
+func (r *Replica) open(partner uint16, offer []byte) (*Session, error) {
+	parts, err := ReadOffer(offer)
+	if err != nil {
+		return nil, err
+	}
+	var number C.uint64_t
+	err = check(C.antientropy_open(&r.handle, C.uint16_t(partner), bytesAt(offer), C.size_t(len(offer)), &number))
+	if err != nil {
+		return nil, err
+	}
+	return &Session{replica: r, number: uint64(number), offer: parts.Number}, nil
+}
+
+// Number returns the number of the session in its replica, from 0.
+func (s *Session) Number() uint64 {
+	return s.number
+}
+
+// OfferNumber returns the number that the partner gave its offer.
+func (s *Session) OfferNumber() uint32 {
+	return s.offer
+}
+
+// State returns the state of the session.
+func (s *Session) State() (State, error) {
+	var state C.uint64_t
+	s.replica.lock.Lock()
+	defer s.replica.lock.Unlock()
+	err := check(C.antientropy_session(&s.replica.handle, C.uint64_t(s.number), &state))
+	return State(state), err
+}
+
+// Outstanding returns the number of nodes that are outstanding: 0 if the session has ended.
+func (s *Session) Outstanding() (uint64, error) {
+	var count C.uint64_t
+	s.replica.lock.Lock()
+	defer s.replica.lock.Unlock()
+	err := check(C.antientropy_outstanding(&s.replica.handle, C.uint64_t(s.number), &count))
+	return uint64(count), err
+}
+
+// Ask returns the ask for the first outstanding node, and false if there is none.
+func (s *Session) Ask() (ask []byte, found bool, err error) {
+	r := s.replica
+	r.lock.Lock()
+	defer r.lock.Unlock()
+	return r.room.copyIfAny(func(out *C.uint8_t, outLen C.size_t) C.uint32_t {
+		return C.antientropy_ask(&r.handle, C.uint64_t(s.number), C.uint32_t(s.offer), out, outLen, &r.room.need)
+	})
+}
+
+// AskAt returns the ask for an outstanding node by its place from 0, and false if there are no more.
+//
+// Each answer that is taken changes the places.
+func (s *Session) AskAt(place uint64) (ask []byte, found bool, err error) {
+	r := s.replica
+	r.lock.Lock()
+	defer r.lock.Unlock()
+	return r.room.copyIfAny(func(out *C.uint8_t, outLen C.size_t) C.uint32_t {
+		return C.antientropy_ask_at(&r.handle, C.uint64_t(s.number), C.uint64_t(place), C.uint32_t(s.offer), out,
+			outLen, &r.room.need)
+	})
+}
+
+// Asks returns the asks for all outstanding nodes. They may be sent at once.
+func (s *Session) Asks() ([][]byte, error) {
+	r := s.replica
+	r.lock.Lock()
+	defer r.lock.Unlock()
+	bytes, err := r.room.copy(func(out *C.uint8_t, outLen C.size_t) C.uint32_t {
+		return C.antientropy_go_asks(&r.handle, C.uint64_t(s.number), C.uint32_t(s.offer), out, outLen, &r.room.need)
+	})
+	asks := make([][]byte, 0, len(bytes)/AskLen)
+	for ; len(bytes) > 0; bytes = bytes[AskLen:] {
+		asks = append(asks, bytes[:AskLen:AskLen])
+	}
+	return asks, err
+}
+
+// Take takes a partner's answer, which isn't trusted. Answers may arrive in any order.
+//
+// Refused as [ErrBadMessage], [ErrNotAsked] or [ErrWrongDigest] (ask again, with a bound), [ErrNotCanonical] (the
+// session has failed), [ErrCrowded] or [ErrJournalFull] (the node remains outstanding).
+func (s *Session) Take(answer []byte) (Taken, error) {
+	var taken C.struct_antientropy_taken
+	s.replica.lock.Lock()
+	defer s.replica.lock.Unlock()
+	err := check(C.antientropy_take(&s.replica.handle, C.uint64_t(s.number), C.uint32_t(s.offer), bytesAt(answer),
+		C.size_t(len(answer)), &taken))
+	return Taken{Accepted: uint64(taken.accepted), Known: uint64(taken.known), State: State(taken.state)}, err
+}
+
+// Cancel cancels the session if it is open.
+func (s *Session) Cancel() error {
+	s.replica.lock.Lock()
+	defer s.replica.lock.Unlock()
+	return check(C.antientropy_cancel(&s.replica.handle, C.uint64_t(s.number)))
+}

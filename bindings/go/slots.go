@@ -1,0 +1,94 @@
+package antientropy
+
+// #include <antientropy.h>
+import "C"
+
+import (
+	"runtime"
+	"sync"
+)
+
+// Slots are slots for background work, which backs off when the foreground is slow.
+//
+// Their target stays from the floor to the ceiling, and begins at the ceiling. It falls if the latency of the
+// foreground is above the threshold. Goroutines may share slots. A copy must not be used.
+type Slots struct {
+	lock   sync.Mutex
+	handle C.struct_antientropy_slots
+}
+
+// SlotCounts are the counts of slots.
+type SlotCounts struct {
+	Target uint64 // maximum number of slots that are lent
+	Lent   uint64 // slots lent
+	Free   uint64 // slots that could be lent now
+}
+
+// NewSlots makes slots, of which none is lent. The threshold is in microseconds. Refused as [ErrBadRing] if the floor
+// or the ceiling is outside its limits.
+func NewSlots(floor, ceiling, threshold uint32) (*Slots, error) {
+	s := new(Slots)
+	err := check(C.antientropy_slots_new(&s.handle, C.uint32_t(floor), C.uint32_t(ceiling), C.uint32_t(threshold)))
+	if err != nil {
+		return nil, err
+	}
+	runtime.SetFinalizer(s, (*Slots).Close)
+	return s, nil
+}
+
+// Close frees the memory. Later calls are refused as [ErrEmpty]; another Close does nothing. The error is nil.
+func (s *Slots) Close() error {
+	s.lock.Lock()
+	defer s.lock.Unlock()
+	C.antientropy_slots_free(&s.handle)
+	return nil
+}
+
+// Lend lends a slot, before background work. Refused as [ErrNoSlot] if the slots lent reach the target.
+func (s *Slots) Lend() error {
+	s.lock.Lock()
+	defer s.lock.Unlock()
+	return check(C.antientropy_slot_lend(&s.handle))
+}
+
+// GiveBack gives a slot back, after background work. Refused as [ErrNoSlot] if none is lent.
+func (s *Slots) GiveBack() error {
+	s.lock.Lock()
+	defer s.lock.Unlock()
+	return check(C.antientropy_slot_give_back(&s.handle))
+}
+
+// Sample takes the latency of a reply in microseconds, with its moment in milliseconds. Refused as [ErrClockBack] if a
+// later moment was accepted before.
+func (s *Slots) Sample(moment uint64, micros uint32) error {
+	s.lock.Lock()
+	defer s.lock.Unlock()
+	return check(C.antientropy_slots_sample(&s.handle, C.uint64_t(moment), C.uint32_t(micros)))
+}
+
+// Adjust sets the target by the samples of the last minute. It returns their 99th percentile in microseconds. Without
+// samples it returns false, and the target is left unchanged. Refused as [ErrClockBack].
+func (s *Slots) Adjust(now uint64) (micros uint64, found bool, err error) {
+	var p99 C.struct_antientropy_percentile
+	s.lock.Lock()
+	defer s.lock.Unlock()
+	err = check(C.antientropy_slots_adjust(&s.handle, C.uint64_t(now), &p99))
+	return uint64(p99.micros), p99.found != 0, err
+}
+
+// SetTarget sets the target. Slots that are lent stay lent. Refused as [ErrBadRing] if the target is below the floor or
+// above the ceiling.
+func (s *Slots) SetTarget(target uint32) error {
+	s.lock.Lock()
+	defer s.lock.Unlock()
+	return check(C.antientropy_slots_set_target(&s.handle, C.uint32_t(target)))
+}
+
+// Count returns the target, and the counts of slots that are lent and free.
+func (s *Slots) Count() (SlotCounts, error) {
+	var counts C.struct_antientropy_slot_counts
+	s.lock.Lock()
+	defer s.lock.Unlock()
+	err := check(C.antientropy_slots_count(&s.handle, &counts))
+	return SlotCounts{Target: uint64(counts.target), Lent: uint64(counts.lent), Free: uint64(counts.free)}, err
+}

@@ -1,0 +1,178 @@
+package antientropy_test
+
+import (
+	"errors"
+	"testing"
+
+	"antientropy"
+)
+
+// A link carries asks to a partner's snapshot, and may change the answers. It notes the lengths of the lists.
+type link struct {
+	snapshot *antientropy.Snapshot
+	change   func(answers [][]byte) ([][]byte, error)
+	rounds   []int
+}
+
+func (l *link) reach(asks [][]byte) ([][]byte, error) {
+	if l.rounds = append(l.rounds, len(asks)); len(l.rounds) > 10_000 {
+		panic("the sync doesn't end")
+	}
+	answers, err := reachOf(l.snapshot, 1)(asks)
+	if l.change != nil {
+		return l.change(answers)
+	}
+	return answers, err
+}
+
+// sync takes what a partner has, over a link.
+func (l *link) sync(r, partner *antientropy.Replica, bounds antientropy.Bounds) (antientropy.Synced, error) {
+	l.snapshot = must(partner.Snapshot())
+	return r.SyncWithin(bounds, 9, must(l.snapshot.Offer(1)), l.reach)
+}
+
+// syncFrom takes what a partner has.
+func syncFrom(r, partner *antientropy.Replica) (antientropy.Synced, error) {
+	return new(link).sync(r, partner, antientropy.DefaultBounds())
+}
+
+func TestSeveralAsksInFlight(t *testing.T) {
+	a, b, l := filled(300), newReplica(), link{}
+	synced := must(l.sync(b, a, antientropy.Bounds{InFlight: 10, MostBad: 8}))
+	equal(t, []uint64{synced.Accepted, synced.Known}, []uint64{300, 0})
+	equal(t, []any{synced.Bad, synced.Finished()}, []any{0, true})
+	most, sum := 0, 0
+	for _, asks := range l.rounds {
+		if sum += asks; asks > most {
+			most = asks
+		}
+	}
+	equal(t, []int{most, sum}, []int{10, synced.Asks})
+	equal(t, must(a.Root()), must(b.Root()))
+}
+
+func TestNoAsksInFlightCountAsOne(t *testing.T) {
+	l := link{}
+	synced := must(l.sync(newReplica(), filled(5), antientropy.Bounds{}))
+	equal(t, []any{synced.Finished(), len(l.rounds)}, []any{true, synced.Asks})
+}
+
+func TestBothWays(t *testing.T) {
+	a, b := filled(300), newReplica()
+	must(b.Put(2, []byte("other"), nil, nil))
+	equal(t, []uint64{must(syncFrom(b, a)).Accepted, must(syncFrom(a, b)).Accepted}, []uint64{300, 1})
+	equal(t, must(a.Root()), must(b.Root()))
+}
+
+func TestKnownVersions(t *testing.T) {
+	a, b := filled(5), newReplica()
+	must(b.Accept([]byte("key 1"), live(1, 1, "value")))
+	put(a, "own", "")
+	must(b.Accept([]byte("own"), live(1, 1, "")))
+	must(b.Accept([]byte("own"), live(2, 1, "")))
+	synced := must(syncFrom(b, a))
+	equal(t, []uint64{synced.Accepted, synced.Known}, []uint64{4, 1})
+}
+
+func TestEqualRoots(t *testing.T) {
+	a, b, l := filled(30), newReplica(), link{}
+	must(syncFrom(b, a))
+	synced := must(l.sync(b, a, antientropy.DefaultBounds()))
+	equal(t, synced, antientropy.Synced{State: antientropy.StateFinished})
+	equal(t, []any{len(l.rounds), must(b.Count()).Sessions}, []any{0, uint64(1)})
+}
+
+func TestAnswersInAnotherOrder(t *testing.T) {
+	reversed := func(answers [][]byte) ([][]byte, error) {
+		for i, j := 0, len(answers)-1; i < j; i, j = i+1, j-1 {
+			answers[i], answers[j] = answers[j], answers[i]
+		}
+		return answers, nil
+	}
+	l := link{change: reversed}
+	equal(t, must(l.sync(newReplica(), filled(300), antientropy.DefaultBounds())).Finished(), true)
+}
+
+func TestSomeBadAnswers(t *testing.T) {
+	l := link{}
+	l.change = func(answers [][]byte) ([][]byte, error) {
+		if len(l.rounds) == 3 {
+			answers[0] = []byte{}
+			answers = answers[:len(answers)-1]
+		}
+		return answers, nil
+	}
+	synced := must(l.sync(newReplica(), filled(300), antientropy.DefaultBounds()))
+	equal(t, []any{synced.Bad, synced.Accepted, synced.Finished()}, []any{2, uint64(300), true})
+}
+
+func TestAPartnerThatLies(t *testing.T) {
+	b := newReplica()
+	l := link{change: func(answers [][]byte) ([][]byte, error) {
+		for _, answer := range answers {
+			answer[len(answer)-1] ^= 1
+		}
+		return answers, nil
+	}}
+	synced := must(l.sync(b, filled(300), antientropy.Bounds{InFlight: 256, MostBad: 5}))
+	equal(t, synced, antientropy.Synced{Asks: 6, Bad: 6, State: antientropy.StateCancelled})
+	equal(t, must(b.Count()).Entries, uint64(0))
+}
+
+func TestALostLink(t *testing.T) {
+	for _, lost := range [][][]byte{nil, {nil}} {
+		answers := lost
+		l := link{change: func([][]byte) ([][]byte, error) { return answers, nil }}
+		synced := must(l.sync(newReplica(), filled(300), antientropy.DefaultBounds()))
+		equal(t, []int{synced.Bad, len(l.rounds)}, []int{9, 9})
+	}
+}
+
+func TestALinkThatFails(t *testing.T) {
+	b, lost := newReplica(), errors.New("the link is lost")
+	l := link{}
+	l.change = func(answers [][]byte) ([][]byte, error) {
+		if len(l.rounds) == 2 {
+			return nil, lost
+		}
+		return answers, nil
+	}
+	synced, err := l.sync(b, filled(300), antientropy.DefaultBounds())
+	refused(t, err, lost)
+	equal(t, []any{synced.Asks, synced.State}, []any{17, antientropy.StateCancelled})
+	equal(t, must(b.Count()).OpenSessions, uint64(0))
+}
+
+func TestALinkThatPanics(t *testing.T) {
+	b := newReplica()
+	l := link{change: func([][]byte) ([][]byte, error) { panic("link") }}
+	func() {
+		defer func() { equal(t, recover(), "link") }()
+		must(l.sync(b, filled(30), antientropy.DefaultBounds()))
+	}()
+	counts := must(b.Count())
+	equal(t, []uint64{counts.Sessions, counts.OpenSessions}, []uint64{1, 0})
+}
+
+func TestACrowdedLeafIsLeft(t *testing.T) {
+	a, b := filled(300), newReplica()
+	crowd(a, "key")
+	must(b.Accept([]byte("key"), live(100, 1, "one more")))
+	synced := must(syncFrom(b, a))
+	want := []any{uint64(300), 0, antientropy.StateCancelled, 1}
+	equal(t, []any{synced.Accepted, synced.Bad, synced.State, len(synced.Crowded)}, want)
+	leaf := must(antientropy.Place(2, 0, []byte("key"))).Leaf
+	equal(t, synced.Crowded[0], []byte{2, 0, 0, 0, 1, 3, byte(leaf >> 8), byte(leaf)})
+}
+
+func TestAFullJournal(t *testing.T) {
+	small := withLimit(10)
+	_, err := syncFrom(small, filled(300))
+	refused(t, err, antientropy.ErrJournalFull)
+	equal(t, must(small.Count()).OpenSessions, uint64(0))
+}
+
+func TestSyncOfNoOffer(t *testing.T) {
+	_, err := newReplica().Sync(1, []byte("?"), nil)
+	refused(t, err, antientropy.ErrBadMessage)
+}

@@ -1,0 +1,90 @@
+package antientropy_test
+
+import (
+	"fmt"
+	"runtime"
+	"sync"
+	"testing"
+
+	"antientropy"
+)
+
+const (
+	writers = 4
+	puts    = 300
+)
+
+// putAll puts keys at a node, and reads each back.
+func putAll(t *testing.T, r *antientropy.Replica, node uint16) {
+	for n := 0; n < puts; n++ {
+		key := fmt.Sprintf("%d of %d", n, node)
+		must(r.Put(node, []byte(key), []byte(key), nil))
+		equal(t, must(r.Get([]byte(key))), []antientropy.Version{live(uint64(node), 1, key)})
+	}
+}
+
+func TestGoroutinesShareAReplica(t *testing.T) {
+	r, other := newReplica(), newReplica()
+	var group sync.WaitGroup
+	for node := uint16(1); node <= writers; node++ {
+		node := node
+		group.Add(1)
+		go func() {
+			defer group.Done()
+			putAll(t, r, node)
+		}()
+	}
+	for must(r.Count()).Entries < writers*puts {
+		equal(t, must(syncFrom(other, r)).Finished(), true)
+	}
+	group.Wait()
+	must(syncFrom(other, r))
+	equal(t, []any{must(other.Count()).Entries, must(other.Root())}, []any{uint64(writers * puts), must(r.Root())})
+}
+
+func TestAGoroutineServesASnapshotWhileAnotherPuts(t *testing.T) {
+	a, b := filled(puts), newReplica()
+	snapshot := must(a.Snapshot())
+	offer := must(snapshot.Offer(1))
+	asks, answers, done := make(chan []byte), make(chan []byte, puts), make(chan bool)
+	go func() {
+		for ask := range asks {
+			answers <- must(snapshot.Serve(1, ask))
+		}
+	}()
+	go func() {
+		putAll(t, a, 2)
+		close(done)
+	}()
+	synced := must(b.Sync(1, offer, func(some [][]byte) (answered [][]byte, err error) {
+		for _, ask := range some {
+			asks <- ask
+			answered = append(answered, <-answers)
+		}
+		return answered, nil
+	}))
+	close(asks)
+	<-done
+	equal(t, []any{synced.Accepted, must(b.Root())}, []any{uint64(puts), must(snapshot.Root())})
+}
+
+// A handle without a reference is in use until its method has returned.
+func TestTheCollectorClosesNoHandleInUse(t *testing.T) {
+	done := make(chan bool)
+	go func() {
+		defer close(done)
+		for n := 0; n < 50; n++ {
+			equal(t, must(newReplica().Root()), must(newReplica().Root()))
+			session := must(newReplica().Open(1, must(must(filled(1).Snapshot()).Offer(1))))
+			equal(t, len(must(session.Asks())), 1)
+		}
+	}()
+	for {
+		select {
+		case <-done:
+			return
+		default:
+			runtime.GC()
+		}
+	}
+}
