@@ -99,7 +99,8 @@ class Node:
 
     def journal(self):
         """The entries of the store."""
-        return [(number, bytes.fromhex(key), *to_version(said)) for number, key, *said in self.process.ask("entries", 0)]
+        said = self.process.ask("entries", 0)
+        return [(number, bytes.fromhex(key), *to_version(version)) for number, key, *version in said]
 
     def root_now(self):
         """The root of the store."""
