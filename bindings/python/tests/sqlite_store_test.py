@@ -389,6 +389,18 @@ class StoreTest(unittest.TestCase):
         self.assertEqual(database.execute("PRAGMA journal_mode").fetchone(), ("wal",))
         self.assertEqual(database.execute("PRAGMA synchronous").fetchone(), (2,))
 
+    def test_a_start_makes_a_checkpoint(self):
+        process = StoreProcess(self.path, 100)
+        process.start()
+        process.ask("put", b"a".hex(), b"x".hex(), [])
+        process.kill()
+        process.end()
+        log = self.path.with_name(f"{self.path.name}-wal")
+        self.assertGreater(log.stat().st_size, 0)
+        store = self.open()
+        self.assertEqual(log.stat().st_size, 0)
+        self.assertEqual(store.get(b"a"), [Version({1: 1}, b"x")])
+
     def test_a_failed_commit_ends_the_process(self):
         """Files may have at most so many bytes: nothing that didn't fit was acknowledged."""
         most = 200_000
