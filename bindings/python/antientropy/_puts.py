@@ -33,9 +33,9 @@ def put_many(replica: Replica, node: int, items: Iterable[Put]) -> List[Receipt]
     put, at, lock = replica._library.prepared("put"), replica._at, replica._lock
     at_node, lengths = c_uint16(fits(node, 16)), _Lengths()
     kinds = {kind: c_uint8(kind) for kind in map(int, Kind)}
-    live, (no_pairs, none) = kinds[Kind.LIVE], to_pairs(())
+    live, no_pairs, none = kinds[Kind.LIVE], to_pairs(())[0], lengths[0]
     words = (c_uint64 * len(Receipt._fields))()
-    receipt_at, unpack, make = byref(words), _RECEIPT.unpack_from, Receipt._make
+    receipt_at, unpack, new = byref(words), _RECEIPT.unpack_from, tuple.__new__
     receipts: List[Receipt] = []
     for item in items:
         key, value, context = item if len(item) == 3 else (*item, ())
@@ -46,12 +46,13 @@ def put_many(replica: Replica, node: int, items: Iterable[Put]) -> List[Receipt]
             kind_number, value = to_kind(value)
             kind = kinds[kind_number]
         if context:
-            pairs, length = to_pairs(context)
+            pairs, count = to_pairs(context)
+            length = lengths[count]
         key_len, value_len = lengths[len(key)], lengths[len(value)]
         with lock:
-            number = put(at, at_node, key, key_len, pairs, lengths[length], kind, value, value_len, receipt_at)
+            number = put(at, at_node, key, key_len, pairs, length, kind, value, value_len, receipt_at)
             if not number:
-                receipts.append(make(unpack(words)))
+                receipts.append(new(Receipt, unpack(words)))
         if number:
             raise _with_done(replica._library.refusal("put", number), receipts)
     return receipts

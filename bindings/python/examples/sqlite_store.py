@@ -159,12 +159,16 @@ class SqliteStore:
 
 
 def _open(path: Path, mode: str) -> sqlite3.Connection:
-    """Opens a file for this process alone. A commit returns after an fsync."""
+    """Opens a file for this process alone. A commit returns after an fsync.
+
+    If a process was killed before its fsync, the file has a commit that isn't on the disk: a checkpoint syncs it.
+    """
     place = f"{path.absolute().as_uri()}?mode={mode}"
     database = sqlite3.connect(place, timeout=0, isolation_level=None, check_same_thread=False, uri=True)
     database.execute("PRAGMA locking_mode = EXCLUSIVE")
     database.execute("PRAGMA journal_mode = WAL")
     database.execute("PRAGMA synchronous = FULL")
+    database.execute("PRAGMA wal_checkpoint(TRUNCATE)").fetchall()
     return database
 
 
@@ -192,7 +196,7 @@ class LineServer:
         self._calls: Dict[str, Callable[..., Any]] = {
             "put": self._put, "get": self._get, "accept": self._accept, "offer": self._offer, "serve": self._serve,
             "sync": self._sync, "entries": self._entries, "renew": store.renew,
-        }  # fmt: skip
+        }
 
     def run(self) -> None:
         """Answers until the lines end. The first line that it writes has the number of the node."""

@@ -50,17 +50,19 @@ class Ledger:
 
     def __init__(self, node):
         self.node = node
-        self.versions = []
+        self.versions = {}
         self.counters = {}
 
     def note(self, key, version):
         """Notes a version that the store has acknowledged or shown."""
-        self.versions.append((key, version))
+        self.versions[key, tuple(version.clock.items()), version.value] = version
         self.counters[key] = max(self.counters.get(key, 0), version.clock.get(self.node, 0))
 
     def lost(self, replica):
         """The versions that a replica neither holds nor covers."""
-        return [(key, version) for key, version in self.versions if not is_kept(version, replica.get(key))]
+        held = {key: replica.get(key) for key in replica.keys()}
+        versions = [(key, version) for (key, _, _), version in self.versions.items()]
+        return [(key, version) for key, version in versions if not is_kept(version, held.get(key, ()))]
 
 
 def is_kept(version, held):
@@ -99,7 +101,11 @@ class Node:
 
     def journal(self):
         """The entries of the store."""
-        return [(number, bytes.fromhex(key), *to_version(said)) for number, key, *said in self.process.ask("entries", 0)]
+        said = self.process.ask("entries", 0)
+        entries = [(number, bytes.fromhex(key), *to_version(version)) for number, key, *version in said]
+        for _, key, *version in entries:
+            self.ledger.note(key, Version(*version))
+        return entries
 
     def root_now(self):
         """The root of the store."""
@@ -133,10 +139,11 @@ class KillTest(unittest.TestCase):
         self.steps = 0
 
     def test_kills(self):
+        ways = [self.kill_after_a_step, self.kill_at_any_time, self.kill_in_a_renewal, self.kill_at_the_start]
         for _ in range(KILLS):
             self.start_all()
             victim = self.random.choice(self.nodes)
-            self.random.choice((self.kill_after_a_step, self.kill_at_any_time, self.kill_at_the_start))(victim)
+            self.random.choice(ways)(victim)
             self.check_end(victim)
             self.check_disk(victim)
         self.start_all()
@@ -179,6 +186,14 @@ class KillTest(unittest.TestCase):
             self.assertIs(died.process, victim.process)
         timer.join()
 
+    def kill_in_a_renewal(self, victim):
+        """Kills a store while it renews its replica, or soon after."""
+        for _ in range(10):
+            self.step(victim)
+        victim.process.write(["renew"])
+        time.sleep(self.random.uniform(0, 0.002))
+        victim.process.kill()
+
     def kill_at_the_start(self, victim):
         """Kills a store, and once more while it starts."""
         victim.process.kill()
@@ -202,6 +217,7 @@ class KillTest(unittest.TestCase):
             node.accept(key, {9: self.steps}, value)
         elif step < 94:
             sync(node.process, other.process, other.number)
+            node.journal()
         else:
             node.process.ask("renew")
 
@@ -372,6 +388,18 @@ class StoreTest(unittest.TestCase):
         database = self.open()._database
         self.assertEqual(database.execute("PRAGMA journal_mode").fetchone(), ("wal",))
         self.assertEqual(database.execute("PRAGMA synchronous").fetchone(), (2,))
+
+    def test_a_start_makes_a_checkpoint(self):
+        process = StoreProcess(self.path, 100)
+        process.start()
+        process.ask("put", b"a".hex(), b"x".hex(), [])
+        process.kill()
+        process.end()
+        log = self.path.with_name(f"{self.path.name}-wal")
+        self.assertGreater(log.stat().st_size, 0)
+        store = self.open()
+        self.assertEqual(log.stat().st_size, 0)
+        self.assertEqual(store.get(b"a"), [Version({1: 1}, b"x")])
 
     def test_a_failed_commit_ends_the_process(self):
         """Files may have at most so many bytes: nothing that didn't fit was acknowledged."""

@@ -66,14 +66,15 @@ class ThreadsTest(unittest.TestCase):
         with Replica() as replica, replica.snapshot() as snapshot, Replica() as other:
             locks = {id(handle._lock) for handle in (replica, snapshot, other)}
             self.assertEqual(len(locks), 3)
-            done = threading.Event()
-            thread = threading.Thread(target=lambda: (replica.put(1, b"k", b""), done.set()))
-            with replica._lock:
-                thread.start()
-                self.assertFalse(done.wait(0.05))
-                snapshot.root()
-            thread.join()
-            self.assertTrue(done.is_set())
+            for put in (lambda: replica.put(1, b"k", b""), lambda: replica.put_many(1, [(b"l", b"")])):
+                done = threading.Event()
+                thread = threading.Thread(target=lambda: (put(), done.set()))
+                with replica._lock:
+                    thread.start()
+                    self.assertFalse(done.wait(0.05))
+                    snapshot.root()
+                thread.join()
+                self.assertTrue(done.is_set())
 
 
 if __name__ == "__main__":

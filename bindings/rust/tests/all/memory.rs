@@ -16,12 +16,16 @@ fn resident() -> usize {
     statm.split(' ').nth(1).unwrap().parse::<usize>().unwrap() * 4096
 }
 
-/// Makes something of so many bytes again and again: without frees the process would grow by 128 MiB.
+/// Makes something of so many bytes again and again: without frees the process would grow by 128 MiB each round. Other
+/// tests run meanwhile, so one of three rounds has to grow by less.
 #[track_caller]
 fn assert_freed(bytes: usize, make: impl Fn()) {
-    let before = resident();
-    (0..(128 << 20) / bytes).for_each(|_| make());
-    assert!(resident() < before + (64 << 20));
+    let grows = || {
+        let before = resident();
+        (0..(128 << 20) / bytes).for_each(|_| make());
+        resident() >= before + (64 << 20)
+    };
+    assert!((0..3).any(|_| !grows()));
 }
 
 #[test]

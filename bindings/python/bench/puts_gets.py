@@ -1,0 +1,44 @@
+#!/usr/bin/env python3
+"""Measures how many calls of the package one thread makes in a second, for bench/bindings.
+
+The word is the number of keys, 100000 by default. Keys have 10 bytes and values 32: they are made before, since Python
+takes longer for them than for a put. Prints a line of JSON.
+"""
+
+import json
+import sys
+import time
+from typing import Any, Callable, Dict
+
+from antientropy import Replica
+
+
+def measure(calls: int, call: Callable[[], Any]) -> int:
+    """Returns the number of calls a second, of a function that makes so many."""
+    start = time.perf_counter()
+    call()
+    return round(calls / (time.perf_counter() - start))
+
+
+def main() -> None:
+    """Puts the keys, one by one and at once, and gets each."""
+    count = int(sys.argv[1]) if len(sys.argv) > 1 else 100_000
+    items = [(b"key-%06d" % n, n.to_bytes(8, "big") * 4) for n in range(count)]
+    figures: Dict[str, int] = {"keys": count}
+    with Replica(format=1) as replica:
+
+        def puts() -> None:
+            for key, value in items:
+                replica.put(1, key, value)
+
+        figures["puts_per_s"] = measure(count, puts)
+        figures["gets_per_s"] = measure(count, lambda: [replica.get(key) for key, _ in items])
+        figures["rows_per_s"] = measure(count, lambda: [replica.row(key) for key, _ in items])
+        assert replica.get(items[-1][0])[0].value == items[-1][1]
+    with Replica(format=1) as replica:
+        figures["put_many_per_s"] = measure(count, lambda: replica.put_many(1, items))
+        assert replica.count().entries == count
+    print(json.dumps(figures, separators=(",", ":")))
+
+
+main()
