@@ -104,7 +104,12 @@ bad_ring(Replica) ->
     [
         refused(bad_ring, Replica, new, [Options])
      || Options <- [
-            #{format => 3}, #{format => 258}, #{bits => 9}, #{bits => 1, range => 2}, #{limit => 0}, #{limit => 1 bsl 32}
+            #{format => 3},
+            #{format => 258},
+            #{bits => 9},
+            #{bits => 1, range => 2},
+            #{limit => 0},
+            #{limit => 1 bsl 32}
         ]
     ],
     refused(bad_ring, Replica, place, [3, 0, <<"k">>]),
