@@ -69,13 +69,17 @@ long_clocks_test_() ->
         support:badarg(fun() -> antientropy:compare(Pairs, none) end)
     end).
 
-%% Makes calls again and again, in processes that end. If so many bytes were lost each time, that would be 64 MiB.
+%% Makes calls again and again, in processes that end. If so many bytes were lost each time, that would be 64 MiB. Half
+%% as many calls before are for what the allocators keep.
 freed(Bytes, Call) ->
-    {timeout, 60, fun() ->
-        run(Call),
-        Before = resident(),
-        [run(Call) || _ <- lists:seq(1, 64 * ?MIB div Bytes)],
-        ?assert(resident() < Before + 32 * ?MIB)
+    {timeout, 120, fun() ->
+        Count = 64 * ?MIB div Bytes,
+        [run(Call) || _ <- lists:seq(1, Count div 2)],
+        Resident = resident(),
+        Allocated = erlang:memory(total),
+        [run(Call) || _ <- lists:seq(1, Count)],
+        ?assert(resident() < Resident + 32 * ?MIB),
+        ?assert(erlang:memory(total) < Allocated + 32 * ?MIB)
     end}.
 
 run(Call) ->
