@@ -89,9 +89,17 @@ start_rehash(Replica) ->
         end
      || Number <- lists:seq(1, ?LARGE_KEYS)
     ],
-    Rehash = async(fun() -> antientropy:rehash(Replica) end),
-    timer:sleep(10),
+    {Process, _} = Rehash = async(fun() -> antientropy:rehash(Replica) end),
+    wait_until_running(Process),
     Rehash.
+
+%% Waits until a process runs. The only normal scheduler runs this one, so that is on a dirty scheduler.
+wait_until_running(Process) ->
+    timer:sleep(1),
+    case process_info(Process, status) of
+        {status, running} -> timer:sleep(1);
+        {status, _} -> wait_until_running(Process)
+    end.
 
 %% A process waits for the lock, and another goes on meanwhile on the only scheduler.
 a_scheduler_is_not_blocked(Replica) ->
