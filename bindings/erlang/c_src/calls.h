@@ -1,0 +1,67 @@
+/* The functions of the NIF library, for their declarations and their table: name, arity, flags. A call that may take a
+ * millisecond runs on a dirty scheduler. If that depends on its arguments, it is SHORT, and may return ELSEWHERE. */
+#ifndef CALLS_H
+#define CALLS_H
+
+#define SHORT 0
+#define LONG ERL_NIF_DIRTY_JOB_CPU_BOUND
+
+#define CALLS(X)                                                                                                       \
+    X(version, 0, SHORT)                                                                                               \
+    X(name, 1, SHORT)                                                                                                  \
+    X(place, 3, SHORT)                                                                                                 \
+    X(compare, 2, SHORT)                                                                                               \
+    X(merge, 2, SHORT)                                                                                                 \
+    X(read_offer, 1, SHORT)                                                                                            \
+    X(new, 4, LONG)                                                                                                    \
+    X(close, 1, LONG)                                                                                                  \
+    X(renew, 2, LONG)                                                                                                  \
+    X(migrate, 1, LONG)                                                                                                \
+    X(info, 1, SHORT)                                                                                                  \
+    X(count, 1, SHORT)                                                                                                 \
+    X(rehash, 1, LONG)                                                                                                 \
+    X(rehash_some, 2, LONG)                                                                                            \
+    X(load_rows, 2, SHORT)                                                                                             \
+    X(put, 5, SHORT)                                                                                                   \
+    X(accept, 3, SHORT)                                                                                                \
+    X(get, 2, SHORT)                                                                                                   \
+    X(read, 3, SHORT)                                                                                                  \
+    X(count_versions, 2, SHORT)                                                                                        \
+    X(value, 3, SHORT)                                                                                                 \
+    X(clock, 3, SHORT)                                                                                                 \
+    X(row, 2, SHORT)                                                                                                   \
+    X(key_after, 3, SHORT)                                                                                             \
+    X(entry, 2, SHORT)                                                                                                 \
+    X(snapshot, 2, LONG)                                                                                               \
+    X(snapshot_close, 1, LONG)                                                                                         \
+    X(snapshot_info, 1, SHORT)                                                                                         \
+    X(root, 1, SHORT)                                                                                                  \
+    X(offer, 2, SHORT)                                                                                                 \
+    X(serve, 3, SHORT)                                                                                                 \
+    X(rows, 2, SHORT)                                                                                                  \
+    X(open, 4, LONG)                                                                                                   \
+    X(session, 2, SHORT)                                                                                               \
+    X(outstanding, 2, SHORT)                                                                                           \
+    X(ask, 3, SHORT)                                                                                                   \
+    X(ask_at, 4, SHORT)                                                                                                \
+    X(asks, 3, SHORT)                                                                                                  \
+    X(take, 4, SHORT)                                                                                                  \
+    X(cancel, 2, SHORT)                                                                                                \
+    X(hints_new, 0, SHORT)                                                                                             \
+    X(hints_close, 1, LONG)                                                                                            \
+    X(hint_keep, 4, SHORT)                                                                                             \
+    X(hint_next, 3, SHORT)                                                                                             \
+    X(hint, 2, SHORT)                                                                                                  \
+    X(hint_confirm, 3, SHORT)                                                                                          \
+    X(hints_renew, 1, LONG)                                                                                            \
+    X(hints_count, 1, SHORT)                                                                                           \
+    X(slots_new, 3, SHORT)                                                                                             \
+    X(slots_close, 1, SHORT)                                                                                           \
+    X(slot_lend, 1, SHORT)                                                                                             \
+    X(slot_give_back, 1, SHORT)                                                                                        \
+    X(slots_sample, 3, SHORT)                                                                                          \
+    X(slots_adjust, 2, SHORT)                                                                                          \
+    X(slots_set_target, 2, SHORT)                                                                                      \
+    X(slots_count, 1, SHORT)
+
+#endif

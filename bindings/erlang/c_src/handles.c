@@ -1,0 +1,105 @@
+/* Handles as resources. */
+#include "handles.h"
+
+#include <string.h>
+
+#include "terms.h"
+
+static ErlNifResourceType *types[KINDS];
+
+static void drop_lock(struct resource *dropped)
+{
+    if (dropped->lock != NULL)
+        enif_mutex_destroy(dropped->lock);
+}
+
+static void drop_replica(UNUSED ErlNifEnv *env, void *dropped)
+{
+    struct resource *at = dropped;
+    antientropy_free(&at->replica);
+    drop_lock(at);
+}
+
+static void drop_snapshot(UNUSED ErlNifEnv *env, void *dropped)
+{
+    struct resource *at = dropped;
+    antientropy_snapshot_free(&at->snapshot);
+    drop_lock(at);
+}
+
+static void drop_hints(UNUSED ErlNifEnv *env, void *dropped)
+{
+    struct resource *at = dropped;
+    antientropy_hints_free(&at->hints);
+    drop_lock(at);
+}
+
+static void drop_slots(UNUSED ErlNifEnv *env, void *dropped)
+{
+    struct resource *at = dropped;
+    antientropy_slots_free(&at->slots);
+    drop_lock(at);
+}
+
+bool open_types(ErlNifEnv *env)
+{
+    static const struct {
+        const char *name;
+        ErlNifResourceDtor *drop;
+    } kinds[KINDS] = {
+        [REPLICA] = {"antientropy_replica", drop_replica},
+        [SNAPSHOT] = {"antientropy_snapshot", drop_snapshot},
+        [HINTS] = {"antientropy_hints", drop_hints},
+        [SLOTS] = {"antientropy_slots", drop_slots},
+    };
+    for (int kind = 0; kind < KINDS; kind++) {
+        types[kind] = enif_open_resource_type(env, NULL, kinds[kind].name, kinds[kind].drop, ERL_NIF_RT_CREATE, NULL);
+        if (types[kind] == NULL)
+            return false;
+    }
+    return true;
+}
+
+bool on_normal_scheduler(void)
+{
+    return enif_thread_type() == ERL_NIF_THR_NORMAL_SCHEDULER;
+}
+
+ERL_NIF_TERM with_lock(const struct call *call, ErlNifEnv *env, int argc, const ERL_NIF_TERM argv[])
+{
+    void *found;
+    if (!enif_get_resource(env, argv[0], types[call->kind], &found))
+        return enif_make_badarg(env);
+    struct resource *at = found;
+    if (enif_mutex_trylock(at->lock) != 0) {
+        if (on_normal_scheduler())
+            return enif_schedule_nif(env, call->name, ERL_NIF_DIRTY_JOB_IO_BOUND, call->again, argc, argv);
+        enif_mutex_lock(at->lock);
+    }
+    ERL_NIF_TERM result = call->held(env, at, argv);
+    enif_mutex_unlock(at->lock);
+    if (result == ELSEWHERE)
+        return enif_schedule_nif(env, call->name, ERL_NIF_DIRTY_JOB_CPU_BOUND, call->again, argc, argv);
+    return result;
+}
+
+struct resource *make_resource(enum kind kind)
+{
+    struct resource *made = enif_alloc_resource(types[kind], sizeof *made);
+    if (made == NULL)
+        return NULL;
+    memset(made, 0, sizeof *made);
+    made->lock = enif_mutex_create("antientropy");
+    if (made->lock == NULL) {
+        enif_release_resource(made);
+        return NULL;
+    }
+    return made;
+}
+
+ERL_NIF_TERM handle_result(ErlNifEnv *env, struct resource *made, uint32_t number)
+{
+    ERL_NIF_TERM result = number == ANTIENTROPY_OK ? ok(env, enif_make_resource(env, made)) : refused(env, number);
+    enif_release_resource(made);
+    return result;
+}

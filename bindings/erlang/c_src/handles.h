@@ -1,0 +1,87 @@
+/* Handles of the library as resources of Erlang, each with a lock. */
+#ifndef HANDLES_H
+#define HANDLES_H
+
+#include <erl_nif.h>
+#include <stdint.h>
+
+#include "antientropy.h"
+#include "calls.h"
+
+#define UNUSED __attribute__((unused))
+
+enum kind { REPLICA, SNAPSHOT, HINTS, SLOTS, KINDS };
+
+/* The numbers of a replica or of a snapshot that the library doesn't return. */
+struct range {
+    uint64_t format;
+    uint64_t bits;
+    uint64_t number;
+    uint64_t entries; /* of a snapshot alone: entries of the journal when it was made */
+};
+
+struct resource {
+    ErlNifMutex *lock;
+    union {
+        struct antientropy replica;
+        struct antientropy_snapshot snapshot;
+        struct antientropy_hints hints;
+        struct antientropy_slots slots;
+    };
+    struct range range;
+};
+
+/* A function of the NIF library. */
+typedef ERL_NIF_TERM nif(ErlNifEnv *env, int argc, const ERL_NIF_TERM argv[]);
+
+/* A function of the NIF library whose first argument is a handle. It has the handle's lock. On a normal scheduler it may
+ * return ELSEWHERE: then it begins again on a dirty one, since it takes long. */
+typedef ERL_NIF_TERM held(ErlNifEnv *env, struct resource *at, const ERL_NIF_TERM argv[]);
+
+/* A call of `held` with its name in Erlang, and the function that makes it. */
+struct call {
+    enum kind kind;
+    const char *name;
+    nif *again;
+    held *held;
+};
+
+#define DECLARE(name, arity, flags) nif nif_##name;
+CALLS(DECLARE)
+
+/* Begins the definition of a function without a handle. */
+#define FUNCTION(name) ERL_NIF_TERM nif_##name(UNUSED ErlNifEnv *env, UNUSED int argc, UNUSED const ERL_NIF_TERM argv[])
+
+/* Begins the definition of a function with a handle of a kind. */
+#define CALL(kind, name)                                                                                               \
+    static held held_##name;                                                                                           \
+    ERL_NIF_TERM nif_##name(ErlNifEnv *env, int argc, const ERL_NIF_TERM argv[])                                       \
+    {                                                                                                                  \
+        static const struct call call = {kind, #name, nif_##name, held_##name};                                        \
+        return with_lock(&call, env, argc, argv);                                                                      \
+    }                                                                                                                  \
+    static ERL_NIF_TERM held_##name(ErlNifEnv *env, struct resource *at, UNUSED const ERL_NIF_TERM argv[])
+
+/* No term. */
+#define ELSEWHERE 0
+
+/* Bytes of an argument, or of a result, that a call handles in far less than a millisecond. */
+#define FEW_BYTES 4096
+
+/* Returns true if a call must not take long here. */
+bool on_normal_scheduler(void);
+
+/* Opens the resource types. Returns false if one can't be opened. */
+bool open_types(ErlNifEnv *env);
+
+/* Makes a call with the lock of the handle in its first argument. A normal scheduler doesn't wait for the lock: the
+ * call begins again on a dirty one. */
+ERL_NIF_TERM with_lock(const struct call *call, ErlNifEnv *env, int argc, const ERL_NIF_TERM argv[]);
+
+/* Makes a resource whose handle holds nothing, or returns NULL without memory. */
+struct resource *make_resource(enum kind kind);
+
+/* Returns {ok, Handle} or a refusal, and releases the resource. */
+ERL_NIF_TERM handle_result(ErlNifEnv *env, struct resource *made, uint32_t number);
+
+#endif

@@ -1,0 +1,112 @@
+/* A replica as a whole: its making, its counts, its tree, and rows that are loaded. */
+#include "handles.h"
+#include "terms.h"
+
+/* new(Format, Bits, Range, Limit) -> {ok, Replica} */
+FUNCTION(new)
+{
+    struct range range = {0};
+    uint64_t limit;
+    if (!get_u64(env, argv[0], &range.format) || !get_u64(env, argv[1], &range.bits)
+        || !get_u64(env, argv[2], &range.number) || !get_u64(env, argv[3], &limit))
+        return enif_make_badarg(env);
+    struct resource *made = make_resource(REPLICA);
+    if (made == NULL)
+        return refused(env, ANTIENTROPY_NO_MEMORY);
+    made->range = range;
+    uint32_t number = antientropy_new(&made->replica, range.format, range.bits, range.number, limit);
+    return handle_result(env, made, number);
+}
+
+/* close(Replica) -> ok */
+CALL(REPLICA, close)
+{
+    antientropy_free(&at->replica);
+    return done(env, ANTIENTROPY_OK);
+}
+
+/* renew(Replica, Limit) -> {ok, Replica} */
+CALL(REPLICA, renew)
+{
+    uint64_t limit;
+    if (!get_u64(env, argv[1], &limit))
+        return enif_make_badarg(env);
+    struct resource *made = make_resource(REPLICA);
+    if (made == NULL)
+        return refused(env, ANTIENTROPY_NO_MEMORY);
+    made->range = at->range;
+    return handle_result(env, made, antientropy_renew(&at->replica, &made->replica, limit));
+}
+
+/* migrate(Replica) -> ok */
+CALL(REPLICA, migrate)
+{
+    uint32_t number = antientropy_migrate(&at->replica);
+    if (number == ANTIENTROPY_OK)
+        at->range.format = 2;
+    return done(env, number);
+}
+
+/* info(Replica) -> {ok, Info} */
+CALL(REPLICA, info)
+{
+    struct antientropy_counts counts;
+    uint32_t number = antientropy_count(&at->replica, &counts);
+    if (number != ANTIENTROPY_OK)
+        return refused(env, number);
+    const ERL_NIF_TERM keys[] = {atoms.format, atoms.bits, atoms.range};
+    const ERL_NIF_TERM values[] = {enif_make_uint64(env, at->range.format), enif_make_uint64(env, at->range.bits),
+                                   enif_make_uint64(env, at->range.number)};
+    return ok(env, make_map(env, 3, keys, values));
+}
+
+/* count(Replica) -> {ok, Counts} */
+CALL(REPLICA, count)
+{
+    struct antientropy_counts counts;
+    uint32_t number = antientropy_count(&at->replica, &counts);
+    if (number != ANTIENTROPY_OK)
+        return refused(env, number);
+    const ERL_NIF_TERM keys[] = {atoms.entries, atoms.limit, atoms.dirty, atoms.sessions, atoms.open_sessions};
+    const ERL_NIF_TERM values[] = {enif_make_uint64(env, counts.entries), enif_make_uint64(env, counts.limit),
+                                   enif_make_uint64(env, counts.dirty), enif_make_uint64(env, counts.sessions),
+                                   enif_make_uint64(env, counts.open_sessions)};
+    return ok(env, make_map(env, 5, keys, values));
+}
+
+/* rehash(Replica) -> ok */
+CALL(REPLICA, rehash)
+{
+    return done(env, antientropy_rehash(&at->replica));
+}
+
+/* rehash_some(Replica, Most) -> {ok, Left} */
+CALL(REPLICA, rehash_some)
+{
+    uint64_t most, left;
+    if (!get_u64(env, argv[1], &most))
+        return enif_make_badarg(env);
+    uint32_t number = antientropy_rehash_some(&at->replica, most, &left);
+    return number == ANTIENTROPY_OK ? ok(env, enif_make_uint64(env, left)) : refused(env, number);
+}
+
+/* load_rows(Replica, Rows) -> {ok, Loaded} | {error, {row_broken, Offset}} */
+CALL(REPLICA, load_rows)
+{
+    ErlNifBinary rows;
+    struct antientropy_loaded loaded;
+    if (!get_bytes(env, argv[1], &rows))
+        return enif_make_badarg(env);
+    if (rows.size > FEW_BYTES && on_normal_scheduler())
+        return ELSEWHERE;
+    uint32_t number = antientropy_load(&at->replica, rows.data, rows.size, &loaded);
+    if (number == ANTIENTROPY_ROW_BROKEN) {
+        ERL_NIF_TERM broken = enif_make_tuple2(env, name_of(number), enif_make_uint64(env, loaded.offset));
+        return enif_make_tuple2(env, atoms.error, broken);
+    }
+    if (number != ANTIENTROPY_OK)
+        return refused(env, number);
+    const ERL_NIF_TERM keys[] = {atoms.new, atoms.known};
+    const ERL_NIF_TERM values[] = {enif_make_uint64(env, loaded.taken), enif_make_uint64(env, loaded.known)};
+    return ok(env, make_map(env, 2, keys, values));
+}

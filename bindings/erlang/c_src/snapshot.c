@@ -1,0 +1,112 @@
+/* Snapshots of a replica's rows. */
+#include "handles.h"
+#include "terms.h"
+
+/* Makes the snapshot of a replica, with the number of its entries. */
+static uint32_t fill(struct resource *made, struct resource *at)
+{
+    struct antientropy_counts counts;
+    uint32_t number = antientropy_count(&at->replica, &counts);
+    if (number != ANTIENTROPY_OK)
+        return number;
+    made->range = at->range;
+    made->range.entries = counts.entries;
+    return antientropy_snapshot(&at->replica, &made->snapshot);
+}
+
+/* snapshot(Replica, Rehash) -> {ok, Snapshot} */
+CALL(REPLICA, snapshot)
+{
+    bool rehash;
+    if (!get_bool(argv[1], &rehash))
+        return enif_make_badarg(env);
+    uint32_t number = rehash ? antientropy_rehash(&at->replica) : ANTIENTROPY_OK;
+    if (number != ANTIENTROPY_OK)
+        return refused(env, number);
+    struct resource *made = make_resource(SNAPSHOT);
+    if (made == NULL)
+        return refused(env, ANTIENTROPY_NO_MEMORY);
+    return handle_result(env, made, fill(made, at));
+}
+
+/* snapshot_close(Snapshot) -> ok */
+CALL(SNAPSHOT, snapshot_close)
+{
+    antientropy_snapshot_free(&at->snapshot);
+    return done(env, ANTIENTROPY_OK);
+}
+
+/* Reads the root of a snapshot. */
+static uint32_t read_root(struct resource *at, uint8_t root[static ANTIENTROPY_ROOT_LEN])
+{
+    uint64_t len;
+    return antientropy_root(&at->snapshot, root, ANTIENTROPY_ROOT_LEN, &len);
+}
+
+/* snapshot_info(Snapshot) -> {ok, Info} */
+CALL(SNAPSHOT, snapshot_info)
+{
+    uint8_t root[ANTIENTROPY_ROOT_LEN];
+    uint32_t number = read_root(at, root);
+    if (number != ANTIENTROPY_OK)
+        return refused(env, number);
+    const ERL_NIF_TERM keys[] = {atoms.format, atoms.bits, atoms.range, atoms.entries, atoms.root};
+    const ERL_NIF_TERM values[] = {enif_make_uint64(env, at->range.format), enif_make_uint64(env, at->range.bits),
+                                   enif_make_uint64(env, at->range.number), enif_make_uint64(env, at->range.entries),
+                                   make_bytes(env, root, sizeof root)};
+    return ok(env, make_map(env, 5, keys, values));
+}
+
+/* root(Snapshot) -> {ok, Root} */
+CALL(SNAPSHOT, root)
+{
+    uint8_t root[ANTIENTROPY_ROOT_LEN];
+    uint32_t number = read_root(at, root);
+    return number == ANTIENTROPY_OK ? ok(env, make_bytes(env, root, sizeof root)) : refused(env, number);
+}
+
+/* offer(Snapshot, Number) -> {ok, Offer} */
+CALL(SNAPSHOT, offer)
+{
+    uint32_t offer;
+    uint8_t message[ANTIENTROPY_OFFER_LEN];
+    uint64_t len;
+    if (!get_u32(env, argv[1], &offer))
+        return enif_make_badarg(env);
+    uint32_t number = antientropy_offer(&at->snapshot, offer, message, sizeof message, &len);
+    return number == ANTIENTROPY_OK ? ok(env, make_bytes(env, message, len)) : refused(env, number);
+}
+
+/* serve(Snapshot, Number, Ask) -> {ok, Answer} */
+CALL(SNAPSHOT, serve)
+{
+    uint32_t offer, number;
+    ErlNifBinary ask;
+    struct room room;
+    if (!get_u32(env, argv[1], &offer) || !get_bytes(env, argv[2], &ask))
+        return enif_make_badarg(env);
+    open_room(&room);
+    do {
+        number = antientropy_serve(&at->snapshot, offer, ask.data, ask.size, room.at, room.len, &room.need);
+        if (number == ANTIENTROPY_SMALL && on_normal_scheduler())
+            return ELSEWHERE;
+    } while (grows(&room, &number));
+    return room_result(env, &room, number);
+}
+
+/* rows(Snapshot, Leaf) -> {ok, Rows} */
+CALL(SNAPSHOT, rows)
+{
+    uint16_t leaf;
+    struct room room;
+    uint32_t number;
+    if (!get_u16(env, argv[1], &leaf))
+        return enif_make_badarg(env);
+    open_room(&room);
+    do {
+        number = antientropy_rows(&at->snapshot, leaf, room.at, room.len, &room.need);
+        if (number == ANTIENTROPY_SMALL && on_normal_scheduler())
+            return ELSEWHERE;
+    } while (grows(&room, &number));
+    return room_result(env, &room, number);
+}

@@ -1,0 +1,166 @@
+/* Terms of Erlang, to and from the values of C. */
+#ifndef TERMS_H
+#define TERMS_H
+
+#include <erl_nif.h>
+#include <stdint.h>
+
+#include "antientropy.h"
+#include "handles.h"
+
+/* The atoms: the field of `atoms`, and the text. */
+#define ATOMS(X)                                                                                                       \
+    X(accepted, "accepted")                                                                                            \
+    X(after, "after")                                                                                                  \
+    X(apart, "apart")                                                                                                  \
+    X(before, "before")                                                                                                \
+    X(bits, "bits")                                                                                                    \
+    X(cancelled, "cancelled")                                                                                          \
+    X(clock, "clock")                                                                                                  \
+    X(copy, "copy")                                                                                                    \
+    X(counter, "counter")                                                                                              \
+    X(delivered, "delivered")                                                                                          \
+    X(dirty, "dirty")                                                                                                  \
+    X(done, "done")                                                                                                    \
+    X(entries, "entries")                                                                                              \
+    X(equal, "equal")                                                                                                  \
+    X(error, "error")                                                                                                  \
+    X(failed, "failed")                                                                                                \
+    X(finished, "finished")                                                                                            \
+    X(format, "format")                                                                                                \
+    X(free, "free")                                                                                                    \
+    X(hint, "hint")                                                                                                    \
+    X(key, "key")                                                                                                      \
+    X(known, "known")                                                                                                  \
+    X(leaf, "leaf")                                                                                                    \
+    X(lent, "lent")                                                                                                    \
+    X(limit, "limit")                                                                                                  \
+    X(new, "new")                                                                                                      \
+    X(no, "false")                                                                                                     \
+    X(none, "none")                                                                                                    \
+    X(number, "number")                                                                                                \
+    X(ok, "ok")                                                                                                        \
+    X(open, "open")                                                                                                    \
+    X(open_sessions, "open_sessions")                                                                                  \
+    X(owner, "owner")                                                                                                  \
+    X(partner, "partner")                                                                                              \
+    X(pending, "pending")                                                                                              \
+    X(put, "put")                                                                                                      \
+    X(range, "range")                                                                                                  \
+    X(root, "root")                                                                                                    \
+    X(row_broken, "row_broken")                                                                                        \
+    X(sessions, "sessions")                                                                                            \
+    X(source, "source")                                                                                                \
+    X(state, "state")                                                                                                  \
+    X(target, "target")                                                                                                \
+    X(tombstone, "tombstone")                                                                                          \
+    X(undefined, "undefined")                                                                                          \
+    X(value, "value")                                                                                                  \
+    X(yes, "true")
+
+#define ATOM_FIELD(field, text) ERL_NIF_TERM field;
+extern struct atoms {
+    ATOMS(ATOM_FIELD)
+} atoms;
+
+/* No number of the library: an argument of a wrong type. */
+#define BADARG UINT32_MAX
+
+/* A clock that a call takes. Pairs that don't fit in `few` are the clock's own: drop_clock frees them. */
+struct clock {
+    struct antientropy_pair *pairs;
+    size_t len;
+    struct antientropy_pair few[ANTIENTROPY_CLOCK_MAX];
+};
+
+/* A value or a tombstone that a call takes. */
+struct value {
+    ErlNifBinary bytes;
+    uint8_t kind;
+};
+
+/* A version that a call takes: drop_clock frees its clock. */
+struct version {
+    struct clock clock;
+    struct value value;
+};
+
+/* Room for the bytes that a call returns. Those that don't fit in `few` go to `many`, which has the length that the
+ * call needs. */
+struct room {
+    uint8_t *at;
+    size_t len;
+    uint64_t need;
+    ErlNifBinary many;
+    uint8_t few[FEW_BYTES];
+};
+
+/* Makes the atoms, and those of the refusals by their names in the library. */
+void make_atoms(ErlNifEnv *env);
+
+/* ---- results */
+
+/* Returns the atom of a number that a call returned, or `undefined`. */
+ERL_NIF_TERM name_of(uint32_t number);
+
+/* Returns {ok, Term}. */
+ERL_NIF_TERM ok(ErlNifEnv *env, ERL_NIF_TERM term);
+
+/* Returns {error, Name}, or for BADARG the exception. */
+ERL_NIF_TERM refused(ErlNifEnv *env, uint32_t number);
+
+/* Returns `ok` or a refusal. */
+ERL_NIF_TERM done(ErlNifEnv *env, uint32_t number);
+
+/* Returns a map of atoms to terms. */
+ERL_NIF_TERM make_map(ErlNifEnv *env, size_t len, const ERL_NIF_TERM keys[], const ERL_NIF_TERM values[]);
+
+/* Returns a binary with the bytes. */
+ERL_NIF_TERM make_bytes(ErlNifEnv *env, const uint8_t *bytes, size_t len);
+
+ERL_NIF_TERM make_clock(ErlNifEnv *env, const struct antientropy_pair *pairs, size_t len);
+ERL_NIF_TERM make_version(ErlNifEnv *env, ERL_NIF_TERM clock, ERL_NIF_TERM value);
+
+/* ---- arguments: each function returns false if the term isn't of the type */
+
+bool get_u16(ErlNifEnv *env, ERL_NIF_TERM term, uint16_t *number);
+bool get_u32(ErlNifEnv *env, ERL_NIF_TERM term, uint32_t *number);
+bool get_u64(ErlNifEnv *env, ERL_NIF_TERM term, uint64_t *number);
+bool get_bool(ERL_NIF_TERM term, bool *flag);
+
+/* Reads iodata. */
+bool get_bytes(ErlNifEnv *env, ERL_NIF_TERM term, ErlNifBinary *bytes);
+
+/* Reads iodata, or the atom `tombstone`. */
+bool get_value(ErlNifEnv *env, ERL_NIF_TERM term, struct value *value);
+
+/* Reads a map of nodes to counters, or a list of pairs. Returns OK, BADARG or NO_MEMORY: only after OK is the clock to
+ * be dropped. */
+uint32_t get_clock(ErlNifEnv *env, ERL_NIF_TERM term, struct clock *clock);
+
+/* Reads a map that has a clock and a value. Returns what get_clock returns. */
+uint32_t get_version(ErlNifEnv *env, ERL_NIF_TERM term, struct version *version);
+
+void drop_clock(struct clock *clock);
+
+/* ---- bytes that calls return */
+
+/* Makes the room of a first call. */
+void open_room(struct room *room);
+
+/* Returns true if a call found too little room: make it again. Without memory `number` becomes NO_MEMORY. */
+bool grows(struct room *room, uint32_t *number);
+
+/* Returns the bytes as a binary. The room is used up. */
+ERL_NIF_TERM room_bytes(ErlNifEnv *env, struct room *room);
+
+/* Releases the room. */
+void drop_room(struct room *room);
+
+/* Returns {ok, Bytes} or a refusal. The room is used up. */
+ERL_NIF_TERM room_result(ErlNifEnv *env, struct room *room, uint32_t number);
+
+/* Returns the value in a room: the bytes, or for a tombstone the atom. The room is used up. */
+ERL_NIF_TERM room_value(ErlNifEnv *env, struct room *room, uint64_t kind);
+
+#endif

@@ -1,0 +1,217 @@
+/* Versions of keys: puts, copies, reads, and the journal. */
+#include "handles.h"
+#include "terms.h"
+
+/* Versions that are read in far less than a millisecond, even with the longest values. */
+enum { FEW_VERSIONS = 4 };
+
+/* put(Replica, Node, Key, Value, Context) -> {ok, Receipt} */
+CALL(REPLICA, put)
+{
+    uint16_t node;
+    ErlNifBinary key;
+    struct value value;
+    struct clock context;
+    struct antientropy_receipt receipt;
+    if (!get_u16(env, argv[1], &node) || !enif_inspect_binary(env, argv[2], &key) || !get_value(env, argv[3], &value))
+        return enif_make_badarg(env);
+    uint32_t number = get_clock(env, argv[4], &context);
+    if (number != ANTIENTROPY_OK)
+        return refused(env, number);
+    number = antientropy_put(&at->replica, node, key.data, key.size, context.pairs, context.len, value.kind,
+                             value.bytes.data, value.bytes.size, &receipt);
+    drop_clock(&context);
+    if (number != ANTIENTROPY_OK)
+        return refused(env, number);
+    const ERL_NIF_TERM keys[] = {atoms.number, atoms.counter};
+    const ERL_NIF_TERM values[] = {enif_make_uint64(env, receipt.number), enif_make_uint64(env, receipt.counter)};
+    return ok(env, make_map(env, 2, keys, values));
+}
+
+/* accept(Replica, Key, Version) -> {ok, new | known} */
+CALL(REPLICA, accept)
+{
+    ErlNifBinary key;
+    struct version version;
+    uint64_t taken;
+    if (!enif_inspect_binary(env, argv[1], &key))
+        return enif_make_badarg(env);
+    uint32_t number = get_version(env, argv[2], &version);
+    if (number != ANTIENTROPY_OK)
+        return refused(env, number);
+    number = antientropy_accept(&at->replica, key.data, key.size, version.clock.pairs, version.clock.len,
+                                version.value.kind, version.value.bytes.data, version.value.bytes.size, &taken);
+    drop_clock(&version.clock);
+    if (number != ANTIENTROPY_OK)
+        return refused(env, number);
+    return ok(env, taken == 1 ? atoms.new : atoms.known);
+}
+
+/* Reads one of the versions of a key. `versions` becomes the number of them. */
+static uint32_t read_version(ErlNifEnv *env, struct resource *at, const ErlNifBinary *key, uint64_t index,
+                             uint64_t *versions, ERL_NIF_TERM *version)
+{
+    struct antientropy_reading reading = {0};
+    struct antientropy_pair pairs[ANTIENTROPY_CLOCK_MAX];
+    struct room room;
+    uint32_t number;
+    open_room(&room);
+    do {
+        number = antientropy_read(&at->replica, key->data, key->size, index, &reading, pairs, ANTIENTROPY_CLOCK_MAX,
+                                  room.at, room.len);
+        room.need = reading.bytes;
+    } while (grows(&room, &number));
+    if (number != ANTIENTROPY_OK) {
+        drop_room(&room);
+        return number;
+    }
+    *versions = reading.versions;
+    *version = make_version(env, make_clock(env, pairs, reading.pairs), room_value(env, &room, reading.kind));
+    return ANTIENTROPY_OK;
+}
+
+/* get(Replica, Key) -> {ok, [Version]} */
+CALL(REPLICA, get)
+{
+    ErlNifBinary key;
+    ERL_NIF_TERM versions[ANTIENTROPY_VERSIONS_MAX];
+    uint64_t count = 0, len = 0;
+    if (!enif_inspect_binary(env, argv[1], &key))
+        return enif_make_badarg(env);
+    do {
+        uint32_t number = read_version(env, at, &key, len, &count, &versions[len]);
+        if (number == ANTIENTROPY_NO_VERSION)
+            break;
+        if (number != ANTIENTROPY_OK)
+            return refused(env, number);
+        if (count > FEW_VERSIONS && on_normal_scheduler())
+            return ELSEWHERE;
+        len++;
+    } while (len < count && len < ANTIENTROPY_VERSIONS_MAX);
+    return ok(env, enif_make_list_from_array(env, versions, (unsigned)len));
+}
+
+/* read(Replica, Key, Index) -> {ok, Version} */
+CALL(REPLICA, read)
+{
+    ErlNifBinary key;
+    uint64_t index, versions;
+    ERL_NIF_TERM version;
+    if (!enif_inspect_binary(env, argv[1], &key) || !get_u64(env, argv[2], &index))
+        return enif_make_badarg(env);
+    uint32_t number = read_version(env, at, &key, index, &versions, &version);
+    return number == ANTIENTROPY_OK ? ok(env, version) : refused(env, number);
+}
+
+/* count_versions(Replica, Key) -> {ok, Count} */
+CALL(REPLICA, count_versions)
+{
+    ErlNifBinary key;
+    uint64_t count;
+    if (!enif_inspect_binary(env, argv[1], &key))
+        return enif_make_badarg(env);
+    uint32_t number = antientropy_versions(&at->replica, key.data, key.size, &count);
+    return number == ANTIENTROPY_OK ? ok(env, enif_make_uint64(env, count)) : refused(env, number);
+}
+
+/* value(Replica, Key, Index) -> {ok, Value} */
+CALL(REPLICA, value)
+{
+    ErlNifBinary key;
+    uint64_t index;
+    struct room room;
+    uint8_t kind;
+    uint32_t number;
+    if (!enif_inspect_binary(env, argv[1], &key) || !get_u64(env, argv[2], &index))
+        return enif_make_badarg(env);
+    open_room(&room);
+    do
+        number = antientropy_value(&at->replica, key.data, key.size, index, &kind, room.at, room.len, &room.need);
+    while (grows(&room, &number));
+    if (number != ANTIENTROPY_OK)
+        return room_result(env, &room, number);
+    return ok(env, room_value(env, &room, kind));
+}
+
+/* clock(Replica, Key, Index) -> {ok, Clock} */
+CALL(REPLICA, clock)
+{
+    ErlNifBinary key;
+    uint64_t index, len;
+    struct antientropy_pair pairs[ANTIENTROPY_CLOCK_MAX];
+    if (!enif_inspect_binary(env, argv[1], &key) || !get_u64(env, argv[2], &index))
+        return enif_make_badarg(env);
+    uint32_t number =
+        antientropy_clock(&at->replica, key.data, key.size, index, pairs, ANTIENTROPY_CLOCK_MAX, &len);
+    return number == ANTIENTROPY_OK ? ok(env, make_clock(env, pairs, len)) : refused(env, number);
+}
+
+/* row(Replica, Key) -> {ok, Text} */
+CALL(REPLICA, row)
+{
+    ErlNifBinary key;
+    struct room room;
+    uint32_t number;
+    if (!enif_inspect_binary(env, argv[1], &key))
+        return enif_make_badarg(env);
+    open_room(&room);
+    do {
+        number = antientropy_get(&at->replica, key.data, key.size, room.at, room.len, &room.need);
+        if (number == ANTIENTROPY_SMALL && on_normal_scheduler())
+            return ELSEWHERE;
+    } while (grows(&room, &number));
+    return room_result(env, &room, number);
+}
+
+/* key_after(Replica, Leaf, Key) -> {ok, Key} */
+CALL(REPLICA, key_after)
+{
+    uint16_t leaf;
+    ErlNifBinary key;
+    uint8_t next[ANTIENTROPY_KEY_MAX];
+    uint64_t len;
+    if (!get_u16(env, argv[1], &leaf) || !enif_inspect_binary(env, argv[2], &key))
+        return enif_make_badarg(env);
+    uint32_t number = antientropy_key_after(&at->replica, leaf, key.data, key.size, next, sizeof next, &len);
+    return number == ANTIENTROPY_OK ? ok(env, make_bytes(env, next, len)) : refused(env, number);
+}
+
+static ERL_NIF_TERM source_atom(uint64_t source)
+{
+    const ERL_NIF_TERM sources[] = {
+        [ANTIENTROPY_PUT] = atoms.put,
+        [ANTIENTROPY_COPY] = atoms.copy,
+        [ANTIENTROPY_HINT] = atoms.hint,
+        [ANTIENTROPY_PARTNER] = atoms.partner,
+    };
+    return sources[source];
+}
+
+/* entry(Replica, Number) -> {ok, Entry} */
+CALL(REPLICA, entry)
+{
+    uint64_t entry, key_len, clock_len, source;
+    uint8_t key[ANTIENTROPY_KEY_MAX], kind;
+    struct antientropy_pair pairs[ANTIENTROPY_CLOCK_MAX];
+    struct room room;
+    if (!get_u64(env, argv[1], &entry))
+        return enif_make_badarg(env);
+    uint32_t number = antientropy_entry_key(&at->replica, entry, key, sizeof key, &key_len);
+    if (number == ANTIENTROPY_OK)
+        number = antientropy_entry_clock(&at->replica, entry, pairs, ANTIENTROPY_CLOCK_MAX, &clock_len);
+    if (number == ANTIENTROPY_OK)
+        number = antientropy_entry_source(&at->replica, entry, &source);
+    if (number != ANTIENTROPY_OK)
+        return refused(env, number);
+    open_room(&room);
+    do
+        number = antientropy_entry_value(&at->replica, entry, &kind, room.at, room.len, &room.need);
+    while (grows(&room, &number));
+    if (number != ANTIENTROPY_OK)
+        return room_result(env, &room, number);
+    const ERL_NIF_TERM keys[] = {atoms.number, atoms.key, atoms.clock, atoms.value, atoms.source};
+    const ERL_NIF_TERM values[] = {enif_make_uint64(env, entry), make_bytes(env, key, key_len),
+                                   make_clock(env, pairs, clock_len), room_value(env, &room, kind),
+                                   source_atom(source)};
+    return ok(env, make_map(env, 5, keys, values));
+}

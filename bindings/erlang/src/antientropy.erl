@@ -1,0 +1,391 @@
+%% @doc A replica of a range of a Dynamo-style store, over the proved C library.
+%%
+%% A replica holds versions of keys. {@link sync/4} takes from a partner what it lacks, by messages that the program
+%% carries. {@link antientropy_hints} and {@link antientropy_slots} are apart.
+%%
+%% A call returns `{error, Name}' if it is refused: Name is the library's name of the cause, and docs/FORMATS.md says
+%% what to do. A refused call changes nothing, except as `antientropy.h' says. An argument of a wrong type raises
+%% `badarg', and so does a number that C's type can't hold.
+%%
+%% Processes may share a handle, which has a lock. It is of its node: send messages to other nodes, not handles.
+-module(antientropy).
+
+-export([version/0, name/1, place/3, compare/2, merge/1, read_offer/1]).
+-export([new/0, new/1, close/1, renew/1, renew/2, migrate/1, info/1, count/1]).
+-export([put/4, put/5, accept/3, get/2, read/3, count_versions/2, value/3, clock/3, row/2]).
+-export([key_after/3, keys/1, keys/2, fold_keys/3, entry/2, entries/2, fold_entries/4]).
+-export([rehash/1, rehash_some/2, root/1, snapshot/1, snapshot/2, load_rows/2, save/2, load/1, load/2]).
+-export([open/3, open/4, sync/4, sync/5]).
+
+-export_type([replica/0, options/0, clock/0, clock_like/0, value/0, value_like/0, version/0, version_like/0]).
+-export_type([entry/0, order/0, refused/0]).
+
+-define(OPTIONS, #{format => 2, bits => 0, range => 0, limit => 1000000}).
+-define(LIMIT, 1000000).
+
+-type replica() :: reference().
+%% A replica. The garbage collector frees one that is dropped; close a large one.
+-type options() :: #{
+    format => 1 | 2, bits => non_neg_integer(), range => non_neg_integer(), limit => pos_integer()
+}.
+%% A replica is of a range of a ring of 2^bits ranges, in a format, with a journal of at most `limit' entries.
+-type clock() :: #{Node :: pos_integer() => Counter :: pos_integer()}.
+-type clock_like() :: clock() | [{Node :: non_neg_integer(), Counter :: non_neg_integer()}].
+%% A clock that a call takes: a map, or pairs in any order.
+-type value() :: binary() | tombstone.
+-type value_like() :: iodata() | tombstone.
+-type version() :: #{clock := clock(), value := value()}.
+-type version_like() :: #{clock := clock_like(), value := value_like(), _ => _}.
+%% A version that a call takes. It may have other members: an entry and a hint are versions, too.
+-type entry() :: #{
+    number := non_neg_integer(),
+    key := binary(),
+    clock := clock(),
+    value := value(),
+    source := put | copy | hint | partner
+}.
+-type order() :: before | 'after' | equal | apart.
+-type refused() :: {error, Name :: atom()}.
+
+%% ---- the library
+
+%% @doc Returns the version of the library.
+-spec version() -> {Major :: non_neg_integer(), Minor :: non_neg_integer(), Patch :: non_neg_integer()}.
+version() ->
+    Number = antientropy_nif:version(),
+    {Number div 10000, Number div 100 rem 100, Number rem 100}.
+
+%% @doc Returns the name of a number of `antientropy.h': `bad_key' for 4. Other numbers are `undefined'.
+-spec name(Number :: non_neg_integer()) -> Name :: atom().
+name(Number) ->
+    antientropy_nif:name(Number).
+
+%% @doc Returns the range and the leaf of a key, in a ring of 2^bits ranges. Refused: `bad_ring', `bad_key'.
+-spec place(Format, Bits, Key :: binary()) -> {ok, Spot} | refused() when
+    Format :: non_neg_integer(),
+    Bits :: non_neg_integer(),
+    Spot :: #{range := non_neg_integer(), leaf := non_neg_integer()}.
+place(Format, Bits, Key) ->
+    antientropy_nif:place(Format, Bits, Key).
+
+%% @doc Compares two clocks. Refused: `bad_clock', `clock_full'.
+-spec compare(First :: clock_like(), Second :: clock_like()) -> {ok, order()} | refused().
+compare(First, Second) ->
+    antientropy_nif:compare(First, Second).
+
+%% @doc Merges clocks, for the context of a put that replaces the versions of all. Refused: `bad_clock', `clock_full'.
+-spec merge(Clocks :: [clock_like()]) -> {ok, clock()} | refused().
+merge(Clocks) ->
+    lists:foldl(fun merge_into/2, {ok, #{}}, Clocks).
+
+merge_into(Clock, {ok, Merged}) -> antientropy_nif:merge(Merged, Clock);
+merge_into(_, Refused) -> Refused.
+
+%% @doc Returns the parts of a partner's offer. Refused: `bad_message'.
+-spec read_offer(Offer :: iodata()) -> {ok, Parts} | refused() when
+    Parts :: #{
+        number := non_neg_integer(), format := non_neg_integer(), range := non_neg_integer(), root := binary()
+    }.
+read_offer(Offer) ->
+    antientropy_nif:read_offer(Offer).
+
+%% ---- a replica
+
+%% @doc Makes a replica of the one range of a ring of 0 bits, in format 2.
+-spec new() -> {ok, replica()} | refused().
+new() ->
+    new(#{}).
+
+%% @doc Makes a replica. Refused: `bad_ring'.
+-spec new(options()) -> {ok, replica()} | refused().
+new(Options) ->
+    #{format := Format, bits := Bits, range := Range, limit := Limit} = with_defaults(Options, ?OPTIONS),
+    antientropy_nif:new(Format, Bits, Range, Limit).
+
+%% Options, with the default of each that isn't there. Others are `badarg'.
+with_defaults(Options, Defaults) when is_map(Options) ->
+    case maps:merge(Defaults, Options) of
+        Merged when map_size(Merged) =:= map_size(Defaults) -> Merged;
+        _ -> error(badarg)
+    end;
+with_defaults(_, _) ->
+    error(badarg).
+
+%% @doc Frees the memory. Later calls are refused as `empty'.
+%%
+%% The garbage collector frees a replica that is dropped, on a scheduler that then waits for it: close a large one.
+-spec close(replica()) -> ok.
+close(Replica) ->
+    antientropy_nif:close(Replica).
+
+%% @doc Renews a replica with room for 1,000,000 entries: see {@link renew/2}.
+-spec renew(replica()) -> {ok, replica()} | refused().
+renew(Replica) ->
+    renew(Replica, ?LIMIT).
+
+%% @doc Makes a new replica with the versions that are held: one entry for each, and no sessions.
+%%
+%% The old one is left unchanged: close it, and go on with the new one under the same node number. Refused: `bad_ring'
+%% (the limit), `journal_full' (more versions are held than the limit).
+-spec renew(replica(), Limit :: pos_integer()) -> {ok, replica()} | refused().
+renew(Replica, Limit) ->
+    antientropy_nif:renew(Replica, Limit).
+
+%% @doc Converts a replica of format 1 to format 2. All nodes become dirty, and open sessions are cancelled.
+-spec migrate(replica()) -> ok | refused().
+migrate(Replica) ->
+    antientropy_nif:migrate(Replica).
+
+%% @doc Returns the format, the bits of the ring, and the range.
+-spec info(replica()) -> {ok, Info} | refused() when
+    Info :: #{format := 1 | 2, bits := non_neg_integer(), range := non_neg_integer()}.
+info(Replica) ->
+    antientropy_nif:info(Replica).
+
+%% @doc Returns the counts of entries, dirty nodes and sessions.
+-spec count(replica()) -> {ok, Counts} | refused() when
+    Counts :: #{
+        entries := non_neg_integer(),
+        limit := pos_integer(),
+        dirty := non_neg_integer(),
+        sessions := non_neg_integer(),
+        open_sessions := non_neg_integer()
+    }.
+count(Replica) ->
+    antientropy_nif:count(Replica).
+
+%% ---- versions
+
+%% @doc Puts a value of a key that the client hasn't read: see {@link put/5}.
+-spec put(replica(), Node :: non_neg_integer(), Key :: binary(), value_like()) -> {ok, Receipt} | refused() when
+    Receipt :: #{number := non_neg_integer(), counter := pos_integer()}.
+put(Replica, Node, Key, Value) ->
+    antientropy_nif:put(Replica, Node, Key, Value, #{}).
+
+%% @doc Puts a value, or a tombstone, at a node. The context is the clock of all that the client has read.
+%%
+%% The new version replaces every held version whose clock is at most its clock. The receipt has the number of its
+%% entry, and the node's counter in its clock: `Context#{Node => Counter}'. Refused: `bad_clock', `clock_full',
+%% `bad_key', `bad_value', `other_range', `counter_full', `stale_context', `crowded', `journal_full'.
+-spec put(replica(), Node, Key :: binary(), value_like(), Context) -> {ok, Receipt} | refused() when
+    Node :: non_neg_integer(),
+    Context :: clock_like(),
+    Receipt :: #{number := non_neg_integer(), counter := pos_integer()}.
+put(Replica, Node, Key, Value, Context) ->
+    antientropy_nif:put(Replica, Node, Key, Value, Context).
+
+%% @doc Accepts a version of another replica, as a copy. Returns `known' if the replica had it.
+%%
+%% Refused: `bad_clock', `clock_full', `bad_key', `bad_value', `other_range', `crowded', `journal_full'.
+-spec accept(replica(), Key :: binary(), version_like()) -> {ok, new | known} | refused().
+accept(Replica, Key, Version) ->
+    antientropy_nif:accept(Replica, Key, Version).
+
+%% @doc Returns all versions held for a key, as they are at one moment. Several are concurrent.
+-spec get(replica(), Key :: binary()) -> {ok, [version()]} | refused().
+get(Replica, Key) ->
+    antientropy_nif:get(Replica, Key).
+
+%% @doc Returns one of the versions held for a key, by its index from 0. Refused: `no_version'.
+-spec read(replica(), Key :: binary(), Index :: non_neg_integer()) -> {ok, version()} | refused().
+read(Replica, Key, Index) ->
+    antientropy_nif:read(Replica, Key, Index).
+
+%% @doc Returns the number of versions held for a key.
+-spec count_versions(replica(), Key :: binary()) -> {ok, non_neg_integer()} | refused().
+count_versions(Replica, Key) ->
+    antientropy_nif:count_versions(Replica, Key).
+
+%% @doc Returns the value of one of the versions held for a key. Refused: `no_version'.
+-spec value(replica(), Key :: binary(), Index :: non_neg_integer()) -> {ok, value()} | refused().
+value(Replica, Key, Index) ->
+    antientropy_nif:value(Replica, Key, Index).
+
+%% @doc Returns the clock of one of the versions held for a key. Refused: `no_version'.
+-spec clock(replica(), Key :: binary(), Index :: non_neg_integer()) -> {ok, clock()} | refused().
+clock(Replica, Key, Index) ->
+    antientropy_nif:clock(Replica, Key, Index).
+
+%% @doc Returns the text of the row of a key (docs/FORMATS.md), or no bytes if none is held. Refused: `bad_key'.
+-spec row(replica(), Key :: binary()) -> {ok, Row :: binary()} | refused().
+row(Replica, Key) ->
+    antientropy_nif:row(Replica, Key).
+
+%% ---- keys and the journal
+
+%% @doc Returns the least key of a leaf above a key, or the first one for `<<>>'. Refused: `bad_message' (the tree has
+%% no such leaf), `no_version' (no key follows).
+-spec key_after(replica(), Leaf :: non_neg_integer(), Key :: binary()) -> {ok, Next :: binary()} | refused().
+key_after(Replica, Leaf, Key) ->
+    antientropy_nif:key_after(Replica, Leaf, Key).
+
+%% @doc Returns all keys, leaf by leaf.
+-spec keys(replica()) -> {ok, [binary()]} | refused().
+keys(Replica) ->
+    reversed(fold_keys(fun prepend/2, [], Replica)).
+
+%% @doc Returns the keys of a leaf in ascending order. Refused: `bad_message' (the tree has no such leaf).
+-spec keys(replica(), Leaf :: non_neg_integer()) -> {ok, [binary()]} | refused().
+keys(Replica, Leaf) ->
+    reversed(fold_leaf(fun prepend/2, [], Replica, Leaf, <<>>)).
+
+%% @doc Folds over the keys, leaf by leaf. Keys that are put meanwhile are met if they lie ahead.
+-spec fold_keys(fun((Key :: binary(), Acc) -> Acc), Acc, replica()) -> {ok, Acc} | refused().
+fold_keys(Fun, Acc, Replica) ->
+    fold_leaves(Fun, Acc, Replica, 0).
+
+fold_leaves(Fun, Acc, Replica, Leaf) ->
+    case fold_leaf(Fun, Acc, Replica, Leaf, <<>>) of
+        {ok, Next} -> fold_leaves(Fun, Next, Replica, Leaf + 1);
+        {error, bad_message} -> {ok, Acc};
+        Refused -> Refused
+    end.
+
+fold_leaf(Fun, Acc, Replica, Leaf, After) ->
+    case key_after(Replica, Leaf, After) of
+        {ok, Key} -> fold_leaf(Fun, Fun(Key, Acc), Replica, Leaf, Key);
+        {error, no_version} -> {ok, Acc};
+        Refused -> Refused
+    end.
+
+%% @doc Returns an entry of the journal, by its number from 0. Refused: `no_version'.
+-spec entry(replica(), Number :: non_neg_integer()) -> {ok, entry()} | refused().
+entry(Replica, Number) ->
+    antientropy_nif:entry(Replica, Number).
+
+%% @doc Returns the entries of the journal, from a number on.
+-spec entries(replica(), From :: non_neg_integer()) -> {ok, [entry()]} | refused().
+entries(Replica, From) ->
+    reversed(fold_entries(fun prepend/2, [], Replica, From)).
+
+%% @doc Folds over the entries of the journal, from a number on. Entries are never changed.
+-spec fold_entries(fun((entry(), Acc) -> Acc), Acc, replica(), From :: non_neg_integer()) -> {ok, Acc} | refused().
+fold_entries(Fun, Acc, Replica, From) ->
+    case entry(Replica, From) of
+        {ok, Entry} -> fold_entries(Fun, Fun(Entry, Acc), Replica, From + 1);
+        {error, no_version} -> {ok, Acc};
+        Refused -> Refused
+    end.
+
+prepend(Item, Items) -> [Item | Items].
+
+reversed({ok, Items}) -> {ok, lists:reverse(Items)};
+reversed(Refused) -> Refused.
+
+%% ---- the tree, snapshots and checkpoints
+
+%% @doc Hashes all nodes of the tree that have no digest.
+-spec rehash(replica()) -> ok | refused().
+rehash(Replica) ->
+    antientropy_nif:rehash(Replica).
+
+%% @doc Hashes at most so many nodes, and returns the number of those that then have no digest.
+%%
+%% A program that repeats it until that is 0 lets other calls between.
+-spec rehash_some(replica(), Most :: non_neg_integer()) -> {ok, Left :: non_neg_integer()} | refused().
+rehash_some(Replica, Most) ->
+    antientropy_nif:rehash_some(Replica, Most).
+
+%% @doc Returns the digest of the root now. Replicas of a range with equal roots hold the same versions.
+-spec root(replica()) -> {ok, Root :: binary()} | refused().
+root(Replica) ->
+    case snapshot(Replica) of
+        {ok, Snapshot} -> closed(Snapshot, antientropy_snapshot:root(Snapshot));
+        Refused -> Refused
+    end.
+
+%% @doc Rehashes, and returns a snapshot of the rows now.
+-spec snapshot(replica()) -> {ok, antientropy_snapshot:snapshot()} | refused().
+snapshot(Replica) ->
+    antientropy_nif:snapshot(Replica, true).
+
+%% @doc Returns a snapshot of the rows now. Refused: `dirty' (a node has no digest, and `rehash' is false).
+-spec snapshot(replica(), #{rehash => boolean()}) -> {ok, antientropy_snapshot:snapshot()} | refused().
+snapshot(Replica, Options) ->
+    #{rehash := Rehash} = with_defaults(Options, #{rehash => true}),
+    antientropy_nif:snapshot(Replica, Rehash).
+
+%% @doc Accepts all versions in rows of one leaf as copies, or none.
+%%
+%% {@link row/2} and {@link antientropy_snapshot:rows/2} return such rows.
+%%
+%% Refused: `{row_broken, Offset}', where the offset is that of the broken field in bytes, `other_range', `crowded',
+%% `journal_full'.
+-spec load_rows(replica(), Rows :: iodata()) -> {ok, Loaded} | refused() | {error, {row_broken, Offset}} when
+    Loaded :: #{new := non_neg_integer(), known := non_neg_integer()},
+    Offset :: non_neg_integer().
+load_rows(Replica, Rows) ->
+    antientropy_nif:load_rows(Replica, Rows).
+
+%% @doc Writes a checkpoint of the rows now (docs/FORMATS.md), and returns the number of entries that it covers.
+%%
+%% Other processes may put meanwhile. The file is open for writing in mode `binary'; the caller brings it to its disk.
+-spec save(replica(), file:io_device()) ->
+    {ok, Entries :: non_neg_integer()} | refused() | antientropy_checkpoint:failed().
+save(Replica, File) ->
+    case snapshot(Replica) of
+        {ok, Snapshot} -> closed(Snapshot, save_all(Snapshot, File));
+        Refused -> Refused
+    end.
+
+save_all(Snapshot, File) ->
+    case antientropy_snapshot:save(Snapshot, File) of
+        ok ->
+            {ok, #{entries := Entries}} = antientropy_snapshot:info(Snapshot),
+            {ok, Entries};
+        Failed ->
+            Failed
+    end.
+
+closed(Snapshot, Result) ->
+    ok = antientropy_snapshot:close(Snapshot),
+    Result.
+
+%% @doc Loads a checkpoint, with room for 1,000,000 entries: see {@link load/2}.
+-spec load(file:io_device()) -> {ok, replica()} | refused() | antientropy_checkpoint:failed().
+load(File) ->
+    load(File, ?LIMIT).
+
+%% @doc Makes a replica with the rows of a checkpoint. The file is open for reading in mode `binary'.
+%%
+%% The root finds damage, but no forged file. Check {@link info/1} against the configuration. Refused: `bad_ring' (the
+%% limit, or the bits and the range of the file), `journal_full'.
+-spec load(file:io_device(), Limit :: pos_integer()) ->
+    {ok, replica()} | refused() | antientropy_checkpoint:failed().
+load(File, Limit) ->
+    antientropy_checkpoint:read(File, Limit).
+
+%% ---- sessions
+
+%% @doc Rehashes, and opens a session with a partner's offer: see {@link antientropy_session}.
+%%
+%% A session is never freed before its replica, so compare roots first. Refused: `bad_message', `other_format',
+%% `other_range', `sessions_full'.
+-spec open(replica(), Partner :: non_neg_integer(), Offer :: iodata()) ->
+    {ok, antientropy_session:session()} | refused().
+open(Replica, Partner, Offer) ->
+    open(Replica, Partner, Offer, #{}).
+
+%% @doc Opens a session as {@link open/3} does. Refused also: `dirty' (a node has no digest, and `rehash' is false).
+-spec open(replica(), Partner :: non_neg_integer(), Offer :: iodata(), #{rehash => boolean()}) ->
+    {ok, antientropy_session:session()} | refused().
+open(Replica, Partner, Offer, Options) ->
+    #{rehash := Rehash} = with_defaults(Options, #{rehash => true}),
+    antientropy_session:open(Replica, Partner, Offer, Rehash).
+
+%% @doc Syncs with 256 asks at once and at most 8 bad answers: see {@link sync/5}.
+-spec sync(replica(), Partner :: non_neg_integer(), Offer :: iodata(), antientropy_sync:reach()) ->
+    {ok, antientropy_sync:synced()} | refused().
+sync(Replica, Partner, Offer, Reach) ->
+    sync(Replica, Partner, Offer, Reach, #{}).
+
+%% @doc Takes the versions of a partner's offer that a replica lacks. If the roots are equal it asks nothing.
+%%
+%% `Reach' sends at most `in_flight' asks to the partner, and returns the answers in their order. After more than
+%% `most_bad' bad or missing answers the sync ends unfinished. A leaf with a crowded key is left. Refused: what {@link
+%% open/3} refuses, `not_canonical', `journal_full'.
+-spec sync(replica(), Partner :: non_neg_integer(), Offer :: iodata(), antientropy_sync:reach(), Bounds) ->
+    {ok, antientropy_sync:synced()} | refused() when
+    Bounds :: #{in_flight => pos_integer(), most_bad => non_neg_integer()}.
+sync(Replica, Partner, Offer, Reach, Bounds) ->
+    antientropy_sync:sync(Replica, Partner, Offer, Reach, with_defaults(Bounds, #{in_flight => 256, most_bad => 8})).

@@ -1,0 +1,88 @@
+%% @doc Hints: versions that a node carries for replicas that are down. A hint is of no range.
+-module(antientropy_hints).
+
+-export([new/0, close/1, keep/4, next/3, hint/2, pending/2, fold/4, confirm/3, renew/1, count/1]).
+
+-export_type([hints/0, hint/0]).
+
+-type hints() :: reference().
+-type hint() :: #{
+    number := pos_integer(),
+    owner := pos_integer(),
+    key := binary(),
+    clock := antientropy:clock(),
+    value := antientropy:value()
+}.
+
+%% @doc Makes an empty store of hints.
+-spec new() -> {ok, hints()} | antientropy:refused().
+new() ->
+    antientropy_nif:hints_new().
+
+%% @doc Frees the memory. Later calls are refused as `empty'.
+-spec close(hints()) -> ok.
+close(Hints) ->
+    antientropy_nif:hints_close(Hints).
+
+%% @doc Keeps a version for its owner, a node that is down. Returns the number of the hint, from 1.
+%%
+%% Refused: `bad_clock' (also if the owner is 0), `clock_full', `bad_key', `bad_value', `hints_full'.
+-spec keep(hints(), Owner :: non_neg_integer(), Key :: binary(), antientropy:version_like()) ->
+    {ok, Number :: pos_integer()} | antientropy:refused().
+keep(Hints, Owner, Key, Version) ->
+    antientropy_nif:hint_keep(Hints, Owner, Key, Version).
+
+%% @doc Returns the number of the owner's first pending hint over `After': 0 gives the first. Refused: `no_version'.
+-spec next(hints(), Owner :: non_neg_integer(), After :: non_neg_integer()) ->
+    {ok, Number :: pos_integer()} | antientropy:refused().
+next(Hints, Owner, After) ->
+    antientropy_nif:hint_next(Hints, Owner, After).
+
+%% @doc Returns a hint, pending or delivered. Refused: `no_version'.
+-spec hint(hints(), Number :: non_neg_integer()) -> {ok, hint()} | antientropy:refused().
+hint(Hints, Number) ->
+    antientropy_nif:hint(Hints, Number).
+
+%% @doc Returns the pending hints of an owner in order.
+-spec pending(hints(), Owner :: non_neg_integer()) -> {ok, [hint()]} | antientropy:refused().
+pending(Hints, Owner) ->
+    case fold(fun(Hint, Found) -> [Hint | Found] end, [], Hints, Owner) of
+        {ok, Found} -> {ok, lists:reverse(Found)};
+        Refused -> Refused
+    end.
+
+%% @doc Folds over the pending hints of an owner in order. Confirm them on the way, but don't renew.
+-spec fold(fun((hint(), Acc) -> Acc), Acc, hints(), Owner :: non_neg_integer()) -> {ok, Acc} | antientropy:refused().
+fold(Fun, Acc, Hints, Owner) ->
+    fold_after(Fun, Acc, Hints, Owner, 0).
+
+fold_after(Fun, Acc, Hints, Owner, After) ->
+    case next(Hints, Owner, After) of
+        {ok, Number} ->
+            case hint(Hints, Number) of
+                {ok, Hint} -> fold_after(Fun, Fun(Hint, Acc), Hints, Owner, Number);
+                Refused -> Refused
+            end;
+        {error, no_version} ->
+            {ok, Acc};
+        Refused ->
+            Refused
+    end.
+
+%% @doc Ends the wait of a pending hint, after its owner has the version on its disk. Refused: `unknown_hint'.
+%%
+%% The outcome is what the owner's {@link antientropy:accept/3} returned.
+-spec confirm(hints(), Number :: non_neg_integer(), Outcome :: new | known) -> ok | antientropy:refused().
+confirm(Hints, Number, Outcome) ->
+    antientropy_nif:hint_confirm(Hints, Number, Outcome).
+
+%% @doc Drops the delivered hints, and numbers the pending ones anew from 1, in order.
+-spec renew(hints()) -> ok | antientropy:refused().
+renew(Hints) ->
+    antientropy_nif:hints_renew(Hints).
+
+%% @doc Returns the counts of pending and of delivered hints.
+-spec count(hints()) -> {ok, Counts} | antientropy:refused() when
+    Counts :: #{pending := non_neg_integer(), delivered := non_neg_integer()}.
+count(Hints) ->
+    antientropy_nif:hints_count(Hints).

@@ -1,0 +1,79 @@
+%% @private
+%% @doc The functions of the NIF library, whose sources are in c_src. The other modules have types and comments for them.
+-module(antientropy_nif).
+-on_load(load/0).
+
+-export([
+    version/0, name/1, place/3, compare/2, merge/2, read_offer/1, new/4, close/1, renew/2, migrate/1, info/1,
+    count/1, rehash/1, rehash_some/2, load_rows/2, put/5, accept/3, get/2, read/3, count_versions/2, value/3,
+    clock/3, row/2, key_after/3, entry/2, snapshot/2, snapshot_close/1, snapshot_info/1, root/1, offer/2,
+    serve/3, rows/2, open/4, session/2, outstanding/2, ask/3, ask_at/4, asks/3, take/4, cancel/2,
+    hints_new/0, hints_close/1, hint_keep/4, hint_next/3, hint/2, hint_confirm/3, hints_renew/1,
+    hints_count/1, slots_new/3, slots_close/1, slot_lend/1, slot_give_back/1, slots_sample/3, slots_adjust/2,
+    slots_set_target/2, slots_count/1
+]).
+
+-define(NOT_LOADED, erlang:nif_error(not_loaded)).
+
+load() ->
+    case code:priv_dir(antientropy) of
+        {error, bad_name} -> {error, "the code path has no application antientropy"};
+        Folder -> erlang:load_nif(filename:join(Folder, "antientropy_nif"), 0)
+    end.
+
+version() -> ?NOT_LOADED.
+name(_Number) -> ?NOT_LOADED.
+place(_Format, _Bits, _Key) -> ?NOT_LOADED.
+compare(_First, _Second) -> ?NOT_LOADED.
+merge(_First, _Second) -> ?NOT_LOADED.
+read_offer(_Offer) -> ?NOT_LOADED.
+new(_Format, _Bits, _Range, _Limit) -> ?NOT_LOADED.
+close(_Replica) -> ?NOT_LOADED.
+renew(_Replica, _Limit) -> ?NOT_LOADED.
+migrate(_Replica) -> ?NOT_LOADED.
+info(_Replica) -> ?NOT_LOADED.
+count(_Replica) -> ?NOT_LOADED.
+rehash(_Replica) -> ?NOT_LOADED.
+rehash_some(_Replica, _Most) -> ?NOT_LOADED.
+load_rows(_Replica, _Rows) -> ?NOT_LOADED.
+put(_Replica, _Node, _Key, _Value, _Context) -> ?NOT_LOADED.
+accept(_Replica, _Key, _Version) -> ?NOT_LOADED.
+get(_Replica, _Key) -> ?NOT_LOADED.
+read(_Replica, _Key, _Index) -> ?NOT_LOADED.
+count_versions(_Replica, _Key) -> ?NOT_LOADED.
+value(_Replica, _Key, _Index) -> ?NOT_LOADED.
+clock(_Replica, _Key, _Index) -> ?NOT_LOADED.
+row(_Replica, _Key) -> ?NOT_LOADED.
+key_after(_Replica, _Leaf, _Key) -> ?NOT_LOADED.
+entry(_Replica, _Number) -> ?NOT_LOADED.
+snapshot(_Replica, _Rehash) -> ?NOT_LOADED.
+snapshot_close(_Snapshot) -> ?NOT_LOADED.
+snapshot_info(_Snapshot) -> ?NOT_LOADED.
+root(_Snapshot) -> ?NOT_LOADED.
+offer(_Snapshot, _Number) -> ?NOT_LOADED.
+serve(_Snapshot, _Number, _Ask) -> ?NOT_LOADED.
+rows(_Snapshot, _Leaf) -> ?NOT_LOADED.
+open(_Replica, _Partner, _Offer, _Rehash) -> ?NOT_LOADED.
+session(_Replica, _Session) -> ?NOT_LOADED.
+outstanding(_Replica, _Session) -> ?NOT_LOADED.
+ask(_Replica, _Session, _Number) -> ?NOT_LOADED.
+ask_at(_Replica, _Session, _Place, _Number) -> ?NOT_LOADED.
+asks(_Replica, _Session, _Number) -> ?NOT_LOADED.
+take(_Replica, _Session, _Number, _Answer) -> ?NOT_LOADED.
+cancel(_Replica, _Session) -> ?NOT_LOADED.
+hints_new() -> ?NOT_LOADED.
+hints_close(_Hints) -> ?NOT_LOADED.
+hint_keep(_Hints, _Owner, _Key, _Version) -> ?NOT_LOADED.
+hint_next(_Hints, _Owner, _After) -> ?NOT_LOADED.
+hint(_Hints, _Number) -> ?NOT_LOADED.
+hint_confirm(_Hints, _Number, _Outcome) -> ?NOT_LOADED.
+hints_renew(_Hints) -> ?NOT_LOADED.
+hints_count(_Hints) -> ?NOT_LOADED.
+slots_new(_Floor, _Ceiling, _Threshold) -> ?NOT_LOADED.
+slots_close(_Slots) -> ?NOT_LOADED.
+slot_lend(_Slots) -> ?NOT_LOADED.
+slot_give_back(_Slots) -> ?NOT_LOADED.
+slots_sample(_Slots, _Moment, _Micros) -> ?NOT_LOADED.
+slots_adjust(_Slots, _Now) -> ?NOT_LOADED.
+slots_set_target(_Slots, _Target) -> ?NOT_LOADED.
+slots_count(_Slots) -> ?NOT_LOADED.

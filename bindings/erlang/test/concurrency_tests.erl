@@ -1,0 +1,222 @@
+%% Several processes with one replica.
+-module(concurrency_tests).
+
+-include_lib("eunit/include/eunit.hrl").
+
+-import(support, [replica/0, reach/2]).
+
+-define(WRITERS, 4).
+-define(PUTS, 500).
+%% Values of so many keys take some tenths of a second to hash.
+-define(LARGE_KEYS, 500).
+-define(LARGE_VALUE, binary:copy(<<"v">>, 65_536)).
+
+processes_share_a_replica_test_() ->
+    {timeout, 60, fun() ->
+        Replica = replica(),
+        Copy = replica(),
+        Writers = [spawn_monitor(fun() -> write(Replica, Node) end) || Node <- lists:seq(1, ?WRITERS)],
+        sync_while(Writers, Copy, Replica),
+        support:sync(Copy, Replica),
+        ?assertMatch({ok, #{entries := ?WRITERS * ?PUTS}}, antientropy:count(Replica)),
+        ?assertEqual(antientropy:root(Replica), antientropy:root(Copy))
+    end}.
+
+%% Puts keys at a node, and reads each.
+write(Replica, Node) ->
+    [
+        begin
+            Key = <<Node, Number:16>>,
+            {ok, _} = antientropy:put(Replica, Node, Key, Key),
+            {ok, [#{value := Key}]} = antientropy:get(Replica, Key)
+        end
+     || Number <- lists:seq(1, ?PUTS)
+    ].
+
+%% Syncs a copy until the writers have ended.
+sync_while([], _, _) ->
+    ok;
+sync_while([{Writer, Monitor} | Writers], Copy, Replica) ->
+    ?assertMatch(#{state := finished}, support:sync(Copy, Replica)),
+    receive
+        {'DOWN', Monitor, process, Writer, Reason} ->
+            ?assertEqual(normal, Reason),
+            sync_while(Writers, Copy, Replica)
+    after 0 -> sync_while([{Writer, Monitor} | Writers], Copy, Replica)
+    end.
+
+a_process_serves_a_snapshot_test() ->
+    Replica = replica(),
+    Copy = replica(),
+    write(Replica, 1),
+    {ok, Snapshot} = antientropy:snapshot(Replica),
+    {ok, Offer} = antientropy_snapshot:offer(Snapshot, 1),
+    Syncing = async(fun() -> antientropy:sync(Copy, 1, Offer, reach(Snapshot, 1)) end),
+    write(Replica, 2),
+    ?assertMatch({ok, #{state := finished, accepted := ?PUTS}}, await(Syncing)),
+    ?assertEqual(antientropy_snapshot:root(Snapshot), antientropy:root(Copy)).
+
+%% A replica whose rehash takes long, in a node with one normal scheduler.
+long_calls_test_() ->
+    {timeout, 120, {setup, fun setup/0, fun cleanup/1, fun({Replica, _}) ->
+        {inorder, [
+            {timeout, 60, fun() -> a_scheduler_is_not_blocked(Replica) end},
+            {timeout, 60, fun long_texts_go_elsewhere/0},
+            {timeout, 60, fun() -> processes_wait(Replica) end},
+            {timeout, 60, fun() -> a_snapshot_does_not_wait(Replica) end},
+            {timeout, 60, fun() -> a_process_is_killed(Replica) end},
+            {timeout, 60, fun() -> close_meanwhile(Replica) end}
+        ]}
+    end}}.
+
+setup() ->
+    Replica = replica(),
+    Schedulers = erlang:system_flag(schedulers_online, 1),
+    {Replica, Schedulers}.
+
+cleanup({Replica, Schedulers}) ->
+    erlang:system_flag(schedulers_online, Schedulers),
+    ok = antientropy:close(Replica).
+
+%% Makes all rows dirty that have large values, and starts a rehash: it has the lock when this returns.
+start_rehash(Replica) ->
+    [
+        begin
+            Key = support:key(Number),
+            {ok, Versions} = antientropy:get(Replica, Key),
+            {ok, Context} = antientropy:merge([Clock || #{clock := Clock} <- Versions]),
+            {ok, _} = antientropy:put(Replica, 1, Key, ?LARGE_VALUE, Context)
+        end
+     || Number <- lists:seq(1, ?LARGE_KEYS)
+    ],
+    {Process, _} = Rehash = async(fun() -> antientropy:rehash(Replica) end),
+    wait_until_running(Process),
+    Rehash.
+
+%% Waits until a process runs. The only normal scheduler runs this one, so that is on a dirty scheduler.
+wait_until_running(Process) ->
+    timer:sleep(1),
+    case process_info(Process, status) of
+        {status, running} -> timer:sleep(1);
+        {status, _} -> wait_until_running(Process)
+    end.
+
+%% A process waits for the lock, and another goes on meanwhile on the only scheduler.
+a_scheduler_is_not_blocked(Replica) ->
+    Rehash = start_rehash(Replica),
+    {Micros, {Ticked, Result}} = timer:tc(fun() -> ticks(fun() -> antientropy:count(Replica) end) end),
+    ?assertMatch({ok, #{dirty := 0}}, Result),
+    ?assert(Micros > 10_000),
+    ?assert(Ticked > 1000),
+    ?assertEqual(ok, await(Rehash)).
+
+%% Calls with texts of 4 MiB let another process run meanwhile: it runs at least once.
+long_texts_go_elsewhere() ->
+    Replica = replica(),
+    Copy = replica(),
+    [{ok, _} = antientropy:put(Replica, Node, <<"great">>, ?LARGE_VALUE) || Node <- lists:seq(1, 64)],
+    {ok, #{leaf := Leaf}} = antientropy:place(2, 0, <<"great">>),
+    {ok, Snapshot} = antientropy:snapshot(Replica),
+    {ok, Offer} = antientropy_snapshot:offer(Snapshot, 1),
+    {ok, Session} = antientropy:open(Copy, 1, Offer),
+    Answer = last_answer(Session, Snapshot),
+    {ok, _} = elsewhere(fun() -> antientropy:get(Replica, <<"great">>) end),
+    {ok, Row} = elsewhere(fun() -> antientropy:row(Replica, <<"great">>) end),
+    {ok, Row} = elsewhere(fun() -> antientropy_snapshot:rows(Snapshot, Leaf) end),
+    {ok, Answer} = elsewhere(fun() -> antientropy_snapshot:serve(Snapshot, 1, <<2, 1:32, 3, Leaf:16>>) end),
+    {ok, #{accepted := 64}} = elsewhere(fun() -> antientropy_session:take(Session, Answer) end),
+    {ok, #{known := 64}} = elsewhere(fun() -> antientropy:load_rows(Copy, Row) end).
+
+elsewhere(Call) ->
+    {Ticked, Result} = ticks(Call),
+    ?assert(Ticked > 0),
+    Result.
+
+%% Takes all answers but the last, that of the leaf, which it returns.
+last_answer(Session, Snapshot) ->
+    {ok, <<_:5/binary, Depth, _/binary>> = Ask} = antientropy_session:ask(Session),
+    {ok, Answer} = antientropy_snapshot:serve(Snapshot, 1, Ask),
+    case Depth of
+        3 ->
+            Answer;
+        _ ->
+            {ok, _} = antientropy_session:take(Session, Answer),
+            last_answer(Session, Snapshot)
+    end.
+
+%% Makes a call, and returns how often another process ran meanwhile, with the result.
+ticks(Call) ->
+    Ticks = counters:new(1, []),
+    Ticker = spawn_link(fun() -> tick(Ticks) end),
+    erlang:yield(),
+    Before = counters:get(Ticks, 1),
+    Result = Call(),
+    After = counters:get(Ticks, 1),
+    unlink(Ticker),
+    exit(Ticker, kill),
+    {After - Before, Result}.
+
+tick(Ticks) ->
+    counters:add(Ticks, 1, 1),
+    erlang:yield(),
+    tick(Ticks).
+
+%% Many processes wait at once, for calls of each kind.
+processes_wait(Replica) ->
+    Rehash = start_rehash(Replica),
+    Calls = [
+        fun() -> antientropy:put(Replica, 2, <<"mine">>, <<>>) end,
+        fun() -> antientropy:get(Replica, support:key(1)) end,
+        fun() -> antientropy:accept(Replica, <<"theirs">>, #{clock => #{3 => 1}, value => <<>>}) end,
+        fun() -> antientropy:root(Replica) end
+        | [fun() -> antientropy:count(Replica) end || _ <- lists:seq(1, 30)]
+    ],
+    Waiting = [async(Call) || Call <- Calls],
+    [?assertMatch({ok, _}, await(Call)) || Call <- Waiting],
+    ?assertEqual(ok, await(Rehash)),
+    support:badarg(fun() -> antientropy:put(Replica, 2, none, <<>>) end).
+
+%% A snapshot has a lock of its own.
+a_snapshot_does_not_wait(Replica) ->
+    {ok, Snapshot} = antientropy:snapshot(Replica),
+    Rehash = start_rehash(Replica),
+    ?assertMatch({ok, _}, antientropy_snapshot:offer(Snapshot, 1)),
+    ?assertEqual(pending, peek(Rehash)),
+    ?assertEqual(ok, await(Rehash)).
+
+%% A process that is killed in a call doesn't keep the lock.
+a_process_is_killed(Replica) ->
+    {Rehashing, Monitor} = start_rehash(Replica),
+    {Waiting, _} = async(fun() -> antientropy:count(Replica) end),
+    exit(Rehashing, kill),
+    exit(Waiting, kill),
+    receive
+        {'DOWN', Monitor, process, Rehashing, Reason} -> ?assertEqual(killed, Reason)
+    end,
+    ?assertMatch({ok, #{dirty := 0}}, antientropy:count(Replica)).
+
+%% Calls that wait meanwhile find the replica or nothing.
+close_meanwhile(Replica) ->
+    Rehash = start_rehash(Replica),
+    Closing = async(fun() -> antientropy:close(Replica) end),
+    Counting = [async(fun() -> antientropy:count(Replica) end) || _ <- lists:seq(1, 4)],
+    ?assertEqual(ok, await(Rehash)),
+    ?assertEqual(ok, await(Closing)),
+    [?assert(lists:member(element(1, await(Call)), [ok, error])) || Call <- Counting],
+    ?assertEqual({error, empty}, antientropy:count(Replica)).
+
+%% Makes a call in another process.
+async(Call) ->
+    spawn_monitor(fun() -> exit({result, Call()}) end).
+
+await({Process, Monitor}) ->
+    receive
+        {'DOWN', Monitor, process, Process, {result, Result}} -> Result
+    end.
+
+%% Returns `pending' if the call goes on.
+peek({Process, _}) ->
+    case is_process_alive(Process) of
+        true -> pending;
+        false -> ended
+    end.

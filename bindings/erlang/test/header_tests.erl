@@ -1,0 +1,150 @@
+%% The binding has each call, refusal and number of the header.
+-module(header_tests).
+
+-include_lib("eunit/include/eunit.hrl").
+
+-define(HEADER, "../../include/antientropy.h").
+
+%% The function for each call of the header.
+-define(FUNCTIONS, #{
+    "version" => {antientropy, version, 0},
+    "name" => {antientropy, name, 1},
+    "place" => {antientropy, place, 3},
+    "new" => {antientropy, new, 1},
+    "free" => {antientropy, close, 1},
+    "renew" => {antientropy, renew, 2},
+    "migrate" => {antientropy, migrate, 1},
+    "count" => {antientropy, count, 1},
+    "put" => {antientropy, put, 5},
+    "accept" => {antientropy, accept, 3},
+    "get" => {antientropy, row, 2},
+    "versions" => {antientropy, count_versions, 2},
+    "value" => {antientropy, value, 3},
+    "clock" => {antientropy, clock, 3},
+    "read" => {antientropy, read, 3},
+    "key_after" => {antientropy, key_after, 3},
+    "compare" => {antientropy, compare, 2},
+    "merge" => {antientropy, merge, 1},
+    "entry_key" => {antientropy, entry, 2},
+    "entry_value" => {antientropy, entry, 2},
+    "entry_clock" => {antientropy, entry, 2},
+    "entry_source" => {antientropy, entry, 2},
+    "rehash" => {antientropy, rehash, 1},
+    "rehash_some" => {antientropy, rehash_some, 2},
+    "snapshot" => {antientropy, snapshot, 2},
+    "snapshot_free" => {antientropy_snapshot, close, 1},
+    "root" => {antientropy_snapshot, root, 1},
+    "offer" => {antientropy_snapshot, offer, 2},
+    "read_offer" => {antientropy, read_offer, 1},
+    "serve" => {antientropy_snapshot, serve, 3},
+    "rows" => {antientropy_snapshot, rows, 2},
+    "load" => {antientropy, load_rows, 2},
+    "open" => {antientropy, open, 4},
+    "outstanding" => {antientropy_session, outstanding, 1},
+    "ask_at" => {antientropy_session, ask_at, 2},
+    "ask" => {antientropy_session, ask, 1},
+    "take" => {antientropy_session, take, 2},
+    "cancel" => {antientropy_session, cancel, 1},
+    "session" => {antientropy_session, state, 1},
+    "hints_new" => {antientropy_hints, new, 0},
+    "hints_free" => {antientropy_hints, close, 1},
+    "hint_keep" => {antientropy_hints, keep, 4},
+    "hint_next" => {antientropy_hints, next, 3},
+    "hint_owner" => {antientropy_hints, hint, 2},
+    "hint_key" => {antientropy_hints, hint, 2},
+    "hint_value" => {antientropy_hints, hint, 2},
+    "hint_clock" => {antientropy_hints, hint, 2},
+    "hint_confirm" => {antientropy_hints, confirm, 3},
+    "hints_renew" => {antientropy_hints, renew, 1},
+    "hints_count" => {antientropy_hints, count, 1},
+    "slots_new" => {antientropy_slots, new, 3},
+    "slots_free" => {antientropy_slots, close, 1},
+    "slot_lend" => {antientropy_slots, lend, 1},
+    "slot_give_back" => {antientropy_slots, give_back, 1},
+    "slots_sample" => {antientropy_slots, sample, 3},
+    "slots_adjust" => {antientropy_slots, adjust, 2},
+    "slots_set_target" => {antientropy_slots, set_target, 2},
+    "slots_count" => {antientropy_slots, count, 1}
+}).
+
+calls_have_functions_test() ->
+    ?assertEqual(declared(), lists:sort(maps:keys(?FUNCTIONS))),
+    [?assert(is_exported(Function)) || Function <- maps:values(?FUNCTIONS)].
+
+calls_are_made_test() ->
+    Sources = [text(File) || File <- filelib:wildcard("c_src/*.c")],
+    ?assertEqual(declared(), found(Sources, "\\bantientropy_(\\w+)\\(")).
+
+%% The functions of the module antientropy_nif are those of c_src/calls.h.
+functions_of_the_nif_library_test() ->
+    {match, Found} = re:run(text("c_src/calls.h"), "X\\((\\w+), (\\d), \\w+\\)", [global, {capture, [1, 2], list}]),
+    Calls = [{list_to_atom(Name), list_to_integer(Arity)} || [Name, Arity] <- Found],
+    ?assertEqual(lists:sort(Calls), lists:sort(antientropy_nif:module_info(exports) -- module_info_functions())).
+
+refusals_have_the_names_of_the_header_test() ->
+    {match, [Causes]} = re:run(text(?HEADER), "enum \\{\\s*ANTIENTROPY_OK = 0,(.*?)\\};", [
+        dotall, {capture, [1], list}
+    ]),
+    Numbers = numbers(Causes),
+    ?assert(length(Numbers) >= 29),
+    [
+        ?assertEqual(list_to_atom(string:lowercase(Name)), antientropy:name(list_to_integer(Number)))
+     || [Name, Number] <- Numbers
+    ].
+
+%% The leaves that a checkpoint has are those of the header.
+leaves_test() ->
+    Text = text(?HEADER),
+    [
+        begin
+            Macro = "#define ANTIENTROPY_LEAVES_" ++ integer_to_list(Format) ++ " (\\d+)",
+            {match, [Leaves]} = re:run(Text, Macro, [{capture, [1], list}]),
+            {ok, Snapshot} = antientropy:snapshot(support:replica(#{format => Format})),
+            ?assertEqual({ok, <<>>}, antientropy_snapshot:rows(Snapshot, list_to_integer(Leaves) - 1)),
+            ?assertEqual({error, bad_message}, antientropy_snapshot:rows(Snapshot, list_to_integer(Leaves)))
+        end
+     || Format <- [1, 2]
+    ].
+
+%% Each exported function has a type and a comment for its page.
+pages_test() ->
+    [
+        ?assertEqual([], without_page(Module))
+     || Module <- modules(), Module =/= antientropy_nif
+    ].
+
+without_page(Module) ->
+    Text = text(filename:join("src", atom_to_list(Module) ++ ".erl")),
+    Paged = found([Text], "(?m)^%% @doc (?:[^\\n]*\\n)(?:%%[^\\n]*\\n)*-spec (\\w+)\\("),
+    Exported = Module:module_info(exports) -- module_info_functions(),
+    lists:usort([Name || {Name, _} <- Exported]) -- [list_to_atom(Name) || Name <- Paged].
+
+modules() ->
+    {ok, _} = application:ensure_all_started(antientropy),
+    {ok, Modules} = application:get_key(antientropy, modules),
+    Modules.
+
+module_info_functions() ->
+    [{module_info, 0}, {module_info, 1}].
+
+is_exported({Module, Function, Arity}) ->
+    {module, Module} = code:ensure_loaded(Module),
+    erlang:function_exported(Module, Function, Arity).
+
+%% The names of the calls in the header.
+declared() ->
+    found([text(?HEADER)], "(?m)^(?:uint32_t|void) antientropy_(\\w+)\\(").
+
+%% The first group of each match, sorted.
+found(Texts, Pattern) ->
+    {match, Found} = re:run(Texts, Pattern, [global, {capture, [1], list}]),
+    lists:usort(lists:append(Found)).
+
+numbers(Text) ->
+    {match, Numbers} = re:run(Text, "ANTIENTROPY_(\\w+) = (\\d+)", [global, {capture, [1, 2], list}]),
+    Numbers.
+
+%% The text of a file without its comments of C.
+text(File) ->
+    {ok, Text} = file:read_file(File),
+    re:replace(Text, "/\\*.*?\\*/", "", [global, dotall, {return, list}]).

@@ -1,0 +1,95 @@
+%% Handles that nobody closed are freed, and results don't leak.
+-module(memory_tests).
+
+-include_lib("eunit/include/eunit.hrl").
+
+-import(support, [replica/0, live/2]).
+
+-define(MIB, (1 bsl 20)).
+-define(VALUE, binary:copy(<<"v">>, 65_536)).
+
+replicas_and_snapshots_test_() ->
+    freed(4 * ?MIB, fun() ->
+        Replica = replica(),
+        [{ok, _} = antientropy:put(Replica, 1, <<Key>>, ?VALUE) || Key <- lists:seq(1, 64)],
+        {ok, Snapshot} = antientropy:snapshot(Replica),
+        {ok, _} = antientropy_snapshot:root(Snapshot)
+    end).
+
+closed_replicas_test_() ->
+    freed(4 * ?MIB, fun() ->
+        Replica = replica(),
+        [{ok, _} = antientropy:put(Replica, 1, <<Key>>, ?VALUE) || Key <- lists:seq(1, 64)],
+        ok = antientropy:close(Replica)
+    end).
+
+hints_test_() ->
+    freed(65_536, fun() ->
+        {ok, Hints} = antientropy_hints:new(),
+        {ok, _} = antientropy_hints:keep(Hints, 1, <<"key">>, live(#{1 => 1}, ?VALUE)),
+        {ok, _} = antientropy_hints:hint(Hints, 1)
+    end).
+
+slots_test_() ->
+    freed(20_480, fun() ->
+        {ok, Slots} = antientropy_slots:new(1, 4, 1),
+        ok = antientropy_slots:lend(Slots)
+    end).
+
+%% Results and refusals of one replica.
+results_test_() ->
+    Replica = replica(),
+    {ok, _} = antientropy:put(Replica, 1, <<"k">>, ?VALUE),
+    {ok, Snapshot} = antientropy:snapshot(Replica),
+    {ok, #{leaf := Leaf}} = antientropy:place(2, 0, <<"k">>),
+    freed(65_536, fun() ->
+        {ok, [_]} = antientropy:get(Replica, <<"k">>),
+        {ok, _} = antientropy:value(Replica, <<"k">>, 0),
+        {ok, _} = antientropy:row(Replica, <<"k">>),
+        {ok, _} = antientropy:entry(Replica, 0),
+        {ok, _} = antientropy_snapshot:rows(Snapshot, Leaf),
+        {ok, _} = antientropy_snapshot:serve(Snapshot, 1, <<2, 1:32, 3, Leaf:16>>)
+    end).
+
+%% Clocks with memory of their own, refused and of wrong types.
+long_clocks_test_() ->
+    Replica = replica(),
+    Pairs = [{Node, 1} || Node <- lists:seq(1, 1024)],
+    Version = live(Pairs, <<>>),
+    Wrong = live(Pairs ++ [none], <<>>),
+    {ok, Hints} = antientropy_hints:new(),
+    freed(16_384, fun() ->
+        {error, clock_full} = antientropy:put(Replica, 1, <<"k">>, <<>>, Pairs),
+        {error, clock_full} = antientropy:accept(Replica, <<"k">>, Version),
+        {error, clock_full} = antientropy_hints:keep(Hints, 1, <<"k">>, Version),
+        {error, clock_full} = antientropy:compare(Pairs, Pairs),
+        {error, clock_full} = antientropy:merge([Pairs]),
+        support:badarg(fun() -> antientropy:put(Replica, 1, <<"k">>, <<>>, Pairs ++ [none]) end),
+        support:badarg(fun() -> antientropy:accept(Replica, <<"k">>, Wrong) end),
+        support:badarg(fun() -> antientropy:compare(Pairs, none) end)
+    end).
+
+%% Makes calls again and again, in processes that end. If so many bytes were lost each time, that would be 64 MiB. Half
+%% as many calls before are for what the allocators keep.
+freed(Bytes, Call) ->
+    {timeout, 120, fun() ->
+        Count = 64 * ?MIB div Bytes,
+        [run(Call) || _ <- lists:seq(1, Count div 2)],
+        Resident = resident(),
+        Allocated = erlang:memory(total),
+        [run(Call) || _ <- lists:seq(1, Count)],
+        ?assert(resident() < Resident + 32 * ?MIB),
+        ?assert(erlang:memory(total) < Allocated + 32 * ?MIB)
+    end}.
+
+run(Call) ->
+    {Process, Monitor} = spawn_monitor(Call),
+    receive
+        {'DOWN', Monitor, process, Process, Reason} -> ?assertEqual(normal, Reason)
+    end.
+
+%% Returns the memory of the process in bytes: pages have 4,096.
+resident() ->
+    {ok, Text} = file:read_file("/proc/self/statm"),
+    [_, Pages | _] = binary:split(Text, <<" ">>, [global]),
+    4096 * binary_to_integer(Pages).

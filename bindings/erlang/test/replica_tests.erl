@@ -1,0 +1,189 @@
+%% Versions, the journal and the tree of a replica.
+-module(replica_tests).
+
+-include_lib("eunit/include/eunit.hrl").
+
+-import(support, [replica/0, replica/1, crowd/2, live/2, fill/2, key/1]).
+
+put_and_get_test() ->
+    Replica = replica(),
+    ?assertEqual({ok, #{number => 0, counter => 1}}, antientropy:put(Replica, 1, <<"k">>, <<"one">>)),
+    ?assertEqual({ok, #{number => 1, counter => 2}}, antientropy:put(Replica, 1, <<"k">>, <<"two">>, #{1 => 1})),
+    ?assertEqual({ok, [live(#{1 => 2}, <<"two">>)]}, antientropy:get(Replica, <<"k">>)),
+    ?assertEqual({ok, []}, antientropy:get(Replica, <<"other">>)).
+
+context_as_pairs_test() ->
+    Replica = replica(),
+    {ok, _} = antientropy:put(Replica, 1, <<"k">>, <<"one">>, []),
+    {ok, _} = antientropy:put(Replica, 2, <<"k">>, <<"two">>, [{1, 1}]),
+    {ok, _} = antientropy:put(Replica, 2, <<"k">>, <<"three">>, [{2, 1}, {1, 1}]),
+    ?assertEqual({ok, [live(#{1 => 1, 2 => 2}, <<"three">>)]}, antientropy:get(Replica, <<"k">>)).
+
+iodata_as_a_value_test() ->
+    Replica = replica(),
+    {ok, _} = antientropy:put(Replica, 1, <<"k">>, ["mi", [<<"l">>], $k]),
+    {ok, _} = antientropy:put(Replica, 1, <<"none">>, []),
+    ?assertEqual({ok, <<"milk">>}, antientropy:value(Replica, <<"k">>, 0)),
+    ?assertEqual({ok, <<>>}, antientropy:value(Replica, <<"none">>, 0)).
+
+tombstone_test() ->
+    Replica = replica(),
+    {ok, _} = antientropy:put(Replica, 1, <<"k">>, tombstone),
+    ?assertEqual({ok, [live(#{1 => 1}, tombstone)]}, antientropy:get(Replica, <<"k">>)),
+    ?assertEqual({ok, tombstone}, antientropy:value(Replica, <<"k">>, 0)),
+    {ok, _} = antientropy:put(Replica, 1, <<"k">>, <<>>, #{1 => 1}),
+    ?assertEqual({ok, [live(#{1 => 2}, <<>>)]}, antientropy:get(Replica, <<"k">>)).
+
+concurrent_versions_test() ->
+    Replica = replica(),
+    {ok, _} = antientropy:put(Replica, 1, <<"k">>, <<"one">>),
+    ?assertEqual({ok, new}, antientropy:accept(Replica, <<"k">>, live(#{2 => 1}, <<"two">>))),
+    ?assertEqual({ok, known}, antientropy:accept(Replica, <<"k">>, live([{2, 1}], <<"two">>))),
+    [One, Two] = Versions = [live(#{1 => 1}, <<"one">>), live(#{2 => 1}, <<"two">>)],
+    ?assertEqual({ok, Versions}, antientropy:get(Replica, <<"k">>)),
+    ?assertEqual({ok, 2}, antientropy:count_versions(Replica, <<"k">>)),
+    ?assertEqual({ok, One}, antientropy:read(Replica, <<"k">>, 0)),
+    ?assertEqual({ok, Two}, antientropy:read(Replica, <<"k">>, 1)),
+    ?assertEqual({ok, <<"one">>}, antientropy:value(Replica, <<"k">>, 0)),
+    ?assertEqual({ok, <<"two">>}, antientropy:value(Replica, <<"k">>, 1)),
+    ?assertEqual({ok, #{1 => 1}}, antientropy:clock(Replica, <<"k">>, 0)),
+    ?assertEqual({ok, #{2 => 1}}, antientropy:clock(Replica, <<"k">>, 1)).
+
+full_clock_test() ->
+    Replica = replica(),
+    Clock = maps:from_list([{Node, 1 bsl 63 + Node} || Node <- lists:seq(65_504, 65_535)]),
+    {ok, new} = antientropy:accept(Replica, <<"k">>, live(Clock, <<"v">>)),
+    ?assertEqual({ok, [live(Clock, <<"v">>)]}, antientropy:get(Replica, <<"k">>)),
+    ?assertMatch({ok, #{clock := Clock}}, antientropy:entry(Replica, 0)),
+    ?assertEqual({ok, Clock}, antientropy:clock(Replica, <<"k">>, 0)).
+
+values_of_each_length_test() ->
+    Replica = replica(),
+    Lengths = [0, 1, 63, 64, 65, 4095, 4096, 4097, 8192, 65_535, 65_536],
+    [
+        begin
+            Value = binary:copy(<<"v">>, Length),
+            {ok, #{number := Number}} = antientropy:put(Replica, 1, key(Length), Value),
+            ?assertEqual({ok, [live(#{1 => 1}, Value)]}, antientropy:get(Replica, key(Length))),
+            ?assertEqual({ok, live(#{1 => 1}, Value)}, antientropy:read(Replica, key(Length), 0)),
+            ?assertEqual({ok, Value}, antientropy:value(Replica, key(Length), 0)),
+            ?assertMatch({ok, #{value := Value}}, antientropy:entry(Replica, Number))
+        end
+     || Length <- Lengths
+    ].
+
+keys_of_each_length_test() ->
+    Replica = replica(),
+    Keys = [binary:copy(<<"k">>, Length) || Length <- [1, 63, 64, 65, 254, 255]],
+    [{ok, _} = antientropy:put(Replica, 1, Key, <<>>) || Key <- Keys],
+    {ok, Found} = antientropy:keys(Replica),
+    ?assertEqual(Keys, lists:sort(Found)),
+    {ok, Entries} = antientropy:entries(Replica, 0),
+    ?assertEqual(Keys, [Key || #{key := Key} <- Entries]).
+
+row_of_the_page_test() ->
+    Replica = replica(),
+    {ok, _} = antientropy:put(Replica, 1, <<"a">>, <<"x">>),
+    {ok, Row} = antientropy:row(Replica, <<"a">>),
+    ?assertEqual(<<"00016100010001000100000000000000010000000178">>, support:hex(Row)),
+    ?assertEqual({ok, <<>>}, antientropy:row(Replica, <<"b">>)).
+
+great_row_test() ->
+    Replica = replica(),
+    Values = [binary:copy(<<Node>>, 65_536) || Node <- lists:seq(1, 64)],
+    [{ok, _} = antientropy:put(Replica, Node, <<"great">>, Value) || <<Node, _/binary>> = Value <- Values],
+    {ok, Row} = antientropy:row(Replica, <<"great">>),
+    ?assert(byte_size(Row) > 64 * 65_536),
+    {ok, Versions} = antientropy:get(Replica, <<"great">>),
+    ?assertEqual(Values, [Value || #{value := Value} <- Versions]),
+    Copy = replica(),
+    ?assertEqual({ok, #{new => 64, known => 0}}, antientropy:load_rows(Copy, Row)),
+    ?assertEqual({ok, Row}, antientropy:row(Copy, <<"great">>)).
+
+keys_test() ->
+    Replica = fill(replica(), 100),
+    {ok, Keys} = antientropy:keys(Replica),
+    ?assertEqual(lists:sort([key(Number) || Number <- lists:seq(1, 100)]), lists:sort(Keys)),
+    ?assertEqual({ok, 100}, antientropy:fold_keys(fun(_, Count) -> Count + 1 end, 0, Replica)),
+    {ok, #{leaf := Leaf}} = antientropy:place(2, 0, key(7)),
+    {ok, KeysOfLeaf} = antientropy:keys(Replica, Leaf),
+    ?assert(lists:member(key(7), KeysOfLeaf)),
+    ?assertEqual(lists:usort(KeysOfLeaf), KeysOfLeaf),
+    ?assertEqual({ok, hd(KeysOfLeaf)}, antientropy:key_after(Replica, Leaf, <<>>)).
+
+entries_test() ->
+    Replica = replica(),
+    {ok, _} = antientropy:put(Replica, 1, <<"a">>, <<"x">>),
+    {ok, new} = antientropy:accept(Replica, <<"b">>, live(#{2 => 3}, tombstone)),
+    First = #{number => 0, key => <<"a">>, clock => #{1 => 1}, value => <<"x">>, source => put},
+    Second = #{number => 1, key => <<"b">>, clock => #{2 => 3}, value => tombstone, source => copy},
+    ?assertEqual({ok, [First, Second]}, antientropy:entries(Replica, 0)),
+    ?assertEqual({ok, [Second]}, antientropy:entries(Replica, 1)),
+    ?assertEqual({ok, []}, antientropy:entries(Replica, 2)),
+    ?assertEqual({ok, Second}, antientropy:entry(Replica, 1)),
+    ?assertEqual({ok, 1}, antientropy:fold_entries(fun(#{number := Last}, _) -> Last end, none, Replica, 0)).
+
+an_entry_is_a_version_test() ->
+    Replica = replica(),
+    {ok, _} = antientropy:put(Replica, 1, <<"a">>, <<"x">>),
+    {ok, Entry} = antientropy:entry(Replica, 0),
+    Copy = replica(),
+    ?assertEqual({ok, new}, antientropy:accept(Copy, <<"a">>, Entry)),
+    ?assertEqual(antientropy:root(Replica), antientropy:root(Copy)).
+
+counts_and_rehash_test() ->
+    Replica = replica(#{limit => 1000}),
+    ok = antientropy:rehash(Replica),
+    Clean = #{entries => 0, limit => 1000, dirty => 0, sessions => 0, open_sessions => 0},
+    ?assertEqual({ok, Clean}, antientropy:count(Replica)),
+    {ok, _} = antientropy:put(Replica, 1, <<"a">>, <<"x">>),
+    ?assertEqual({ok, Clean#{entries := 1, dirty := 4}}, antientropy:count(Replica)).
+
+rehash_some_test() ->
+    Replica = replica(),
+    ok = antientropy:rehash(Replica),
+    {ok, _} = antientropy:put(Replica, 1, <<"a">>, <<"x">>),
+    ?assertEqual({ok, 4}, antientropy:rehash_some(Replica, 0)),
+    ?assertEqual({ok, 3}, antientropy:rehash_some(Replica, 1)),
+    ?assertEqual({ok, 0}, rehash_all(Replica, 3)),
+    ?assertMatch({ok, #{dirty := 0}}, antientropy:count(Replica)).
+
+%% Rehashes one node after another: at most so many turns.
+rehash_all(Replica, Turns) ->
+    case antientropy:rehash_some(Replica, 1) of
+        {ok, Left} when Left > 0, Turns > 1 -> rehash_all(Replica, Turns - 1);
+        Result -> Result
+    end.
+
+renew_test() ->
+    Replica = replica(),
+    {ok, _} = antientropy:put(Replica, 1, <<"a">>, <<"x">>),
+    {ok, _} = antientropy:put(Replica, 1, <<"a">>, <<"y">>, #{1 => 1}),
+    {ok, Renewed} = antientropy:renew(Replica, 5),
+    ?assertMatch({ok, #{entries := 1, limit := 5}}, antientropy:count(Renewed)),
+    ?assertEqual(antientropy:root(Replica), antientropy:root(Renewed)),
+    ?assertEqual({ok, #{format => 2, bits => 0, range => 0}}, antientropy:info(Renewed)),
+    {ok, Large} = antientropy:renew(Renewed),
+    ?assertMatch({ok, #{limit := 1_000_000}}, antientropy:count(Large)).
+
+migrate_test() ->
+    Replica = replica(#{format => 1, limit => 10}),
+    {ok, _} = antientropy:put(Replica, 1, <<"a">>, <<"x">>),
+    ?assertMatch({ok, #{format := 1}}, antientropy:info(Replica)),
+    ok = antientropy:migrate(Replica),
+    ?assertMatch({ok, #{format := 2}}, antientropy:info(Replica)),
+    {ok, <<Start:4/binary, _/binary>>} = antientropy:root(Replica),
+    ?assertEqual(<<"22ba8eee">>, support:hex(Start)).
+
+options_test() ->
+    Replica = replica(#{format => 1, bits => 4, range => 9}),
+    ?assertEqual({ok, #{format => 1, bits => 4, range => 9}}, antientropy:info(Replica)),
+    ?assertMatch({ok, #{limit := 1_000_000}}, antientropy:count(Replica)),
+    {ok, Default} = antientropy:new(),
+    ?assertEqual({ok, #{format => 2, bits => 0, range => 0}}, antientropy:info(Default)).
+
+crowded_key_test() ->
+    Replica = replica(),
+    crowd(Replica, <<"k">>),
+    {ok, Versions} = antientropy:get(Replica, <<"k">>),
+    ?assertEqual([live(#{Node => 1}, <<Node>>) || Node <- lists:seq(1, 64)], Versions).
