@@ -106,8 +106,12 @@ class Front:
         self._open.clear()
 
     def _json(self, place: int, method: str, path: str, body: Optional[dict] = None) -> Any:
-        answer = self.ask(place, method, path, None if body is None else json.dumps(body).encode())
-        return answer.json() if answer.status == 200 else None
+        """Sends a request that may be repeated: the node may have been started anew since the connection was made."""
+        for _ in range(2):
+            answer = self.ask(place, method, path, None if body is None else json.dumps(body).encode())
+            if answer.status == 200:
+                return answer.json()
+        return None
 
 
 def _path(key: str) -> str:
