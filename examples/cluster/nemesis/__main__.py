@@ -3,20 +3,16 @@
 from __future__ import annotations
 
 import argparse
-import shutil
-import signal
 import sys
-import tempfile
-import time
 from pathlib import Path
 
-from . import figures, judge, rest
+from . import figures, judge, program, rest
 from .clients import Clients
 from .faults import Faults
 from .front import Front
-from .history import BadLog, read
+from .history import read
 from .log import Log, Watch
-from .nodes import NoStart, Nodes, build
+from .nodes import Nodes, build
 from .schedule import Nemesis
 
 #: Seconds that the cluster may take to come to rest in the end.
@@ -38,44 +34,33 @@ def words() -> argparse.Namespace:
     return given
 
 
-def run(given: argparse.Namespace, out: Path, room: Path, logs: Path) -> int:
-    """Runs the nemesis, prints the figures and the verdict, and returns the number of rules that were broken."""
+def work(given: argparse.Namespace, room: Path) -> int:
+    """Builds the cluster if it isn't built, breaks it, prints the figures and the verdict, and returns the status."""
+    logs, out = given.keep or room / "logs", given.out or room / "out"
+    logs.mkdir(parents=True, exist_ok=True)
+    for old in logs.glob("*.log"):
+        old.unlink()
+    if not given.out:
+        build(given.library, out)
     watch = Watch()
     log = Log(logs / "nemesis.log", watch)
     with Nodes(out, room / "disks", logs, log) as nodes:
         nodes.begin()
-        began = time.monotonic()
         with figures.Counts(nodes.base, Log(logs / "status.log", watch)) as counts:
             with Clients(given.clients, given.seed, nodes.base, logs, watch) as clients:
+                begin = watch.now()
                 links = Faults(Front(nodes.base), log)
                 Nemesis(given.seed, nodes, links, clients, log).run(given.seconds)
-                worked = time.monotonic() - began
+                quiet = watch.now()
             took = rest.end(nodes.base, log, REST_S)
+            sums = counts.look()
         rest.dump(nodes.base, logs)
-    print(f"seed {given.seed}: {worked:.0f} s under faults, {nodes.lives} lives, at rest after {took or REST_S:.1f} s")
-    figures.show(logs, worked, counts.sums)
-    return judge.report(judge.judge(read(logs)))
+    figures.show(figures.requests(logs), begin, quiet, f"seed {given.seed}")
+    print(f"lives {nodes.lives}, " + ", ".join(f"{name.replace('_', ' ')} {count}" for name, count in sums.items()))
+    print("the cluster didn't come to rest" if took is None else f"at rest after {took:.1f} s")
+    return 1 if judge.report(judge.judge(read(logs))) else 0
 
 
-def main() -> int:
-    """Makes the folders, and builds the cluster if it isn't built."""
-    given = words()
-    signal.signal(signal.SIGTERM, lambda *_: sys.exit(1))
-    room = Path(tempfile.mkdtemp(prefix="nemesis-"))
-    logs = given.keep or room / "logs"
-    try:
-        logs.mkdir(parents=True, exist_ok=True)
-        for old in logs.glob("*.log"):
-            old.unlink()
-        if not given.out:
-            build(given.library, room / "out")
-        return 1 if run(given, given.out or room / "out", room, logs) else 0
-    except (NoStart, BadLog) as fault:
-        print(f"FAILED: {fault}")
-        print("0 passed, 1 failed")
-        return 1
-    finally:
-        shutil.rmtree(room)
-
-
-sys.exit(main())
+if __name__ == "__main__":
+    GIVEN = words()
+    sys.exit(program.run(lambda room: work(GIVEN, room)))

@@ -14,6 +14,13 @@ from .nodes import PLACES
 
 Drop = Tuple[int, int]
 
+#: Requests to a node, which is up, until it takes its faults.
+TRIES = 3
+
+
+class NotSet(Exception):
+    """A node that is up and doesn't answer."""
+
 
 class Faults:
     """The faults of all nodes."""
@@ -58,8 +65,8 @@ class Faults:
                 "slow_ms": self._slow.get(place, 0),
                 "slow_disk_ms": self._slow_disks.get(place, 0),
             }
-            if not self._front.faults(place, faults):
-                self._log.write(op="unset", place=place)
+            if not any(self._front.faults(place, faults) for _ in range(TRIES)):
+                raise NotSet(f"place {place} doesn't take faults")
 
     def _sorted(self) -> List[Drop]:
         return sorted(self._drops)

@@ -6,7 +6,7 @@ import json
 import threading
 from collections import Counter
 from pathlib import Path
-from typing import Dict, List, Tuple
+from typing import Dict, List, NamedTuple
 
 from .front import Front
 from .log import Log
@@ -19,14 +19,26 @@ COUNTS = ("rounds", "keys_repaired", "bytes_repaired", "delivered")
 LOOK_S, PATIENCE_S = 0.5, 1.0
 
 
+class Request(NamedTuple):
+    """A client's request: when it began, how long it took, and the status, 0 if it wasn't answered."""
+
+    begin: float
+    took: float
+    status: int
+
+    @property
+    def answered(self) -> bool:
+        return self.status in (200, 300, 404)
+
+
 class Counts:
     """Sums the counts of all nodes over their restarts, and logs them. What a node counted last may be missed."""
 
     def __init__(self, base: int, log: Log) -> None:
-        self.sums: Dict[str, int] = dict.fromkeys(COUNTS, 0)
+        self._sums: Dict[str, int] = dict.fromkeys(COUNTS, 0)
         self._last: Dict[int, Dict[str, int]] = {}
         self._front, self._log = Front(base, PATIENCE_S), log
-        self._ended = threading.Event()
+        self._looking, self._ended = threading.Lock(), threading.Event()
         self._thread = threading.Thread(target=self._run, name="counts", daemon=True)
 
     def __enter__(self) -> "Counts":
@@ -36,48 +48,51 @@ class Counts:
     def __exit__(self, *error: object) -> None:
         self._ended.set()
         self._thread.join(10.0)
+        self._front.close()
+
+    def look(self) -> Dict[str, int]:
+        """Looks at all nodes, and returns the sums."""
+        with self._looking:
+            for place in PLACES:
+                status = self._front.status(place)
+                if status is not None:
+                    self._log.write(op="status", **status)
+                    self._add(place, {name: status.get(name, status["hints"].get(name, 0)) for name in COUNTS})
+            return dict(self._sums)
+
+    def _add(self, place: int, counts: Dict[str, int]) -> None:
+        last = self._last.get(place, {})
+        for name, count in counts.items():
+            before = last.get(name, 0)
+            self._sums[name] += count - before if count >= before else count
+        self._last[place] = counts
 
     def _run(self) -> None:
         while not self._ended.wait(LOOK_S):
-            self._look()
-        self._look()
-        self._front.close()
-
-    def _look(self) -> None:
-        for place in PLACES:
-            status = self._front.status(place)
-            if status is None:
-                continue
-            self._log.write(op="status", **status)
-            now = {name: status.get(name, status["hints"].get(name, 0)) for name in COUNTS}
-            last = self._last.get(place, {})
-            for name, count in now.items():
-                self.sums[name] += count - last.get(name, 0) if count >= last.get(name, 0) else count
-            self._last[place] = now
+            self.look()
 
 
-def requests(logs: Path) -> Dict[str, List[Tuple[float, float, int]]]:
-    """Returns the beginning, the duration and the status of each request, by its kind."""
-    found: Dict[str, List[Tuple[float, float, int]]] = {"put": [], "get": []}
+def requests(logs: Path) -> Dict[str, List[Request]]:
+    """Returns the clients' requests, by their kind. A delete is a put."""
+    found: Dict[str, List[Request]] = {"puts": [], "gets": []}
     for path in logs.glob("client-*.log"):
         for text in path.read_text().splitlines():
             line = json.loads(text)
-            kind = "get" if line["op"] == "get" else "put"
-            found[kind].append((line["t"], line["end"] - line["t"], line["status"]))
+            kind = "gets" if line["op"] == "get" else "puts"
+            found[kind].append(Request(line["t"], line["end"] - line["t"], line["status"]))
     return found
 
 
-def show(logs: Path, seconds: float, counts: Dict[str, int]) -> None:
-    """Prints the figures of a run in which clients worked for this time."""
-    print(f"{'':6} {'requests':>9} {'answered':>9} {'a second':>9} {'p50 ms':>8} {'p99 ms':>8}  statuses")
-    for kind, them in requests(logs).items():
-        answered = sorted(took for _, took, status in them if status in (200, 300, 404))
-        statuses = ", ".join(f"{status}: {count}" for status, count in sorted(Counter(it[2] for it in them).items()))
+def show(found: Dict[str, List[Request]], begin: float, end: float, phase: str) -> None:
+    """Prints the requests of a part of a run."""
+    for kind, them in found.items():
+        inside = [it for it in them if begin <= it.begin < end]
+        took = sorted(it.took for it in inside if it.answered)
+        statuses = ", ".join(f"{status}: {count}" for status, count in sorted(Counter(it.status for it in inside).items()))
         print(
-            f"{kind + 's':6} {len(them):9} {len(answered):9} {len(answered) / seconds:9.1f}"
-            f" {percentile_ms(answered, 50):8.1f} {percentile_ms(answered, 99):8.1f}  {statuses}"
+            f"{phase:12} {kind}: {len(took) / (end - begin):7.1f} a second,"
+            f" p50 {percentile_ms(took, 50):6.1f} ms, p99 {percentile_ms(took, 99):7.1f} ms  (statuses {statuses})"
         )
-    print(", ".join(f"{name.replace('_', ' ')} {count}" for name, count in counts.items()))
 
 
 def percentile_ms(ordered: List[float], percent: int) -> float:
