@@ -19,9 +19,12 @@ from .schedule import Nemesis
 REST_S = 60.0
 
 
+PLAIN = argparse.RawDescriptionHelpFormatter
+
+
 def words() -> argparse.Namespace:
     """Reads the command's words."""
-    parser = argparse.ArgumentParser(prog="python3 -m nemesis", description=__doc__)
+    parser = argparse.ArgumentParser(prog="python3 -m nemesis", description=__doc__, formatter_class=PLAIN)
     parser.add_argument("--seed", type=int, default=1, help="chooses the faults and the clients' deeds")
     parser.add_argument("--seconds", type=float, default=30, help="time under faults")
     parser.add_argument("--clients", type=int, default=8)

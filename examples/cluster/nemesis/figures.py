@@ -88,7 +88,8 @@ def show(found: Dict[str, List[Request]], begin: float, end: float, phase: str) 
     for kind, them in found.items():
         inside = [it for it in them if begin <= it.begin < end]
         took = sorted(it.took for it in inside if it.answered)
-        statuses = ", ".join(f"{status}: {count}" for status, count in sorted(Counter(it.status for it in inside).items()))
+        counted = sorted(Counter(it.status for it in inside).items())
+        statuses = ", ".join(f"{status}: {count}" for status, count in counted)
         print(
             f"{phase:12} {kind}: {len(took) / (end - begin):7.1f} a second,"
             f" p50 {percentile_ms(took, 50):6.1f} ms, p99 {percentile_ms(took, 99):7.1f} ms  (statuses {statuses})"

@@ -11,7 +11,7 @@ from __future__ import annotations
 import sys
 from dataclasses import dataclass
 from pathlib import Path
-from typing import Callable, Dict, Iterator, List, Sequence, Set, Tuple
+from typing import Callable, Dict, Iterator, List, Optional, Sequence, Set, Tuple
 
 from .history import TOMBSTONE, BadLog, Get, History, Line, Replica, Write, clock_pairs, read
 from .overwrites import Overwrites
@@ -82,19 +82,21 @@ def acknowledged_puts_are_held(case: Case) -> Iterator[Breach]:
             lacking = [it for it, held in covered if not held & overwrites.bit(write.mark)]
             if lacking or not replicas:
                 where = ", ".join(str(it.place) for it in lacking) or "any place"
-                held = [_row(it, key) for it in lacking]
-                yield Breach(f"{write.mark} of {key} isn't held at {where}, nor is what overwrote it", [write.line, *held])
+                what = f"{write.mark} of {key} isn't held at {where}, nor is what overwrote it"
+                yield Breach(what, [write.line, *(_row(it, key) for it in lacking)])
 
 
 def held_values_were_put(case: Case) -> Iterator[Breach]:
     """Each version that a node held or showed was put by a client, and not refused."""
-    put = {
-        key: {write.mark for write in writes if write.may_have_happened} for key, writes in case.writes.items()
-    }
-    deleted = {key for key, writes in case.writes.items() if any(it.is_delete and it.may_have_happened for it in writes)}
+    put: Set[Tuple[str, Optional[str]]] = set()
+    deleted: Set[str] = set()
+    for write in (it for it in case.history.writes if it.may_have_happened):
+        put.add((write.key, write.mark))
+        if write.is_delete:
+            deleted.add(write.key)
     told = set()
     for key, mark, _, line in case.seen():
-        known = mark in put.get(key, ()) or (mark.startswith(TOMBSTONE) and key in deleted)
+        known = (key, mark) in put or (mark.startswith(TOMBSTONE) and key in deleted)
         if not known and (key, mark) not in told:
             told.add((key, mark))
             refused = [it.line for it in case.writes.get(key, ()) if it.mark == mark]

@@ -72,9 +72,12 @@ class Measure:
         )
 
 
+PLAIN = argparse.RawDescriptionHelpFormatter
+
+
 def words() -> argparse.Namespace:
     """Reads the command's words."""
-    parser = argparse.ArgumentParser(prog="python3 -m nemesis.measure", description=__doc__)
+    parser = argparse.ArgumentParser(prog="python3 -m nemesis.measure", description=__doc__, formatter_class=PLAIN)
     parser.add_argument("--library", type=Path, required=True, help="folder of the C library, made by ./build-c")
     parser.add_argument("--seconds", type=float, default=20, help="time of a phase")
     parser.add_argument("--partition", type=float, default=30, help="time of a partition, in seconds")
