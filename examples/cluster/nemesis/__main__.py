@@ -18,6 +18,9 @@ from .schedule import Nemesis
 #: Seconds that the cluster may take to come to rest in the end.
 REST_S = 60.0
 
+#: Few entries of a range and of a log, so that a run has renewals and checkpoints.
+SETTINGS = {"CLUSTER_LIMIT": "4000", "CLUSTER_CHECKPOINT": "200"}
+
 
 PLAIN = argparse.RawDescriptionHelpFormatter
 
@@ -47,7 +50,7 @@ def work(given: argparse.Namespace, room: Path) -> int:
         build(given.library, out)
     watch = Watch()
     log = Log(logs / "nemesis.log", watch)
-    with Nodes(out, room / "disks", logs, log) as nodes:
+    with Nodes(out, room / "disks", logs, log, SETTINGS) as nodes:
         nodes.begin()
         with figures.Counts(nodes.base, Log(logs / "status.log", watch)) as counts:
             with Clients(given.clients, given.seed, nodes.base, logs, watch) as clients:

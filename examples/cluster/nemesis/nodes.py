@@ -3,6 +3,7 @@
 from __future__ import annotations
 
 import os
+import secrets
 import select
 import shutil
 import signal
@@ -47,7 +48,12 @@ class Nodes:
         self.base = _free(HTTP_PORTS, len(PLACES))
         self._epmd_port = _free(EPMD_PORTS, 0)
         self._out, self._disks, self._logs, self._log = out, disks, logs, log
-        self._settings = settings or {}
+        self._environment = {
+            **os.environ,
+            "ERL_EPMD_PORT": str(self._epmd_port),
+            "CLUSTER_COOKIE": secrets.token_hex(16),
+            **(settings or {}),
+        }
         self._epmd: Optional[subprocess.Popen] = None
         self._nodes: Dict[int, subprocess.Popen] = {}
         self._paused: set = set()
@@ -149,7 +155,7 @@ class Nodes:
                 stdout=subprocess.PIPE,
                 stderr=errors,
                 start_new_session=True,
-                env={**os.environ, "ERL_EPMD_PORT": str(self._epmd_port), **self._settings},
+                env=self._environment,
             )
         self._nodes[place] = node
         return node
