@@ -81,17 +81,19 @@ class Nemesis:
         self._wait(0.5, 1.5)
 
     def _kill(self) -> None:
-        """Kills one node or two, often while a slow disk keeps entries waiting."""
+        """Kills one node or two, often while a slow disk keeps entries of a few keys waiting."""
         places = self._chance.sample(self._nodes.up(), self._chance.choice((1, 1, 2)))
         if self._chance.random() < 0.7:
+            self._clients.load.skew(self._chance.sample(KEYS, 3), places)
             for place in places:
                 self._links.slow_disk(place, self._chance.choice((50, 150, 300)), self._nodes.up())
             self._wait(0.5, 1.5)
         for place in places:
             self._nodes.kill(place)
-        self._wait(0.3, 1.5)
+        self._wait(0.1, 1.0)
         self._restart()
         self._wait(0.5, 1.0)
+        self._clients.load.skew()
 
     def _destroy(self) -> None:
         """Destroys a disk, sometimes during a partition."""
