@@ -1,0 +1,28 @@
+%% @doc The application `cluster': a node of a Dynamo-style store.
+-module(cluster_app).
+-behaviour(application).
+
+-export([boot/0]).
+-export([start/2, stop/1]).
+
+%% @doc Starts the application in a node of its own, which ends if it can't serve, or no longer. Prints `ready'.
+-spec boot() -> ok.
+boot() ->
+    case application:ensure_all_started(cluster, permanent) of
+        {ok, _} ->
+            io:put_chars("ready\n");
+        {error, Reason} ->
+            io:format(standard_error, "the node can't start: ~tp~n", [Reason]),
+            erlang:halt(1)
+    end.
+
+%% @private
+start(_, _) ->
+    case cluster_life:claim(cluster_settings:folder(), cluster_settings:life()) of
+        ok -> cluster_sup:start_link();
+        Refused -> Refused
+    end.
+
+%% @private
+stop(_) ->
+    ok.

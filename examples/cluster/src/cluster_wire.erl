@@ -1,0 +1,131 @@
+%% @doc All messages between nodes: calls of a function at another place, over Erlang's distribution.
+%%
+%% A call has an answer in 500 milliseconds, or its place counts as down. So does that of a paused node, of which the
+%% distribution says nothing yet. Faults drop messages by direction, at both ends, and delay those that a node sends.
+-module(cluster_wire).
+-behaviour(gen_server).
+
+-export([start_link/0, call/4, call/5, limit_ms/0, down/0, up_first/1, set_faults/1]).
+-export([serve/5]).
+-export([init/1, handle_call/3, handle_cast/2, handle_info/2]).
+
+-export_type([faults/0]).
+
+-define(LIMIT_MS, 500).
+-define(FAULTS, {?MODULE, faults}).
+-define(NO_FAULTS, #{drop => [], slow_ms => 0}).
+
+-type faults() :: #{
+    drop := [{From :: cluster_ring:place(), To :: cluster_ring:place()}], slow_ms := non_neg_integer()
+}.
+
+%% @doc Starts the process that owns the table of places that are down, and listens to OTP's monitor of nodes.
+-spec start_link() -> {ok, pid()}.
+start_link() ->
+    {ok, _} = gen_server:start_link({local, ?MODULE}, ?MODULE, [], []).
+
+%% @doc Returns the time that a call has, in milliseconds.
+-spec limit_ms() -> pos_integer().
+limit_ms() ->
+    ?LIMIT_MS.
+
+%% @doc Calls a function at another place.
+-spec call(cluster_ring:place(), module(), Function :: atom(), Arguments :: [term()]) -> {ok, Result :: term()} | down.
+call(Place, Module, Function, Arguments) ->
+    call(Place, Module, Function, Arguments, ?LIMIT_MS).
+
+%% @doc Calls a function at another place, with so many milliseconds for its answer. If the place counts as down then,
+%% the function may have been called.
+-spec call(cluster_ring:place(), module(), Function :: atom(), Arguments :: [term()], LimitMs :: pos_integer()) ->
+    {ok, Result :: term()} | down.
+call(Place, Module, Function, Arguments, LimitMs) ->
+    Result =
+        try
+            {ok, exchange(Place, Module, Function, Arguments, LimitMs)}
+        catch
+            _:_ -> down
+        end,
+    note(Place, Result),
+    Result.
+
+exchange(Place, Module, Function, Arguments, LimitMs) ->
+    Here = cluster_ring:here(),
+    pass(Here, Place),
+    Served = [Here, slow_ms(), Module, Function, Arguments],
+    Answer = erpc:call(cluster_ring:node_of(Place), ?MODULE, serve, Served, LimitMs),
+    pass(Place, Here),
+    Answer.
+
+%% @private
+%% @doc Serves a call of another place, whose messages are slow by so many milliseconds.
+-spec serve(cluster_ring:place(), SlowMs :: non_neg_integer(), module(), Function :: atom(), Arguments :: [term()]) ->
+    term().
+serve(From, SlowMs, Module, Function, Arguments) ->
+    timer:sleep(SlowMs),
+    Here = cluster_ring:here(),
+    pass(From, Here),
+    Answer = apply(Module, Function, Arguments),
+    timer:sleep(slow_ms()),
+    pass(Here, From),
+    Answer.
+
+%% @doc Returns the places whose last call had no answer, or whose node is down.
+-spec down() -> [cluster_ring:place()].
+down() ->
+    lists:sort([Place || {Place} <- ets:tab2list(?MODULE)]).
+
+%% @doc Returns places with those that are down at the end.
+-spec up_first([cluster_ring:place()]) -> [cluster_ring:place()].
+up_first(Places) ->
+    {Down, Up} = lists:partition(fun(Place) -> ets:member(?MODULE, Place) end, Places),
+    Up ++ Down.
+
+%% @doc Sets the faults of this node's messages.
+-spec set_faults(faults()) -> ok.
+set_faults(Faults) ->
+    persistent_term:put(?FAULTS, Faults).
+
+%% Ends the process if messages from a place to another are dropped.
+pass(From, To) ->
+    #{drop := Drop} = faults(),
+    case lists:member({From, To}, Drop) of
+        true -> exit(dropped);
+        false -> ok
+    end.
+
+slow_ms() ->
+    #{slow_ms := SlowMs} = faults(),
+    SlowMs.
+
+faults() ->
+    persistent_term:get(?FAULTS, ?NO_FAULTS).
+
+%% Notes that a place is up or down.
+note(Place, Result) ->
+    case {Result, ets:member(?MODULE, Place)} of
+        {down, false} -> ets:insert(?MODULE, {Place});
+        {{ok, _}, true} -> ets:delete(?MODULE, Place);
+        _ -> true
+    end.
+
+%% @private
+init([]) ->
+    ?MODULE = ets:new(?MODULE, [named_table, public, {read_concurrency, true}]),
+    ok = net_kernel:monitor_nodes(true),
+    {ok, none}.
+
+%% @private
+handle_call(_, _, none) ->
+    {reply, ok, none}.
+
+%% @private
+handle_cast(_, none) ->
+    {noreply, none}.
+
+%% @private
+handle_info({nodedown, Node}, none) ->
+    [note(Place, down) || Place <- cluster_ring:others(), cluster_ring:node_of(Place) =:= Node],
+    {noreply, none};
+handle_info({nodeup, Node}, none) ->
+    [cluster_handoff:wake(Place) || Place <- cluster_ring:others(), cluster_ring:node_of(Place) =:= Node],
+    {noreply, none}.
