@@ -87,9 +87,9 @@ class Load:
 
     def place(self, chance: random.Random, shunned: Sequence[int]) -> int:
         _, places = self._skewed
-        if places and chance.random() < 0.8:
-            return chance.choice(places)
-        return chance.choice([place for place in PLACES if place not in shunned] or PLACES)
+        if not places or chance.random() >= 0.8:
+            places = PLACES
+        return chance.choice([place for place in places if place not in shunned] or PLACES)
 
 
 #: A context, and the marks of the versions that it covers.
