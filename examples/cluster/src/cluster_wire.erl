@@ -54,6 +54,7 @@ exchange(Place, Module, Function, Arguments, LimitMs) ->
 -spec serve(cluster_ring:place(), SlowMs :: non_neg_integer(), module(), Function :: atom(), Arguments :: [term()]) ->
     term().
 serve(From, SlowMs, Module, Function, Arguments) ->
+    is_started() orelse exit(starting),
     timer:sleep(SlowMs),
     Here = cluster_ring:here(),
     pass(From, Here),
@@ -61,6 +62,10 @@ serve(From, SlowMs, Module, Function, Arguments) ->
     timer:sleep(cluster_faults:slow_ms()),
     pass(Here, From),
     Answer.
+
+%% A node is reached before its application has started.
+is_started() ->
+    ets:whereis(?MODULE) =/= undefined.
 
 %% @doc Returns the places whose last call had no answer, or whose node is down.
 -spec down() -> [cluster_ring:place()].
