@@ -1,5 +1,5 @@
 /* The functions of the NIF library, for their declarations and their table: name, arity, flags. A call that may take a
- * millisecond runs on a dirty scheduler. */
+ * millisecond runs on a dirty scheduler. If that depends on its arguments, it is SHORT, and may return ELSEWHERE. */
 #ifndef CALLS_H
 #define CALLS_H
 
@@ -21,7 +21,7 @@
     X(count, 1, SHORT)                                                                                                 \
     X(rehash, 1, LONG)                                                                                                 \
     X(rehash_some, 2, LONG)                                                                                            \
-    X(load_rows, 2, LONG)                                                                                              \
+    X(load_rows, 2, SHORT)                                                                                             \
     X(put, 5, SHORT)                                                                                                   \
     X(accept, 3, SHORT)                                                                                                \
     X(get, 2, SHORT)                                                                                                   \
@@ -37,15 +37,15 @@
     X(snapshot_info, 1, SHORT)                                                                                         \
     X(root, 1, SHORT)                                                                                                  \
     X(offer, 2, SHORT)                                                                                                 \
-    X(serve, 3, LONG)                                                                                                  \
-    X(rows, 2, LONG)                                                                                                   \
+    X(serve, 3, SHORT)                                                                                                 \
+    X(rows, 2, SHORT)                                                                                                  \
     X(open, 4, LONG)                                                                                                   \
     X(session, 2, SHORT)                                                                                               \
     X(outstanding, 2, SHORT)                                                                                           \
     X(ask, 3, SHORT)                                                                                                   \
     X(ask_at, 4, SHORT)                                                                                                \
-    X(asks, 3, LONG)                                                                                                   \
-    X(take, 4, LONG)                                                                                                   \
+    X(asks, 3, SHORT)                                                                                                  \
+    X(take, 4, SHORT)                                                                                                  \
     X(cancel, 2, SHORT)                                                                                                \
     X(hints_new, 0, SHORT)                                                                                             \
     X(hints_close, 1, LONG)                                                                                            \

@@ -60,6 +60,11 @@ bool open_types(ErlNifEnv *env)
     return true;
 }
 
+bool on_normal_scheduler(void)
+{
+    return enif_thread_type() == ERL_NIF_THR_NORMAL_SCHEDULER;
+}
+
 ERL_NIF_TERM with_lock(const struct call *call, ErlNifEnv *env, int argc, const ERL_NIF_TERM argv[])
 {
     void *found;
@@ -67,12 +72,14 @@ ERL_NIF_TERM with_lock(const struct call *call, ErlNifEnv *env, int argc, const 
         return enif_make_badarg(env);
     struct resource *at = found;
     if (enif_mutex_trylock(at->lock) != 0) {
-        if (enif_thread_type() == ERL_NIF_THR_NORMAL_SCHEDULER)
+        if (on_normal_scheduler())
             return enif_schedule_nif(env, call->name, ERL_NIF_DIRTY_JOB_IO_BOUND, call->again, argc, argv);
         enif_mutex_lock(at->lock);
     }
     ERL_NIF_TERM result = call->held(env, at, argv);
     enif_mutex_unlock(at->lock);
+    if (result == ELSEWHERE)
+        return enif_schedule_nif(env, call->name, ERL_NIF_DIRTY_JOB_CPU_BOUND, call->again, argc, argv);
     return result;
 }
 

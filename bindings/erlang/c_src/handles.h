@@ -34,7 +34,8 @@ struct resource {
 /* A function of the NIF library. */
 typedef ERL_NIF_TERM nif(ErlNifEnv *env, int argc, const ERL_NIF_TERM argv[]);
 
-/* A function of the NIF library whose first argument is a handle. It has the handle's lock. */
+/* A function of the NIF library whose first argument is a handle. It has the handle's lock. On a normal scheduler it may
+ * return ELSEWHERE: then it begins again on a dirty one, since it takes long. */
 typedef ERL_NIF_TERM held(ErlNifEnv *env, struct resource *at, const ERL_NIF_TERM argv[]);
 
 /* A call of `held` with its name in Erlang, and the function that makes it. */
@@ -60,6 +61,15 @@ CALLS(DECLARE)
         return with_lock(&call, env, argc, argv);                                                                      \
     }                                                                                                                  \
     static ERL_NIF_TERM held_##name(ErlNifEnv *env, struct resource *at, UNUSED const ERL_NIF_TERM argv[])
+
+/* No term. */
+#define ELSEWHERE 0
+
+/* Bytes of an argument, or of a result, that a call handles in far less than a millisecond. */
+#define FEW_BYTES 4096
+
+/* Returns true if a call must not take long here. */
+bool on_normal_scheduler(void);
 
 /* Opens the resource types. Returns false if one can't be opened. */
 bool open_types(ErlNifEnv *env);

@@ -97,6 +97,8 @@ CALL(REPLICA, load_rows)
     struct antientropy_loaded loaded;
     if (!get_bytes(env, argv[1], &rows))
         return enif_make_badarg(env);
+    if (rows.size > FEW_BYTES && on_normal_scheduler())
+        return ELSEWHERE;
     uint32_t number = antientropy_load(&at->replica, rows.data, rows.size, &loaded);
     if (number == ANTIENTROPY_ROW_BROKEN) {
         ERL_NIF_TERM broken = enif_make_tuple2(env, name_of(number), enif_make_uint64(env, loaded.offset));

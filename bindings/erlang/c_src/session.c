@@ -2,6 +2,9 @@
 #include "handles.h"
 #include "terms.h"
 
+/* Asks that are made in far less than a millisecond. */
+enum { FEW_ASKS = 256 };
+
 /* open(Replica, Partner, Offer, Rehash) -> {ok, Session} */
 CALL(REPLICA, open)
 {
@@ -92,6 +95,8 @@ CALL(REPLICA, asks)
     uint32_t number = antientropy_outstanding(&at->replica, session, &count);
     if (number != ANTIENTROPY_OK)
         return refused(env, number);
+    if (count > FEW_ASKS && on_normal_scheduler())
+        return ELSEWHERE;
     for (uint64_t place = count; place-- > 0;) {
         number = antientropy_ask_at(&at->replica, session, place, offer, ask, sizeof ask, &len);
         if (number != ANTIENTROPY_OK)
@@ -110,6 +115,8 @@ CALL(REPLICA, take)
     struct antientropy_taken taken;
     if (!get_u64(env, argv[1], &session) || !get_u32(env, argv[2], &offer) || !get_bytes(env, argv[3], &answer))
         return enif_make_badarg(env);
+    if (answer.size > FEW_BYTES && on_normal_scheduler())
+        return ELSEWHERE;
     uint32_t number = antientropy_take(&at->replica, session, offer, answer.data, answer.size, &taken);
     if (number != ANTIENTROPY_OK)
         return refused(env, number);

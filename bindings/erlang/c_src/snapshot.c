@@ -86,9 +86,11 @@ CALL(SNAPSHOT, serve)
     if (!get_u32(env, argv[1], &offer) || !get_bytes(env, argv[2], &ask))
         return enif_make_badarg(env);
     open_room(&room);
-    do
+    do {
         number = antientropy_serve(&at->snapshot, offer, ask.data, ask.size, room.at, room.len, &room.need);
-    while (grows(&room, &number));
+        if (number == ANTIENTROPY_SMALL && on_normal_scheduler())
+            return ELSEWHERE;
+    } while (grows(&room, &number));
     return room_result(env, &room, number);
 }
 
@@ -101,8 +103,10 @@ CALL(SNAPSHOT, rows)
     if (!get_u16(env, argv[1], &leaf))
         return enif_make_badarg(env);
     open_room(&room);
-    do
+    do {
         number = antientropy_rows(&at->snapshot, leaf, room.at, room.len, &room.need);
-    while (grows(&room, &number));
+        if (number == ANTIENTROPY_SMALL && on_normal_scheduler())
+            return ELSEWHERE;
+    } while (grows(&room, &number));
     return room_result(env, &room, number);
 }

@@ -6,6 +6,7 @@
 #include <stdint.h>
 
 #include "antientropy.h"
+#include "handles.h"
 
 /* The atoms: the field of `atoms`, and the text. */
 #define ATOMS(X)                                                                                                       \
@@ -91,7 +92,7 @@ struct room {
     size_t len;
     uint64_t need;
     ErlNifBinary many;
-    uint8_t few[4096];
+    uint8_t few[FEW_BYTES];
 };
 
 /* Makes the atoms, and those of the refusals by their names in the library. */

@@ -2,6 +2,9 @@
 #include "handles.h"
 #include "terms.h"
 
+/* Versions that are read in far less than a millisecond, even with the longest values. */
+enum { FEW_VERSIONS = 4 };
+
 /* put(Replica, Node, Key, Value, Context) -> {ok, Receipt} */
 CALL(REPLICA, put)
 {
@@ -81,6 +84,8 @@ CALL(REPLICA, get)
             break;
         if (number != ANTIENTROPY_OK)
             return refused(env, number);
+        if (count > FEW_VERSIONS && on_normal_scheduler())
+            return ELSEWHERE;
         len++;
     } while (len < count && len < ANTIENTROPY_VERSIONS_MAX);
     return ok(env, enif_make_list_from_array(env, versions, (unsigned)len));
@@ -150,9 +155,11 @@ CALL(REPLICA, row)
     if (!enif_inspect_binary(env, argv[1], &key))
         return enif_make_badarg(env);
     open_room(&room);
-    do
+    do {
         number = antientropy_get(&at->replica, key.data, key.size, room.at, room.len, &room.need);
-    while (grows(&room, &number));
+        if (number == ANTIENTROPY_SMALL && on_normal_scheduler())
+            return ELSEWHERE;
+    } while (grows(&room, &number));
     return room_result(env, &room, number);
 }
 

@@ -1,7 +1,6 @@
 %% @private
-%% @doc The functions of the NIF library, whose sources are in c_src. The other modules have their types and their pages.
+%% @doc The functions of the NIF library, whose sources are in c_src. The other modules have types and comments for them.
 -module(antientropy_nif).
--compile(nowarn_missing_spec).
 -on_load(load/0).
 
 -export([

@@ -8,7 +8,7 @@
 -define(WRITERS, 4).
 -define(PUTS, 500).
 %% Values of so many keys take some tenths of a second to hash.
--define(LARGE_KEYS, 2000).
+-define(LARGE_KEYS, 500).
 -define(LARGE_VALUE, binary:copy(<<"v">>, 65_536)).
 
 processes_share_a_replica_test_() ->

@@ -54,7 +54,18 @@ start_epmd() ->
     Epmd = open_port({spawn_executable, os:find_executable("epmd")}, [
         {args, ["-port", Port, "-address", "127.0.0.1"]}, stderr_to_stdout, binary
     ]),
+    ok = wait_for(Number, 50),
     {Epmd, [{"ERL_EPMD_PORT", Port}, {"ERL_EPMD_ADDRESS", "127.0.0.1"}]}.
+
+%% Waits until a port is open: at most so many tenths of a second.
+wait_for(Number, Tenths) when Tenths > 0 ->
+    case gen_tcp:connect({127, 0, 0, 1}, Number, []) of
+        {ok, Socket} ->
+            gen_tcp:close(Socket);
+        {error, _} ->
+            timer:sleep(100),
+            wait_for(Number, Tenths - 1)
+    end.
 
 stop_epmd({Epmd, _}) ->
     {os_pid, Process} = erlang:port_info(Epmd, os_pid),

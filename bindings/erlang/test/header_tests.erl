@@ -120,6 +120,7 @@ without_page(Module) ->
     lists:usort([Name || {Name, _} <- Exported]) -- [list_to_atom(Name) || Name <- Paged].
 
 modules() ->
+    {ok, _} = application:ensure_all_started(antientropy),
     {ok, Modules} = application:get_key(antientropy, modules),
     Modules.
 

@@ -131,5 +131,6 @@ empty(Hints) ->
 
 hints_full_test() ->
     {ok, Hints} = antientropy_hints:new(),
-    [{ok, Number} = antientropy_hints:keep(Hints, 4, <<"k">>, live(#{1 => Number}, <<>>)) || Number <- lists:seq(1, 10_000)],
-    ?assertEqual({error, hints_full}, antientropy_hints:keep(Hints, 4, <<"k">>, live(#{1 => 1}, <<>>))).
+    Keep = fun(Counter) -> antientropy_hints:keep(Hints, 4, <<"k">>, live(#{1 => Counter}, <<>>)) end,
+    [{ok, Number} = Keep(Number) || Number <- lists:seq(1, 10_000)],
+    ?assertEqual({error, hints_full}, Keep(1)).

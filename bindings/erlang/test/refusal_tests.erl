@@ -104,7 +104,12 @@ bad_ring(Replica) ->
     [
         refused(bad_ring, Replica, new, [Options])
      || Options <- [
-            #{format => 3}, #{format => 258}, #{bits => 9}, #{bits => 1, range => 2}, #{limit => 0}, #{limit => 1 bsl 32}
+            #{format => 3},
+            #{format => 258},
+            #{bits => 9},
+            #{bits => 1, range => 2},
+            #{limit => 0},
+            #{limit => 1 bsl 32}
         ]
     ],
     refused(bad_ring, Replica, place, [3, 0, <<"k">>]),
@@ -116,9 +121,10 @@ row_broken(Replica) ->
 
 bad_message(Replica) ->
     refused(bad_message, Replica, read_offer, [<<>>]),
-    refused(bad_message, Replica, sync, [Replica, 2, <<>>, fun(_) -> [] end]),
     refused(bad_message, Replica, keys, [Replica, 4096]),
-    ?assertEqual({error, bad_message}, antientropy:open(Replica, 2, <<>>)).
+    ok = antientropy:rehash(Replica),
+    refused(bad_message, Replica, open, [Replica, 2, <<>>]),
+    refused(bad_message, Replica, sync, [Replica, 2, <<>>, fun(_) -> [] end]).
 
 no_version(Replica) ->
     refused(no_version, Replica, read, [Replica, <<"k">>, 1]),

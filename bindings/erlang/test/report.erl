@@ -10,9 +10,19 @@
 main() ->
     Folder = filename:dirname(code:which(?MODULE)),
     Files = lists:sort(filelib:wildcard("*_tests.beam", Folder)),
-    Modules = [list_to_atom(filename:basename(File, ".beam")) || File <- Files],
-    Result = eunit:test(Modules, [no_tty, {report, {?MODULE, []}}]),
-    halt(case Result of ok -> 0; _ -> 1 end).
+    {Passed, Failed} = run([list_to_atom(filename:basename(File, ".beam")) || File <- Files], {0, 0}),
+    io:format("~b passed, ~b failed~n", [Passed, Failed]),
+    halt(min(Failed, 1)).
+
+%% Runs the tests of modules, one after another, and adds up what passed and failed.
+run([], Counts) ->
+    Counts;
+run([Module | Modules], {Passed, Failed}) ->
+    eunit:test(Module, [no_tty, {report, {?MODULE, [{main, self()}]}}]),
+    receive
+        {counts, 0, 0} -> run(Modules, {Passed, Failed + 1});
+        {counts, MorePassed, MoreFailed} -> run(Modules, {Passed + MorePassed, Failed + MoreFailed})
+    end.
 
 start() ->
     start([]).
@@ -20,36 +30,34 @@ start() ->
 start(Options) ->
     eunit_listener:start(?MODULE, Options).
 
-init(_) ->
-    0.
+init(Options) ->
+    proplists:get_value(main, Options).
 
-handle_begin(_, _, Cancelled) ->
-    Cancelled.
+handle_begin(_, _, Main) ->
+    Main.
 
-handle_end(test, Test, Cancelled) ->
+handle_end(test, Test, Main) ->
     case proplists:get_value(status, Test) of
         {error, Why} -> failed(Test, Why);
         _ -> ok
     end,
-    Cancelled;
-handle_end(group, _, Cancelled) ->
-    Cancelled.
+    Main;
+handle_end(group, _, Main) ->
+    Main.
 
-%% A group that couldn't be set up counts as a failed test, and so does a test that ended its process.
-handle_cancel(_, Item, Cancelled) ->
-    case proplists:get_value(reason, Item) of
-        undefined ->
-            Cancelled;
-        Why ->
-            failed(Item, Why),
-            Cancelled + 1
-    end.
+handle_cancel(_, Item, Main) ->
+    failed(Item, proplists:get_value(reason, Item)),
+    Main.
 
-terminate({ok, Counts}, Cancelled) ->
-    Failed = proplists:get_value(fail, Counts) + max(Cancelled, proplists:get_value(cancel, Counts)),
-    io:format("~b passed, ~b failed~n", [proplists:get_value(pass, Counts), Failed]);
-terminate({error, Why}, _) ->
-    io:format("~p~n0 passed, 1 failed~n", [Why]).
+%% A test that was cancelled, or a group that wasn't set up, counts as one that failed.
+terminate({ok, Counts}, Main) ->
+    Main ! {counts, proplists:get_value(pass, Counts), failures(Counts)};
+terminate({error, Why}, Main) ->
+    io:format("FAILED: ~p~n", [Why]),
+    Main ! {counts, 0, 1}.
+
+failures(Counts) ->
+    lists:sum([proplists:get_value(Count, Counts) || Count <- [fail, skip, cancel]]).
 
 failed(Item, Why) ->
     Source = proplists:get_value(source, Item, proplists:get_value(desc, Item)),

@@ -3,8 +3,8 @@
 
 -include_lib("eunit/include/eunit.hrl").
 
--export([replica/0, replica/1, reach/2, sync/2, crowd/2, live/2, fill/2, key/1, state/1, refused/3, refused/2, badarg/1]).
--export([flip/2, hex/1]).
+-export([replica/0, replica/1, reach/2, sync/2, crowd/2, live/2, fill/2, key/1]).
+-export([state/1, refused/3, refused/2, badarg/1, flip/2, hex/1]).
 
 %% @doc Makes a replica with a journal of 10,000 entries.
 replica() ->

@@ -12,8 +12,12 @@
 
 %% @doc Makes the other node, puts keys at both, syncs both ways, and prints what both have.
 main() ->
+    Cookie = atom_to_list(erlang:get_cookie()),
     {ok, _, B} = peer:start_link(#{
-        name => b, host => "127.0.0.1", longnames => true, args => ["-pa" | code:get_path()]
+        name => b,
+        host => "127.0.0.1",
+        longnames => true,
+        args => ["-setcookie", Cookie, "-pa", filename:dirname(code:which(?MODULE))]
     }),
     {ok, _} = replica_server:start_link(1),
     {ok, _} = erpc:call(B, gen_server, start, [{local, replica_server}, replica_server, 2, []]),
