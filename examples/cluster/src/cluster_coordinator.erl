@@ -37,19 +37,20 @@ coordinate(Key, Function, Arguments) ->
             Holders = cluster_ring:holders(Range),
             case lists:member(cluster_ring:here(), Holders) of
                 true -> apply(?MODULE, Function, [Range | Arguments]);
-                false -> hand_on(cluster_wire:up_first(Holders), Function, [Range | Arguments], {refused, down})
+                false -> hand_on(cluster_wire:up_first(Holders), Function, [Range | Arguments], refused)
             end;
         {error, Name} ->
             {refused, Name}
     end.
 
-%% Hands a request on to the first holder that answers.
-hand_on([], _, _, Refused) ->
-    Refused;
-hand_on([Holder | Holders], Function, Arguments, _) ->
+%% Hands a request on to the first holder that answers. One that doesn't answer in time may have done it.
+hand_on([], _, _, Refusal) ->
+    {Refusal, down};
+hand_on([Holder | Holders], Function, Arguments, Refusal) ->
     case cluster_wire:call(Holder, ?MODULE, Function, Arguments, ?CALLS_IN_A_ROW * cluster_wire:limit_ms()) of
+        {ok, {refused, Name}} -> {Refusal, Name};
         {ok, Answer} -> Answer;
-        down -> hand_on(Holders, Function, Arguments, {perhaps, down})
+        down -> hand_on(Holders, Function, Arguments, perhaps)
     end.
 
 %% @private

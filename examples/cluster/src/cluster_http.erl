@@ -99,8 +99,12 @@ versions(Versions, Context, Clock) ->
 
 %% ---- faults
 
-set_faults({ok, #{<<"drop">> := Drop, <<"slow_ms">> := SlowMs}}) when is_list(Drop), is_integer(SlowMs), SlowMs >= 0 ->
-    ok = cluster_wire:set_faults(#{drop => [{From, To} || [From, To] <- Drop], slow_ms => SlowMs}),
+set_faults({ok, #{<<"drop">> := Drop, <<"slow_ms">> := SlowMs} = Members}) ->
+    ok = cluster_faults:set(#{
+        drop => [{From, To} || [From, To] <- Drop],
+        slow_ms => SlowMs,
+        slow_disk_ms => maps:get(<<"slow_disk_ms">>, Members, 0)
+    }),
     json(200, #{});
 set_faults(_) ->
     json(400, #{refused => <<"BadFaults">>}).

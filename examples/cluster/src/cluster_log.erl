@@ -30,6 +30,7 @@ number(#log{number = Number}) ->
 -spec write(log(), [term()]) -> ok.
 write(#log{name = Name}, Records) ->
     done(Name, disk_log:log_terms(Name, [sealed(Record) || Record <- Records])),
+    timer:sleep(cluster_faults:slow_disk_ms()),
     done(Name, disk_log:sync(Name)).
 
 %% @doc Begins a new file. Later records go there.

@@ -5,19 +5,12 @@
 -module(cluster_wire).
 -behaviour(gen_server).
 
--export([start_link/0, call/4, call/5, limit_ms/0, down/0, up_first/1, set_faults/1]).
+-export([start_link/0, call/4, call/5, limit_ms/0, down/0, up_first/1]).
 -export([serve/5]).
 -export([init/1, handle_call/3, handle_cast/2, handle_info/2]).
 
--export_type([faults/0]).
-
 -define(LIMIT_MS, 500).
--define(FAULTS, {?MODULE, faults}).
--define(NO_FAULTS, #{drop => [], slow_ms => 0}).
-
--type faults() :: #{
-    drop := [{From :: cluster_ring:place(), To :: cluster_ring:place()}], slow_ms := non_neg_integer()
-}.
+-define(AGAIN_MS, 1000).
 
 %% @doc Starts the process that owns the table of places that are down, and listens to OTP's monitor of nodes.
 -spec start_link() -> {ok, pid()}.
@@ -51,7 +44,7 @@ call(Place, Module, Function, Arguments, LimitMs) ->
 exchange(Place, Module, Function, Arguments, LimitMs) ->
     Here = cluster_ring:here(),
     pass(Here, Place),
-    Served = [Here, slow_ms(), Module, Function, Arguments],
+    Served = [Here, cluster_faults:slow_ms(), Module, Function, Arguments],
     Answer = erpc:call(cluster_ring:node_of(Place), ?MODULE, serve, Served, LimitMs),
     pass(Place, Here),
     Answer.
@@ -61,13 +54,18 @@ exchange(Place, Module, Function, Arguments, LimitMs) ->
 -spec serve(cluster_ring:place(), SlowMs :: non_neg_integer(), module(), Function :: atom(), Arguments :: [term()]) ->
     term().
 serve(From, SlowMs, Module, Function, Arguments) ->
+    is_started() orelse exit(starting),
     timer:sleep(SlowMs),
     Here = cluster_ring:here(),
     pass(From, Here),
     Answer = apply(Module, Function, Arguments),
-    timer:sleep(slow_ms()),
+    timer:sleep(cluster_faults:slow_ms()),
     pass(Here, From),
     Answer.
+
+%% A node is reached before its application has started.
+is_started() ->
+    ets:whereis(?MODULE) =/= undefined.
 
 %% @doc Returns the places whose last call had no answer, or whose node is down.
 -spec down() -> [cluster_ring:place()].
@@ -80,38 +78,30 @@ up_first(Places) ->
     {Down, Up} = lists:partition(fun(Place) -> ets:member(?MODULE, Place) end, Places),
     Up ++ Down.
 
-%% @doc Sets the faults of this node's messages.
--spec set_faults(faults()) -> ok.
-set_faults(Faults) ->
-    persistent_term:put(?FAULTS, Faults).
-
 %% Ends the process if messages from a place to another are dropped.
 pass(From, To) ->
-    #{drop := Drop} = faults(),
-    case lists:member({From, To}, Drop) of
+    case cluster_faults:is_dropped(From, To) of
         true -> exit(dropped);
         false -> ok
     end.
 
-slow_ms() ->
-    #{slow_ms := SlowMs} = faults(),
-    SlowMs.
-
-faults() ->
-    persistent_term:get(?FAULTS, ?NO_FAULTS).
-
-%% Notes that a place is up or down.
+%% Notes that a place is down, or up again: then it gets its hints.
 note(Place, Result) ->
     case {Result, ets:member(?MODULE, Place)} of
-        {down, false} -> ets:insert(?MODULE, {Place});
-        {{ok, _}, true} -> ets:delete(?MODULE, Place);
-        _ -> true
+        {down, false} ->
+            ets:insert(?MODULE, {Place});
+        {{ok, _}, true} ->
+            ets:delete(?MODULE, Place),
+            cluster_handoff:wake(Place);
+        _ ->
+            ok
     end.
 
 %% @private
 init([]) ->
     ?MODULE = ets:new(?MODULE, [named_table, public, {read_concurrency, true}]),
     ok = net_kernel:monitor_nodes(true),
+    {ok, _} = timer:send_interval(?AGAIN_MS, call_again),
     {ok, none}.
 
 %% @private
@@ -126,6 +116,8 @@ handle_cast(_, none) ->
 handle_info({nodedown, Node}, none) ->
     [note(Place, down) || Place <- cluster_ring:others(), cluster_ring:node_of(Place) =:= Node],
     {noreply, none};
-handle_info({nodeup, Node}, none) ->
-    [cluster_handoff:wake(Place) || Place <- cluster_ring:others(), cluster_ring:node_of(Place) =:= Node],
+handle_info({nodeup, _}, none) ->
+    {noreply, none};
+handle_info(call_again, none) ->
+    [spawn(fun() -> call(Place, cluster_ring, here, []) end) || Place <- down()],
     {noreply, none}.
