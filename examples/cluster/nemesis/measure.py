@@ -82,7 +82,7 @@ def words() -> argparse.Namespace:
     parser.add_argument("--seconds", type=float, default=20, help="time of a phase")
     parser.add_argument("--partition", type=float, default=30, help="time of a partition, in seconds")
     parser.add_argument("--clients", type=int, default=8)
-    parser.add_argument("--no-admission", action="store_true", help="always 4 slots for repair")
+    parser.add_argument("--no-admission", action="store_true", help="repair does not wait for slots")
     return parser.parse_args()
 
 
@@ -91,7 +91,7 @@ def work(given: argparse.Namespace, room: Path) -> int:
     build(given.library, room / "out")
     watch = Watch()
     log = Log(room / "nemesis.log", watch)
-    settings = {"CLUSTER_SLOTS": "4,4,20000"} if given.no_admission else {}
+    settings = {"CLUSTER_ADMISSION": "off"} if given.no_admission else {}
     with Nodes(room / "out", room / "disks", room, log, settings) as nodes:
         nodes.begin()
         with figures.Counts(nodes.base, Log(room / "status.log", watch)) as counts:
