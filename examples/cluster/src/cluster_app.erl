@@ -8,6 +8,7 @@
 %% @doc Starts the application in a node of its own, which ends if it can't serve, or no longer. Prints `ready'.
 -spec boot() -> ok.
 boot() ->
+    ok = lists:foreach(fun load/1, [inets, antientropy, cluster]),
     case application:ensure_all_started(cluster, permanent) of
         {ok, _} ->
             io:put_chars("ready\n");
@@ -15,6 +16,12 @@ boot() ->
             io:format(standard_error, "the node can't start: ~tp~n", [Reason]),
             erlang:halt(1)
     end.
+
+%% Loads the modules of an application, before many requests at once ask for them.
+load(Application) ->
+    ok = application:load(Application),
+    {ok, Modules} = application:get_key(Application, modules),
+    ok = code:ensure_modules_loaded(Modules).
 
 %% @private
 start(_, _) ->

@@ -28,10 +28,10 @@ escaped(Char) -> Char.
 %% @doc Reads a text of whole numbers, strings without escapes, arrays and objects. Refused: `bad_json'.
 -spec decode(binary()) -> {ok, json()} | {error, bad_json}.
 decode(Text) ->
-    try value(skip(Text)) of
-        {Value, Rest} ->
-            <<>> = skip(Rest),
-            {ok, Value}
+    try
+        {Value, Rest} = value(skip(Text)),
+        <<>> = skip(Rest),
+        {ok, Value}
     catch
         error:_ -> {error, bad_json}
     end.

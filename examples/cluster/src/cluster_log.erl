@@ -53,15 +53,19 @@ close(#log{name = Name}) ->
 begin_file(Folder, Number) ->
     Name = file_name(Folder, Number),
     {ok, Name} = disk_log:open([{name, Name}, {file, Name}]),
+    done(Name, disk_log:sync(Name)),
     ok = cluster_disk:sync_folder(Folder),
     #log{folder = Folder, name = Name, number = Number}.
 
-%% Reads the records of a file, up to the first that isn't whole. `disk_log' cuts the file off there.
+%% Reads the records of a file, up to the first that isn't whole.
 read(Name, Fun, Acc) ->
     case disk_log:open([{name, Name}, {file, Name}, {quiet, true}]) of
-        {ok, Name} -> ok;
-        {repaired, Name, _, _} -> ok
-    end,
+        {ok, Name} -> read_open(Name, Fun, Acc);
+        {repaired, Name, _, _} -> read_open(Name, Fun, Acc);
+        {error, {not_a_log_file, Name}} -> Acc
+    end.
+
+read_open(Name, Fun, Acc) ->
     done(Name, disk_log:sync(Name)),
     Read = read_chunks(Name, start, Fun, Acc),
     done(Name, disk_log:close(Name)),
@@ -69,6 +73,7 @@ read(Name, Fun, Acc) ->
 
 read_chunks(Name, At, Fun, Acc) ->
     case disk_log:chunk(Name, At) of
+        {error, {corrupt_log_file, Name}} -> Acc;
         eof -> Acc;
         {Next, Sealed} -> read_sealed(Sealed, Fun, Acc, fun(Read) -> read_chunks(Name, Next, Fun, Read) end)
     end.

@@ -42,7 +42,7 @@
     since_checkpoint = 0 :: non_neg_integer(),
     saver :: reference() | undefined,
     %% Entries after the last renewal.
-    held :: non_neg_integer(),
+    held = 0 :: non_neg_integer(),
     waiting = [] :: [{gen_server:from(), Answer :: term()}],
     offers = 0 :: non_neg_integer(),
     offered = #{} :: #{cluster_ring:place() => {Number :: pos_integer(), antientropy_snapshot:snapshot()}},
@@ -128,17 +128,16 @@ init(Range) ->
     ok = cluster_disk:make_folder(Folder),
     Accept = fun(Record, Replica) -> accept_again(Record, Replica, Limit) end,
     {Log, Replica} = cluster_log:open(Folder, 0, Accept, cluster_checkpoint:load(Folder, Range, Limit)),
-    Entries = entries(Replica),
-    {ok, #state{
+    State = #state{
         range = Range,
         life = cluster_settings:life(),
         folder = Folder,
         limit = Limit,
         replica = Replica,
         log = Log,
-        logged = Entries,
-        held = Entries
-    }}.
+        logged = entries(Replica)
+    },
+    {ok, renew_if_due(State)}.
 
 %% @private
 handle_call(Request, From, State) ->

@@ -1,0 +1,187 @@
+%% @doc A range on its disk: restarts, checkpoints, renewals.
+-module(range_tests).
+
+-include_lib("eunit/include/eunit.hrl").
+
+-define(RANGE, 0).
+
+%% A range that starts again has the same root, and its counters go on.
+restart_test() ->
+    room:with([], fun(_) ->
+        start(),
+        fill(50),
+        Before = dump(),
+        restart(),
+        ?assertEqual(Before, dump()),
+        Key = key(1),
+        {ok, [#{clock := #{1 := 1} = Clock}]} = cluster_range:read(?RANGE, Key, []),
+        ?assertEqual({error, stale_context}, cluster_range:put(?RANGE, Key, <<"again">>, #{})),
+        ?assertMatch({ok, #{clock := #{1 := 2}}}, cluster_range:put(?RANGE, Key, <<"again">>, Clock)),
+        stop()
+    end).
+
+%% A put is refused if its client hasn't read this life's last put of the key, even if its clock would be new.
+unread_put_test() ->
+    room:with([], fun(_) ->
+        start(),
+        Key = key(1),
+        {ok, #{clock := First}} = cluster_range:put(?RANGE, Key, <<"first">>, #{}),
+        [{ok, new}] = cluster_range:copies(?RANGE, [{Key, #{clock => #{2 => 1}, value => <<"other">>}}]),
+        {ok, _} = cluster_range:put(?RANGE, Key, <<"second">>, First),
+        ?assertEqual({error, stale_context}, cluster_range:put(?RANGE, Key, <<"third">>, First#{2 => 1})),
+        stop()
+    end).
+
+%% After checkpoints the older files of the log are gone, and a restart has everything.
+checkpoint_test() ->
+    room:with([{checkpoint_entries, 20}], fun(Folder) ->
+        start(),
+        fill(95),
+        Before = dump(),
+        restart(),
+        ?assertEqual(Before, dump()),
+        Files = filelib:wildcard("range-0/*", Folder),
+        ?assert(lists:member("range-0/checkpoint", Files)),
+        ?assert(length(Files) < 6),
+        stop()
+    end).
+
+%% A crash may leave a checkpoint that was cut off: it has another name.
+unfinished_checkpoint_test() ->
+    room:with([{checkpoint_entries, 20}], fun(Folder) ->
+        start(),
+        fill(50),
+        Before = dump(),
+        stop(),
+        ok = file:write_file(filename:join(Folder, "range-0/checkpoint.new"), <<"antient">>),
+        start(),
+        ?assertEqual(Before, dump()),
+        stop()
+    end).
+
+%% Renewals keep the root, before and after a restart. The log has more records than the journal may have entries.
+renewal_test() ->
+    room:with([{limit, 40}], fun(_) ->
+        start(),
+        fill(20),
+        [put_again(key(Number)) || Number <- lists:seq(1, 20), _ <- lists:seq(1, 5)],
+        #{entries := Entries, limit := 40} = cluster_range:counts(?RANGE),
+        ?assert(Entries < 40),
+        Before = dump(),
+        restart(),
+        ?assertEqual(Before, dump()),
+        put_again(key(1)),
+        ?assertMatch({ok, [#{clock := #{1 := 7}}]}, cluster_range:read(?RANGE, key(1), [])),
+        stop()
+    end).
+
+%% A range that is full of held versions refuses puts, and still serves what it has.
+full_test() ->
+    room:with([{limit, 30}], fun(_) ->
+        start(),
+        fill(30),
+        ?assertEqual({error, journal_full}, cluster_range:put(?RANGE, key(31), <<"value">>, #{})),
+        ?assertMatch({ok, [_]}, cluster_range:read(?RANGE, key(30), [])),
+        stop()
+    end).
+
+%% What a process syncs into a replica that it borrowed is on the disk when it gives it back.
+borrowed_test() ->
+    room:with([], fun(_) ->
+        start(),
+        {ok, Replica} = cluster_range:borrow(?RANGE),
+        {ok, new} = antientropy:accept(Replica, key(1), #{clock => #{2 => 1}, value => <<"other">>}),
+        ok = cluster_range:give_back(?RANGE),
+        kill(),
+        start(),
+        ?assertMatch({ok, [#{value := <<"other">>}]}, cluster_range:read(?RANGE, key(1), [])),
+        stop()
+    end).
+
+%% No renewal comes while a process syncs into the replica, and the next one has to wait.
+busy_test() ->
+    room:with([{limit, 40}], fun(_) ->
+        start(),
+        {ok, Replica} = cluster_range:borrow(?RANGE),
+        fill(5),
+        [put_again(key(1)) || _ <- lists:seq(1, 32)],
+        ?assertMatch({ok, #{entries := 37}}, antientropy:count(Replica)),
+        {error, busy} = call_elsewhere(fun() -> cluster_range:borrow(?RANGE) end),
+        ok = cluster_range:give_back(?RANGE),
+        ?assertMatch(#{entries := 5}, cluster_range:counts(?RANGE)),
+        ?assertEqual({error, empty}, antientropy:count(Replica)),
+        stop()
+    end).
+
+%% At 900 sessions the replica is renewed, with its root, since a session is never freed.
+sessions_test() ->
+    room:with([], fun(_) ->
+        start(),
+        fill(3),
+        Before = dump(),
+        {ok, Partner} = antientropy:new(cluster_ring:replica_options(?RANGE)),
+        {ok, Snapshot} = antientropy:snapshot(Partner),
+        {ok, Offer} = antientropy_snapshot:offer(Snapshot, 1),
+        {ok, Replica} = cluster_range:borrow(?RANGE),
+        [{ok, #{state := cancelled}} = sync(Replica, Offer) || _ <- lists:seq(1, 900)],
+        ?assertMatch({ok, #{sessions := 900}}, antientropy:count(Replica)),
+        ok = cluster_range:give_back(?RANGE),
+        ?assertMatch(#{sessions := 0}, cluster_range:counts(?RANGE)),
+        ?assertEqual(Before, dump()),
+        stop()
+    end).
+
+%% Begins a sync with a partner that doesn't answer.
+sync(Replica, Offer) ->
+    antientropy:sync(Replica, 2, Offer, fun(_) -> [] end, #{most_bad => 0}).
+
+start() ->
+    {ok, Pid} = cluster_range:start_link(?RANGE),
+    true = unlink(Pid),
+    ok.
+
+stop() ->
+    ok = gen_server:stop(cluster_range_0).
+
+%% Ends the process as a crash does: nothing is closed in order.
+kill() ->
+    Monitor = monitor(process, cluster_range_0),
+    exit(whereis(cluster_range_0), kill),
+    receive
+        {'DOWN', Monitor, process, _, killed} -> ok
+    end.
+
+restart() ->
+    kill(),
+    start().
+
+dump() ->
+    cluster_range:dump(?RANGE).
+
+fill(Count) ->
+    [{ok, _} = cluster_range:put(?RANGE, key(Number), <<"value">>, #{}) || Number <- lists:seq(1, Count)].
+
+put_again(Key) ->
+    {ok, [#{clock := Clock}]} = cluster_range:read(?RANGE, Key, []),
+    {ok, _} = cluster_range:put(?RANGE, Key, <<"again">>, Clock).
+
+call_elsewhere(Fun) ->
+    {_, Monitor} = spawn_monitor(fun() -> exit({result, Fun()}) end),
+    receive
+        {'DOWN', Monitor, process, _, {result, Result}} -> Result
+    end.
+
+%% Returns one of the keys of the range, by its number from 1.
+key(Number) ->
+    lists:nth(Number, keys()).
+
+keys() ->
+    case persistent_term:get(?MODULE, none) of
+        none ->
+            All = [<<"key ", (integer_to_binary(Number))/binary>> || Number <- lists:seq(1, 1000)],
+            Keys = [Key || Key <- All, cluster_ring:range(Key) =:= {ok, ?RANGE}],
+            ok = persistent_term:put(?MODULE, Keys),
+            Keys;
+        Keys ->
+            Keys
+    end.
