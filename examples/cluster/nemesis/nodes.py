@@ -11,7 +11,7 @@ import socket
 import subprocess
 import time
 from pathlib import Path
-from typing import Dict, List, Optional, Sequence
+from typing import Dict, List, Optional, Sequence, Tuple
 
 from .front import HOST
 from .log import Log
@@ -22,7 +22,7 @@ PLACES = (1, 2, 3, 4, 5)
 #: A clock has at most 32 lives.
 MOST_LIVES = 20
 
-#: Ports that a cluster listens on: those of HTTP are the base plus the place.
+#: Ports that a cluster listens on, the first that are free. Those of HTTP are a base plus the place.
 HTTP_PORTS = range(8120, 8140)
 EPMD_PORTS = range(4450, 4500)
 
@@ -45,8 +45,7 @@ class Nodes:
     """The processes of a cluster, each known by its id. A node is started again under its life while its disk lasts."""
 
     def __init__(self, out: Path, disks: Path, logs: Path, log: Log, settings: Optional[Dict[str, str]] = None) -> None:
-        self.base = _free(HTTP_PORTS, len(PLACES))
-        self._epmd_port = _free(EPMD_PORTS, 0)
+        self._ports, self.base, self._epmd_port = _claim()
         self._out, self._disks, self._logs, self._log = out, disks, logs, log
         self._environment = {
             **os.environ,
@@ -88,6 +87,7 @@ class Nodes:
                 self._epmd.terminate()
             for process in [*self._nodes.values(), *([self._epmd] if self._epmd else [])]:
                 _await_end(process)
+            self._ports.close()
         finally:
             signal.signal(signal.SIGINT, before)
 
@@ -171,12 +171,19 @@ class Nodes:
             said += more
 
 
-def _free(ports: range, places: int) -> int:
-    """Returns the first port of a range from which on all places have a free port."""
-    for base in range(ports.start, ports.stop - places, places + 1):
-        if all(_is_free(base + place) for place in range(places + 1)):
-            return base
-    raise NoStart(f"no port is free from {ports.start} to {ports.stop - 1}")
+def _claim() -> Tuple[socket.socket, int, int]:
+    """Returns the HTTP base and the port of epmd, which are free, and the socket that claims them: it is at the base."""
+    for base in range(HTTP_PORTS.start, HTTP_PORTS.stop - len(PLACES), len(PLACES) + 1):
+        epmd_port, claim = EPMD_PORTS.start + base - HTTP_PORTS.start, socket.socket()
+        try:
+            claim.bind((HOST, base))
+        except OSError:
+            claim.close()
+            continue
+        if all(_is_free(port) for port in (epmd_port, *(base + place for place in PLACES))):
+            return claim, base, epmd_port
+        claim.close()
+    raise NoStart(f"no ports are free from {HTTP_PORTS.start} to {HTTP_PORTS.stop - 1}")
 
 
 def _is_free(port: int) -> bool:
