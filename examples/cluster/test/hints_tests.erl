@@ -6,8 +6,8 @@
 -define(VERSION, #{clock => #{2 => 1}, value => <<"value">>}).
 
 %% Pending hints are there after a restart, and confirmed ones aren't.
-restart_test() ->
-    room:with([], fun(_) ->
+restart_test_() ->
+    room:test([], fun(_) ->
         start(),
         [{ok, _} = cluster_hints:keep(Owner, <<"key">>, ?VERSION) || Owner <- [2, 3, 2]],
         {Renewals, [#{number := First}, #{number := Second}]} = cluster_hints:pending(2, 0, 10),
@@ -19,8 +19,8 @@ restart_test() ->
     end).
 
 %% A renewal gives hints new numbers. A confirmation by the old ones does nothing, and a restart has the new ones.
-renewal_test() ->
-    room:with([], fun(Folder) ->
+renewal_test_() ->
+    room:test([], fun(Folder) ->
         start(),
         [{ok, _} = Kept || Kept <- keep_all(1010)],
         {Renewals, Hints} = cluster_hints:pending(2, 0, 1000),
@@ -39,24 +39,20 @@ renewal_test() ->
     end).
 
 %% The 10,001st pending hint is refused.
-full_test() ->
-    room:with([], fun(_) ->
+full_test_() ->
+    room:test([], fun(_) ->
         start(),
         ?assertEqual([{error, hints_full}], [Kept || {error, _} = Kept <- keep_all(10001)]),
         stop()
     end).
 
-%% Keeps so many hints, all at once, and returns the answers.
+%% Keeps so many hints, some hundred at once, and returns the answers.
 keep_all(Count) ->
-    Parent = self(),
-    Keep = fun(Number) -> Parent ! {kept, cluster_hints:keep(2, key(Number), ?VERSION)} end,
-    [spawn_link(fun() -> Keep(Number) end) || Number <- lists:seq(1, Count)],
-    [
-        receive
-            {kept, Answer} -> Answer
-        end
-     || _ <- lists:seq(1, Count)
-    ].
+    Keep = fun(Number) -> cluster_hints:keep(2, key(Number), ?VERSION) end,
+    lists:append([
+        room:all_at_once(Keep, lists:seq(First, min(First + 399, Count)))
+     || First <- lists:seq(1, Count, 400)
+    ]).
 
 key(Number) ->
     <<"key ", (integer_to_binary(Number))/binary>>.

@@ -4,23 +4,23 @@
 -include_lib("eunit/include/eunit.hrl").
 
 %% A folder keeps its life, and refuses another one.
-claim_test() ->
-    room:with([], fun(Folder) ->
+claim_test_() ->
+    room:test([], fun(Folder) ->
         ?assertEqual(ok, cluster_life:claim(Folder, 7)),
         ?assertEqual(ok, cluster_life:claim(Folder, 7)),
         ?assertEqual({error, {life, {of_this_disk, <<"7">>}}}, cluster_life:claim(Folder, 8))
     end).
 
 %% A folder that has files and no life isn't an empty disk.
-lost_test() ->
-    room:with([], fun(Folder) ->
+lost_test_() ->
+    room:test([], fun(Folder) ->
         ok = file:make_dir(filename:join(Folder, "range-0")),
         ?assertEqual({error, {life, {missing_beside, ["range-0"]}}}, cluster_life:claim(Folder, 1))
     end).
 
 %% A claim that a crash cut off is repeated.
-cut_off_test() ->
-    room:with([], fun(Folder) ->
+cut_off_test_() ->
+    room:test([], fun(Folder) ->
         ok = file:write_file(filename:join(Folder, "life.new"), <<>>),
         ?assertEqual(ok, cluster_life:claim(Folder, 3)),
         ?assertEqual({ok, ["life"]}, file:list_dir(Folder))

@@ -4,8 +4,8 @@
 -include_lib("eunit/include/eunit.hrl").
 
 %% A record that was cut in the middle isn't there, and neither is what follows. Later records are in a new file.
-cut_test() ->
-    room:with([], fun(Folder) ->
+cut_test_() ->
+    room:test([], fun(Folder) ->
         write(Folder, [first, second, <<0:800>>]),
         change(Folder, 1, fun(Bytes) -> binary:part(Bytes, 0, byte_size(Bytes) - 50) end),
         ?assertEqual([first, second], write(Folder, [third])),
@@ -13,8 +13,8 @@ cut_test() ->
     end).
 
 %% A record whose bytes have changed ends its file, and not the files after it.
-changed_test() ->
-    room:with([], fun(Folder) ->
+changed_test_() ->
+    room:test([], fun(Folder) ->
         write(Folder, [first, <<"second">>, third]),
         write(Folder, [fourth]),
         change(Folder, 1, fun(Bytes) -> binary:replace(Bytes, <<"second">>, <<"sekond">>) end),
@@ -22,8 +22,8 @@ changed_test() ->
     end).
 
 %% A file that was made, and isn't a log yet, has no records.
-begun_test() ->
-    room:with([], fun(Folder) ->
+begun_test_() ->
+    room:test([], fun(Folder) ->
         write(Folder, [first]),
         ok = file:write_file(filename:join(Folder, "2.log"), <<>>),
         ?assertEqual([first], write(Folder, [second])),
@@ -31,8 +31,8 @@ begun_test() ->
     end).
 
 %% Older files are removed after a rotation, and the reading may begin at a file's number.
-rotation_test() ->
-    room:with([], fun(Folder) ->
+rotation_test_() ->
+    room:test([], fun(Folder) ->
         {Log, []} = open(Folder),
         ok = cluster_log:write(Log, [first]),
         Begun = cluster_log:rotate(Log),

@@ -6,10 +6,10 @@
 -define(RANGE, 0).
 
 %% A range that starts again has the same root, and its counters go on.
-restart_test() ->
-    room:with([], fun(_) ->
+restart_test_() ->
+    room:test([], fun(_) ->
         start(),
-        fill(50),
+        fill(1, 50),
         Before = dump(),
         restart(),
         ?assertEqual(Before, dump()),
@@ -21,8 +21,8 @@ restart_test() ->
     end).
 
 %% A put is refused if its client hasn't read this life's last put of the key, even if its clock would be new.
-unread_put_test() ->
-    room:with([], fun(_) ->
+unread_put_test_() ->
+    room:test([], fun(_) ->
         start(),
         Key = key(1),
         {ok, #{clock := First}} = cluster_range:put(?RANGE, Key, <<"first">>, #{}),
@@ -33,10 +33,10 @@ unread_put_test() ->
     end).
 
 %% After checkpoints the older files of the log are gone, and a restart has everything.
-checkpoint_test() ->
-    room:with([{checkpoint_entries, 20}], fun(Folder) ->
+checkpoint_test_() ->
+    room:test([{checkpoint_entries, 20}], fun(Folder) ->
         start(),
-        fill(95),
+        [fill(From, From + 19) || From <- [1, 21, 41, 61, 81]],
         Before = dump(),
         restart(),
         ?assertEqual(Before, dump()),
@@ -47,10 +47,10 @@ checkpoint_test() ->
     end).
 
 %% A crash may leave a checkpoint that was cut off: it has another name.
-unfinished_checkpoint_test() ->
-    room:with([{checkpoint_entries, 20}], fun(Folder) ->
+unfinished_checkpoint_test_() ->
+    room:test([{checkpoint_entries, 20}], fun(Folder) ->
         start(),
-        fill(50),
+        fill(1, 50),
         Before = dump(),
         stop(),
         ok = file:write_file(filename:join(Folder, "range-0/checkpoint.new"), <<"antient">>),
@@ -60,11 +60,11 @@ unfinished_checkpoint_test() ->
     end).
 
 %% Renewals keep the root, before and after a restart. The log has more records than the journal may have entries.
-renewal_test() ->
-    room:with([{limit, 40}], fun(_) ->
+renewal_test_() ->
+    room:test([{limit, 40}], fun(_) ->
         start(),
-        fill(20),
-        [put_again(key(Number)) || Number <- lists:seq(1, 20), _ <- lists:seq(1, 5)],
+        fill(1, 20),
+        [put_again(key(Number)) || _ <- lists:seq(1, 5), Number <- lists:seq(1, 20)],
         #{entries := Entries, limit := 40} = cluster_range:counts(?RANGE),
         ?assert(Entries < 40),
         Before = dump(),
@@ -76,18 +76,18 @@ renewal_test() ->
     end).
 
 %% A range that is full of held versions refuses puts, and still serves what it has.
-full_test() ->
-    room:with([{limit, 30}], fun(_) ->
+full_test_() ->
+    room:test([{limit, 30}], fun(_) ->
         start(),
-        fill(30),
+        fill(1, 30),
         ?assertEqual({error, journal_full}, cluster_range:put(?RANGE, key(31), <<"value">>, #{})),
         ?assertMatch({ok, [_]}, cluster_range:read(?RANGE, key(30), [])),
         stop()
     end).
 
 %% What a process syncs into a replica that it borrowed is on the disk when it gives it back.
-borrowed_test() ->
-    room:with([], fun(_) ->
+borrowed_test_() ->
+    room:test([], fun(_) ->
         start(),
         {ok, Replica} = cluster_range:borrow(?RANGE),
         {ok, new} = antientropy:accept(Replica, key(1), #{clock => #{2 => 1}, value => <<"other">>}),
@@ -99,11 +99,11 @@ borrowed_test() ->
     end).
 
 %% No renewal comes while a process syncs into the replica, and the next one has to wait.
-busy_test() ->
-    room:with([{limit, 40}], fun(_) ->
+busy_test_() ->
+    room:test([{limit, 40}], fun(_) ->
         start(),
         {ok, Replica} = cluster_range:borrow(?RANGE),
-        fill(5),
+        fill(1, 5),
         [put_again(key(1)) || _ <- lists:seq(1, 32)],
         ?assertMatch({ok, #{entries := 37}}, antientropy:count(Replica)),
         {error, busy} = call_elsewhere(fun() -> cluster_range:borrow(?RANGE) end),
@@ -114,10 +114,10 @@ busy_test() ->
     end).
 
 %% At 900 sessions the replica is renewed, with its root, since a session is never freed.
-sessions_test() ->
-    room:with([], fun(_) ->
+sessions_test_() ->
+    room:test([], fun(_) ->
         start(),
-        fill(3),
+        fill(1, 3),
         Before = dump(),
         {ok, Partner} = antientropy:new(cluster_ring:replica_options(?RANGE)),
         {ok, Snapshot} = antientropy:snapshot(Partner),
@@ -141,7 +141,7 @@ start() ->
     ok.
 
 stop() ->
-    ok = gen_server:stop(cluster_range_0).
+    ok = gen_server:stop(cluster_range_0, shutdown, infinity).
 
 %% Ends the process as a crash does: nothing is closed in order.
 kill() ->
@@ -158,8 +158,10 @@ restart() ->
 dump() ->
     cluster_range:dump(?RANGE).
 
-fill(Count) ->
-    [{ok, _} = cluster_range:put(?RANGE, key(Number), <<"value">>, #{}) || Number <- lists:seq(1, Count)].
+%% Puts the keys from a number to another.
+fill(From, To) ->
+    Put = fun(Number) -> cluster_range:put(?RANGE, key(Number), <<"value">>, #{}) end,
+    [{ok, _} = Answer || Answer <- room:all_at_once(Put, lists:seq(From, To))].
 
 put_again(Key) ->
     {ok, [#{clock := Clock}]} = cluster_range:read(?RANGE, Key, []),

@@ -1,10 +1,16 @@
 %% @doc A folder for a test, and the settings of a node in it.
 -module(room).
 
--export([with/2, folder/1]).
+-export([test/2, all_at_once/2, folder/1]).
 
-%% @doc Runs a test as the node of place 1, with an empty folder and these settings.
-with(Settings, Test) ->
+%% A disk may be slow.
+-define(SECONDS, 60).
+
+%% @doc Returns a test as the node of place 1, with an empty folder and these settings.
+test(Settings, Test) ->
+    {timeout, ?SECONDS, fun() -> run(Settings, Test) end}.
+
+run(Settings, Test) ->
     Folder = folder("room-" ++ integer_to_list(erlang:unique_integer([positive]))),
     ok = filelib:ensure_path(Folder),
     {ok, _} = application:ensure_all_started(antientropy),
@@ -16,6 +22,17 @@ with(Settings, Test) ->
     after
         ok = file:del_dir_r(Folder)
     end.
+
+%% @doc Calls a function for each of some items, in processes of their own, and returns the results in any order.
+all_at_once(Fun, Items) ->
+    Parent = self(),
+    [spawn_link(fun() -> Parent ! {result, Fun(Item)} end) || Item <- Items],
+    [
+        receive
+            {result, Result} -> Result
+        end
+     || _ <- Items
+    ].
 
 %% @doc Returns the path of a folder of this name.
 folder(Name) ->

@@ -4,16 +4,16 @@
 -include_lib("eunit/include/eunit.hrl").
 
 %% The holders of each range, and its carriers.
-ring_test() ->
-    room:with([], fun(_) ->
+ring_test_() ->
+    room:test([], fun(_) ->
         ?assertEqual([[1, 2, 3], [2, 3, 4], [3, 4, 5], [4, 5, 1]], [cluster_ring:holders(Range) || Range <- [0, 1, 2, 3]]),
         ?assertEqual([[4, 5], [5, 1], [1, 2], [2, 3]], [cluster_ring:carriers(Range) || Range <- [0, 1, 2, 3]]),
         ?assertEqual([0, 3], cluster_ring:held())
     end).
 
 %% A ring of few places has fewer holders, and no carriers.
-small_ring_test() ->
-    room:with([{places, [1, 2]}], fun(_) ->
+small_ring_test_() ->
+    room:test([{places, [1, 2]}], fun(_) ->
         ?assertEqual([[1, 2], [2, 1], [1, 2], [2, 1]], [cluster_ring:holders(Range) || Range <- [0, 1, 2, 3]]),
         ?assertEqual([], cluster_ring:carriers(3)),
         ok = application:set_env(cluster, places, [1, 2, 3, 4, 5])
