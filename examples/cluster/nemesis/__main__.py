@@ -18,8 +18,8 @@ from .schedule import Nemesis
 #: Seconds that the cluster may take to come to rest in the end.
 REST_S = 60.0
 
-#: Few entries of a range and of a log, so that a run has renewals and checkpoints.
-SETTINGS = {"CLUSTER_LIMIT": "4000", "CLUSTER_CHECKPOINT": "200"}
+#: Few entries of a range and of a log, and short rounds, so that a run has renewals, checkpoints and syncs.
+SETTINGS = {"CLUSTER_LIMIT": "4000", "CLUSTER_CHECKPOINT": "200", "CLUSTER_ROUND_MS": "400"}
 
 
 PLAIN = argparse.RawDescriptionHelpFormatter

@@ -86,7 +86,7 @@ class Nemesis:
         if self._chance.random() < 0.7:
             self._clients.load.skew(self._chance.sample(KEYS, 3), places)
             for place in places:
-                self._links.slow_disk(place, self._chance.choice((50, 150, 300)), self._nodes.up())
+                self._links.slow_disk(place, self._chance.choice((100, 250, 400)), self._nodes.up())
             self._wait(0.5, 1.5)
         for place in places:
             self._nodes.kill(place)
