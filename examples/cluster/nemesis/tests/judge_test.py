@@ -61,6 +61,9 @@ class Held(JudgeCase):
     def test_a_put_that_was_not_acknowledged_and_is_held(self):
         self.assert_broken(Run(put("milk", None), everywhere=[MILK]))
 
+    def test_a_put_that_was_refused_by_too_few_nodes_and_is_held(self):
+        self.assert_broken(Run(put("milk", None, status=503), everywhere=[MILK]))
+
     def test_a_put_that_was_not_acknowledged_overwrites(self):
         clients = put(*MILK), put("eggs", None, read=["milk"], t=3.0)
         self.assert_broken(Run(*clients, everywhere=[("eggs", "1:2")]))
@@ -95,6 +98,16 @@ class Tombstones(JudgeCase):
         tombstone = ("tombstone 2:1", "2:1")
         clients = delete(None), get(tombstone, t=2.0), put(*MILK, t=3.0), delete(None, read=["milk"], t=5.0)
         self.assert_broken(Run(*clients, everywhere=[("tombstone", "2:1")]), HELD)
+
+    def test_what_an_unanswered_delete_overwrote(self):
+        tombstone, tea = ("tombstone 1:3", "1:3"), ("tea", "1:4")
+        clients = put("bread", "1:1", t=0.1), put("milk", "1:2", read=["bread"]), delete(None, read=["milk"], t=2.0)
+        clients += get(tombstone, t=3.0), put(*tea, read=["tombstone 1:3"], t=4.0)
+        self.assert_broken(Run(*clients, everywhere=[tea]))
+
+    def test_a_tombstone_is_not_of_a_delete_that_was_refused(self):
+        clients = put(*MILK), delete(None, read=["milk"], t=3.0, status=409), delete(None, t=4.0)
+        self.assert_broken(Run(*clients, everywhere=[("tombstone", "1:2")]), HELD)
 
     def test_a_tombstone_that_nobody_put(self):
         self.assert_broken(Run(put(*MILK), everywhere=[MILK, ("tombstone", "2:1")]), PUT)
@@ -201,6 +214,13 @@ class Two(JudgeCase):
 
 
 class Reads(JudgeCase):
+    def lost(self, at, *clients, everywhere):
+        """A run in which place 1 loses its disk at a time, and goes on with the life 6."""
+        events = event("destroy", at, place=1, life=1), event("start", at + 0.1, place=1, life=6, disk="new")
+        run = Run(*clients, everywhere=everywhere, events=events)
+        run.dumps[1]["life"] = 6
+        return run
+
     def test_a_read_that_shows_nothing(self):
         self.assert_broken(Run(put(*MILK), get(t=2.0), everywhere=[MILK]), READS)
 
@@ -222,17 +242,25 @@ class Reads(JudgeCase):
         clients = put(*MILK, on=[1, 2]), put("eggs", "1:2", read=["milk"], t=1.6, on=[1, 4]), get(MILK, t=3.0)
         self.assert_broken(Run(*clients, everywhere=[("eggs", "1:2")]))
 
+    def test_a_read_that_shows_nothing_after_a_put_that_was_overwritten_on_other_disks(self):
+        clients = put(*MILK, on=[1, 2]), put("eggs", "1:2", read=["milk"], t=1.6, on=[1, 4]), get(t=3.0)
+        self.assert_broken(Run(*clients, everywhere=[("eggs", "1:2")]), READS)
+
+    def test_a_read_that_shows_two_of_three_siblings(self):
+        clients = put(*MILK), put(*EGGS), put("tea", "3:1"), get(EGGS, ("tea", "3:1"), t=2.0)
+        self.assert_broken(Run(*clients, everywhere=[MILK, EGGS, ("tea", "3:1")]), READS)
+
+    def test_a_read_after_a_disk_was_lost_before_the_put(self):
+        self.assert_broken(self.lost(0.5, put("milk", "6:1"), get(t=2.0), everywhere=[("milk", "6:1")]), READS)
+
+    def test_a_read_before_a_disk_was_lost(self):
+        self.assert_broken(self.lost(5.0, put(*MILK), get(t=2.0), everywhere=[MILK]), READS)
+
     def test_a_read_after_a_disk_was_lost(self):
-        events = event("destroy", 1.8, place=1, life=1), event("start", 1.9, place=1, life=6, disk="new")
-        run = Run(put(*MILK), get(t=2.0), everywhere=[MILK], events=events)
-        run.dumps[1]["life"] = 6
-        self.assert_broken(run)
+        self.assert_broken(self.lost(1.8, put(*MILK), get(t=2.0), everywhere=[MILK]))
 
     def test_a_read_after_one_of_three_disks_was_lost(self):
-        events = event("destroy", 1.8, place=1, life=1), event("start", 1.9, place=1, life=6, disk="new")
-        run = Run(put(*MILK, on=[1, 2, 3]), get(t=2.0), everywhere=[MILK], events=events)
-        run.dumps[1]["life"] = 6
-        self.assert_broken(run, READS)
+        self.assert_broken(self.lost(1.8, put(*MILK, on=[1, 2, 3]), get(t=2.0), everywhere=[MILK]), READS)
 
     def test_a_read_that_shows_a_tombstone(self):
         clients = put(*MILK), delete("1:2", read=["milk"], t=1.6), get(("tombstone 1:2", "1:2"), t=3.0)
