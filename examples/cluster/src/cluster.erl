@@ -34,7 +34,7 @@ status() ->
         life => cluster_settings:life(),
         ranges => [range_status(cluster_range:counts(Range)) || Range <- cluster_ring:held()],
         hints => cluster_hints:count(),
-        slots => cluster_slots:count(),
+        slots => slots_status(cluster_slots:count()),
         rounds => Rounds,
         keys_repaired => Keys,
         bytes_repaired => Bytes,
@@ -43,6 +43,9 @@ status() ->
 
 range_status(#{root := null} = Counts) -> Counts;
 range_status(#{root := Root} = Counts) -> Counts#{root := hex(Root)}.
+
+slots_status(#{p99_micros := none} = Counts) -> Counts#{p99_micros := null};
+slots_status(Counts) -> Counts.
 
 %% @doc Returns the counts of all nodes that answer, by place.
 -spec status_of_all() -> [{cluster_ring:place(), cluster_json:json() | down}].

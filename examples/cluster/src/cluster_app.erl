@@ -5,12 +5,13 @@
 -export([boot/0]).
 -export([start/2, stop/1]).
 
-%% @doc Starts the application in a node of its own, which ends if it can't serve, or no longer. Prints `ready'.
+%% @doc Starts the application in a node of its own, which ends with it. Prints `ready' when it serves.
 -spec boot() -> ok.
 boot() ->
     ok = lists:foreach(fun load/1, [inets, antientropy, cluster]),
-    case application:ensure_all_started(cluster, permanent) of
-        {ok, _} ->
+    case cluster_life:claim(cluster_settings:folder(), cluster_settings:life()) of
+        ok ->
+            {ok, _} = application:ensure_all_started(cluster, permanent),
             io:put_chars("ready\n");
         {error, Reason} ->
             io:format(standard_error, "the node can't start: ~tp~n", [Reason]),
@@ -25,10 +26,7 @@ load(Application) ->
 
 %% @private
 start(_, _) ->
-    case cluster_life:claim(cluster_settings:folder(), cluster_settings:life()) of
-        ok -> cluster_sup:start_link();
-        Refused -> Refused
-    end.
+    cluster_sup:start_link().
 
 %% @private
 stop(_) ->

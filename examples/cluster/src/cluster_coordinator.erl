@@ -8,9 +8,6 @@
 
 -export_type([stored/0, found/0, refused/0]).
 
-%% Nodes on whose disk a put is before it is acknowledged, and replicas that a read has seen.
--define(WRITES, 2).
--define(READS, 2).
 %% A coordinator calls a holder, and then a carrier, and their time may be over each time.
 -define(CALLS_IN_A_ROW, 3).
 
@@ -71,8 +68,9 @@ put_here(Range, Key, Value, Context) ->
 %% Copies a version to the other holders, all at once, and answers when enough nodes have it. The others go on.
 spread(Range, Key, #{clock := Clock} = Version) ->
     Here = cluster_ring:here(),
+    {_, _, W} = cluster_settings:quorums(),
     Copy = fun(Holder) -> copy_or_hint(Range, Holder, Key, Version) end,
-    IsEnough = fun(Places) -> length(lists:usort([Here | Places])) >= ?WRITES end,
+    IsEnough = fun(Places) -> length(lists:usort([Here | Places])) >= W end,
     Places = gather(Copy, cluster_ring:partners(Range), IsEnough),
     case IsEnough(Places) of
         true -> {ok, #{coordinator => Here, clock => Clock, on => lists:usort([Here | Places])}};
@@ -109,8 +107,9 @@ hint([Carrier | Carriers], Holder, Key, Version) ->
 %% @doc Reads the rows of enough holders into this node's range, and returns the versions that it holds then.
 -spec get_here(cluster_ring:range(), Key :: binary()) -> {ok, found()} | refused().
 get_here(Range, Key) ->
+    {_, R, _} = cluster_settings:quorums(),
     Read = fun(Holder) -> row(Range, Holder, Key) end,
-    IsEnough = fun(Rows) -> length(Rows) + 1 >= ?READS end,
+    IsEnough = fun(Rows) -> length(Rows) + 1 >= R end,
     Rows = gather(Read, cluster_ring:partners(Range), IsEnough),
     case IsEnough(Rows) of
         true -> read(Range, Key, Rows);

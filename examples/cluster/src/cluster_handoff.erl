@@ -48,35 +48,33 @@ begin_one(Owner, State) ->
         false -> State#{element(2, spawn_monitor(fun() -> hand_off(Owner, 0) end)) => Owner}
     end.
 
-%% Hands on the hints of an owner after a number, some at a time. It ends if the owner is down or no slot is free.
+%% Hands on the hints of an owner after a number, some at a time, until none is left or the owner is down.
 hand_off(Owner, After) ->
     case cluster_hints:pending(Owner, After, ?MOST_AT_ONCE) of
-        {_, []} ->
-            ok;
-        {Renewals, Hints} ->
-            case cluster_slots:lend() of
-                ok ->
-                    Delivered = deliver(Owner, Hints),
-                    ok = cluster_slots:give_back(),
-                    confirm(Owner, Renewals, lists:last(Hints), Delivered);
-                {error, no_slot} ->
-                    ok
-            end
+        {_, []} -> ok;
+        {Renewals, Hints} -> hand_off(Owner, Renewals, Hints)
     end.
 
-confirm(_, _, _, down) ->
-    ok;
-confirm(Owner, Renewals, #{number := Last}, Outcomes) ->
-    ok = cluster_hints:confirm(Renewals, Outcomes),
-    hand_off(Owner, Last).
+hand_off(Owner, Renewals, Hints) ->
+    ok = cluster_slots:lend(),
+    Delivered = deliver(Owner, Hints),
+    ok = cluster_slots:give_back(),
+    case Delivered of
+        {ok, Outcomes} ->
+            ok = cluster_hints:confirm(Renewals, Outcomes),
+            #{number := Last} = lists:last(Hints),
+            hand_off(Owner, Last);
+        down ->
+            ok
+    end.
 
-%% Delivers hints, and returns the outcome of each that the owner accepted and has on its disk.
+%% Delivers hints, and returns the outcome of each that the owner has on its disk.
 deliver(Owner, Hints) ->
     ByRange = maps:to_list(maps:groups_from_list(fun range/1, Hints)),
     deliver_ranges(Owner, ByRange, []).
 
 deliver_ranges(_, [], Outcomes) ->
-    Outcomes;
+    {ok, Outcomes};
 deliver_ranges(Owner, [{Range, Hints} | ByRange], Outcomes) ->
     Copies = [{Key, maps:with([clock, value], Hint)} || #{key := Key} = Hint <- Hints],
     case cluster_wire:call(Owner, cluster_range, copies, [Range, Copies]) of

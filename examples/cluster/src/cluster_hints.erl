@@ -41,24 +41,25 @@ start_link() ->
 -spec keep(Owner :: cluster_ring:place(), Key :: binary(), antientropy:version()) ->
     {ok, Number :: pos_integer()} | antientropy:refused().
 keep(Owner, Key, Version) ->
-    gen_server:call(?MODULE, {keep, Owner, Key, Version}).
+    gen_server:call(?MODULE, {keep, Owner, Key, Version}, infinity).
 
-%% @doc Ends the wait of hints that {@link pending/2} returned, and which their owner has on its disk. After a renewal it
-%% does nothing: the hints have other numbers then, and are delivered again.
+%% @doc Ends the wait of hints that {@link pending/3} returned, after their owner has them on its disk.
+%%
+%% After a renewal it does nothing: the hints have other numbers then, and are delivered again.
 -spec confirm(renewals(), [outcome()]) -> ok.
 confirm(Renewals, Outcomes) ->
-    gen_server:call(?MODULE, {confirm, Renewals, Outcomes}).
+    gen_server:call(?MODULE, {confirm, Renewals, Outcomes}, infinity).
 
 %% @doc Returns the first pending hints of an owner after a number, at most so many.
 -spec pending(Owner :: cluster_ring:place(), After :: non_neg_integer(), Most :: pos_integer()) ->
     {renewals(), [antientropy_hints:hint()]}.
 pending(Owner, After, Most) ->
-    gen_server:call(?MODULE, {pending, Owner, After, Most}).
+    gen_server:call(?MODULE, {pending, Owner, After, Most}, infinity).
 
 %% @doc Returns the counts of pending hints, and of hints that were delivered since the start.
 -spec count() -> #{pending := non_neg_integer(), delivered := non_neg_integer()}.
 count() ->
-    gen_server:call(?MODULE, count).
+    gen_server:call(?MODULE, count, infinity).
 
 %% @private
 init([]) ->

@@ -37,15 +37,18 @@ respond("GET", "/keys/" ++ Key, _, _) -> get_key(key(Key));
 respond("PUT", "/keys/" ++ Key, Context, Value) -> put_key(key(Key), Value, Context);
 respond("DELETE", "/keys/" ++ Key, Context, _) -> put_key(key(Key), tombstone, Context);
 respond("GET", "/status", _, _) -> json(200, cluster:status());
+respond("GET", "/table", _, _) -> {200, [{content_type, "text/plain"}], cluster:table()};
 respond("GET", "/dump", _, _) -> json(200, cluster:dump());
 respond("PUT", "/faults", _, Body) -> set_faults(cluster_json:decode(Body));
-respond("PUT", "/repair", _, _) -> json(200, repaired(cluster_repair:round()));
+respond("PUT", "/repair", _, _) -> repair();
 respond(_, _, _, _) -> json(404, #{refused => <<"NoSuchPath">>}).
 
 key(Encoded) ->
     iolist_to_binary(uri_string:percent_decode(Encoded)).
 
-repaired(ok) -> #{}.
+repair() ->
+    ok = cluster_repair:round(),
+    json(200, #{}).
 
 %% ---- keys
 
@@ -99,13 +102,17 @@ versions(Versions, Context, Clock) ->
 
 %% ---- faults
 
-set_faults({ok, #{<<"drop">> := Drop, <<"slow_ms">> := SlowMs} = Members}) ->
-    ok = cluster_faults:set(#{
-        drop => [{From, To} || [From, To] <- Drop],
-        slow_ms => SlowMs,
-        slow_disk_ms => maps:get(<<"slow_disk_ms">>, Members, 0)
-    }),
-    json(200, #{});
+set_faults({ok, Members}) when is_map(Members) ->
+    case maps:merge(#{<<"slow_ms">> => 0, <<"slow_disk_ms">> => 0}, Members) of
+        #{<<"drop">> := Drop, <<"slow_ms">> := SlowMs, <<"slow_disk_ms">> := SlowDiskMs} when
+            is_list(Drop), is_integer(SlowMs), SlowMs >= 0, is_integer(SlowDiskMs), SlowDiskMs >= 0
+        ->
+            Pairs = [{From, To} || [From, To] <- Drop],
+            ok = cluster_faults:set(#{drop => Pairs, slow_ms => SlowMs, slow_disk_ms => SlowDiskMs}),
+            json(200, #{});
+        _ ->
+            json(400, #{refused => <<"BadFaults">>})
+    end;
 set_faults(_) ->
     json(400, #{refused => <<"BadFaults">>}).
 

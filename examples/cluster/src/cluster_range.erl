@@ -61,36 +61,36 @@ start_link(Range) ->
 -spec put(cluster_ring:range(), Key :: binary(), antientropy:value(), antientropy:clock_like()) ->
     {ok, antientropy:version()} | antientropy:refused().
 put(Range, Key, Value, Context) ->
-    gen_server:call(name(Range), {put, Key, Value, Context}).
+    call(Range, {put, Key, Value, Context}).
 
 %% @doc Accepts versions that another holder put, or that a carrier kept, and returns an outcome for each.
 -spec copies(cluster_ring:range(), [{Key :: binary(), antientropy:version()}]) ->
     [{ok, new | known} | antientropy:refused()].
 copies(Range, Copies) ->
-    gen_server:call(name(Range), {copies, Copies}).
+    call(Range, {copies, Copies}).
 
 %% @doc Returns the text of a key's row.
 -spec row(cluster_ring:range(), Key :: binary()) -> {ok, Row :: binary()} | antientropy:refused().
 row(Range, Key) ->
-    gen_server:call(name(Range), {row, Key}).
+    call(Range, {row, Key}).
 
 %% @doc Accepts rows of a key that other holders returned (read repair), and returns the versions held then.
 -spec read(cluster_ring:range(), Key :: binary(), Rows :: [binary()]) ->
     {ok, [antientropy:version()]} | antientropy:refused().
 read(Range, Key, Rows) ->
-    gen_server:call(name(Range), {read, Key, Rows}).
+    call(Range, {read, Key, Rows}).
 
 %% @doc Returns an offer of the rows now, for a partner. They are kept until its next offer.
 -spec offer(cluster_ring:range(), Partner :: cluster_ring:place()) -> {ok, Offer :: binary()}.
 offer(Range, Partner) ->
     ok = rehash(Range),
-    gen_server:call(name(Range), {offer, Partner}).
+    call(Range, {offer, Partner}).
 
 %% @doc Returns the answers to a partner's asks for its last offer. The caller's process makes them.
 -spec serve(cluster_ring:range(), Partner :: cluster_ring:place(), Number :: pos_integer(), Asks :: [binary()]) ->
     [{ok, Answer :: binary()} | antientropy:refused()].
 serve(Range, Partner, Number, Asks) ->
-    case gen_server:call(name(Range), {offered, Partner}) of
+    case call(Range, {offered, Partner}) of
         {Number, Snapshot} -> [antientropy_snapshot:serve(Snapshot, Number, Ask) || Ask <- Asks];
         _ -> []
     end.
@@ -99,27 +99,31 @@ serve(Range, Partner, Number, Asks) ->
 %% renewal waits for others that borrowed it).
 -spec borrow(cluster_ring:range()) -> {ok, antientropy:replica()} | {error, busy}.
 borrow(Range) ->
-    gen_server:call(name(Range), borrow).
+    call(Range, borrow).
 
 %% @doc Gives the replica back, and returns after all that was accepted is on the disk.
 -spec give_back(cluster_ring:range()) -> ok.
 give_back(Range) ->
-    gen_server:call(name(Range), give_back).
+    call(Range, give_back).
 
 %% @doc Hashes what has no digest, a little at a time. The caller's process does it.
 -spec rehash(cluster_ring:range()) -> ok.
 rehash(Range) ->
-    rehash_replica(gen_server:call(name(Range), replica)).
+    rehash_replica(call(Range, replica)).
 
 %% @doc Returns the counts of the range. The root is `null' if a node of the tree has no digest.
 -spec counts(cluster_ring:range()) -> counts().
 counts(Range) ->
-    gen_server:call(name(Range), counts).
+    call(Range, counts).
 
 %% @doc Returns all rows, and the root.
 -spec dump(cluster_ring:range()) -> {Root :: binary(), [row()]}.
 dump(Range) ->
-    gen_server:call(name(Range), dump, infinity).
+    call(Range, dump).
+
+%% A disk may be slow, and a range that fails ends the call.
+call(Range, Request) ->
+    gen_server:call(name(Range), Request, infinity).
 
 %% @private
 init(Range) ->

@@ -15,6 +15,7 @@
 
 -record(state, {
     counts = #{rounds => 0, keys => 0, bytes => 0} :: counts(),
+    timer :: reference() | undefined,
     %% The round in progress, and those who wait for its end, or for that of the next one.
     running :: reference() | undefined,
     waiting = [] :: [gen_server:from()],
@@ -34,11 +35,11 @@ round() ->
 %% @doc Returns the counts since the start.
 -spec count() -> counts().
 count() ->
-    gen_server:call(?MODULE, count).
+    gen_server:call(?MODULE, count, infinity).
 
 %% @private
 init([]) ->
-    {ok, later(#state{})}.
+    {ok, begin_later(#state{})}.
 
 %% @private
 handle_call(round, From, #state{next = Next} = State) ->
@@ -51,29 +52,29 @@ handle_cast(_, State) ->
     {noreply, State}.
 
 %% @private
-handle_info(round, #state{running = undefined} = State) ->
+handle_info({timeout, Timer, round}, #state{timer = Timer} = State) ->
     {noreply, begin_round(State)};
-handle_info(round, State) ->
+handle_info({timeout, _, round}, State) ->
     {noreply, State};
 handle_info({'DOWN', Running, process, _, Reason}, #state{running = Running, waiting = Waiting} = State) ->
     [gen_server:reply(From, ok) || From <- Waiting],
-    {noreply, begin_if_asked(later(ended(Reason, State#state{running = undefined, waiting = []})))}.
+    Ended = counted(Reason, State#state{running = undefined, waiting = []}),
+    {noreply, begin_if_asked(begin_later(Ended))}.
 
 begin_if_asked(#state{running = undefined, next = [_ | _]} = State) -> begin_round(State);
 begin_if_asked(State) -> State.
 
 begin_round(#state{next = Next} = State) ->
     {_, Running} = spawn_monitor(fun() -> exit({pulled, pull_all()}) end),
-    State#state{running = Running, waiting = Next, next = []}.
+    State#state{timer = undefined, running = Running, waiting = Next, next = []}.
 
-ended({pulled, Pulled}, #state{counts = #{rounds := Rounds, keys := Keys, bytes := Bytes}} = State) ->
-    {MoreKeys, MoreBytes} = Pulled,
+begin_later(State) ->
+    State#state{timer = erlang:start_timer(cluster_settings:round_ms(), self(), round)}.
+
+counted({pulled, {MoreKeys, MoreBytes}}, #state{counts = Counts} = State) ->
+    #{rounds := Rounds, keys := Keys, bytes := Bytes} = Counts,
     State#state{counts = #{rounds => Rounds + 1, keys => Keys + MoreKeys, bytes => Bytes + MoreBytes}};
-ended(_, State) ->
-    State.
-
-later(State) ->
-    _ = erlang:send_after(cluster_settings:round_ms(), self(), round),
+counted(_, State) ->
     State.
 
 %% ---- a round
@@ -92,7 +93,7 @@ add_pulled(Monitor, {Keys, Bytes}) ->
 
 -spec pull_admitted(cluster_ring:range(), cluster_ring:place()) -> no_return().
 pull_admitted(Range, Partner) ->
-    ok = cluster_slots:lend_later(),
+    ok = cluster_slots:lend(),
     exit({pulled, pull(Range, Partner)}).
 
 %% Takes what a partner has. Returns the numbers of versions and of bytes.

@@ -1,4 +1,4 @@
-%% @doc The ring: which places hold a key, and which carry hints for it (the Dynamo paper of 2007, sections 4.2 and 4.3).
+%% @doc The ring: which places hold a key, and which carry hints for it (the Dynamo paper of 2007, sections 4.2, 4.3).
 %%
 %% The ring is of places, which never change. A place's number in clocks is its life, which does: see {@link
 %% cluster_life}. The preference list of a range is the list of places, rotated left by the range's number.
@@ -10,7 +10,6 @@
 
 -define(FORMAT, 2).
 -define(BITS, 2).
--define(HOLDERS, 3).
 
 -type place() :: 1..5.
 -type range() :: 0..3.
@@ -46,7 +45,8 @@ held() ->
 %% @doc Returns the places that hold a range: the first of its preference list.
 -spec holders(range()) -> [place()].
 holders(Range) ->
-    lists:sublist(preference(Range), ?HOLDERS).
+    {N, _, _} = cluster_settings:quorums(),
+    lists:sublist(preference(Range), N).
 
 %% @doc Returns the places that carry hints for the holders of a range: the others of its preference list.
 -spec carriers(range()) -> [place()].

@@ -1,7 +1,8 @@
 %% @doc The settings of this node: the parameters of the application `cluster'.
 -module(cluster_settings).
 
--export([place/0, life/0, folder/0, http_port/0, places/0, limit/0, checkpoint_entries/0, round_ms/0, slots/0]).
+-export([place/0, life/0, folder/0, http_port/0]).
+-export([places/0, quorums/0, limit/0, checkpoint_entries/0, round_ms/0, slots/0]).
 
 %% @doc Returns this node's place on the ring.
 -spec place() -> cluster_ring:place().
@@ -22,6 +23,10 @@ http_port() -> value(http_port).
 %% @doc Returns the places of the ring, in its order.
 -spec places() -> [cluster_ring:place()].
 places() -> value(places).
+
+%% @doc Returns the numbers of places that hold a range, that a read has seen, and that have a put before its answer.
+-spec quorums() -> {N :: pos_integer(), R :: pos_integer(), W :: pos_integer()}.
+quorums() -> value(quorums).
 
 %% @doc Returns the number of entries that a range's journal may have.
 -spec limit() -> pos_integer().

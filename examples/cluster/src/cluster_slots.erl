@@ -2,7 +2,7 @@
 -module(cluster_slots).
 -behaviour(gen_server).
 
--export([start_link/0, lend/0, lend_later/0, give_back/0, sample/1, count/0]).
+-export([start_link/0, lend/0, give_back/0, sample/1, count/0]).
 -export([init/1, handle_call/3, handle_cast/2, handle_info/2]).
 
 -define(ADJUST_MS, 1000).
@@ -10,6 +10,8 @@
 
 -record(state, {
     slots :: antientropy_slots:slots(),
+    %% The 99th percentile of the latency of puts in the last minute.
+    p99_micros = none :: non_neg_integer() | none,
     borrowers = #{} :: #{pid() => reference()}
 }).
 
@@ -18,36 +20,36 @@
 start_link() ->
     {ok, _} = gen_server:start_link({local, ?MODULE}, ?MODULE, cluster_settings:slots(), []).
 
-%% @doc Lends a slot to this process, until it gives it back or ends. Refused: `no_slot'.
--spec lend() -> ok | antientropy:refused().
+%% @doc Lends a slot to this process, as soon as one is free, until it gives it back or ends.
+-spec lend() -> ok.
 lend() ->
-    gen_server:call(?MODULE, lend).
-
-%% @doc Lends a slot to this process as soon as one is free.
--spec lend_later() -> ok.
-lend_later() ->
-    case lend() of
+    case gen_server:call(?MODULE, lend, infinity) of
         ok ->
             ok;
         {error, no_slot} ->
             timer:sleep(?AGAIN_MS),
-            lend_later()
+            lend()
     end.
 
 %% @doc Gives this process's slot back.
 -spec give_back() -> ok.
 give_back() ->
-    gen_server:call(?MODULE, give_back).
+    gen_server:call(?MODULE, give_back, infinity).
 
 %% @doc Takes the latency of a put, in microseconds.
 -spec sample(Micros :: non_neg_integer()) -> ok.
 sample(Micros) ->
     gen_server:cast(?MODULE, {sample, Micros}).
 
-%% @doc Returns the target, and the counts of slots that are lent and free.
--spec count() -> #{target := pos_integer(), lent := non_neg_integer(), free := non_neg_integer()}.
+%% @doc Returns the target, the counts of slots that are lent and free, and the 99th percentile of the latency of puts.
+-spec count() -> #{
+    target := pos_integer(),
+    lent := non_neg_integer(),
+    free := non_neg_integer(),
+    p99_micros := non_neg_integer() | none
+}.
 count() ->
-    gen_server:call(?MODULE, count).
+    gen_server:call(?MODULE, count, infinity).
 
 %% @private
 init({Floor, Ceiling, ThresholdMicros}) ->
@@ -63,9 +65,9 @@ handle_call(lend, {Borrower, _}, #state{slots = Slots, borrowers = Borrowers} = 
     end;
 handle_call(give_back, {Borrower, _}, State) ->
     {reply, ok, returned(Borrower, State)};
-handle_call(count, _, #state{slots = Slots} = State) ->
+handle_call(count, _, #state{slots = Slots, p99_micros = Micros} = State) ->
     {ok, Counts} = antientropy_slots:count(Slots),
-    {reply, Counts, State}.
+    {reply, Counts#{p99_micros => Micros}, State}.
 
 %% @private
 handle_cast({sample, Micros}, #state{slots = Slots} = State) ->
@@ -74,8 +76,8 @@ handle_cast({sample, Micros}, #state{slots = Slots} = State) ->
 
 %% @private
 handle_info(adjust, #state{slots = Slots} = State) ->
-    {ok, _} = antientropy_slots:adjust(Slots, now_ms()),
-    {noreply, State};
+    {ok, Micros} = antientropy_slots:adjust(Slots, now_ms()),
+    {noreply, State#state{p99_micros = Micros}};
 handle_info({'DOWN', _, process, Borrower, _}, State) ->
     {noreply, returned(Borrower, State)}.
 

@@ -14,8 +14,7 @@ restart_test_() ->
         ok = cluster_hints:confirm(Renewals, [{First, new}]),
         restart(),
         ?assertMatch({_, [#{number := Second, value := <<"value">>}]}, cluster_hints:pending(2, 0, 10)),
-        ?assertMatch({_, [_]}, cluster_hints:pending(3, 0, 10)),
-        stop()
+        ?assertMatch({_, [_]}, cluster_hints:pending(3, 0, 10))
     end).
 
 %% A renewal gives hints new numbers. A confirmation by the old ones does nothing, and a restart has the new ones.
@@ -34,16 +33,14 @@ renewal_test_() ->
         {_, Left} = cluster_hints:pending(2, 0, 20),
         ?assertEqual([Hint || #{number := Number} = Hint <- element(2, Pending), Number =/= 2], Left),
         ?assertMatch({_, [#{number := 11}]}, cluster_hints:pending(3, 0, 20)),
-        ?assertEqual(["2.log", "3.log", "pending"], lists:sort(filelib:wildcard("*", filename:join(Folder, "hints")))),
-        stop()
+        ?assertEqual(["2.log", "3.log", "pending"], lists:sort(filelib:wildcard("*", filename:join(Folder, "hints"))))
     end).
 
 %% The 10,001st pending hint is refused.
 full_test_() ->
     room:test([], fun(_) ->
         start(),
-        ?assertEqual([{error, hints_full}], [Kept || {error, _} = Kept <- keep_all(10001)]),
-        stop()
+        ?assertEqual([{error, hints_full}], [Kept || {error, _} = Kept <- keep_all(10001)])
     end).
 
 %% Keeps so many hints, some hundred at once, and returns the answers.
@@ -62,12 +59,6 @@ start() ->
     true = unlink(Pid),
     ok.
 
-stop() ->
-    ok = gen_server:stop(cluster_hints).
-
 restart() ->
-    Monitor = monitor(process, cluster_hints),
-    exit(whereis(cluster_hints), kill),
-    receive
-        {'DOWN', Monitor, process, _, killed} -> start()
-    end.
+    ok = room:kill(cluster_hints),
+    start().

@@ -16,8 +16,7 @@ restart_test_() ->
         Key = key(1),
         {ok, [#{clock := #{1 := 1} = Clock}]} = cluster_range:read(?RANGE, Key, []),
         ?assertEqual({error, stale_context}, cluster_range:put(?RANGE, Key, <<"again">>, #{})),
-        ?assertMatch({ok, #{clock := #{1 := 2}}}, cluster_range:put(?RANGE, Key, <<"again">>, Clock)),
-        stop()
+        ?assertMatch({ok, #{clock := #{1 := 2}}}, cluster_range:put(?RANGE, Key, <<"again">>, Clock))
     end).
 
 %% A put is refused if its client hasn't read this life's last put of the key, even if its clock would be new.
@@ -28,8 +27,7 @@ unread_put_test_() ->
         {ok, #{clock := First}} = cluster_range:put(?RANGE, Key, <<"first">>, #{}),
         [{ok, new}] = cluster_range:copies(?RANGE, [{Key, #{clock => #{2 => 1}, value => <<"other">>}}]),
         {ok, _} = cluster_range:put(?RANGE, Key, <<"second">>, First),
-        ?assertEqual({error, stale_context}, cluster_range:put(?RANGE, Key, <<"third">>, First#{2 => 1})),
-        stop()
+        ?assertEqual({error, stale_context}, cluster_range:put(?RANGE, Key, <<"third">>, First#{2 => 1}))
     end).
 
 %% After checkpoints the older files of the log are gone, and a restart has everything.
@@ -37,14 +35,19 @@ checkpoint_test_() ->
     room:test([{checkpoint_entries, 20}], fun(Folder) ->
         start(),
         [fill(From, From + 19) || From <- [1, 21, 41, 61, 81]],
+        room:until(fun() -> files(Folder) =:= ["checkpoint", "log"] end),
         Before = dump(),
         restart(),
-        ?assertEqual(Before, dump()),
-        Files = filelib:wildcard("range-0/*", Folder),
-        ?assert(lists:member("range-0/checkpoint", Files)),
-        ?assert(length(Files) < 6),
-        stop()
+        ?assertEqual(Before, dump())
     end).
+
+%% The kinds of files of the range.
+files(Folder) ->
+    Files = filelib:wildcard("range-0/*", Folder),
+    lists:sort([kind(filename:extension(File), File) || File <- Files]).
+
+kind(".log", _) -> "log";
+kind(_, File) -> filename:basename(File).
 
 %% A crash may leave a checkpoint that was cut off: it has another name.
 unfinished_checkpoint_test_() ->
@@ -52,11 +55,10 @@ unfinished_checkpoint_test_() ->
         start(),
         fill(1, 50),
         Before = dump(),
-        stop(),
+        ok = room:stop(cluster_range_0),
         ok = file:write_file(filename:join(Folder, "range-0/checkpoint.new"), <<"antient">>),
         start(),
-        ?assertEqual(Before, dump()),
-        stop()
+        ?assertEqual(Before, dump())
     end).
 
 %% Renewals keep the root, before and after a restart. The log has more records than the journal may have entries.
@@ -71,8 +73,7 @@ renewal_test_() ->
         restart(),
         ?assertEqual(Before, dump()),
         put_again(key(1)),
-        ?assertMatch({ok, [#{clock := #{1 := 7}}]}, cluster_range:read(?RANGE, key(1), [])),
-        stop()
+        ?assertMatch({ok, [#{clock := #{1 := 7}}]}, cluster_range:read(?RANGE, key(1), []))
     end).
 
 %% A range that is full of held versions refuses puts, and still serves what it has.
@@ -81,8 +82,7 @@ full_test_() ->
         start(),
         fill(1, 30),
         ?assertEqual({error, journal_full}, cluster_range:put(?RANGE, key(31), <<"value">>, #{})),
-        ?assertMatch({ok, [_]}, cluster_range:read(?RANGE, key(30), [])),
-        stop()
+        ?assertMatch({ok, [_]}, cluster_range:read(?RANGE, key(30), []))
     end).
 
 %% What a process syncs into a replica that it borrowed is on the disk when it gives it back.
@@ -92,10 +92,8 @@ borrowed_test_() ->
         {ok, Replica} = cluster_range:borrow(?RANGE),
         {ok, new} = antientropy:accept(Replica, key(1), #{clock => #{2 => 1}, value => <<"other">>}),
         ok = cluster_range:give_back(?RANGE),
-        kill(),
-        start(),
-        ?assertMatch({ok, [#{value := <<"other">>}]}, cluster_range:read(?RANGE, key(1), [])),
-        stop()
+        restart(),
+        ?assertMatch({ok, [#{value := <<"other">>}]}, cluster_range:read(?RANGE, key(1), []))
     end).
 
 %% No renewal comes while a process syncs into the replica, and the next one has to wait.
@@ -109,8 +107,7 @@ busy_test_() ->
         {error, busy} = call_elsewhere(fun() -> cluster_range:borrow(?RANGE) end),
         ok = cluster_range:give_back(?RANGE),
         ?assertMatch(#{entries := 5}, cluster_range:counts(?RANGE)),
-        ?assertEqual({error, empty}, antientropy:count(Replica)),
-        stop()
+        ?assertEqual({error, empty}, antientropy:count(Replica))
     end).
 
 %% At 900 sessions the replica is renewed, with its root, since a session is never freed.
@@ -127,8 +124,7 @@ sessions_test_() ->
         ?assertMatch({ok, #{sessions := 900}}, antientropy:count(Replica)),
         ok = cluster_range:give_back(?RANGE),
         ?assertMatch(#{sessions := 0}, cluster_range:counts(?RANGE)),
-        ?assertEqual(Before, dump()),
-        stop()
+        ?assertEqual(Before, dump())
     end).
 
 %% Begins a sync with a partner that doesn't answer.
@@ -140,19 +136,8 @@ start() ->
     true = unlink(Pid),
     ok.
 
-stop() ->
-    ok = gen_server:stop(cluster_range_0, shutdown, infinity).
-
-%% Ends the process as a crash does: nothing is closed in order.
-kill() ->
-    Monitor = monitor(process, cluster_range_0),
-    exit(whereis(cluster_range_0), kill),
-    receive
-        {'DOWN', Monitor, process, _, killed} -> ok
-    end.
-
 restart() ->
-    kill(),
+    ok = room:kill(cluster_range_0),
     start().
 
 dump() ->

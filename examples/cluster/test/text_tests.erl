@@ -6,8 +6,10 @@
 %% The holders of each range, and its carriers.
 ring_test_() ->
     room:test([], fun(_) ->
-        ?assertEqual([[1, 2, 3], [2, 3, 4], [3, 4, 5], [4, 5, 1]], [cluster_ring:holders(Range) || Range <- [0, 1, 2, 3]]),
-        ?assertEqual([[4, 5], [5, 1], [1, 2], [2, 3]], [cluster_ring:carriers(Range) || Range <- [0, 1, 2, 3]]),
+        Ranges = [0, 1, 2, 3],
+        Holders = [[1, 2, 3], [2, 3, 4], [3, 4, 5], [4, 5, 1]],
+        ?assertEqual(Holders, [cluster_ring:holders(Range) || Range <- Ranges]),
+        ?assertEqual([[4, 5], [5, 1], [1, 2], [2, 3]], [cluster_ring:carriers(Range) || Range <- Ranges]),
         ?assertEqual([0, 3], cluster_ring:held())
     end).
 
