@@ -43,8 +43,13 @@ respond("PUT", "/faults", _, Body) -> set_faults(cluster_json:decode(Body));
 respond("PUT", "/repair", _, _) -> repair();
 respond(_, _, _, _) -> json(404, #{refused => <<"NoSuchPath">>}).
 
+%% Returns the bytes of a key in a path. `inets' has refused bad escapes, and has removed the segments `.' and `..'.
 key(Encoded) ->
-    iolist_to_binary(uri_string:percent_decode(Encoded)).
+    list_to_binary(unescaped(Encoded)).
+
+unescaped([$%, High, Low | Rest]) -> [list_to_integer([High, Low], 16) | unescaped(Rest)];
+unescaped([Char | Rest]) -> [Char | unescaped(Rest)];
+unescaped([]) -> [].
 
 repair() ->
     ok = cluster_repair:round(),

@@ -57,12 +57,14 @@ begin_file(Folder, Number) ->
     ok = cluster_disk:sync_folder(Folder),
     #log{folder = Folder, name = Name, number = Number}.
 
-%% Reads the records of a file, up to the first that isn't whole.
+%% Reads the records of a file, up to the first that isn't whole. A file without a head was begun, and never written.
 read(Name, Fun, Acc) ->
     case disk_log:open([{name, Name}, {file, Name}, {quiet, true}]) of
         {ok, Name} -> read_open(Name, Fun, Acc);
         {repaired, Name, _, _} -> read_open(Name, Fun, Acc);
-        {error, {not_a_log_file, Name}} -> Acc
+        {error, {not_a_log_file, Name}} ->
+            0 = filelib:file_size(Name),
+            Acc
     end.
 
 read_open(Name, Fun, Acc) ->

@@ -39,7 +39,7 @@
     %% The number of the first entry that isn't in the log.
     logged :: non_neg_integer(),
     %% Entries logged since the last checkpoint, and the process that saves one now.
-    since_checkpoint = 0 :: non_neg_integer(),
+    since_checkpoint :: non_neg_integer(),
     saver :: reference() | undefined,
     %% Entries after the last renewal.
     held = 0 :: non_neg_integer(),
@@ -139,7 +139,9 @@ init(Range) ->
         limit = Limit,
         replica = Replica,
         log = Log,
-        logged = entries(Replica)
+        logged = entries(Replica),
+        %% At most so many of them are in no checkpoint: a node that starts often doesn't read an ever longer log.
+        since_checkpoint = entries(Replica)
     },
     {ok, renew_if_due(State)}.
 

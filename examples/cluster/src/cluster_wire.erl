@@ -36,7 +36,11 @@ call(Place, Module, Function, Arguments, LimitMs) ->
         try
             {ok, exchange(Place, Module, Function, Arguments, LimitMs)}
         catch
-            _:_ -> down
+            error:{exception, Reason, Stack} ->
+                logger:error("a call of ~tp at place ~b failed: ~tp ~tp", [Module, Place, Reason, Stack]),
+                down;
+            _:_ ->
+                down
         end,
     note(Place, Result),
     Result.
