@@ -3,7 +3,9 @@
 from __future__ import annotations
 
 import argparse
+import shutil
 import sys
+import tempfile
 from pathlib import Path
 
 from . import figures, judge, program, rest
@@ -33,7 +35,7 @@ def words() -> argparse.Namespace:
     parser.add_argument("--clients", type=int, default=8)
     parser.add_argument("--library", type=Path, help="folder of the C library, made by ./build-c")
     parser.add_argument("--out", type=Path, help="folder of a cluster that is built already")
-    parser.add_argument("--keep", type=Path, metavar="LOGS", help="folder to keep the logs in")
+    parser.add_argument("--keep", type=Path, metavar="LOGS", help="folder to keep the logs in; those of a bad run are kept anyway")
     given = parser.parse_args()
     if not given.library and not given.out:
         parser.error("--library or --out is wanted")
@@ -64,7 +66,12 @@ def work(given: argparse.Namespace, room: Path) -> int:
     figures.show(figures.requests(logs), begin, quiet, f"seed {given.seed}")
     print(f"lives {nodes.lives}, " + ", ".join(f"{name.replace('_', ' ')} {count}" for name, count in sums.items()))
     print("the cluster didn't come to rest" if took is None else f"at rest after {took:.1f} s")
-    return 1 if judge.report(judge.judge(read(logs))) else 0
+    verdict = judge.judge(read(logs))
+    if any(verdict.values()) and not given.keep:
+        kept = tempfile.mkdtemp(prefix="nemesis-")
+        shutil.copytree(logs, kept, dirs_exist_ok=True)
+        print(f"the logs are in {kept}")
+    return 1 if judge.report(verdict) else 0
 
 
 if __name__ == "__main__":
