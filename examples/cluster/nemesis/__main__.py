@@ -24,18 +24,15 @@ REST_S = 60.0
 SETTINGS = {"CLUSTER_LIMIT": "4000", "CLUSTER_CHECKPOINT": "200", "CLUSTER_ROUND_MS": "400"}
 
 
-PLAIN = argparse.RawDescriptionHelpFormatter
-
-
 def words() -> argparse.Namespace:
     """Reads the command's words."""
-    parser = argparse.ArgumentParser(prog="python3 -m nemesis", description=__doc__, formatter_class=PLAIN)
+    parser = argparse.ArgumentParser(prog="python3 -m nemesis", description=__doc__)
     parser.add_argument("--seed", type=int, default=1, help="chooses the faults and the clients' deeds")
     parser.add_argument("--seconds", type=float, default=30, help="time under faults")
     parser.add_argument("--clients", type=int, default=8)
     parser.add_argument("--library", type=Path, help="folder of the C library, made by ./build-c")
     parser.add_argument("--out", type=Path, help="folder of a cluster that is built already")
-    parser.add_argument("--keep", type=Path, metavar="LOGS", help="folder to keep the logs in; those of a bad run are kept anyway")
+    parser.add_argument("--keep", type=Path, metavar="LOGS", help="folder for the logs; a bad run's are kept anyway")
     given = parser.parse_args()
     if not given.library and not given.out:
         parser.error("--library or --out is wanted")

@@ -172,7 +172,7 @@ class Nodes:
 
 
 def _claim() -> Tuple[socket.socket, int, int]:
-    """Returns the HTTP base and the port of epmd, which are free, and the socket that claims them: it is at the base."""
+    """Returns a socket that claims free ports, by being bound to the HTTP base; the base; and the port of epmd."""
     for base in range(HTTP_PORTS.start, HTTP_PORTS.stop - len(PLACES), len(PLACES) + 1):
         epmd_port, claim = EPMD_PORTS.start + base - HTTP_PORTS.start, socket.socket()
         try:
