@@ -81,7 +81,7 @@ ERL_NIF_TERM with_lock(const struct call *call, ErlNifEnv *env, int argc, const 
 /* Makes a resource whose handle holds nothing, or returns NULL without memory. */
 struct resource *make_resource(enum kind kind);
 
-/* Returns {ok, Handle}, or a refusal, and gives the caller's hold of the resource up. */
+/* Returns {ok, Handle} or a refusal, and releases the resource. */
 ERL_NIF_TERM handle_result(ErlNifEnv *env, struct resource *made, uint32_t number);
 
 #endif

@@ -154,7 +154,7 @@ bool grows(struct room *room, uint32_t *number);
 /* Returns the bytes as a binary. The room is used up. */
 ERL_NIF_TERM room_bytes(ErlNifEnv *env, struct room *room);
 
-/* Gives the room up. */
+/* Releases the room. */
 void drop_room(struct room *room);
 
 /* Returns {ok, Bytes} or a refusal. The room is used up. */

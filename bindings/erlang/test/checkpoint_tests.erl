@@ -64,10 +64,12 @@ checkpoint_of_the_page_test() ->
     ?assertEqual(iolist_to_binary(Page), saved(Replica)).
 
 range_of_the_file_test() ->
-    {ok, Loaded} = load(saved(replica(#{bits => 4, range => 9}))),
+    Saved = saved(replica(#{bits => 4, range => 9})),
+    ?assertMatch(<<"antient", 1, 2, 4, 9:16, _/binary>>, Saved),
+    {ok, Loaded} = load(Saved),
     ?assertEqual({ok, #{format => 2, bits => 4, range => 9}}, antientropy:info(Loaded)).
 
-range_over_a_byte_test() ->
+last_range_test() ->
     {ok, Loaded} = load(saved(replica(#{bits => 8, range => 255}))),
     ?assertEqual({ok, #{format => 2, bits => 8, range => 255}}, antientropy:info(Loaded)).
 

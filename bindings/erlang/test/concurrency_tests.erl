@@ -3,7 +3,7 @@
 
 -include_lib("eunit/include/eunit.hrl").
 
--import(support, [replica/0, replica/1, reach/2]).
+-import(support, [replica/0, reach/2]).
 
 -define(WRITERS, 4).
 -define(PUTS, 500).
@@ -61,6 +61,7 @@ long_calls_test_() ->
     {timeout, 120, {setup, fun setup/0, fun cleanup/1, fun({Replica, _}) ->
         {inorder, [
             {timeout, 60, fun() -> a_scheduler_is_not_blocked(Replica) end},
+            {timeout, 60, fun long_texts_go_elsewhere/0},
             {timeout, 60, fun() -> processes_wait(Replica) end},
             {timeout, 60, fun() -> a_snapshot_does_not_wait(Replica) end},
             {timeout, 60, fun() -> a_process_is_killed(Replica) end},
@@ -88,23 +89,72 @@ start_rehash(Replica) ->
         end
      || Number <- lists:seq(1, ?LARGE_KEYS)
     ],
-    Rehash = async(fun() -> antientropy:rehash(Replica) end),
-    timer:sleep(10),
+    {Process, _} = Rehash = async(fun() -> antientropy:rehash(Replica) end),
+    wait_until_running(Process),
     Rehash.
+
+%% Waits until a process runs. The only normal scheduler runs this one, so that is on a dirty scheduler.
+wait_until_running(Process) ->
+    timer:sleep(1),
+    case process_info(Process, status) of
+        {status, running} -> timer:sleep(1);
+        {status, _} -> wait_until_running(Process)
+    end.
 
 %% A process waits for the lock, and another goes on meanwhile on the only scheduler.
 a_scheduler_is_not_blocked(Replica) ->
     Rehash = start_rehash(Replica),
-    Ticks = counters:new(1, []),
-    Ticker = spawn_link(fun() -> tick(Ticks) end),
-    {Micros, Result} = timer:tc(fun() -> antientropy:count(Replica) end),
-    Ticked = counters:get(Ticks, 1),
-    unlink(Ticker),
-    exit(Ticker, kill),
+    {Micros, {Ticked, Result}} = timer:tc(fun() -> ticks(fun() -> antientropy:count(Replica) end) end),
     ?assertMatch({ok, #{dirty := 0}}, Result),
     ?assert(Micros > 10_000),
     ?assert(Ticked > 1000),
     ?assertEqual(ok, await(Rehash)).
+
+%% Calls with texts of 4 MiB let another process run meanwhile: it runs at least once.
+long_texts_go_elsewhere() ->
+    Replica = replica(),
+    Copy = replica(),
+    [{ok, _} = antientropy:put(Replica, Node, <<"great">>, ?LARGE_VALUE) || Node <- lists:seq(1, 64)],
+    {ok, #{leaf := Leaf}} = antientropy:place(2, 0, <<"great">>),
+    {ok, Snapshot} = antientropy:snapshot(Replica),
+    {ok, Offer} = antientropy_snapshot:offer(Snapshot, 1),
+    {ok, Session} = antientropy:open(Copy, 1, Offer),
+    Answer = last_answer(Session, Snapshot),
+    {ok, _} = elsewhere(fun() -> antientropy:get(Replica, <<"great">>) end),
+    {ok, Row} = elsewhere(fun() -> antientropy:row(Replica, <<"great">>) end),
+    {ok, Row} = elsewhere(fun() -> antientropy_snapshot:rows(Snapshot, Leaf) end),
+    {ok, Answer} = elsewhere(fun() -> antientropy_snapshot:serve(Snapshot, 1, <<2, 1:32, 3, Leaf:16>>) end),
+    {ok, #{accepted := 64}} = elsewhere(fun() -> antientropy_session:take(Session, Answer) end),
+    {ok, #{known := 64}} = elsewhere(fun() -> antientropy:load_rows(Copy, Row) end).
+
+elsewhere(Call) ->
+    {Ticked, Result} = ticks(Call),
+    ?assert(Ticked > 0),
+    Result.
+
+%% Takes all answers but the last, that of the leaf, which it returns.
+last_answer(Session, Snapshot) ->
+    {ok, <<_:5/binary, Depth, _/binary>> = Ask} = antientropy_session:ask(Session),
+    {ok, Answer} = antientropy_snapshot:serve(Snapshot, 1, Ask),
+    case Depth of
+        3 ->
+            Answer;
+        _ ->
+            {ok, _} = antientropy_session:take(Session, Answer),
+            last_answer(Session, Snapshot)
+    end.
+
+%% Makes a call, and returns how often another process ran meanwhile, with the result.
+ticks(Call) ->
+    Ticks = counters:new(1, []),
+    Ticker = spawn_link(fun() -> tick(Ticks) end),
+    erlang:yield(),
+    Before = counters:get(Ticks, 1),
+    Result = Call(),
+    After = counters:get(Ticks, 1),
+    unlink(Ticker),
+    exit(Ticker, kill),
+    {After - Before, Result}.
 
 tick(Ticks) ->
     counters:add(Ticks, 1, 1),

@@ -42,7 +42,7 @@ results_test_() ->
     {ok, _} = antientropy:put(Replica, 1, <<"k">>, ?VALUE),
     {ok, Snapshot} = antientropy:snapshot(Replica),
     {ok, #{leaf := Leaf}} = antientropy:place(2, 0, <<"k">>),
-    freed(6 * 65_536, fun() ->
+    freed(65_536, fun() ->
         {ok, [_]} = antientropy:get(Replica, <<"k">>),
         {ok, _} = antientropy:value(Replica, <<"k">>, 0),
         {ok, _} = antientropy:row(Replica, <<"k">>),
@@ -58,7 +58,7 @@ long_clocks_test_() ->
     Version = live(Pairs, <<>>),
     Wrong = live(Pairs ++ [none], <<>>),
     {ok, Hints} = antientropy_hints:new(),
-    freed(10 * 16_384, fun() ->
+    freed(16_384, fun() ->
         {error, clock_full} = antientropy:put(Replica, 1, <<"k">>, <<>>, Pairs),
         {error, clock_full} = antientropy:accept(Replica, <<"k">>, Version),
         {error, clock_full} = antientropy_hints:keep(Hints, 1, <<"k">>, Version),
@@ -69,13 +69,17 @@ long_clocks_test_() ->
         support:badarg(fun() -> antientropy:compare(Pairs, none) end)
     end).
 
-%% Makes calls that use so many bytes again and again, in processes that end: without frees 128 MiB would be lost.
+%% Makes calls again and again, in processes that end. If so many bytes were lost each time, that would be 64 MiB. Half
+%% as many calls before are for what the allocators keep.
 freed(Bytes, Call) ->
-    {timeout, 60, fun() ->
-        run(Call),
-        Before = resident(),
-        [run(Call) || _ <- lists:seq(1, 128 * ?MIB div Bytes)],
-        ?assert(resident() < Before + 64 * ?MIB)
+    {timeout, 120, fun() ->
+        Count = 64 * ?MIB div Bytes,
+        [run(Call) || _ <- lists:seq(1, Count div 2)],
+        Resident = resident(),
+        Allocated = erlang:memory(total),
+        [run(Call) || _ <- lists:seq(1, Count)],
+        ?assert(resident() < Resident + 32 * ?MIB),
+        ?assert(erlang:memory(total) < Allocated + 32 * ?MIB)
     end}.
 
 run(Call) ->

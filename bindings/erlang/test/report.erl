@@ -3,14 +3,18 @@
 -module(report).
 -behaviour(eunit_listener).
 
--export([main/0]).
+-export([main/0, main/1]).
 -export([start/0, start/1, init/1, handle_begin/3, handle_end/3, handle_cancel/3, terminate/2]).
 
-%% @doc Runs the tests, and ends the node. Its status is 0 if none failed.
+%% @doc Runs all tests, and ends the node.
 main() ->
     Folder = filename:dirname(code:which(?MODULE)),
     Files = lists:sort(filelib:wildcard("*_tests.beam", Folder)),
-    {Passed, Failed} = run([list_to_atom(filename:basename(File, ".beam")) || File <- Files], {0, 0}),
+    main([list_to_atom(filename:basename(File, ".beam")) || File <- Files]).
+
+%% @doc Runs the tests of modules, and ends the node. Its status is 0 if none failed.
+main(Modules) ->
+    {Passed, Failed} = run(Modules, {0, 0}),
     io:format("~b passed, ~b failed~n", [Passed, Failed]),
     halt(min(Failed, 1)).
 

@@ -1,4 +1,4 @@
-%% @doc What several tests use.
+%% @doc Functions that several tests use.
 -module(support).
 
 -include_lib("eunit/include/eunit.hrl").

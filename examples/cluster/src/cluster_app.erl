@@ -5,7 +5,7 @@
 -export([boot/0]).
 -export([start/2, stop/1]).
 
-%% @doc Starts the application in a node of its own, which ends with it. Prints `ready' when it serves.
+%% @doc Starts the application, and the node ends with it. Prints `ready' when it serves.
 -spec boot() -> ok.
 boot() ->
     ok = lists:foreach(fun load/1, [inets, antientropy, cluster]),

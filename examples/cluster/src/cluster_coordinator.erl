@@ -77,7 +77,7 @@ spread(Range, Key, #{clock := Clock} = Version) ->
         false -> {perhaps, down}
     end.
 
-%% Brings a version to a holder, or else to a carrier. Returns the place on whose disk it is.
+%% Brings a version to a holder, otherwise to a carrier. Returns the place on whose disk it is.
 copy_or_hint(Range, Holder, Key, Version) ->
     case cluster_wire:call(Holder, cluster_range, copies, [Range, [{Key, Version}]]) of
         {ok, [{ok, _}]} -> {ok, Holder};

@@ -16,7 +16,7 @@
 start_link() ->
     {ok, _} = gen_server:start_link({local, ?MODULE}, ?MODULE, [], []).
 
-%% @doc Tries to hand the hints of an owner to it now. Otherwise each second is soon enough.
+%% @doc Hands the hints of an owner to it now, since it is up again. Otherwise each second is soon enough.
 -spec wake(cluster_ring:place()) -> ok.
 wake(Owner) ->
     gen_server:cast(?MODULE, {wake, Owner}).
@@ -37,7 +37,8 @@ handle_cast({wake, Owner}, State) ->
 
 %% @private
 handle_info(wake_all, State) ->
-    {noreply, lists:foldl(fun begin_one/2, State, cluster_ring:others())};
+    Up = cluster_ring:others() -- cluster_wire:down(),
+    {noreply, lists:foldl(fun begin_one/2, State, Up)};
 handle_info({'DOWN', Monitor, process, _, _}, State) ->
     {noreply, maps:remove(Monitor, State)}.
 

@@ -50,7 +50,7 @@ keep(Owner, Key, Version) ->
 confirm(Renewals, Outcomes) ->
     gen_server:call(?MODULE, {confirm, Renewals, Outcomes}, infinity).
 
-%% @doc Returns the first pending hints of an owner after a number, at most so many.
+%% @doc Returns the first pending hints of an owner after a number, at most `Most'.
 -spec pending(Owner :: cluster_ring:place(), After :: non_neg_integer(), Most :: pos_integer()) ->
     {renewals(), [antientropy_hints:hint()]}.
 pending(Owner, After, Most) ->

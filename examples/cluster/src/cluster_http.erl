@@ -1,4 +1,4 @@
-%% @doc The HTTP front: a module of `inets'. Values are bodies, contexts are a header, everything else is JSON.
+%% @doc The HTTP front: a module of `inets'. Values are bodies, contexts are a header, all other bodies are JSON.
 -module(cluster_http).
 
 -export([start_link/0]).

@@ -31,5 +31,5 @@ claim(_, Life) ->
 claim_empty(File, Text, Names) ->
     case Names -- ["life.new"] of
         [] -> cluster_disk:replace(File, fun(Device) -> file:write(Device, Text) end);
-        Found -> {error, {life, {missing_beside, Found}}}
+        Found -> {error, {life, {none_but, Found}}}
     end.

@@ -12,8 +12,8 @@
 
 -opaque log() :: #log{}.
 
-%% @doc Folds over the records in a folder in order, from the file of a number on, and begins a new file. What was read
-%% is on the disk then.
+%% @doc Folds over the records in a folder in order, from the file of a number on, and begins a new file. Before that it
+%% brings to the disk all that it read.
 -spec open(file:filename(), From :: non_neg_integer(), Fun :: fun((Record :: term(), Acc) -> Acc), Acc) ->
     {log(), Acc}.
 open(Folder, From, Fun, Acc) ->

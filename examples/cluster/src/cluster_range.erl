@@ -15,7 +15,7 @@
 
 %% Answers that wait at most for one sync of the log.
 -define(MOST_WAITING, 512).
-%% Nodes of the tree that are hashed at once, so that puts come between.
+%% Nodes of the tree that are hashed at once, so that others may put meanwhile.
 -define(REHASHED_AT_ONCE, 64).
 -define(MOST_SESSIONS, 900).
 
@@ -140,7 +140,7 @@ init(Range) ->
         replica = Replica,
         log = Log,
         logged = entries(Replica),
-        %% At most so many of them are in no checkpoint: a node that starts often doesn't read an ever longer log.
+        %% Maybe none of these is in a checkpoint. A node that starts often must not read an ever longer log.
         since_checkpoint = entries(Replica)
     },
     {ok, renew_if_due(State)}.
@@ -267,7 +267,7 @@ rehash_replica(Replica) ->
 
 %% ---- the log
 
-%% Answers if everything is in the log. Otherwise the answers wait while other calls come.
+%% Answers if everything is in the log. Otherwise the answers wait while calls are in the mailbox.
 wait(#state{waiting = Waiting} = State) ->
     case is_logged(State) of
         true ->

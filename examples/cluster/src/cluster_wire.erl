@@ -27,8 +27,8 @@ limit_ms() ->
 call(Place, Module, Function, Arguments) ->
     call(Place, Module, Function, Arguments, ?LIMIT_MS).
 
-%% @doc Calls a function at another place, with so many milliseconds for its answer. If the place counts as down then,
-%% the function may have been called.
+%% @doc Calls a function at another place, with a limit in milliseconds. It may have been called even if the place
+%% counts as down then.
 -spec call(cluster_ring:place(), module(), Function :: atom(), Arguments :: [term()], LimitMs :: pos_integer()) ->
     {ok, Result :: term()} | down.
 call(Place, Module, Function, Arguments, LimitMs) ->
@@ -54,7 +54,7 @@ exchange(Place, Module, Function, Arguments, LimitMs) ->
     Answer.
 
 %% @private
-%% @doc Serves a call of another place, whose messages are slow by so many milliseconds.
+%% @doc Serves a call of another place, after the delay of its messages.
 -spec serve(cluster_ring:place(), SlowMs :: non_neg_integer(), module(), Function :: atom(), Arguments :: [term()]) ->
     term().
 serve(From, SlowMs, Module, Function, Arguments) ->

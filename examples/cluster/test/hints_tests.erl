@@ -43,7 +43,7 @@ full_test_() ->
         ?assertEqual([{error, hints_full}], [Kept || {error, _} = Kept <- keep_all(10001)])
     end).
 
-%% Keeps so many hints, some hundred at once, and returns the answers.
+%% Keeps hints, some hundred at once, and returns the answers.
 keep_all(Count) ->
     Keep = fun(Number) -> cluster_hints:keep(2, key(Number), ?VERSION) end,
     lists:append([

@@ -15,7 +15,7 @@ claim_test_() ->
 lost_test_() ->
     room:test([], fun(Folder) ->
         ok = file:make_dir(filename:join(Folder, "range-0")),
-        ?assertEqual({error, {life, {missing_beside, ["range-0"]}}}, cluster_life:claim(Folder, 1))
+        ?assertEqual({error, {life, {none_but, ["range-0"]}}}, cluster_life:claim(Folder, 1))
     end).
 
 %% A claim that a crash cut off is repeated.

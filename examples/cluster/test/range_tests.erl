@@ -85,7 +85,7 @@ full_test_() ->
         ?assertMatch({ok, [_]}, cluster_range:read(?RANGE, key(30), []))
     end).
 
-%% What a process syncs into a replica that it borrowed is on the disk when it gives it back.
+%% After a process has given a replica back, everything that it accepted is on the disk.
 borrowed_test_() ->
     room:test([], fun(_) ->
         start(),
@@ -96,7 +96,7 @@ borrowed_test_() ->
         ?assertMatch({ok, [#{value := <<"other">>}]}, cluster_range:read(?RANGE, key(1), []))
     end).
 
-%% No renewal comes while a process syncs into the replica, and the next one has to wait.
+%% The replica isn't renewed while a process syncs into it, and the next process has to wait.
 busy_test_() ->
     room:test([{limit, 40}], fun(_) ->
         start(),
