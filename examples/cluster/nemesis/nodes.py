@@ -26,7 +26,7 @@ MOST_LIVES = 20
 HTTP_PORTS = range(8120, 8140)
 EPMD_PORTS = range(4450, 4500)
 
-START_S, END_S = 30.0, 5.0
+START_S, END_S = 60.0, 5.0
 
 
 class NoStart(Exception):
@@ -172,11 +172,12 @@ class Nodes:
 
 
 def _claim() -> Tuple[socket.socket, int, int]:
-    """Returns a socket that claims free ports, by being bound to the HTTP base; the base; and the port of epmd."""
-    for base in range(HTTP_PORTS.start, HTTP_PORTS.stop - len(PLACES), len(PLACES) + 1):
-        epmd_port, claim = EPMD_PORTS.start + base - HTTP_PORTS.start, socket.socket()
+    """Returns a socket that claims free ports, at the one after that of epmd; the HTTP base; and the port of epmd."""
+    for number in range(len(HTTP_PORTS) // len(PLACES)):
+        base, epmd_port = HTTP_PORTS.start - 1 + number * len(PLACES), EPMD_PORTS.start + 2 * number
+        claim = socket.socket()
         try:
-            claim.bind((HOST, base))
+            claim.bind((HOST, epmd_port + 1))
         except OSError:
             claim.close()
             continue
