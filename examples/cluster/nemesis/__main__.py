@@ -1,0 +1,76 @@
+"""Runs the nemesis, and judges the run. The last line is `N passed, M failed`."""
+
+from __future__ import annotations
+
+import argparse
+import shutil
+import sys
+import tempfile
+from pathlib import Path
+
+from . import figures, judge, program, rest
+from .clients import Clients
+from .faults import Faults
+from .front import Front
+from .history import read
+from .log import Log, Watch
+from .nodes import Nodes, build
+from .schedule import Nemesis
+
+#: Seconds that the cluster may take to come to rest in the end.
+REST_S = 60.0
+
+#: Few entries of a range and of a log, and short rounds, so that a run has renewals, checkpoints and syncs.
+SETTINGS = {"CLUSTER_LIMIT": "4000", "CLUSTER_CHECKPOINT": "200", "CLUSTER_ROUND_MS": "400"}
+
+
+def words() -> argparse.Namespace:
+    """Reads the command's words."""
+    parser = argparse.ArgumentParser(prog="python3 -m nemesis", description=__doc__)
+    parser.add_argument("--seed", type=int, default=1, help="chooses the faults and the clients' deeds")
+    parser.add_argument("--seconds", type=float, default=30, help="time under faults")
+    parser.add_argument("--clients", type=int, default=8)
+    parser.add_argument("--library", type=Path, help="folder of the C library, made by ./build-c")
+    parser.add_argument("--out", type=Path, help="folder of a cluster that is built already")
+    parser.add_argument("--keep", type=Path, metavar="LOGS", help="folder for the logs; a bad run's are kept anyway")
+    given = parser.parse_args()
+    if not given.library and not given.out:
+        parser.error("--library or --out is wanted")
+    return given
+
+
+def work(given: argparse.Namespace, room: Path) -> int:
+    """Builds the cluster if it isn't built, breaks it, prints the figures and the verdict, and returns the status."""
+    logs, out = given.keep or room / "logs", given.out or room / "out"
+    logs.mkdir(parents=True, exist_ok=True)
+    for old in logs.glob("*.log"):
+        old.unlink()
+    if not given.out:
+        build(given.library, out)
+    watch = Watch()
+    log = Log(logs / "nemesis.log", watch)
+    with Nodes(out, room / "disks", logs, log, SETTINGS) as nodes:
+        nodes.begin()
+        with figures.Counts(nodes.base, Log(logs / "status.log", watch)) as counts:
+            with Clients(given.clients, given.seed, nodes.base, logs, watch) as clients:
+                begin = watch.now()
+                links = Faults(Front(nodes.base), log)
+                Nemesis(given.seed, nodes, links, clients, log).run(given.seconds)
+                quiet = watch.now()
+            took = rest.end(nodes.base, log, REST_S)
+            sums = counts.look()
+        rest.dump(nodes.base, logs)
+    figures.show(figures.requests(logs), begin, quiet, f"seed {given.seed}")
+    print(f"lives {nodes.lives}, " + ", ".join(f"{name.replace('_', ' ')} {count}" for name, count in sums.items()))
+    print("the cluster didn't come to rest" if took is None else f"at rest after {took:.1f} s")
+    verdict = judge.judge(read(logs))
+    if any(verdict.values()) and not given.keep:
+        kept = tempfile.mkdtemp(prefix="nemesis-")
+        shutil.copytree(logs, kept, dirs_exist_ok=True)
+        print(f"the logs are in {kept}")
+    return 1 if judge.report(verdict) else 0
+
+
+if __name__ == "__main__":
+    GIVEN = words()
+    sys.exit(program.run(lambda room: work(GIVEN, room)))

@@ -1,0 +1,210 @@
+"""Clients that read, put and delete keys, and log what they were told."""
+
+from __future__ import annotations
+
+import bisect
+import itertools
+import random
+import threading
+import time
+from collections import deque
+from pathlib import Path
+from typing import Deque, Dict, List, Optional, Sequence, Tuple
+
+from .front import Front
+from .log import Log, Watch
+from .nodes import PLACES
+
+KEYS = tuple(f"k{number:03}" for number in range(150))
+
+#: A key whose number it divides may be deleted. The judge knows less of such keys.
+DELETED = 8
+
+#: Old contexts of a key that a client may still put with.
+OLD_CONTEXTS = 6
+
+#: Seconds for which a client leaves a place alone that didn't answer.
+SHUNNED_S = 1.0
+
+
+class Gate:
+    """Lets the clients work, or holds them all at rest."""
+
+    def __init__(self) -> None:
+        self._changed = threading.Condition()
+        self._open = self._ended = False
+        self._busy = 0
+
+    def enter(self) -> bool:
+        """Waits until clients may work. Returns false once the run has ended."""
+        with self._changed:
+            self._changed.wait_for(lambda: self._open or self._ended)
+            self._busy += not self._ended
+            return not self._ended
+
+    def leave(self) -> None:
+        with self._changed:
+            self._busy -= 1
+            self._changed.notify_all()
+
+    def work(self) -> None:
+        """Lets the clients work."""
+        self._set(is_open=True)
+
+    def rest(self) -> None:
+        """Lets no client begin, and waits until none has an open request."""
+        self._set(is_open=False)
+        with self._changed:
+            self._changed.wait_for(lambda: self._busy == 0)
+
+    def end(self) -> None:
+        """Lets all clients end."""
+        self._ended = True
+        self._set(is_open=False)
+
+    def _set(self, is_open: bool) -> None:
+        with self._changed:
+            self._open = is_open
+            self._changed.notify_all()
+
+
+class Load:
+    """The keys and places that clients choose: few keys often, and a skewed load has fewer yet, at one place."""
+
+    def __init__(self) -> None:
+        self._weights = list(itertools.accumulate(1 / (rank + 3) for rank in range(len(KEYS))))
+        self._skewed: Tuple[Sequence[str], Sequence[int]] = ((), ())
+
+    def skew(self, keys: Sequence[str] = (), places: Sequence[int] = ()) -> None:
+        """From now on most requests are for these keys, at these places; without any, for all."""
+        self._skewed = (tuple(keys), tuple(places))
+
+    def key(self, chance: random.Random) -> str:
+        keys, _ = self._skewed
+        if keys and chance.random() < 0.8:
+            return chance.choice(keys)
+        return KEYS[bisect.bisect(self._weights, chance.random() * self._weights[-1])]
+
+    def place(self, chance: random.Random, shunned: Sequence[int]) -> int:
+        _, places = self._skewed
+        if not places or chance.random() >= 0.8:
+            places = PLACES
+        return chance.choice([place for place in places if place not in shunned] or PLACES)
+
+
+#: A context, and the marks of the versions that it covers.
+Context = Tuple[Optional[str], Sequence[str]]
+BLIND: Context = (None, ())
+
+
+class Client(threading.Thread):
+    """A client: it reads before it puts, or puts with a context that may be old, or with none."""
+
+    def __init__(self, number: int, seed: int, base: int, gate: Gate, load: Load, log: Log) -> None:
+        super().__init__(name=f"client {number}", daemon=True)
+        self._number, self._gate, self._load, self._log = number, gate, load, log
+        self._chance = random.Random(f"{seed}/{number}")
+        self._front = Front(base)
+        self._contexts: Dict[str, Deque[Context]] = {}
+        self._shunned: Dict[int, float] = {}
+        self._values = 0
+
+    def run(self) -> None:
+        while self._gate.enter():
+            try:
+                self._step()
+            finally:
+                self._gate.leave()
+        self._front.close()
+        self._log.close()
+
+    def _step(self) -> None:
+        """Reads a key, puts it, or both."""
+        key = self._load.key(self._chance)
+        deed = self._chance.random()
+        contexts = self._contexts.setdefault(key, deque(maxlen=OLD_CONTEXTS))
+        if deed < 0.8:
+            self._get(key, contexts)
+        if deed >= 0.4:
+            # (above 0.8 the client puts without a read)
+            context = contexts[-1] if deed < 0.8 and contexts else self._chance.choice([BLIND, *contexts])
+            self._put(key, contexts, context)
+
+    def _get(self, key: str, contexts: Deque[Context]) -> None:
+        place, begin = self._place(), self._log.now()
+        found = self._front.get(place, key)
+        self._note(place, found.answer.status)
+        self._log.write(
+            t=begin,
+            end=self._log.now(),
+            client=self._number,
+            op="get",
+            key=key,
+            place=place,
+            by=found.answer.headers.get("x-place"),
+            status=found.answer.status,
+            values=found.marks,
+            clocks=found.clocks,
+        )
+        if found.context is not None:
+            contexts.append((found.context, found.marks))
+
+    def _put(self, key: str, contexts: Deque[Context], context: Context) -> None:
+        place, begin = self._place(), self._log.now()
+        deletes = int(key[1:]) % DELETED == 0 and self._chance.random() < 0.2
+        if deletes:
+            value = None
+            answer = self._front.delete(place, key, context[0])
+        else:
+            self._values += 1
+            value = f"c{self._number}-{self._values:06}"
+            answer = self._front.put(place, key, value, context[0])
+        told = answer.json() if answer.status == 200 else {}
+        self._note(place, answer.status)
+        self._log.write(
+            t=begin,
+            end=self._log.now(),
+            client=self._number,
+            op="delete" if deletes else "put",
+            key=key,
+            value=value,
+            read=context[1],
+            place=place,
+            by=answer.headers.get("x-place"),
+            status=answer.status,
+            **{name: told[name] for name in ("clock", "on") if name in told},
+        )
+        if told:
+            mark = f"tombstone {told['clock']}" if value is None else value
+            contexts.append((told["context"], (mark,)))
+
+    def _place(self) -> int:
+        now = time.monotonic()
+        return self._load.place(self._chance, [place for place, until in self._shunned.items() if until > now])
+
+    def _note(self, place: int, status: int) -> None:
+        """Shuns a place that didn't answer, and waits a moment before the next request."""
+        if status == 0:
+            self._shunned[place] = time.monotonic() + SHUNNED_S
+            time.sleep(0.02)
+
+
+class Clients:
+    """The clients of a run, at rest until they are let work."""
+
+    def __init__(self, count: int, seed: int, base: int, logs: Path, watch: Watch) -> None:
+        self.gate, self.load = Gate(), Load()
+        self._threads: List[Client] = []
+        for number in range(1, count + 1):
+            log = Log(logs / f"client-{number}.log", watch)
+            self._threads.append(Client(number, seed, base, self.gate, self.load, log))
+
+    def __enter__(self) -> "Clients":
+        for thread in self._threads:
+            thread.start()
+        return self
+
+    def __exit__(self, *error: object) -> None:
+        self.gate.end()
+        for thread in self._threads:
+            thread.join(10.0)

@@ -1,0 +1,139 @@
+"""The HTTP fronts of the nodes, as one thread sees them."""
+
+from __future__ import annotations
+
+import base64
+import http.client
+import json
+from dataclasses import dataclass
+from typing import Any, Dict, List, Mapping, Optional, Sequence, Tuple
+from urllib.parse import quote
+
+HOST = "127.0.0.1"
+TOMBSTONE = "tombstone "
+
+#: Seconds after which a client gives up. A call between nodes has half a second, and a put may be handed on.
+PATIENCE_S = 2.5
+
+
+@dataclass(frozen=True)
+class Answer:
+    """A node's answer. The status 0 stands for none."""
+
+    status: int
+    headers: Mapping[str, str]
+    body: bytes
+
+    def json(self) -> Any:
+        """Returns the body as JSON, an empty object if it isn't."""
+        try:
+            return json.loads(self.body)
+        except ValueError:
+            return {}
+
+
+NO_ANSWER = Answer(0, {}, b"")
+
+
+@dataclass(frozen=True)
+class Found:
+    """What a get found: the marks of the versions with their clocks, and the context that covers them."""
+
+    answer: Answer
+    marks: Sequence[str]
+    clocks: Sequence[str]
+    context: Optional[str]
+
+
+class Front:
+    """Requests to the nodes, over one connection for each place. For one thread."""
+
+    def __init__(self, base: int, patience_s: float = PATIENCE_S) -> None:
+        self._base, self._patience_s = base, patience_s
+        self._open: Dict[int, http.client.HTTPConnection] = {}
+
+    def ask(
+        self, place: int, method: str, path: str, body: Optional[bytes] = None, headers: Mapping[str, str] = {}
+    ) -> Answer:
+        """Sends a request, and returns its answer."""
+        link = self._open.get(place)
+        if link is None:
+            link = http.client.HTTPConnection(HOST, self._base + place, timeout=self._patience_s)
+            self._open[place] = link
+        try:
+            link.request(method, path, body, dict(headers))
+            answer = link.getresponse()
+            named = {name.lower(): value for name, value in answer.getheaders()}
+            return Answer(answer.status, named, answer.read())
+        except (OSError, http.client.HTTPException):
+            link.close()
+            del self._open[place]
+            return NO_ANSWER
+
+    def put(self, place: int, key: str, value: str, context: Optional[str] = None) -> Answer:
+        """Puts a value over the versions of a context."""
+        return self.ask(place, "PUT", _path(key), value.encode(), _context(context))
+
+    def delete(self, place: int, key: str, context: Optional[str] = None) -> Answer:
+        """Puts a tombstone over the versions of a context."""
+        return self.ask(place, "DELETE", _path(key), None, _context(context))
+
+    def get(self, place: int, key: str) -> Found:
+        """Reads the versions of a key."""
+        answer = self.ask(place, "GET", _path(key))
+        marks, clocks = _versions(answer)
+        return Found(answer, marks, clocks, answer.headers.get("x-context"))
+
+    def status(self, place: int) -> Optional[dict]:
+        """Returns a node's counts: None if it doesn't answer."""
+        return self._json(place, "GET", "/status")
+
+    def dump(self, place: int) -> Optional[dict]:
+        """Returns all that a node holds: None if it doesn't answer."""
+        return self._json(place, "GET", "/dump")
+
+    def repair(self, place: int) -> bool:
+        """Starts a round of a node's repair, and waits for its end."""
+        return self._json(place, "PUT", "/repair", {}) is not None
+
+    def faults(self, place: int, faults: dict) -> bool:
+        """Sets the faults of a node."""
+        return self._json(place, "PUT", "/faults", faults) is not None
+
+    def close(self) -> None:
+        for link in self._open.values():
+            link.close()
+        self._open.clear()
+
+    def _json(self, place: int, method: str, path: str, body: Optional[dict] = None) -> Any:
+        """Sends a request that may be repeated: the node may have been started anew since the connection was made."""
+        for _ in range(2):
+            answer = self.ask(place, method, path, None if body is None else json.dumps(body).encode())
+            if answer.status == 200:
+                return answer.json()
+        return None
+
+
+def _path(key: str) -> str:
+    return "/keys/" + quote(key, safe="")
+
+
+def _context(context: Optional[str]) -> Mapping[str, str]:
+    return {} if context is None else {"x-context": context}
+
+
+def _versions(answer: Answer) -> Tuple[List[str], List[str]]:
+    """Returns the marks and the clocks of the versions that an answer shows."""
+    if answer.status == 300:
+        siblings = answer.json()["siblings"]
+        return [_mark(it) for it in siblings], [it["clock"] for it in siblings]
+    clocks = [clock for clock in answer.headers.get("x-clock", "").split(";") if clock]
+    if answer.status == 200:
+        return [answer.body.decode()], clocks
+    return [TOMBSTONE + clock for clock in clocks], clocks
+
+
+def _mark(sibling: dict) -> str:
+    if sibling["kind"] == "tombstone":
+        return TOMBSTONE + sibling["clock"]
+    return base64.b64decode(sibling["value"]).decode()

@@ -1,0 +1,38 @@
+"""A log of a run: lines of JSON, one writer a file."""
+
+from __future__ import annotations
+
+import json
+import time
+from pathlib import Path
+from typing import Any
+
+
+class Watch:
+    """The time since a run began, in seconds, for all its logs."""
+
+    def __init__(self) -> None:
+        self._began = time.monotonic()
+
+    def now(self) -> float:
+        return round(time.monotonic() - self._began, 6)
+
+
+class Log:
+    """A file that a line is appended to for each deed or answer."""
+
+    def __init__(self, path: Path, watch: Watch) -> None:
+        self._file = path.open("w", encoding="utf-8", buffering=1)
+        self._watch = watch
+
+    def now(self) -> float:
+        """Returns the time of the run."""
+        return self._watch.now()
+
+    def write(self, **members: Any) -> None:
+        """Appends a line, with the time if it has none."""
+        line = members if "t" in members else {"t": self.now(), **members}
+        self._file.write(json.dumps(line) + "\n")
+
+    def close(self) -> None:
+        self._file.close()

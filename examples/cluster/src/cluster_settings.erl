@@ -1,0 +1,49 @@
+%% @doc The settings of this node: the parameters of the application `cluster'.
+-module(cluster_settings).
+
+-export([place/0, life/0, folder/0, http_port/0]).
+-export([places/0, quorums/0, limit/0, checkpoint_entries/0, round_ms/0, slots/0]).
+
+%% @doc Returns this node's place on the ring.
+-spec place() -> cluster_ring:place().
+place() -> value(place).
+
+%% @doc Returns this node's number in clocks.
+-spec life() -> cluster_life:life().
+life() -> value(life).
+
+%% @doc Returns the folder of this node's files.
+-spec folder() -> file:filename().
+folder() -> value(folder).
+
+%% @doc Returns the port of the HTTP front.
+-spec http_port() -> inet:port_number().
+http_port() -> value(http_port).
+
+%% @doc Returns the places of the ring, in its order.
+-spec places() -> [cluster_ring:place()].
+places() -> value(places).
+
+%% @doc Returns the numbers of places that hold a range, that a read has seen, and that have a put before its answer.
+-spec quorums() -> {N :: pos_integer(), R :: pos_integer(), W :: pos_integer()}.
+quorums() -> value(quorums).
+
+%% @doc Returns the number of entries that a range's journal may have.
+-spec limit() -> pos_integer().
+limit() -> value(limit).
+
+%% @doc Returns the number of entries between two checkpoints of a range.
+-spec checkpoint_entries() -> pos_integer().
+checkpoint_entries() -> value(checkpoint_entries).
+
+%% @doc Returns the time between two rounds of repair, in milliseconds.
+-spec round_ms() -> pos_integer().
+round_ms() -> value(round_ms).
+
+%% @doc Returns the least and the greatest number of slots, and the latency of a slow put in microseconds.
+-spec slots() -> {Floor :: pos_integer(), Ceiling :: pos_integer(), ThresholdMicros :: pos_integer()}.
+slots() -> value(slots).
+
+value(Name) ->
+    {ok, Value} = application:get_env(cluster, Name),
+    Value.
