@@ -33,6 +33,7 @@ def words() -> argparse.Namespace:
     parser.add_argument("--library", type=Path, help="folder of the C library, made by ./build-c")
     parser.add_argument("--out", type=Path, help="folder of a cluster that is built already")
     parser.add_argument("--keep", type=Path, metavar="LOGS", help="folder for the logs; a bad run's are kept anyway")
+    parser.add_argument("--ports", type=int, metavar="FIRST", help="first of seven ports; free ones if it's omitted")
     given = parser.parse_args()
     if not given.library and not given.out:
         parser.error("--library or --out is wanted")
@@ -49,7 +50,7 @@ def work(given: argparse.Namespace, room: Path) -> int:
         build(given.library, out)
     watch = Watch()
     log = Log(logs / "nemesis.log", watch)
-    with Nodes(out, room / "disks", logs, log, SETTINGS) as nodes:
+    with Nodes(out, room / "disks", logs, log, SETTINGS, given.ports) as nodes:
         nodes.begin()
         with figures.Counts(nodes.base, Log(logs / "status.log", watch)) as counts:
             with Clients(given.clients, given.seed, nodes.base, logs, watch) as clients:

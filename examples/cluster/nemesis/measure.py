@@ -83,6 +83,7 @@ def words() -> argparse.Namespace:
     parser.add_argument("--partition", type=float, default=30, help="time of a partition, in seconds")
     parser.add_argument("--clients", type=int, default=8)
     parser.add_argument("--no-admission", action="store_true", help="repair does not wait for slots")
+    parser.add_argument("--ports", type=int, metavar="FIRST", help="first of seven ports; free ones if it's omitted")
     return parser.parse_args()
 
 
@@ -92,7 +93,7 @@ def work(given: argparse.Namespace, room: Path) -> int:
     watch = Watch()
     log = Log(room / "nemesis.log", watch)
     settings = {"CLUSTER_ADMISSION": "off"} if given.no_admission else {}
-    with Nodes(room / "out", room / "disks", room, log, settings) as nodes:
+    with Nodes(room / "out", room / "disks", room, log, settings, given.ports) as nodes:
         nodes.begin()
         with figures.Counts(nodes.base, Log(room / "status.log", watch)) as counts:
             with Clients(given.clients, 1, nodes.base, room, watch) as clients:

@@ -22,11 +22,13 @@ PLACES = (1, 2, 3, 4, 5)
 #: A clock has at most 32 lives.
 MOST_LIVES = 20
 
-#: Ports that a cluster listens on, the first that are free. Those of HTTP are a base plus the place.
-HTTP_PORTS = range(8120, 8140)
-EPMD_PORTS = range(4450, 4500)
+#: A cluster listens on a few ports in a row: those of HTTP are the first plus the place, and that of epmd is the last.
+#: It claims them by a socket that is bound to the first.
+PORTS = range(20000, 30000)
+PORTS_EACH = len(PLACES) + 2
 
-START_S, END_S = 60.0, 5.0
+#: Seconds that a process may take to start, on a machine that is busy, and to end.
+START_S, END_S = 120.0, 5.0
 
 
 class NoStart(Exception):
@@ -44,8 +46,17 @@ def build(library: Path, out: Path) -> None:
 class Nodes:
     """The processes of a cluster, each known by its id. A node is started again under its life while its disk lasts."""
 
-    def __init__(self, out: Path, disks: Path, logs: Path, log: Log, settings: Optional[Dict[str, str]] = None) -> None:
-        self._ports, self.base, self._epmd_port = _claim()
+    def __init__(
+        self,
+        out: Path,
+        disks: Path,
+        logs: Path,
+        log: Log,
+        settings: Optional[Dict[str, str]] = None,
+        ports: Optional[int] = None,
+    ) -> None:
+        self._claim, self.base = _claim(ports)
+        self._epmd_port = self.base + PORTS_EACH - 1
         self._out, self._disks, self._logs, self._log = out, disks, logs, log
         self._environment = {
             **os.environ,
@@ -87,7 +98,7 @@ class Nodes:
                 self._epmd.terminate()
             for process in [*self._nodes.values(), *([self._epmd] if self._epmd else [])]:
                 _await_end(process)
-            self._ports.close()
+            self._claim.close()
         finally:
             signal.signal(signal.SIGINT, before)
 
@@ -171,20 +182,24 @@ class Nodes:
             said += more
 
 
-def _claim() -> Tuple[socket.socket, int, int]:
-    """Returns a socket that claims free ports, at the one after that of epmd; the HTTP base; and the port of epmd."""
-    for number in range(len(HTTP_PORTS) // len(PLACES)):
-        base, epmd_port = HTTP_PORTS.start - 1 + number * len(PLACES), EPMD_PORTS.start + 2 * number
+def _claim(first: Optional[int]) -> Tuple[socket.socket, int]:
+    """Claims ports that are free, from this one on or from one that depends on the process. Returns the first."""
+    if first is None:
+        slots = len(PORTS) // PORTS_EACH
+        wanted = [PORTS.start + (os.getpid() + step) % slots * PORTS_EACH for step in range(slots)]
+    else:
+        wanted = [first]
+    for port in wanted:
         claim = socket.socket()
         try:
-            claim.bind((HOST, epmd_port + 1))
+            claim.bind((HOST, port))
         except OSError:
             claim.close()
             continue
-        if all(_is_free(port) for port in (epmd_port, *(base + place for place in PLACES))):
-            return claim, base, epmd_port
+        if all(_is_free(port + step) for step in range(1, PORTS_EACH)):
+            return claim, port
         claim.close()
-    raise NoStart(f"no ports are free from {HTTP_PORTS.start} to {HTTP_PORTS.stop - 1}")
+    raise NoStart(f"the ports from {wanted[0]} to {wanted[-1] + PORTS_EACH - 1} aren't free")
 
 
 def _is_free(port: int) -> bool:
