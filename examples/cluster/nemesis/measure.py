@@ -2,8 +2,8 @@
 
     python3 -m nemesis.measure --library FOLDER [--seconds S] [--no-admission]
 
-Prints the requests a second and the latencies without faults, during the partition, and while clients go on during the
-repair; then the time that another partition's repair takes with clients at rest, and that of a lost disk.
+Prints the requests a second and the latencies without faults, during a partition, and while clients go on during its
+repair and that of a lost disk; and the time that repairs take with clients at rest.
 """
 
 from __future__ import annotations
@@ -11,6 +11,7 @@ from __future__ import annotations
 import argparse
 import sys
 import time
+from concurrent.futures import ThreadPoolExecutor
 from pathlib import Path
 from typing import List, Tuple
 
@@ -25,6 +26,9 @@ from .rest import settle
 SIDE = (1, 2)
 MOST_S = 120.0
 
+#: Keys that are put before, so that a lost disk is worth a repair, and threads that put them.
+FILLED, FILLERS = 4000, 8
+
 Phase = Tuple[str, float, float]
 
 
@@ -37,23 +41,45 @@ class Measure:
         self.phases: List[Phase] = []
 
     def run(self, seconds: float, partition_s: float) -> None:
+        """Goes through all phases."""
+        self._fill()
         self._gate.work()
         self._phase("no faults", seconds)
-        self._links.partition(faults.halves(SIDE), PLACES)
+        self._cut()
         self._phase("a partition", partition_s)
         self._links.heal(PLACES)
-        self._phase("repair", seconds)
+        self._phase("its repair", seconds)
+        self._lose_disk()
+        self._phase("a lost disk", seconds)
         self._gate.rest()
-        self._repair("writes during the repair")
-        self._links.partition(faults.halves(SIDE), PLACES)
+        self._repair("these phases")
+        self._cut()
         self._gate.work()
         time.sleep(partition_s)
         self._gate.rest()
         self._links.heal(PLACES)
         self._repair(f"a partition of {partition_s:.0f} s")
+        self._lose_disk()
+        self._repair("a lost disk")
+
+    def _fill(self) -> None:
+        """Puts keys that no client uses."""
+
+        def fill(first: int) -> None:
+            front = Front(self._nodes.base)
+            for number in range(first, FILLED, FILLERS):
+                front.put(PLACES[number % len(PLACES)], f"filled {number}", f"value {number}")
+            front.close()
+
+        with ThreadPoolExecutor(FILLERS) as fillers:
+            list(fillers.map(fill, range(FILLERS)))
+
+    def _cut(self) -> None:
+        self._links.partition(faults.halves(SIDE), PLACES)
+
+    def _lose_disk(self) -> None:
         self._nodes.destroy(SIDE[0])
         self._nodes.start(SIDE[:1])
-        self._repair("a lost disk")
 
     def _phase(self, name: str, seconds: float) -> None:
         begin = self._log.now()

@@ -55,6 +55,7 @@ class Nemesis:
             self._slow,
             self._skew,
             self._carriers,
+            self._forget,
         ]
         while True:
             yield from self._chance.sample(deck, len(deck))
@@ -133,6 +134,24 @@ class Nemesis:
         self._lose_disk(place)
         self._restart()
         self._wait(0.3, 1.0)
+
+    def _forget(self) -> None:
+        """Kills a node whose slow disk keeps entries waiting. It starts cut off, so nobody tells it what it has lost.
+
+        Clients rest meanwhile, so they put with what they had read before.
+        """
+        place = self._chance.choice(PLACES)
+        self._clients.load.skew(self._chance.sample(KEYS, 4), [place])
+        self._links.slow_disk(place, self._chance.choice((250, 400)), self._nodes.up())
+        self._wait(1.0, 2.5)
+        self._nodes.kill(place)
+        self._clients.gate.rest()
+        self._links.slow_disk(place, 0, self._nodes.up())
+        self._cut(faults.halves([place]))
+        self._restart()
+        self._clients.gate.work()
+        self._wait(1.5, 3.0)
+        self._clients.load.skew()
 
     def _meanwhile(self) -> None:
         """Lets a fault last for a while, and sometimes adds a pause or a kill."""
