@@ -3,12 +3,14 @@
 from __future__ import annotations
 
 import random
+import threading
 import time
 from typing import Callable, Iterator, List, Sequence
 
 from . import faults
 from .clients import KEYS, Clients
 from .faults import Faults
+from .front import PATIENCE_S, Front
 from .log import Log
 from .nodes import MOST_LIVES, PLACES, Nodes
 from .rest import settle
@@ -136,14 +138,16 @@ class Nemesis:
         self._wait(0.3, 1.0)
 
     def _forget(self) -> None:
-        """Kills a node whose slow disk keeps entries waiting. It starts cut off, so nobody tells it what it has lost.
+        """Kills a node whose slow disk keeps entries waiting, just after another one has synced with it.
 
-        Clients rest meanwhile, so they put with what they had read before.
+        It starts cut off, so nobody tells it what it has lost. Clients rest meanwhile, so they put with what they had
+        read before.
         """
         place = self._chance.choice(PLACES)
         self._clients.load.skew(self._chance.sample(KEYS, 4), [place])
         self._links.slow_disk(place, self._chance.choice((250, 400)), self._nodes.up())
         self._wait(1.0, 2.5)
+        self._sync_neighbours(place)
         self._nodes.kill(place)
         self._clients.gate.rest()
         self._links.slow_disk(place, 0, self._nodes.up())
@@ -152,6 +156,21 @@ class Nemesis:
         self._clients.gate.work()
         self._wait(1.5, 3.0)
         self._clients.load.skew()
+
+    def _sync_neighbours(self, place: int) -> None:
+        """Lets the two nodes that hold most ranges of a place start a round, and waits until one has ended it."""
+        ended = threading.Event()
+
+        def repair(neighbour: int) -> None:
+            front = Front(self._nodes.base)
+            front.repair(neighbour)
+            front.close()
+            ended.set()
+
+        for step in (-1, 1):
+            neighbour = (place - 1 + step) % len(PLACES) + 1
+            threading.Thread(target=repair, args=(neighbour,), daemon=True).start()
+        ended.wait(PATIENCE_S)
 
     def _meanwhile(self) -> None:
         """Lets a fault last for a while, and sometimes adds a pause or a kill."""
