@@ -9,9 +9,9 @@ import threading
 import time
 from collections import deque
 from pathlib import Path
-from typing import Deque, Dict, List, Optional, Sequence, Tuple
+from typing import Deque, Dict, Sequence, Tuple
 
-from .front import Front
+from .caller import BLIND, Caller, Context, context_of
 from .log import Log, Watch
 from .nodes import PLACES
 
@@ -22,6 +22,9 @@ DELETED = 8
 
 #: Old contexts of a key that a client may still put with.
 OLD_CONTEXTS = 6
+
+#: Clients that the nemesis directs.
+DIRECTED = 6
 
 #: Seconds for which a client leaves a place alone that didn't answer.
 SHUNNED_S = 1.0
@@ -92,22 +95,15 @@ class Load:
         return chance.choice([place for place in places if place not in shunned] or PLACES)
 
 
-#: A context, and the marks of the versions that it covers.
-Context = Tuple[Optional[str], Sequence[str]]
-BLIND: Context = (None, ())
-
-
 class Client(threading.Thread):
     """A client: it reads before it puts, or puts with a context that may be old, or with none."""
 
-    def __init__(self, number: int, seed: int, base: int, gate: Gate, load: Load, log: Log) -> None:
+    def __init__(self, number: int, seed: int, gate: Gate, load: Load, caller: Caller) -> None:
         super().__init__(name=f"client {number}", daemon=True)
-        self._number, self._gate, self._load, self._log = number, gate, load, log
+        self._gate, self._load, self._caller = gate, load, caller
         self._chance = random.Random(f"{seed}/{number}")
-        self._front = Front(base)
         self._contexts: Dict[str, Deque[Context]] = {}
         self._shunned: Dict[int, float] = {}
-        self._values = 0
 
     def run(self) -> None:
         while self._gate.enter():
@@ -115,8 +111,7 @@ class Client(threading.Thread):
                 self._step()
             finally:
                 self._gate.leave()
-        self._front.close()
-        self._log.close()
+        self._caller.close()
 
     def _step(self) -> None:
         """Reads a key, puts it, or both."""
@@ -131,52 +126,19 @@ class Client(threading.Thread):
             self._put(key, contexts, context)
 
     def _get(self, key: str, contexts: Deque[Context]) -> None:
-        place, begin = self._place(), self._log.now()
-        found = self._front.get(place, key)
+        place = self._place()
+        found = self._caller.get(place, key)
         self._note(place, found.answer.status)
-        self._log.write(
-            t=begin,
-            end=self._log.now(),
-            client=self._number,
-            op="get",
-            key=key,
-            place=place,
-            by=found.answer.headers.get("x-place"),
-            status=found.answer.status,
-            values=found.marks,
-            clocks=found.clocks,
-        )
         if found.context is not None:
-            contexts.append((found.context, found.marks))
+            contexts.append(context_of(found))
 
     def _put(self, key: str, contexts: Deque[Context], context: Context) -> None:
-        place, begin = self._place(), self._log.now()
+        place = self._place()
         deletes = int(key[1:]) % DELETED == 0 and self._chance.random() < 0.2
-        if deletes:
-            value = None
-            answer = self._front.delete(place, key, context[0])
-        else:
-            self._values += 1
-            value = f"c{self._number}-{self._values:06}"
-            answer = self._front.put(place, key, value, context[0])
-        told = answer.json() if answer.status == 200 else {}
-        self._note(place, answer.status)
-        self._log.write(
-            t=begin,
-            end=self._log.now(),
-            client=self._number,
-            op="delete" if deletes else "put",
-            key=key,
-            value=value,
-            read=context[1],
-            place=place,
-            by=answer.headers.get("x-place"),
-            status=answer.status,
-            **{name: told[name] for name in ("clock", "on") if name in told},
-        )
-        if told:
-            mark = f"tombstone {told['clock']}" if value is None else value
-            contexts.append((told["context"], (mark,)))
+        status, covers = self._caller.put(place, key, context, deletes)
+        self._note(place, status)
+        if covers is not None:
+            contexts.append(covers)
 
     def _place(self) -> int:
         now = time.monotonic()
@@ -190,14 +152,17 @@ class Client(threading.Thread):
 
 
 class Clients:
-    """The clients of a run, at rest until they are let work."""
+    """The clients of a run, at rest until they are let work, and others that the nemesis directs."""
 
     def __init__(self, count: int, seed: int, base: int, logs: Path, watch: Watch) -> None:
         self.gate, self.load = Gate(), Load()
-        self._threads: List[Client] = []
-        for number in range(1, count + 1):
-            log = Log(logs / f"client-{number}.log", watch)
-            self._threads.append(Client(number, seed, base, self.gate, self.load, log))
+        callers = [
+            Caller(number, base, Log(logs / f"client-{number}.log", watch)) for number in range(1, count + DIRECTED + 1)
+        ]
+        self._threads = [
+            Client(number, seed, self.gate, self.load, caller) for number, caller in enumerate(callers[:count], 1)
+        ]
+        self.directed = callers[count:]
 
     def __enter__(self) -> "Clients":
         for thread in self._threads:
@@ -208,3 +173,5 @@ class Clients:
         self.gate.end()
         for thread in self._threads:
             thread.join(10.0)
+        for caller in self.directed:
+            caller.close()

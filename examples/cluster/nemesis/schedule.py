@@ -5,15 +5,20 @@ from __future__ import annotations
 import random
 import threading
 import time
+from concurrent.futures import ThreadPoolExecutor
 from typing import Callable, Iterator, List, Sequence
 
 from . import faults
+from .caller import context_of
 from .clients import KEYS, Clients
 from .faults import Faults
 from .front import PATIENCE_S, Front
 from .log import Log
 from .nodes import MOST_LIVES, PLACES, Nodes
 from .rest import settle
+
+#: Milliseconds by which the slowest disk delays each sync: a call between nodes may take 500.
+SLOWEST_DISK_MS = 400
 
 #: Seconds that the cluster may take to come to rest between two lost disks.
 REST_S = 30.0
@@ -138,24 +143,33 @@ class Nemesis:
         self._wait(0.3, 1.0)
 
     def _forget(self) -> None:
-        """Kills a node whose slow disk keeps entries waiting, just after another one has synced with it.
+        """Kills a node whose slow disk keeps puts waiting, just after others have synced with it, and puts again.
 
-        It starts cut off, so nobody tells it what it has lost. Clients rest meanwhile, so they put with what they had
-        read before.
+        It starts cut off, so nobody tells it what it has lost. If it gave away what wasn't on its disk, it uses a clock
+        for a second value, and all nodes are asked for both.
         """
         place = self._chance.choice(PLACES)
-        self._clients.load.skew(self._chance.sample(KEYS, 4), [place])
-        self._links.slow_disk(place, self._chance.choice((250, 400)), self._nodes.up())
-        self._wait(1.0, 2.5)
-        self._sync_neighbours(place)
-        self._nodes.kill(place)
+        callers = self._clients.directed
+        keys = self._chance.sample(KEYS, len(callers))
         self._clients.gate.rest()
+        contexts = [context_of(caller.get(place, key)) for caller, key in zip(callers, keys)]
+        self._links.slow_disk(place, SLOWEST_DISK_MS, self._nodes.up())
+        with ThreadPoolExecutor(len(callers)) as pool:
+            for caller, key, context in zip(callers, keys, contexts):
+                pool.submit(caller.put, place, key, context)
+            self._wait(0.05, 0.15)
+            self._sync_neighbours(place)
+            self._nodes.kill(place)
         self._links.slow_disk(place, 0, self._nodes.up())
         self._cut(faults.halves([place]))
         self._restart()
+        for caller, key, context in zip(callers, keys, contexts):
+            caller.put(place, key, context)
+        self._links.heal(self._nodes.up())
+        for caller, key in zip(callers, keys):
+            for other in PLACES:
+                caller.get(other, key)
         self._clients.gate.work()
-        self._wait(1.5, 3.0)
-        self._clients.load.skew()
 
     def _sync_neighbours(self, place: int) -> None:
         """Lets the two nodes that hold most ranges of a place start a round, and waits until one has ended it."""

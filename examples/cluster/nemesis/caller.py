@@ -1,0 +1,77 @@
+"""Requests of a client, which logs what it is told."""
+
+from __future__ import annotations
+
+from typing import Optional, Sequence, Tuple
+
+from .front import Front, Found
+from .log import Log
+
+#: A context, and the marks of the versions that it covers.
+Context = Tuple[Optional[str], Sequence[str]]
+BLIND: Context = (None, ())
+
+
+class Caller:
+    """Reads and puts keys. Each request is a line of its log. For one thread at a time."""
+
+    def __init__(self, number: int, base: int, log: Log) -> None:
+        self._number, self._log = number, log
+        self._front = Front(base)
+        self._values = 0
+
+    def get(self, place: int, key: str) -> Found:
+        """Reads a key at a place."""
+        begin = self._log.now()
+        found = self._front.get(place, key)
+        self._log.write(
+            t=begin,
+            end=self._log.now(),
+            client=self._number,
+            op="get",
+            key=key,
+            place=place,
+            by=found.answer.headers.get("x-place"),
+            status=found.answer.status,
+            values=found.marks,
+            clocks=found.clocks,
+        )
+        return found
+
+    def put(self, place: int, key: str, context: Context, deletes: bool = False) -> Tuple[int, Optional[Context]]:
+        """Puts a new value, or a tombstone, at a place. Returns the status, and the context that covers the version."""
+        begin, value = self._log.now(), None if deletes else self._new_value()
+        if value is None:
+            answer = self._front.delete(place, key, context[0])
+        else:
+            answer = self._front.put(place, key, value, context[0])
+        told = answer.json() if answer.status == 200 else {}
+        self._log.write(
+            t=begin,
+            end=self._log.now(),
+            client=self._number,
+            op="delete" if deletes else "put",
+            key=key,
+            value=value,
+            read=context[1],
+            place=place,
+            by=answer.headers.get("x-place"),
+            status=answer.status,
+            **{name: told[name] for name in ("clock", "on") if name in told},
+        )
+        if not told:
+            return answer.status, None
+        return answer.status, (told["context"], (f"tombstone {told['clock']}" if value is None else value,))
+
+    def close(self) -> None:
+        self._front.close()
+        self._log.close()
+
+    def _new_value(self) -> str:
+        self._values += 1
+        return f"c{self._number}-{self._values:06}"
+
+
+def context_of(found: Found) -> Context:
+    """Returns the context that covers what a get found: the empty one if it found no version, or wasn't answered."""
+    return BLIND if found.context is None else (found.context, found.marks)
