@@ -1,0 +1,98 @@
+//! Runs lists of random steps that are done to two nodes, with their real workers, in one thread. At each point of a
+//! rehash worker, and before each call of a sync worker's link, the worker's gate may take the next steps of the list,
+//! three deep. So each list is one interleaving of whole nodes, which its seed repeats. All results and states are
+//! compared with a plain program written from the definitions.
+//!
+//! The words on the command line are the seed of the first list, the number of lists, and the number of steps of a list.
+//! The defaults are 0, 1,000 and 60.
+#![tactic(auto)]
+
+mod deliveries;
+mod failures;
+mod forger;
+mod inner;
+mod lies;
+mod lists;
+mod mirror;
+mod model;
+mod node;
+mod pairs;
+mod partner;
+mod points;
+mod random;
+mod ranges;
+mod rehashes;
+mod schedule;
+mod slots;
+mod steps;
+mod syncs;
+mod tally;
+mod trial;
+mod trouble;
+mod walking;
+mod world;
+
+use std::env::Env;
+use std::process::ExitCode;
+use std::sync::Wait;
+use std::thread::Threads;
+use std::{env, io};
+use tally::Tally;
+
+/// The usage line.
+const USAGE: &str = "usage: random_nodes [SEED LISTS STEPS]";
+
+/// The lists that are run.
+#[derive(Clone, Copy)]
+struct Run {
+    /// The seed of the first list. Those of the others follow.
+    seed: u64,
+    /// The number of lists.
+    lists: u64,
+    /// The number of steps of each list.
+    steps: u64,
+}
+
+fn main(rt: HostRuntime) -> ExitCode {
+    let Some(run) = read_words(&rt) else {
+        let _ = eprintln!(rt; "{USAGE}");
+        return ExitCode::from(2);
+    };
+    match run_lists(&rt, run) {
+        Ok(true) => ExitCode::SUCCESS,
+        Ok(false) | Err(_) => ExitCode::FAILURE,
+    }
+}
+
+/// Reads the words on the command line.
+fn read_words(rt: &(impl Env + AllocGlobal)) -> Option<Run> {
+    let words: Vec<String> = env::args(rt).ok()?.collect(rt.alloc()).ok()?;
+    match words.as_slice() {
+        [_] => Some(Run {
+            seed: 0,
+            lists: 1_000,
+            steps: 60,
+        }),
+        [_, seed, lists, steps] => Some(Run {
+            seed: seed.parse::<u64>().ok()?,
+            lists: lists.parse::<u64>().ok()?,
+            steps: steps.parse::<u64>().ok()?,
+        }),
+        _ => None,
+    }
+}
+
+/// Runs lists up to the first one in which something differs. Returns true if there is none.
+fn run_lists<R>(rt: &R, run: Run) -> io::Result<bool>
+where
+    R: Print + Eprint + AllocGlobal + Threads + Wait + Sync,
+{
+    let mut tally = Tally::new();
+    for number in 0..run.lists {
+        if !lists::run_list(rt, run.seed.wrapping_add(number), run.steps, &mut tally) {
+            return Ok(false);
+        }
+    }
+    println!(rt; "{} lists, {tally}, no differences", run.lists)?;
+    Ok(true)
+}

@@ -1,0 +1,265 @@
+//! A node by the definitions: all that it must hold, offer, keep and remember.
+
+use crate::model::plain::{
+    Fault, NODES, PlainEntry, PlainRange, PlainVersion, are_clocks_of, is_entry, joined,
+};
+use crate::model::trees::Tree;
+use crate::model::walks::Walk;
+use crate::steps::Seen;
+use crate::trouble::{Trouble, expect};
+use hash_tree::Digest;
+use range_journal::Source;
+use range_state::{Accepted, Receipt};
+use std::alloc::Global;
+use std::sync::Arc;
+use sync_session::SessionState;
+use vclock::{Format, Refusal};
+
+/// The number of offers that a node keeps.
+const KEPT: u32 = 16;
+
+/// A tree that a node offered, with the numbers of its first and its last offer.
+#[derive(Drop)]
+pub(crate) struct Published {
+    pub(crate) first: u32,
+    pub(crate) last: u32,
+    pub(crate) tree: Arc<Tree, Global>,
+}
+
+/// A hint. The numbers of hints count from 1.
+#[derive(Clone, Copy)]
+pub(crate) struct PlainHint {
+    pub(crate) key: u64,
+    pub(crate) version: PlainVersion,
+    pub(crate) is_pending: bool,
+}
+
+/// A key that was read, with the clock of all that was held.
+#[derive(Clone, Copy)]
+struct Read {
+    key: u64,
+    counters: [u64; NODES],
+}
+
+/// A node: its range, its sessions with the partner's trees, its offers, and the hints that it keeps for the other node.
+pub(crate) struct Mirror {
+    pub(crate) number: u16,
+    /// The place of the node in clocks.
+    pub(crate) at: u8,
+    pub(crate) plain: PlainRange,
+    pub(crate) walks: Vec<Walk>,
+    /// The tree that each session's partner offered, if it offered one.
+    pub(crate) partners: Vec<Option<Arc<Tree, Global>>>,
+    pub(crate) published: Vec<Published>,
+    pub(crate) newest: u32,
+    pub(crate) hints: Vec<PlainHint>,
+    pub(crate) is_down: bool,
+    /// The number of rehash workers that were started.
+    pub(crate) workers: u64,
+    reads: Vec<Read>,
+    trouble: Option<Trouble>,
+}
+
+impl Mirror {
+    /// Returns a node that has done nothing.
+    pub(crate) fn new(alloc: Global, at: u8, plain: PlainRange) -> Mirror {
+        Mirror {
+            number: u16::from(at) + 1,
+            at,
+            plain,
+            walks: Vec::new(alloc),
+            partners: Vec::new(alloc),
+            published: Vec::new(alloc),
+            newest: 0,
+            hints: Vec::new(alloc),
+            is_down: false,
+            workers: 0,
+            reads: Vec::new(alloc),
+            trouble: None,
+        }
+    }
+
+    /// Keeps the first trouble.
+    pub(crate) fn note(&mut self, done: Result<(), Trouble>) {
+        if let Err(trouble) = done
+            && self.trouble.is_none()
+        {
+            self.trouble = Some(trouble);
+        }
+    }
+
+    /// Takes the trouble, if there is some.
+    pub(crate) fn take_trouble(&mut self) -> Option<Trouble> {
+        self.trouble.take()
+    }
+
+    /// Returns the context of a put.
+    pub(crate) fn context(
+        &self,
+        alloc: Global,
+        key: u64,
+        seen: Seen,
+    ) -> Result<[u64; NODES], Trouble> {
+        match seen {
+            Seen::Nothing => Ok([0; NODES]),
+            Seen::Now => Ok(joined(&self.plain.held(alloc, key)?)),
+            Seen::Earlier(back) => Ok(self.read_before(key, back)),
+        }
+    }
+
+    /// Returns the clock of an earlier read of a key, counted back from the last one.
+    fn read_before(&self, key: u64, back: u64) -> [u64; NODES] {
+        let (mut back, mut counters) = (back, [0; NODES]);
+        for read in self.reads.iter().rev() {
+            if read.key == key {
+                counters = read.counters;
+                if back == 0 {
+                    break;
+                }
+                back = back.wrapping_sub(1);
+            }
+        }
+        counters
+    }
+
+    /// Keeps the clock of all versions that a read of a key returned.
+    pub(crate) fn add_read(&mut self, key: u64, held: &[PlainVersion]) -> Result<(), Trouble> {
+        let counters = joined(held);
+        self.reads.push(Read { key, counters })?;
+        Ok(())
+    }
+
+    /// Compares the result of a put, and journals its version.
+    pub(crate) fn check_put(
+        &mut self,
+        seat: u16,
+        key: u64,
+        reply: &Result<Receipt, Refusal>,
+        wanted: Result<PlainVersion, Fault>,
+        held: &[PlainVersion],
+    ) -> Result<(), Trouble> {
+        match (reply, wanted) {
+            (Ok(receipt), Ok(version)) => self.journal(
+                receipt,
+                PlainEntry {
+                    seat,
+                    key,
+                    version,
+                    source: Source::Client,
+                },
+            ),
+            (Err(Refusal::StaleContext(clocks)), Err(Fault::StaleContext)) => {
+                let same = are_clocks_of(clocks.as_slice(), held);
+                expect(same, "the clocks of a stale put")
+            }
+            (Err(refusal), Err(fault)) => expect(fault.is(refusal), "the refusal of a put"),
+            _ => Err(Trouble::Differs("whether a put is refused")),
+        }
+    }
+
+    /// Compares the result of a version that was sent, and journals the version if it is new.
+    pub(crate) fn check_sent(
+        &mut self,
+        entry: PlainEntry,
+        reply: &Result<Accepted, Refusal>,
+        wanted: Result<bool, Fault>,
+    ) -> Result<(), Trouble> {
+        match (reply, wanted) {
+            (Ok(Accepted::Taken(receipt)), Ok(true)) => self.journal(receipt, entry),
+            (Ok(Accepted::Known), Ok(false)) => Ok(()),
+            (Err(refusal), Err(fault)) => expect(fault.is(refusal), "the refusal of a copy"),
+            _ => Err(Trouble::Differs("whether a copy is taken")),
+        }
+    }
+
+    /// Compares a receipt with the next entry, and adds that entry.
+    fn journal(&mut self, receipt: &Receipt, entry: PlainEntry) -> Result<(), Trouble> {
+        let same = is_entry(receipt, self.plain.entries.len(), &entry);
+        expect(same, "a receipt")?;
+        self.plain.entries.push(entry)?;
+        Ok(())
+    }
+
+    /// Adds entries.
+    pub(crate) fn add_all(&mut self, entries: &[PlainEntry]) -> Result<(), Trouble> {
+        self.plain.entries.extend_from_slice(entries)?;
+        Ok(())
+    }
+
+    /// Returns the number of open sessions.
+    pub(crate) fn open_count(&self) -> u64 {
+        let mut count = 0u64;
+        for walk in &self.walks {
+            if walk.state == SessionState::Open {
+                count = count.wrapping_add(1);
+            }
+        }
+        count
+    }
+
+    /// Returns the tree that was offered under a root, if there is one.
+    pub(crate) fn with_root(&self, root: &Digest) -> Result<Option<Arc<Tree, Global>>, Trouble> {
+        for published in &self.published {
+            if published.tree.root() == *root {
+                return Ok(Some(Arc::try_clone(&published.tree)?));
+            }
+        }
+        Ok(None)
+    }
+
+    /// Returns the tree of the offer of a number, if the offer is kept.
+    pub(crate) fn kept(&self, number: u32) -> Option<&Tree> {
+        if number == 0 || number.saturating_add(KEPT) <= self.newest {
+            return None;
+        }
+        for published in &self.published {
+            if published.first <= number && number <= published.last {
+                return Some(&*published.tree);
+            }
+        }
+        None
+    }
+
+    /// Returns the number of offers that are kept.
+    pub(crate) fn kept_count(&self) -> u32 {
+        self.newest.min(KEPT)
+    }
+
+    /// Migrates to format 2, unless it has that format: no session is open then.
+    pub(crate) fn migrate(&mut self) {
+        if self.plain.format == Format::One {
+            self.plain.format = Format::Two;
+            for walk in self.walks.iter_mut() {
+                walk.end(SessionState::Cancelled);
+            }
+        }
+    }
+
+    /// Begins anew with the versions held, as entries of a seat, without sessions.
+    pub(crate) fn renew(&mut self, alloc: Global, seat: u16) -> Result<(), Trouble> {
+        self.plain.entries = self.plain.held_entries(alloc, seat)?;
+        self.walks = Vec::new(alloc);
+        self.partners = Vec::new(alloc);
+        Ok(())
+    }
+}
+
+impl Drop for Mirror {
+    /// Keeps the fields out of the proofs of callers that drop a mirror.
+    fn drop(self) {
+        let Mirror {
+            number: _number,
+            at: _at,
+            plain: _plain,
+            walks: _walks,
+            partners: _partners,
+            published: _published,
+            newest: _newest,
+            hints: _hints,
+            is_down: _is_down,
+            workers: _workers,
+            reads: _reads,
+            trouble: _trouble,
+        } = self;
+    }
+}

@@ -1,0 +1,132 @@
+//! Ranges for one thread. Their methods have no clauses, so a function that calls them carries no facts about a range,
+//! and is proved fast.
+
+use crate::model::plain::{Part, PlainRange, are_equal, is_entry, key_bytes};
+use crate::model::walks::Walk;
+use crate::trouble::{Trouble, expect};
+use hash_tree::{Digest, NodeAt};
+use range_journal::Journal;
+use range_state::{RangeConfig, RangeState, Reconciled, Record, reconcile};
+use std::alloc::Global;
+use std::thread::Threads;
+use vclock::{Format, Refusal};
+use version_set::Version;
+
+/// A range for one thread.
+pub(crate) struct Range {
+    state: RangeState,
+}
+
+impl Range {
+    /// Returns the versions that are held for a key.
+    pub(crate) fn versions(&self, key: &[u8]) -> &[Version] {
+        self.state.versions(key)
+    }
+
+    /// Returns the journal.
+    pub(crate) fn journal(&self) -> &Journal {
+        self.state.journal()
+    }
+
+    /// Hashes the dirty nodes, and returns their number.
+    pub(crate) fn rehash(
+        &mut self,
+        rt: &(impl Threads + Sync),
+        alloc: Global,
+    ) -> Result<u64, Refusal> {
+        self.state.rehash(rt, alloc)
+    }
+
+    /// Returns the digest of a node, or `None` if it is dirty.
+    pub(crate) fn digest_at(&self, node: NodeAt) -> Option<Digest> {
+        self.state.digest_at(node)
+    }
+
+    /// Returns the records of its sessions.
+    pub(crate) fn records(&self) -> &[Record] {
+        self.state.records()
+    }
+
+    /// Compares the versions that are held for a key, and the number of entries, with the plain program's.
+    pub(crate) fn check_held(
+        &self,
+        alloc: Global,
+        plain: &PlainRange,
+        key: u64,
+    ) -> Result<(), Trouble> {
+        let held = plain.held(alloc, key)?;
+        let same = are_equal(&held, self.versions(key_bytes(key)));
+        expect(same, "what is held for a key")?;
+        let entries = self.journal().len();
+        expect(
+            entries == plain.entries.len() as u64,
+            "the number of entries",
+        )
+    }
+
+    /// Compares each entry with the plain program's.
+    pub(crate) fn check_journal(&self, plain: &PlainRange) -> Result<(), Trouble> {
+        for (number, entry) in plain.entries.iter().enumerate() {
+            let same = match self.journal().get(number as u64) {
+                Some(kept) => is_entry(kept, number, entry),
+                None => false,
+            };
+            expect(same, "an entry")?;
+        }
+        Ok(())
+    }
+
+    /// Compares each session with its walk.
+    pub(crate) fn check_walks(&self, walks: &[Walk]) -> Result<(), Trouble> {
+        for (walk, record) in walks.iter().zip(self.records()) {
+            expect(walk.is(record), "a session")?;
+        }
+        expect(self.records().len() == walks.len(), "a session")
+    }
+
+    /// Compares the texts that each session took with those of its walk.
+    pub(crate) fn check_texts(&self, walks: &[Walk]) -> Result<(), Trouble> {
+        for (walk, record) in walks.iter().zip(self.records()) {
+            let same = walk.has_taken(record.session().taken());
+            expect(same, "the texts of a session")?;
+        }
+        Ok(())
+    }
+}
+
+/// Returns the configuration of a range.
+pub(crate) fn config_of(format: Format, part: Part, limit: u64) -> Result<RangeConfig, Refusal> {
+    let (number, range) = (u64::from(format.number()), u64::from(part.number()));
+    RangeConfig::new(number, part.bits(), range, limit).ok_or(Refusal::BadRing)
+}
+
+impl From<RangeState> for Range {
+    /// Returns the range of a state.
+    fn from(state: RangeState) -> Range {
+        Range { state }
+    }
+}
+
+/// Reconciles two ranges. Refused as OtherRange if they aren't replicas of one range.
+pub(crate) fn reconcile_ranges(
+    alloc: Global,
+    (a, at_a): (&mut Range, u16),
+    (b, at_b): (&mut Range, u16),
+    seat: u16,
+) -> Result<Reconciled, Refusal> {
+    let (one, other) = (a.state.config(), b.state.config());
+    if one.format() != other.format()
+        || one.bits() != other.bits()
+        || one.range() != other.range()
+    {
+        return Err(Refusal::OtherRange);
+    }
+    reconcile(alloc, &mut a.state, at_a, &mut b.state, at_b, seat)
+}
+
+impl Drop for Range {
+    /// Keeps the state out of the proofs of callers that drop a range.
+    fn drop(self) {
+        let Range { state: _state } = self;
+    }
+}

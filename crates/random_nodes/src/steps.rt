@@ -1,0 +1,352 @@
+//! The steps of a list, drawn by a seed before the list is run.
+ghost use Rattle.std.specs.Prelude.{◌<◌};
+
+use crate::model::plain::{Part, PlainVersion};
+use crate::random::Random;
+use std::alloc::Global;
+use std::fmt;
+use vclock::{Format, Refusal};
+use version_set::Kind;
+
+/// A node.
+#[derive(Clone, Copy, PartialEq, Eq)]
+pub(crate) enum Side {
+    One,
+    Two,
+}
+
+/// The context of a put.
+#[derive(Clone, Copy)]
+pub(crate) enum Seen {
+    /// Nothing was read.
+    Nothing,
+    /// All that is held now.
+    Now,
+    /// The versions that an earlier read of the key returned, counted back from the last read.
+    Earlier(u64),
+}
+
+/// The deed of a step, at a node.
+#[derive(Clone, Copy)]
+pub(crate) enum Deed {
+    /// Puts a value or a tombstone.
+    Put {
+        key: u64,
+        seen: Seen,
+        kind: Kind,
+        value: Option<u8>,
+    },
+    /// Sends the node a version that some node made, counted back from the last one.
+    Copy(u64),
+    /// Sends the node a version of other nodes.
+    Accept {
+        key: u64,
+        version: PlainVersion,
+    },
+    /// Keeps a hint for the other node, with such a version.
+    Keep(u64),
+    /// Delivers the other node's hints in this number of turns.
+    Deliver(u64),
+    /// Reads a key.
+    Get(u64),
+    /// Looks at a key, for no pass.
+    Look(u64),
+    /// Loads the rows of a leaf that the other node offers.
+    Load(u64),
+    /// Hashes dirty nodes in this number of turns.
+    Rehash {
+        skip: u64,
+        turns: u64,
+    },
+    /// Publishes a snapshot this number of times.
+    Publish(u8),
+    /// Syncs with the other node in this number of turns. Once in `lies` calls the link fails or lies.
+    Sync {
+        turns: u64,
+        lies: u64,
+    },
+    /// Syncs with a forger.
+    SyncForged {
+        turns: u64,
+    },
+    /// Migrates to format 2.
+    Migrate,
+    /// Keeps a sample of this number of microseconds, this number of milliseconds after the last one.
+    Sample {
+        after: u64,
+        micros: u32,
+    },
+    /// Adjusts the slots, this number of milliseconds after the last sample.
+    Adjust(u64),
+    /// Brings the node down or up.
+    Switch,
+    /// Closes the range and opens it again with the versions held. Done between other steps alone.
+    Renew,
+}
+
+/// A step of a list.
+#[derive(Clone, Copy)]
+pub(crate) struct Step {
+    pub(crate) side: Side,
+    pub(crate) deed: Deed,
+    /// At a point of this step's worker a next step is taken with probability 1 in `pace`.
+    pub(crate) pace: u64,
+    /// The seed of what is drawn while the step is done.
+    pub(crate) salt: u64,
+    ghost once: { 0 < pace },
+}
+
+/// The conditions of a list.
+#[derive(Clone, Copy)]
+pub(crate) struct Setup {
+    pub(crate) format: Format,
+    pub(crate) part: Part,
+    /// The limits of both journals.
+    pub(crate) limits: [u64; 2],
+    /// The number of versions that both nodes have of one key at first, each others.
+    pub(crate) crowd: u64,
+    /// True if both nodes sync to rest at the end. Otherwise they are reconciled after their close.
+    pub(crate) rests: bool,
+}
+
+impl Setup {
+    /// Draws the conditions of a list.
+    pub(crate) fn draw(random: &mut Random) -> Setup {
+        let format = if random.once_in(12) {
+            Format::Two
+        } else {
+            Format::One
+        };
+        let part = match random.below(4) {
+            0 => Part::Whole,
+            1 => Part::Lower,
+            _ => Part::Upper,
+        };
+        Setup {
+            format,
+            part,
+            limits: [random.limit(8), random.limit(8)],
+            crowd: if random.once_in(32) { 40 } else { 0 },
+            rests: random.once_in(2),
+        }
+    }
+
+    /// Draws a key, rarely one of another range.
+    fn key(&self, random: &mut Random) -> u64 {
+        if random.once_in(40) {
+            return random.below(2);
+        }
+        match self.part {
+            Part::Upper => 8 + random.below(6),
+            Part::Lower | Part::Whole => 3 + random.below(5),
+        }
+    }
+
+    /// Draws the steps of a list, in a quarter of the draws a whole round of a sync.
+    pub(crate) fn draw_steps(
+        &self,
+        alloc: Global,
+        random: &mut Random,
+        count: u64,
+    ) -> Result<Vec<Step>, Refusal> {
+        let mut steps = Vec::new(alloc);
+        for _ in 0..count {
+            let (here, there) = if random.once_in(2) {
+                (Side::One, Side::Two)
+            } else {
+                (Side::Two, Side::One)
+            };
+            if random.once_in(4) {
+                steps.push(drawn(random, there, WHOLE))?;
+                steps.push(drawn(random, there, Deed::Publish(1)))?;
+                steps.push(drawn(random, here, WHOLE))?;
+                let deed = draw_sync(random);
+                steps.push(drawn(random, here, deed))?;
+            } else {
+                let deed = self.draw_deed(random);
+                steps.push(drawn(random, here, deed))?;
+            }
+        }
+        steps.truncate(count as usize);
+        Ok(steps)
+    }
+
+    /// Draws a deed. Migrations and renewals are seldom.
+    fn draw_deed(&self, random: &mut Random) -> Deed {
+        match random.below(40) {
+            0..=9 => self.draw_put(random),
+            10..=12 => Deed::Copy(random.below(12)),
+            13..=14 => Deed::Get(self.key(random)),
+            15..=20 => draw_work(random),
+            21..=24 => Deed::Publish(if random.once_in(12) { 17 } else { 1 }),
+            25..=31 => draw_sync(random),
+            32 => Deed::Keep(random.below(12)),
+            33 => Deed::Deliver(if random.once_in(4) { 2 } else { 100 }),
+            34 => draw_sample(random),
+            35 => Deed::Look(self.key(random)),
+            _ => self.draw_rare(random),
+        }
+    }
+
+    /// Draws a put, mostly with a context that was read.
+    fn draw_put(&self, random: &mut Random) -> Deed {
+        let seen = match random.below(8) {
+            0 => Seen::Nothing,
+            1..=2 => Seen::Earlier(random.below(4)),
+            _ => Seen::Now,
+        };
+        let (kind, value) = if random.once_in(6) {
+            (Kind::Tombstone, None)
+        } else {
+            (
+                Kind::Live,
+                Some(if random.once_in(2) { b'x' } else { b'y' }),
+            )
+        };
+        Deed::Put {
+            key: self.key(random),
+            seen,
+            kind,
+            value,
+        }
+    }
+
+    /// Draws a deed that is seldom.
+    fn draw_rare(&self, random: &mut Random) -> Deed {
+        match random.below(16) {
+            0 if random.once_in(2) => Deed::Migrate,
+            1..=2 => Deed::Renew,
+            3..=5 => Deed::Switch,
+            6..=8 => Deed::Adjust(random.below(40_000)),
+            9..=10 => Deed::Load(self.key(random)),
+            11..=12 => Deed::Copy(random.below(40)),
+            _ => Deed::Accept {
+                key: self.key(random),
+                version: random.version(),
+            },
+        }
+    }
+}
+
+/// A rehash of the nodes that puts make dirty.
+const WHOLE: Deed = Deed::Rehash { skip: 0, turns: 40 };
+
+/// Returns a step, and draws its pace and its salt.
+fn drawn(random: &mut Random, side: Side, deed: Deed) -> Step {
+    Step {
+        side,
+        deed,
+        pace: random.pace(),
+        salt: random.below(u64::MAX),
+    }
+}
+
+/// Draws a rehash.
+fn draw_work(random: &mut Random) -> Deed {
+    Deed::Rehash {
+        skip: random.below(3),
+        turns: match random.below(8) {
+            0 => random.below(6),
+            _ => 40,
+        },
+    }
+}
+
+/// Draws a sync: over a link that lies often, seldom or never, or with a forger.
+fn draw_sync(random: &mut Random) -> Deed {
+    let turns = match random.below(8) {
+        0 => random.below(6),
+        1 => random.below(40),
+        _ => 300,
+    };
+    match random.below(16) {
+        0 => Deed::SyncForged { turns },
+        1..=2 => Deed::Sync { turns, lies: 2 },
+        3..=6 => Deed::Sync { turns, lies: 6 },
+        _ => Deed::Sync { turns, lies: 0 },
+    }
+}
+
+/// Draws a sample of a latency.
+fn draw_sample(random: &mut Random) -> Deed {
+    let micros = match random.below(3) {
+        0 => 10_000,
+        1 => 40_000,
+        _ => 90_000,
+    };
+    Deed::Sample {
+        after: random.below(40_000),
+        micros,
+    }
+}
+
+impl Random {
+    /// Draws how seldom a worker's points take steps.
+    fn pace(&mut self) -> u64
+        ensures { 0 < result }
+    {
+        match self.below(4) {
+            0 => 1,
+            1 => 2,
+            2 => 5,
+            _ => 20,
+        }
+    }
+}
+
+impl fmt::Display for Side {
+    fn fmt<W: fmt::Write>(&self, f: &mut fmt::Formatter<W>) -> fmt::Result {
+        match self {
+            Side::One => write!(f, "one"),
+            Side::Two => write!(f, "two"),
+        }
+    }
+}
+
+impl fmt::Display for Seen {
+    fn fmt<W: fmt::Write>(&self, f: &mut fmt::Formatter<W>) -> fmt::Result {
+        match self {
+            Seen::Nothing => write!(f, "nothing was read"),
+            Seen::Now => write!(f, "all was read"),
+            Seen::Earlier(back) => write!(f, "read {back} reads ago"),
+        }
+    }
+}
+
+impl fmt::Display for Deed {
+    fn fmt<W: fmt::Write>(&self, f: &mut fmt::Formatter<W>) -> fmt::Result {
+        match self {
+            Deed::Put {
+                key,
+                seen,
+                kind,
+                ..
+            } => {
+                let what = if *kind == Kind::Live { "put" } else { "delete" };
+                write!(f, "{what} of key {key}, {seen}")
+            }
+            Deed::Copy(back) => write!(f, "copy of the version made {back} versions ago"),
+            Deed::Accept { key, .. } => write!(f, "copy of another version of key {key}"),
+            Deed::Keep(back) => write!(f, "hint with the version made {back} versions ago"),
+            Deed::Deliver(turns) => write!(f, "delivery, {turns} turns"),
+            Deed::Get(key) => write!(f, "get of key {key}"),
+            Deed::Look(key) => write!(f, "look at key {key}"),
+            Deed::Load(key) => write!(f, "load of the leaf of key {key}"),
+            Deed::Rehash { skip, turns } => write!(f, "rehash, skip {skip}, {turns} turns"),
+            Deed::Publish(times) => write!(f, "publish, {times} times"),
+            Deed::Sync { turns, lies } => write!(f, "sync, {turns} turns, lies 1 in {lies}"),
+            Deed::SyncForged { turns } => write!(f, "sync with a forger, {turns} turns"),
+            Deed::Migrate => write!(f, "migrate"),
+            Deed::Sample { after, micros } => write!(f, "sample {micros} after {after}"),
+            Deed::Adjust(after) => write!(f, "adjust after {after}"),
+            Deed::Switch => write!(f, "down or up"),
+            Deed::Renew => write!(f, "renew"),
+        }
+    }
+}
+
+impl fmt::Display for Step {
+    fn fmt<W: fmt::Write>(&self, f: &mut fmt::Formatter<W>) -> fmt::Result {
+        write!(f, "{}: {}, steps 1 in {}", self.side, self.deed, self.pace)
+    }
+}

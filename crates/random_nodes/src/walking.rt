@@ -1,0 +1,323 @@
+//! Syncs in progress, by the definitions.
+
+use crate::mirror::Mirror;
+use crate::model::messages::{PlainAnswer, PlainOffer, ask_bytes, read_answer, read_offer};
+use crate::model::plain::Fault;
+use crate::model::trees::Tree;
+use crate::model::walks::{Offering, Sent, Walk};
+use crate::partner::format_number;
+use crate::trouble::{Trouble, expect};
+use hash_tree::{Digest, NodeAt};
+use ring_node::SyncReport;
+use std::alloc::Global;
+use std::mem::replace;
+use std::sync::Arc;
+use sync_session::SessionState;
+use vclock::Refusal;
+
+/// The maximum number of open sessions.
+const MOST_OPEN: u64 = 64;
+
+/// The maximum number of sessions.
+const MOST_SESSIONS: usize = 1_024;
+
+/// The bytes that a link returned and the range has not taken yet.
+#[derive(Drop)]
+pub(crate) enum Pending {
+    Nothing,
+    Offer(Vec<u8>),
+    Answer(Vec<u8>),
+}
+
+/// The outcome of a sync that was right.
+#[derive(Clone, Copy, PartialEq, Eq)]
+pub(crate) enum Outcome {
+    Finished,
+    Failed,
+    Cancelled,
+    Refused,
+}
+
+/// A sync in progress.
+#[derive(Drop)]
+pub(crate) struct Progress {
+    seat: u16,
+    partner: u16,
+    turns: u64,
+    /// The text of the root, if the partner is a forger.
+    forged: Option<Vec<u8>>,
+    pending: Pending,
+    /// The number of the session, and that of the offer.
+    opened: Option<(usize, u32)>,
+    asks: u64,
+    accepted: u64,
+    known: u64,
+    bad: u64,
+    refused: Option<Fault>,
+}
+
+impl Progress {
+    /// Returns a sync that has fetched nothing.
+    pub(crate) fn new(seat: u16, partner: u16, turns: u64, forged: Option<Vec<u8>>) -> Progress {
+        Progress {
+            seat,
+            partner,
+            turns,
+            forged,
+            pending: Pending::Nothing,
+            opened: None,
+            asks: 0,
+            accepted: 0,
+            known: 0,
+            bad: 0,
+            refused: None,
+        }
+    }
+
+    /// Keeps the link's reply. The range takes it before the next call.
+    pub(crate) fn keep(&mut self, pending: Pending) {
+        self.pending = pending;
+    }
+
+    /// Ends the sync by a call of the link.
+    pub(crate) fn refuse(&mut self, fault: Fault) {
+        self.refused = Some(fault);
+    }
+
+    /// Returns the root that the link offered last, if that offer is pending.
+    pub(crate) fn pending_root(&self) -> Option<Digest> {
+        match &self.pending {
+            Pending::Offer(bytes) => Some(read_offer(bytes)?.root),
+            Pending::Nothing | Pending::Answer(_) => None,
+        }
+    }
+
+    /// Has the node take the pending reply. `tree` is the partner's tree with the offered root, if there is one, and
+    /// `dirty` the number of the node's dirty nodes.
+    pub(crate) fn settle(
+        &mut self,
+        alloc: Global,
+        here: &mut Mirror,
+        tree: Option<Arc<Tree, Global>>,
+        dirty: u64,
+    ) -> Result<(), Trouble> {
+        match replace(&mut self.pending, Pending::Nothing) {
+            Pending::Nothing => Ok(()),
+            Pending::Offer(bytes) => self.open(alloc, here, tree, &bytes, dirty),
+            Pending::Answer(bytes) => self.take(alloc, here, &bytes),
+        }
+    }
+
+    /// Opens a session with an offer, unless that is refused.
+    fn open(
+        &mut self,
+        alloc: Global,
+        here: &mut Mirror,
+        tree: Option<Arc<Tree, Global>>,
+        bytes: &[u8],
+        dirty: u64,
+    ) -> Result<(), Trouble> {
+        let Some(offer) = read_offer(bytes) else {
+            self.refuse(Fault::BadMessage);
+            return Ok(());
+        };
+        if let Some(fault) = offer_fault(here, &offer, dirty) {
+            self.refuse(fault);
+            return Ok(());
+        }
+        let partner = Offering {
+            at: self.partner,
+            root: offer.root,
+            forged: self.forged.take(),
+        };
+        let own = Tree::new(alloc, &here.plain)?;
+        let walk = Walk::new(alloc, here.plain.format, own, partner)?;
+        self.opened = Some((here.walks.len(), offer.number));
+        here.walks.push(walk)?;
+        here.partners.push(tree)?;
+        Ok(())
+    }
+
+    /// Compares an ask with the session's first outstanding node.
+    pub(crate) fn check_ask(
+        &mut self,
+        alloc: Global,
+        here: &Mirror,
+        message: &[u8],
+    ) -> Result<(), Trouble> {
+        self.asks = self.asks.wrapping_add(1);
+        expect(self.asks <= self.turns, "the number of asks")?;
+        let Some((id, offer)) = self.opened else {
+            return Err(Trouble::Differs("whether a sync asks"));
+        };
+        let Some(node) = first_outstanding(here, id) else {
+            return Err(Trouble::Differs("whether a sync goes on"));
+        };
+        let bytes = ask_bytes(alloc, offer, node)?;
+        expect(bytes.as_slice() == message, "an ask")
+    }
+
+    /// Takes a message as an answer.
+    fn take(&mut self, alloc: Global, here: &mut Mirror, bytes: &[u8]) -> Result<(), Trouble> {
+        let Some((id, offer)) = self.opened else {
+            return Err(Trouble::Differs("whether a sync has opened a session"));
+        };
+        let answer = match read_answer(bytes) {
+            Some(answer) if answer.offer == offer => answer,
+            _ => {
+                self.bad = self.bad.wrapping_add(1);
+                return Ok(());
+            }
+        };
+        let text = text_of(alloc, here, id, answer.node)?;
+        match fault_of(here, id, answer, &text) {
+            None => self.take_text(alloc, here, id, answer),
+            Some(Fault::NotCanonical) => {
+                end(here, id, SessionState::Failed);
+                Ok(())
+            }
+            Some(_) => {
+                self.bad = self.bad.wrapping_add(1);
+                Ok(())
+            }
+        }
+    }
+
+    /// Takes the text of a node, with the versions of a leaf.
+    fn take_text(
+        &mut self,
+        alloc: Global,
+        here: &mut Mirror,
+        id: usize,
+        answer: PlainAnswer<'_>,
+    ) -> Result<(), Trouble> {
+        if let Some(tree) = leaf_tree(here, id, answer.node)? {
+            let leaf = answer.node.index;
+            match here.plain.take_leaf(alloc, self.seat, &tree, leaf)? {
+                Ok(taken) => {
+                    self.accepted = self.accepted.wrapping_add(taken.news.len() as u64);
+                    self.known = self.known.wrapping_add(taken.known);
+                    here.add_all(&taken.news)?;
+                }
+                Err(fault) => {
+                    self.refuse(fault);
+                    return Ok(());
+                }
+            }
+        }
+        let sent = Sent {
+            node: answer.node,
+            text: Vec::from_slice(alloc, answer.text)?,
+        };
+        match here.walks.get_mut(id) {
+            Some(walk) => walk.take(sent),
+            None => Err(Trouble::Differs("the number of sessions")),
+        }
+    }
+
+    /// Compares the end of the sync. `gained` is the number of receipts that the pass got.
+    pub(crate) fn finish(
+        &self,
+        here: &mut Mirror,
+        reply: &Result<SyncReport, Refusal>,
+        gained: u64,
+    ) -> Result<Outcome, Trouble> {
+        expect(gained == self.accepted, "the number of receipts of a sync")?;
+        let is_stopped = match self.opened {
+            Some((id, _)) => end(here, id, SessionState::Cancelled),
+            None => false,
+        };
+        match (reply, self.refused) {
+            (Err(refusal), Some(fault)) => {
+                expect(fault.is(refusal), "the refusal of a sync")?;
+                Ok(Outcome::Refused)
+            }
+            (Ok(report), None) => {
+                let is_due = !is_stopped || self.asks == self.turns;
+                expect(is_due, "the turns of a sync")?;
+                self.check_report(here, report)
+            }
+            _ => Err(Trouble::Differs("whether a sync is refused")),
+        }
+    }
+
+    /// Compares a report.
+    fn check_report(&self, here: &Mirror, report: &SyncReport) -> Result<Outcome, Trouble> {
+        let Some((id, _)) = self.opened else {
+            return Err(Trouble::Differs("whether a sync has opened a session"));
+        };
+        let Some(walk) = here.walks.get(id) else {
+            return Err(Trouble::Differs("the number of sessions"));
+        };
+        let same = report.id == id as u64
+            && report.state == walk.state
+            && report.asked == walk.asked.len() as u64
+            && report.accepted == self.accepted
+            && report.known == self.known
+            && report.bad == self.bad;
+        expect(same, "the report of a sync")?;
+        Ok(match walk.state {
+            SessionState::Finished => Outcome::Finished,
+            SessionState::Failed => Outcome::Failed,
+            SessionState::Cancelled | SessionState::Open => Outcome::Cancelled,
+        })
+    }
+}
+
+/// Returns the reason why an offer is refused, if there is one.
+fn offer_fault(here: &Mirror, offer: &PlainOffer, dirty: u64) -> Option<Fault> {
+    if offer.format != format_number(here.plain.format) {
+        Some(Fault::OtherFormat)
+    } else if offer.range != here.plain.part.number() {
+        Some(Fault::OtherRange)
+    } else if here.open_count() >= MOST_OPEN || here.walks.len() >= MOST_SESSIONS {
+        Some(Fault::SessionsFull)
+    } else if dirty > 0 {
+        Some(Fault::Dirty)
+    } else {
+        None
+    }
+}
+
+/// Returns the first outstanding node of a session.
+fn first_outstanding(here: &Mirror, id: usize) -> Option<NodeAt> {
+    here.walks.get(id)?.outstanding.first().copied()
+}
+
+/// Returns the text of a node of a session's partner, which is empty if the partner offered no such tree.
+fn text_of(alloc: Global, here: &Mirror, id: usize, node: NodeAt) -> Result<Vec<u8>, Trouble> {
+    match here.partners.get(id) {
+        Some(Some(tree)) => tree.text(alloc, node),
+        _ => Ok(Vec::new(alloc)),
+    }
+}
+
+/// Returns the reason why a session doesn't take an answer, if there is one.
+fn fault_of(here: &Mirror, id: usize, answer: PlainAnswer<'_>, text: &[u8]) -> Option<Fault> {
+    match here.walks.get(id) {
+        Some(walk) => walk.fault_of(answer.node, answer.text, text),
+        None => Some(Fault::UnknownSession),
+    }
+}
+
+/// Returns the partner's tree, if the node is a leaf.
+fn leaf_tree(here: &Mirror, id: usize, node: NodeAt) -> Result<Option<Arc<Tree, Global>>, Trouble> {
+    let (Some(walk), Some(Some(tree))) = (here.walks.get(id), here.partners.get(id)) else {
+        return Ok(None);
+    };
+    if walk.is_leaf(node) {
+        Ok(Some(Arc::try_clone(tree)?))
+    } else {
+        Ok(None)
+    }
+}
+
+/// Ends a session if it is open, and returns true if it was.
+fn end(here: &mut Mirror, id: usize, state: SessionState) -> bool {
+    let Some(walk) = here.walks.get_mut(id) else {
+        return false;
+    };
+    let is_open = walk.state == SessionState::Open;
+    walk.end(state);
+    is_open
+}
