@@ -5,7 +5,7 @@ use Rattle.vclock.specs.declared.refusal.Refusal.{Refusal}
 use Rattle.vclock.specs.declared.refusal.Refusal.TheVariants.{UnknownSession}
 use Rattle.walk_messages.specs.Messages.{message_text}
 use Rattle.walk_messages.specs.declared.message.Message.TheVariants as messages
-use Rattle.hash_tree.specs.declared.node.NodeAt.{NodeAt}
+use Rattle.tree_nodes.specs.declared.node.NodeAt.{NodeAt}
 use Rattle.sync_session.specs.TreeNodes.{as_node}
 use Rattle.range_state.specs.State.{State}
 use Rattle.range_state.specs.Sessions.{unknown_fault}

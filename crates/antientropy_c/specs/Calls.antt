@@ -6,7 +6,7 @@ use Rattle.antientropy_c.specs.Numbers.{EMPTY}
 use Rattle.vclock.specs.declared.refusal.Refusal.{Refusal}
 use Rattle.walk_messages.specs.Messages.{Decodes}
 use Rattle.walk_messages.specs.declared.message.Message.{Message}
-use Rattle.hash_tree.specs.Nodes.{dirty_count}
+use Rattle.tree_nodes.specs.Nodes.{dirty_count}
 use Rattle.range_state.specs.Records.{open_count}
 use Rattle.antientropy_c.specs.declared.counts.Counts.{Counts}
 

@@ -6,11 +6,6 @@ pub mod ChunkLaws
 pub mod ChunkPlaces
 pub mod KeySpotLaws
 pub mod RowLengthLaws
-pub mod PlaceLaws
-pub mod PathLaws
 pub mod StripLaws
 pub mod TextLaws
-pub mod TreeLaws
-pub mod ReadyLaws
-pub mod BlockLaws
-pub mod CopyLaws
+pub mod DigestLaws

@@ -8,7 +8,7 @@ use Rattle.vclock.specs.declared.format.Format.TheVariants.{One, Two}
 use Rattle.row_bytes.specs.declared.row.Row.{Row}
 use Rattle.row_bytes.specs.Rows.{row_text}
 use Rattle.hash_tree.specs.Leaves.{rows_in_leaf}
-use Rattle.hash_tree.specs.Nodes.{tree_depth, place_at, kept_digest, Tree, IsTree}
+use Rattle.tree_nodes.specs.Nodes.{tree_depth, place_at, kept_digest, Tree, IsTree}
 
 -- the first byte of a leaf's text
 abbrev pub leaf_byte : Format → ℕ

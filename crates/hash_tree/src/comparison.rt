@@ -5,8 +5,8 @@ ghost use Rattle.hash_tree.specs.Chunks.{chunk_text};
 ghost use Rattle.hash_tree.specs.Texts.{Strips, leaf_byte, inner_text};
 
 use crate::chunk::Chunk;
-use crate::digest::Digest;
 use crate::texts::{inner_byte, leaf_byte};
+use tree_nodes::Digest;
 use vclock::Format;
 
 /// Returns true if a text is the text of a leaf with these chunks.

@@ -6,7 +6,7 @@ ghost use Rattle.version_set.specs.declared.version.Version.{Version};
 ghost use Rattle.row_bytes.specs.declared.row.Row.{Row};
 ghost use Rattle.row_bytes.specs.Rows.{IsRow};
 ghost use Rattle.hash_tree.specs.Leaves.{AscendByKey, with_offer};
-ghost use Rattle.hash_tree.specs.Nodes.{ancestor_of};
+ghost use Rattle.tree_nodes.specs.Nodes.{ancestor_of};
 ghost use Rattle.hash_tree.specs.Texts.{leaf_text, node_text};
 
 /// A version of a key leaves all node texts unchanged except those of the key's leaf and the nodes above it.

@@ -6,8 +6,9 @@ ghost use Rattle.vclock.specs.Outcome.{Does, gives};
 ghost use Rattle.version_set.specs.Kind.{value_fault};
 ghost use Rattle.version_set.specs.Version.{offer_fault};
 ghost use Rattle.hash_tree.specs.Leaves.{Bucket, versions_in};
-ghost use Rattle.hash_tree.specs.Nodes.{tree_depth};
-ghost use Rattle.hash_tree.specs.Blocks.{joined, AreOf, nth_leaf, leaf_with_offer};
+ghost use Rattle.tree_nodes.specs.Nodes.{tree_depth};
+ghost use Rattle.tree_nodes.specs.Blocks.{joined, AreOf};
+ghost use Rattle.hash_tree.specs.Blocks.{nth_leaf, leaf_with_offer};
 
 use crate::chunks::Spot;
 use crate::leaf_block::{BLOCK_LEN, LeafBlock};
@@ -31,7 +32,7 @@ impl Model for Leaves {
     ghost use Rattle.std.specs.Arc.{arc_value};
     ghost use Rattle.std.specs.Vec.{vec_items};
     ghost use Rattle.hash_tree.specs.Leaves.{Bucket};
-    ghost use Rattle.hash_tree.specs.Blocks.{joined, AreOf};
+    ghost use Rattle.tree_nodes.specs.Blocks.{joined, AreOf};
 
     ghost Value = { List Bucket };
 

@@ -8,9 +8,9 @@ ghost use Rattle.hash_tree.specs.Chunks.{chunk_text};
 ghost use Rattle.hash_tree.specs.Texts.{leaf_byte, inner_byte, leaf_text, inner_text};
 
 use crate::chunk::Chunk;
-use crate::digest::Digest;
 use row_bytes::{Row, put_row};
 use std::alloc::{AllocError, Global};
+use tree_nodes::Digest;
 use vclock::{Format, Refusal};
 
 /// The length in bytes of the text of an inner node: one byte, and the digests of its 16 children.

@@ -4,7 +4,7 @@ use Rattle.std.specs.Prelude.{nat_le, nat_lt}
 use Rattle.std.proofs.lemmas.Bool.{and_left, and_right, lt-leb, le-ltb}
 use Rattle.vclock.specs.declared.format.Format.{Format}
 use Rattle.vclock.specs.declared.format.Format.TheVariants.{One, Two}
-use Rattle.hash_tree.specs.Nodes.{tree_depth, place_at}
+use Rattle.tree_nodes.specs.Nodes.{tree_depth, place_at}
 use Rattle.range_state.specs.Config.{Config}
 use Rattle.range_state.specs.State as range
 use Rattle.range_state.proofs.TreeStepLaws.{all_dirty-at}

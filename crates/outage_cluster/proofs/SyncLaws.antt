@@ -2,7 +2,7 @@
 use Rattle.vclock.specs.Answer.{Answers, AnswersOrNoMemory, first_fault}
 use Rattle.std.specs.Prelude.{⊤, Result, Ok, Err, IfOk, OnOk, OnErr, filter, nat_le, ◌||◌}
 use Rattle.std.proofs.Common.{◌≡◌, ◌⊎◌, inl, inr, ℕ, ◌+◌, ◌-◌, Bool, true, false, cond, Option, Some, None, List, [], ◌∷◌, length, refl, sym, ap, ◌∙◌}
-use Rattle.hash_tree.specs.Nodes.{are_clean}
+use Rattle.tree_nodes.specs.Nodes.{are_clean}
 use Rattle.vclock.specs.declared.format.Format.{Format}
 use Rattle.vclock.specs.declared.format.Format.TheVariants.{One, Two}
 use Rattle.vclock.specs.declared.refusal.Refusal.{Refusal}

@@ -26,7 +26,7 @@ use Rattle.range_state.specs.Sessions.{crowd_fault}
 use Rattle.range_state.specs.State as range
 use Rattle.range_state.specs.Trees.{rehashed}
 use Rattle.range_state.specs.declared.event.Accepted.{Accepted}
-use Rattle.hash_tree.specs.Nodes.{tree_depth, place_at, kept_digest, dirty_count}
+use Rattle.tree_nodes.specs.Nodes.{tree_depth, place_at, kept_digest, dirty_count}
 use Rattle.hash_tree.specs.Texts.{node_digest}
 use Rattle.outage_commands.specs.declared.command.Command.{Command}
 use Rattle.outage_commands.specs.declared.command.Command.TheVariants as Commands

@@ -11,13 +11,14 @@ use Rattle.std.proofs.lemmas.Simd.{map-map}
 use Rattle.std.proofs.lemmas.List.FromFn.{fill_by_all, length-range_with_len, get_or-range_with_len}
 use Rattle.std.proofs.lemmas.List.Sums.{list_all-from_AllPass, length-filter, sum_by-set}
 use Rattle.sha2.specs.Sha256.{sha256}
-use Rattle.hash_tree.specs.declared.node.NodeAt.{NodeAt}
-use Rattle.hash_tree.specs.Nodes.{tree_depth, nodes_above, node_count, place_at, kept_digest, children_of, are_clean, dirty_count, is_ready, ready_from}
+use Rattle.tree_nodes.specs.declared.node.NodeAt.{NodeAt}
+use Rattle.tree_nodes.specs.Nodes.{tree_depth, nodes_above, node_count, place_at, kept_digest, children_of, are_clean, dirty_count, is_ready, ready_from}
 use Rattle.hash_tree.specs.Texts.{node_digest}
 use Rattle.hash_tree.proofs.KeyLaws.{all_get}
-use Rattle.hash_tree.proofs.PlaceLaws.{above_more, above_below, node_count_is}
-use Rattle.hash_tree.proofs.TreeLaws.{child_at, clean_child}
-use Rattle.hash_tree.proofs.ReadyLaws.{ready_parts, none_ready, clean_all}
+use Rattle.tree_nodes.proofs.PlaceLaws.{above_more, above_below, node_count_is}
+use Rattle.tree_nodes.proofs.TreeLaws.{child_at, clean_child}
+use Rattle.tree_nodes.proofs.ReadyLaws.{ready_parts, none_ready}
+use Rattle.hash_tree.proofs.DigestLaws.{clean_all}
 use Rattle.rehash.specs.Jobs.{NodeText}
 use Rattle.range_state.specs.Rows.{rows_of}
 use Rattle.range_state.specs.State.{State, IsRight, IsJob, AreJobs, has_tree_node, place_of, text_in, leaf_in, is_current, installed}

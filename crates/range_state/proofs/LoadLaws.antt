@@ -27,7 +27,7 @@ use Rattle.row_bytes.specs.Rows.{IsRow, IsVersion, AreRows, row_text}
 use Rattle.row_bytes.proofs.LimitLaws.{no_fault_else}
 use Rattle.row_bytes.proofs.ManyRowLaws.{rows_read}
 use Rattle.hash_tree.specs.Leaves.{Bucket}
-use Rattle.hash_tree.specs.Nodes.{dirtied}
+use Rattle.tree_nodes.specs.Nodes.{dirtied}
 use Rattle.sync_session.proofs.StepLaws.{All-weaker}
 use Rattle.range_state.specs.Config.{Config}
 use Rattle.range_state.specs.Loads.{is_home, first_leaf, apart_fault, rows_in, AreLeafRows, IsLoadable, loaded, load}

@@ -24,7 +24,7 @@ use Rattle.row_bytes.specs.Rows.{AreRows, row_text}
 use Rattle.row_bytes.specs.declared.row.Row.{Row}
 use Rattle.row_bytes.proofs.ManyRowLaws.{rows_read}
 use Rattle.hash_tree.specs.Leaves.{rows_in_leaf}
-use Rattle.hash_tree.specs.Nodes.{is_on_path, kept_digest, dirtied}
+use Rattle.tree_nodes.specs.Nodes.{is_on_path, kept_digest, dirtied}
 use Rattle.range_state.specs.Config.{Config, is_config}
 use Rattle.range_state.specs.Rows.{rows_of}
 use Rattle.range_state.specs.State.{State, all_dirty, fresh, leaf_in, leaf_count, knows, entry_of, journaled, accept_step, IsRight}

@@ -16,8 +16,9 @@ use Rattle.row_bytes.specs.Rows.{IsRow}
 use Rattle.row_bytes.specs.declared.row.Row.{Row}
 use Rattle.row_bytes.proofs.LimitLaws.{no_fault}
 use Rattle.row_bytes.proofs.RowSetLaws.{row_set, set_row, row_fits}
-use Rattle.hash_tree.specs.Nodes.{Tree, node_count}
-use Rattle.hash_tree.proofs.TreeLaws.{tree_fresh, true_fresh}
+use Rattle.tree_nodes.specs.Nodes.{Tree, node_count}
+use Rattle.tree_nodes.proofs.TreeLaws.{tree_fresh}
+use Rattle.hash_tree.proofs.DigestLaws.{true_fresh}
 use Rattle.sync_session.specs.Walks.{Walk}
 use Rattle.sync_session.specs.Steps.{cancelled_by}
 use Rattle.sync_session.specs.declared.state.SessionState.{SessionState}

@@ -21,7 +21,7 @@ use Rattle.row_bytes.specs.declared.row.Row.{Row}
 use Rattle.row_bytes.specs.Rows.{IsRow}
 use Rattle.row_bytes.proofs.LimitLaws.{no_fault_else}
 use Rattle.hash_tree.specs.Leaves.{key_cmp, AscendByKey, versions_in}
-use Rattle.hash_tree.specs.Nodes.{tree_depth, node_count, kept_digest, are_clean}
+use Rattle.tree_nodes.specs.Nodes.{tree_depth, node_count, kept_digest, are_clean}
 use Rattle.hash_tree.specs.Texts.{leaf_text, node_digest, AreTrue}
 use Rattle.hash_tree.proofs.KeyLaws.{turned}
 use Rattle.hash_tree.proofs.LeafLaws.{versions_in-rows_at}

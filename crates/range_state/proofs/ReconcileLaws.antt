@@ -3,7 +3,7 @@ use Rattle.std.proofs.Common.{◌≡◌, ℕ, ◌<◌, true, false, Option, Some
 use Rattle.std.specs.Prelude.{Result, Ok, Err}
 use Rattle.vclock.specs.Outcome.{gives, DoesAtOnce}
 use Rattle.vclock.specs.declared.refusal.Refusal.{Refusal}
-use Rattle.hash_tree.specs.Nodes.{are_clean, dirty_count}
+use Rattle.tree_nodes.specs.Nodes.{are_clean, dirty_count}
 use Rattle.snapshot.specs.RowMaps.{RowMap}
 use Rattle.range_state.specs.declared.«record».Record.{Record}
 use Rattle.range_state.specs.declared.state.sync.Synced.{Synced}

@@ -33,9 +33,10 @@ use Rattle.row_bytes.specs.declared.row.Row.{Row}
 use Rattle.key_ring.specs.Places.{leaf_at, leaf_bits, range_at}
 use Rattle.hash_tree.specs.Leaves.{Bucket, rows_in_leaf, with_offer, versions_in}
 use Rattle.hash_tree.specs.Blocks.{nth_leaf}
-use Rattle.hash_tree.specs.Nodes.{Tree, tree_depth, node_count, dirtied}
+use Rattle.tree_nodes.specs.Nodes.{Tree, tree_depth, node_count, dirtied}
 use Rattle.hash_tree.specs.Texts.{AreTrue, IsTreeFor}
-use Rattle.hash_tree.proofs.TreeLaws.{true_kept, true_fresh, tree_fresh, tree_dirtied}
+use Rattle.tree_nodes.proofs.TreeLaws.{tree_fresh, tree_dirtied}
+use Rattle.hash_tree.proofs.DigestLaws.{true_kept, true_fresh}
 use Rattle.range_state.specs.Config.{Config, is_config}
 use Rattle.range_state.specs.Rows.{rows_of}
 use Rattle.range_state.specs.State.{State, all_dirty, fresh, tree_of, bucket_of, leaf_in, leaf_count, place_fault, journaled, full_fault, knows, admit, stale_fault, IsOwn, IsRight, IsFromPartner, AreLeaves}

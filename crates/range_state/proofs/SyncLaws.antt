@@ -11,8 +11,8 @@ use Rattle.vclock.specs.declared.refusal.Refusal.TheVariants as refusals
 use Rattle.version_set.proofs.ListLaws.{all-push}
 use Rattle.range_journal.specs.Journal.{held}
 use Rattle.row_bytes.specs.declared.row.Row.{Row}
-use Rattle.hash_tree.specs.Nodes.{tree_depth}
-use Rattle.hash_tree.specs.declared.node.NodeAt.{NodeAt}
+use Rattle.tree_nodes.specs.Nodes.{tree_depth}
+use Rattle.tree_nodes.specs.declared.node.NodeAt.{NodeAt}
 use Rattle.snapshot.specs.RowMaps.{RowMap, IsRowMap, root_of}
 use Rattle.sync_session.specs.TreeNodes.{as_node, Node, contains_node, is_same_node, place_of, text_of}
 use Rattle.sync_session.specs.Walks.{TakenText, IsPartners, IsCanonical, asks}

@@ -22,10 +22,10 @@ use Rattle.range_journal.proofs.JournalLaws.{covered-held, versions_of-push, con
 use Rattle.key_ring.specs.Places.{range_at, leaf_at}
 use Rattle.row_bytes.specs.declared.row.Row.{Row}
 use Rattle.row_bytes.specs.Rows.{IsRow, IsVersion, row_text}
-use Rattle.hash_tree.specs.Nodes.{tree_depth, kept_digest, is_on_path, dirtied}
+use Rattle.tree_nodes.specs.Nodes.{tree_depth, kept_digest, is_on_path, dirtied}
 use Rattle.hash_tree.specs.Texts.{leaf_text}
 use Rattle.hash_tree.proofs.KeyLaws.{all_get}
-use Rattle.hash_tree.proofs.TreeLaws.{dirtied-at, length-dirtied}
+use Rattle.tree_nodes.proofs.TreeLaws.{dirtied-at, length-dirtied}
 use Rattle.snapshot.specs.RowMaps.{RowMap}
 use Rattle.snapshot.specs.RowMaps as maps
 use Rattle.sync_session.specs.TreeNodes.{Node, contains_node}

@@ -8,13 +8,14 @@ use Rattle.sha2.specs.Sha256.{sha256}
 use Rattle.vclock.specs.declared.format.Format.{Format}
 use Rattle.vclock.specs.declared.format.Format.TheVariants.{One, Two}
 use Rattle.hash_tree.specs.Leaves.{Bucket}
-use Rattle.hash_tree.specs.Nodes.{Tree, IsTree, tree_depth, node_count, kept_digest, children_of, are_clean, is_ready, ready_from}
+use Rattle.tree_nodes.specs.Nodes.{Tree, IsTree, tree_depth, node_count, kept_digest, children_of, are_clean, is_ready, ready_from}
 use Rattle.hash_tree.specs.Texts.{leaf_text, inner_text, node_text, AreTrue}
-use Rattle.hash_tree.specs.declared.node.NodeAt.{NodeAt}
-use Rattle.hash_tree.proofs.PlaceLaws.{depth_within}
+use Rattle.tree_nodes.specs.declared.node.NodeAt.{NodeAt}
+use Rattle.tree_nodes.proofs.PlaceLaws.{depth_within}
 use Rattle.hash_tree.proofs.TextLaws.{leaf_node}
-use Rattle.hash_tree.proofs.TreeLaws.{true_set, children_text, leaf_children}
-use Rattle.hash_tree.proofs.ReadyLaws.{ready_is}
+use Rattle.tree_nodes.proofs.TreeLaws.{leaf_children}
+use Rattle.hash_tree.proofs.DigestLaws.{true_set, children_text}
+use Rattle.tree_nodes.proofs.ReadyLaws.{ready_is}
 use Rattle.key_ring.specs.Places.{leaf_bits}
 use Rattle.range_state.specs.Rows.{rows_of}
 use Rattle.range_state.specs.State.{State, IsRight, AreLeaves, all_dirty, bucket_of, leaf_in, has_tree_node, place_of, text_in, is_current}

@@ -1,6 +1,6 @@
 -- The counts of a range.
 use Rattle.std.specs.Prelude.{length}
-use Rattle.hash_tree.specs.Nodes.{dirty_count}
+use Rattle.tree_nodes.specs.Nodes.{dirty_count}
 use Rattle.range_state.specs.declared.state.counts.RangeCounts.{RangeCounts}
 use Rattle.range_state.specs.Records.{open_count}
 use Rattle.range_state.specs.State.{State}

@@ -5,7 +5,7 @@ use Rattle.vclock.specs.Outcome.{gives}
 use Rattle.vclock.specs.declared.refusal.Refusal.{Refusal}
 use Rattle.vclock.specs.declared.refusal.Refusal.TheVariants.{NoMemory}
 use Rattle.range_journal.specs.Journal.{held}
-use Rattle.hash_tree.specs.Nodes.{kept_digest}
+use Rattle.tree_nodes.specs.Nodes.{kept_digest}
 use Rattle.snapshot.specs.RowMaps.{RowMap}
 use Rattle.sync_session.specs.TreeNodes.{Node}
 use Rattle.sync_session.specs.Differing.{differ}

@@ -12,7 +12,7 @@ use Rattle.range_journal.specs.declared.journal.Source.{Source}
 use Rattle.range_journal.specs.declared.journal.Source.TheVariants.{Partner}
 use Rattle.range_journal.specs.Journal.{held}
 use Rattle.row_bytes.specs.declared.row.Row.{Row}
-use Rattle.hash_tree.specs.Nodes.{tree_depth}
+use Rattle.tree_nodes.specs.Nodes.{tree_depth}
 use Rattle.walk_messages.specs.declared.message.Offer.{Offer}
 use Rattle.sync_session.specs.Readings.{AreOthers}
 use Rattle.sync_session.specs.declared.news.News.{News}

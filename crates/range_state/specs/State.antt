@@ -23,9 +23,9 @@ use Rattle.key_ring.specs.Places.{range_at, leaf_at, leaf_bits}
 use Rattle.row_bytes.specs.Rows.{IsRow, AreRows}
 use Rattle.row_bytes.specs.declared.row.Row.{Row}
 use Rattle.hash_tree.specs.Leaves.{Bucket, rows_in_leaf}
-use Rattle.hash_tree.specs.Nodes.{Tree, tree_depth, node_count, place_at, children_of, are_clean, is_ready, ready_from, dirtied}
+use Rattle.tree_nodes.specs.Nodes.{Tree, tree_depth, node_count, place_at, children_of, are_clean, is_ready, ready_from, dirtied}
 use Rattle.hash_tree.specs.Texts.{node_text, leaf_text, IsTreeFor}
-use Rattle.hash_tree.specs.declared.node.NodeAt.{NodeAt}
+use Rattle.tree_nodes.specs.declared.node.NodeAt.{NodeAt}
 use Rattle.rehash.specs.Jobs.{NodeText}
 use Rattle.snapshot.specs.RowMaps.{RowMap}
 use Rattle.range_state.specs.declared.«record».Record.{Record}

@@ -5,9 +5,9 @@ use Rattle.vclock.specs.declared.refusal.Refusal.{Refusal}
 use Rattle.vclock.specs.declared.format.Format.{Format}
 use Rattle.version_set.specs.declared.version.Version.{Version}
 use Rattle.hash_tree.specs.Leaves.{rows_in_leaf}
-use Rattle.hash_tree.specs.Nodes.{tree_depth}
+use Rattle.tree_nodes.specs.Nodes.{tree_depth}
 use Rattle.snapshot.specs.RowMaps.{RowMap, leaf_in, root_of}
-use Rattle.hash_tree.specs.declared.node.NodeAt.{NodeAt}
+use Rattle.tree_nodes.specs.declared.node.NodeAt.{NodeAt}
 use Rattle.sync_session.specs.TreeNodes.{Node, as_node}
 use Rattle.sync_session.specs.Differing.{differ, nodes_of, IsHonest}
 use Rattle.sync_session.specs.Steps.{state_by}

@@ -3,7 +3,7 @@ use Rattle.std.specs.Prelude.{◌≡◌, ℕ, zero, suc, ◌^◌, ◌<◌, ◌++
 use Rattle.std.specs.List.{range_with_len}
 use Rattle.vclock.specs.Answer.{Answers}
 use Rattle.vclock.specs.declared.refusal.Refusal.{Refusal}
-use Rattle.hash_tree.specs.Nodes.{tree_depth, kept_digest, dirty_count, ready_from}
+use Rattle.tree_nodes.specs.Nodes.{tree_depth, kept_digest, dirty_count, ready_from}
 use Rattle.hash_tree.specs.Texts.{node_digest}
 use Rattle.range_state.specs.Rows.{rows_of}
 use Rattle.range_state.specs.State.{State, leaf_in}

@@ -6,7 +6,7 @@ ghost use Rattle.range_journal.specs.Journal.{held};
 ghost use Rattle.row_bytes.specs.Rows.{AreRows, row_text};
 ghost use Rattle.row_bytes.specs.declared.row.Row.{Row};
 ghost use Rattle.hash_tree.specs.Leaves.{AscendByKey};
-ghost use Rattle.hash_tree.specs.Nodes.{kept_digest};
+ghost use Rattle.tree_nodes.specs.Nodes.{kept_digest};
 ghost use Rattle.range_journal.specs.declared.journal.Source.TheVariants.{Partner};
 ghost use Rattle.snapshot.specs.RowMaps.{RowMap};
 ghost use Rattle.sync_session.specs.TreeNodes.{Node, contains_node, text_of};

@@ -1,7 +1,7 @@
 -- Jobs: nodes whose texts are to be hashed.
 use Rattle.std.specs.Prelude.{ℕ, List, length}
 use Rattle.hash_tree.specs.Texts.{leaf_text, inner_text}
-use Rattle.hash_tree.specs.declared.node.NodeAt.{NodeAt}
+use Rattle.tree_nodes.specs.declared.node.NodeAt.{NodeAt}
 use Rattle.rehash.specs.declared.source.TextSource.{TextSource}
 use Rattle.rehash.specs.declared.source.TextSource.TheVariants.{Leaf, Children}
 

@@ -7,7 +7,7 @@ use Rattle.vclock.specs.Format.{format_number}
 use Rattle.vclock.specs.Outcome.{Outcome, gives, ◌>>◌}
 use Rattle.vclock.specs.declared.refusal.Refusal.{Refusal}
 use Rattle.vclock.specs.declared.refusal.Refusal.TheVariants.{SessionsFull, Gone}
-use Rattle.hash_tree.specs.declared.node.NodeAt.{NodeAt}
+use Rattle.tree_nodes.specs.declared.node.NodeAt.{NodeAt}
 use Rattle.walk_messages.specs.declared.message.Answer.{Answer}
 use Rattle.walk_messages.specs.declared.message.Ask.{Ask}
 use Rattle.walk_messages.specs.declared.message.Offer.{Offer}

@@ -1,6 +1,6 @@
 //! Workers that hash a range's tree while puts go on.
 ghost use Rattle.std.specs.Prelude.{◌≡◌, ◌+◌, ◌<◌, IfOk, IfErr, IsTrue};
-ghost use Rattle.hash_tree.specs.Nodes.{are_clean};
+ghost use Rattle.tree_nodes.specs.Nodes.{are_clean};
 ghost use Rattle.range_state.specs.State.{GivesJob};
 ghost use Rattle.caller_pass.specs.Locks.{IsLocked};
 ghost use Rattle.ring_node.specs.Moments.{FoundAtSomeMoment};

@@ -6,11 +6,11 @@ use Rattle.vclock.specs.declared.format.Format.{Format}
 use Rattle.vclock.specs.declared.format.Format.TheVariants.{One, Two}
 use Rattle.key_ring.specs.Places.{leaf_bits}
 use Rattle.hash_tree.specs.Leaves.{Bucket, rows_in_leaf}
-use Rattle.hash_tree.specs.Nodes.{tree_depth, place_at, children_of}
+use Rattle.tree_nodes.specs.Nodes.{tree_depth, place_at, children_of}
 use Rattle.hash_tree.specs.Texts.{leaf_text, inner_text, node_text, AreTrue}
-use Rattle.hash_tree.proofs.PlaceLaws.{place_within, child_place, child_within}
+use Rattle.tree_nodes.proofs.PlaceLaws.{place_within, child_place, child_within}
 use Rattle.hash_tree.proofs.TextLaws.{leaf_node}
-use Rattle.hash_tree.proofs.TreeLaws.{children_text}
+use Rattle.hash_tree.proofs.DigestLaws.{children_text}
 use Rattle.snapshot.specs.RowMaps.{RowMap, leaf_in, text_at, digest_at}
 use Rattle.snapshot.specs.Snapshots.{leaves_of, IsSnapshot}
 use Rattle.snapshot.proofs.OrderLaws.{bucket_at}

@@ -7,7 +7,7 @@ use Rattle.key_ring.specs.Places.{range_at, leaf_at}
 use Rattle.row_bytes.specs.declared.row.Row.{Row}
 use Rattle.row_bytes.specs.Rows.{IsRow}
 use Rattle.hash_tree.specs.Leaves.{AscendByKey}
-use Rattle.hash_tree.specs.Nodes.{tree_depth}
+use Rattle.tree_nodes.specs.Nodes.{tree_depth}
 use Rattle.hash_tree.specs.Texts.{node_text}
 
 -- rows of one range of a ring of 2^bits ranges, in one format

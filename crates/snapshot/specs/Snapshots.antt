@@ -8,9 +8,9 @@ use Rattle.version_set.specs.Order.{inserted}
 use Rattle.key_ring.specs.Places.{leaf_bits}
 use Rattle.row_bytes.specs.declared.row.Row.{Row}
 use Rattle.hash_tree.specs.Leaves.{Bucket, key_cmp, rows_in_leaf}
-use Rattle.hash_tree.specs.Nodes.{tree_depth, node_count}
+use Rattle.tree_nodes.specs.Nodes.{tree_depth, node_count}
 use Rattle.hash_tree.specs.Texts.{AreTrue}
-use Rattle.hash_tree.specs.declared.node.NodeAt.{NodeAt}
+use Rattle.tree_nodes.specs.declared.node.NodeAt.{NodeAt}
 use Rattle.snapshot.specs.RowMaps.{RowMap, IsRowMap, leaf_in}
 
 -- ascending rows and one more

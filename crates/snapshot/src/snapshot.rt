@@ -7,7 +7,7 @@ ghost use Rattle.vclock.specs.Format.{format_number};
 ghost use Rattle.key_ring.specs.Places.{leaf_bits};
 ghost use Rattle.row_bytes.specs.Rows.{row_text};
 ghost use Rattle.hash_tree.specs.Leaves.{rows_in_leaf};
-ghost use Rattle.hash_tree.specs.Nodes.{tree_depth};
+ghost use Rattle.tree_nodes.specs.Nodes.{tree_depth};
 ghost use Rattle.hash_tree.specs.Texts.{inner_text, leaf_text};
 ghost use Rattle.snapshot.specs.RowMaps.{IsRowMap, leaf_in, text_at, digest_at, root_of};
 ghost use Rattle.snapshot.specs.Snapshots.{IsSnapshot, map_of, answer_fault, leaf_fault};

@@ -7,7 +7,7 @@ use Rattle.std.proofs.lemmas.List.{map-append}
 use Rattle.version_set.specs.declared.version.Version.{Version}
 use Rattle.sync_session.specs.TreeNodes.{Node, top, child, is_same_node, contains_node}
 use Rattle.snapshot.specs.RowMaps.{RowMap, root_of}
-use Rattle.hash_tree.specs.Nodes.{tree_depth}
+use Rattle.tree_nodes.specs.Nodes.{tree_depth}
 use Rattle.sync_session.specs.TreeNodes.{digest_of}
 use Rattle.sync_session.specs.Walks.{Walk, TakenText, Walked, child_digest, first_asked, differing, asks}
 use Rattle.sync_session.specs.Steps.{started, after, IsDue}

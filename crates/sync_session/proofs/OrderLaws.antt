@@ -7,7 +7,7 @@ use Rattle.std.proofs.lemmas.List.{append_cancel_left}
 use Rattle.version_set.proofs.ListLaws.{all-append}
 use Rattle.sync_session.specs.TreeNodes.{Node, top, child, is_same_node, contains_node}
 use Rattle.snapshot.specs.RowMaps.{RowMap, root_of}
-use Rattle.hash_tree.specs.Nodes.{tree_depth}
+use Rattle.tree_nodes.specs.Nodes.{tree_depth}
 use Rattle.sync_session.specs.TreeNodes.{digest_of, place_of}
 use Rattle.sync_session.specs.Walks.{Walk, TakenText, child_digest, differing, asks}
 use Rattle.sync_session.specs.Differing.{times, nodes_of, IsTraced, AscendByPlace, IsInTurn}

@@ -16,7 +16,7 @@ use Rattle.key_ring.specs.Places.{leaf_at}
 use Rattle.row_bytes.specs.declared.row.Row.{Row}
 use Rattle.row_bytes.specs.Rows.{IsRow, KeysAscend, AreRows}
 use Rattle.hash_tree.specs.Leaves.{key_cmp, AscendByKey, rows_in_leaf}
-use Rattle.hash_tree.specs.Nodes.{tree_depth, ancestor_of}
+use Rattle.tree_nodes.specs.Nodes.{tree_depth, ancestor_of}
 use Rattle.hash_tree.specs.Texts.{inner_text, per_child, node_text}
 use Rattle.hash_tree.proofs.TextLaws.{length-per_child, per_child-at}
 use Rattle.snapshot.specs.RowMaps.{RowMap, IsRowMap, leaf_in}

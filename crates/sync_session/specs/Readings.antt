@@ -8,7 +8,7 @@ use Rattle.row_bytes.specs.declared.row.Row.{Row}
 use Rattle.row_bytes.specs.Reading.{last_key}
 use Rattle.row_bytes.specs.Rows.{row_text, IsRow}
 use Rattle.hash_tree.specs.Leaves.{Bucket, IsRun}
-use Rattle.hash_tree.specs.Nodes.{tree_depth}
+use Rattle.tree_nodes.specs.Nodes.{tree_depth}
 use Rattle.snapshot.specs.RowMaps.{RowMap, leaf_in}
 use Rattle.sync_session.specs.declared.news.News.{News}
 use Rattle.sync_session.specs.TreeNodes.{Node}

@@ -1,8 +1,8 @@
 -- The nodes of a tree, by depth and index: the paper of 2007, section 4.7.
 use Rattle.std.specs.Prelude.{ℕ, zero, suc, ◌+◌, ◌*◌, ◌/◌, ◌^◌, ◌<◌, ◌≤◌, Bool, ◌&&◌, nat_eq, Option, Some, None, List}
 use Rattle.std.specs.List.{list_any}
-use Rattle.hash_tree.specs.Nodes.{place_at}
-use Rattle.hash_tree.specs.declared.node.NodeAt.{NodeAt}
+use Rattle.tree_nodes.specs.Nodes.{place_at}
+use Rattle.tree_nodes.specs.declared.node.NodeAt.{NodeAt}
 use Rattle.snapshot.specs.RowMaps.{RowMap, text_at, digest_at}
 
 -- a node: its depth, and its index there

@@ -9,7 +9,7 @@ use Rattle.version_set.specs.declared.version.Version.{Version}
 use Rattle.key_ring.specs.Places.{range_at}
 use Rattle.row_bytes.specs.declared.row.Row.{Row}
 use Rattle.row_bytes.specs.Rows.{AreRows}
-use Rattle.hash_tree.specs.Nodes.{tree_depth}
+use Rattle.tree_nodes.specs.Nodes.{tree_depth}
 use Rattle.hash_tree.specs.Texts.{inner_byte, leaf_text}
 use Rattle.snapshot.specs.RowMaps.{RowMap, IsRowMap, leaf_in, root_of}
 use Rattle.sync_session.specs.declared.state.SessionState.{SessionState}

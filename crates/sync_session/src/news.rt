@@ -4,7 +4,7 @@ ghost use Rattle.std.specs.List.{sum_by};
 ghost use Rattle.vclock.specs.Answer.{Answers};
 ghost use Rattle.row_bytes.specs.declared.row.Row.{Row};
 ghost use Rattle.hash_tree.specs.Leaves.{AscendByKey};
-ghost use Rattle.hash_tree.specs.Nodes.{tree_depth};
+ghost use Rattle.tree_nodes.specs.Nodes.{tree_depth};
 ghost use Rattle.sync_session.specs.TreeNodes.{as_node};
 ghost use Rattle.sync_session.specs.Readings.{ReadsNews, FrontRow, FrontOwn, FrontRun};
 

@@ -2,7 +2,7 @@
 ghost use Rattle.std.specs.Prelude.{◌≡◌, ◌+◌, ◌<◌, ◌≤◌, ◌++◌, ◌↔◌, IsTrue, IfOk, Some, not, length, map, option_map};
 ghost use Rattle.std.specs.List.{filter};
 ghost use Rattle.std.specs.Vec.{vec_len, vec_capacity};
-ghost use Rattle.hash_tree.specs.Nodes.{tree_depth};
+ghost use Rattle.tree_nodes.specs.Nodes.{tree_depth};
 ghost use Rattle.sync_session.specs.TreeNodes.{as_node, top, child, parent_of, is_same_node, contains_node};
 ghost use Rattle.sync_session.specs.Walks.{taken_at, child_digest, expected, differing};
 

@@ -5,7 +5,7 @@ use Rattle.std.proofs.lemmas.List.FromFn.{fill_by_all}
 use Rattle.sha2.specs.Sha256.{sha256}
 use Rattle.vclock.specs.declared.format.Format.TheVariants.{One}
 use Rattle.hash_tree.specs.Leaves.{Bucket}
-use Rattle.hash_tree.specs.Nodes.{place_at}
+use Rattle.tree_nodes.specs.Nodes.{place_at}
 use Rattle.hash_tree.specs.Texts.{leaf_text, inner_text, node_text, AreTrue}
 use Rattle.hash_tree.proofs.TextLaws.{per_child_is}
 use Rattle.snapshot.specs.RowMaps.{RowMap, IsRowMap, leaf_in}

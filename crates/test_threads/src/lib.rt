@@ -23,13 +23,9 @@ mod loads;
 #[cfg(test)]
 mod locked;
 #[cfg(test)]
-mod migrations;
-#[cfg(test)]
 mod nodes;
 #[cfg(test)]
 mod outcomes;
-#[cfg(test)]
-mod overtakes;
 #[cfg(test)]
 mod partners;
 #[cfg(test)]
@@ -40,8 +36,6 @@ mod pools;
 mod ranges;
 #[cfg(test)]
 mod rehashes;
-#[cfg(test)]
-mod relay;
 #[cfg(test)]
 mod renewals;
 #[cfg(test)]

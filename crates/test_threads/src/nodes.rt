@@ -14,7 +14,7 @@ use std::alloc::Global;
 use std::sync::Wait;
 use std::sync::ledger::{Blank, Ledger};
 use std::test::Fail;
-use vclock::{Bytes, Format, Refusal};
+use vclock::{Bytes, Refusal};
 use version_set::Version;
 
 /// The maximum number of turns of a worker that isn't held.
@@ -283,21 +283,16 @@ impl<L: Ledger, M: Ledger, C: Ledger> Pair<L, M, C> {
         Ok(Pair { one, two, slots })
     }
 
-    /// Closes both ranges, and returns the format of each, and the number of entries in its journal.
-    pub fn close(self, alloc: Global) -> Result<[(Format, u64); 2], Fail> {
+    /// Closes both ranges, and returns the number of entries in each journal.
+    pub fn close(self, alloc: Global) -> Result<[u64; 2], Fail> {
         let Pair {
             one,
             two,
             slots: _slots,
         } = self;
-        let first = shown(&one.close(alloc)?);
-        Ok([first, shown(&two.close(alloc)?)])
+        let first = one.close(alloc)?.journal().len();
+        Ok([first, two.close(alloc)?.journal().len()])
     }
-}
-
-/// Returns a range's format, and the number of entries in its journal.
-fn shown(state: &RangeState) -> (Format, u64) {
-    (state.config().format(), state.journal().len())
 }
 
 impl<L: Ledger, M: Ledger, C: Ledger> Drop for Pair<L, M, C> {

@@ -100,7 +100,7 @@ fn put_at_a_gate<
 {
     let mut pair = Pair::<L, M, C>::open(alloc, first, second, slots)?;
     rehash_twice(rt, alloc, &mut pair, step)?;
-    let [(_, one), (_, two)] = pair.close(alloc)?;
+    let [one, two] = pair.close(alloc)?;
     expect(one == 2 && two == 1, "each put has an entry")
 }
 

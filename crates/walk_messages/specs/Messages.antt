@@ -3,7 +3,7 @@ use Rattle.std.specs.Prelude.{◌≡◌, ◌<◌, ◌^◌, ℕ, List, ◌∷◌,
 use Rattle.std.specs.Int.{w16, w32, w64, to_be_bytes}
 use Rattle.vclock.specs.declared.refusal.Refusal.{Refusal}
 use Rattle.vclock.specs.declared.refusal.Refusal.TheVariants as refusals
-use Rattle.hash_tree.specs.declared.node.NodeAt.{NodeAt}
+use Rattle.tree_nodes.specs.declared.node.NodeAt.{NodeAt}
 use Rattle.walk_messages.specs.declared.message.Answer.{Answer}
 use Rattle.walk_messages.specs.declared.message.Message.{Message}
 use Rattle.walk_messages.specs.declared.message.Message.TheVariants as messages

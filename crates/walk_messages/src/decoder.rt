@@ -4,8 +4,8 @@ ghost use Rattle.walk_messages.specs.Messages.{Decodes};
 
 use crate::fields::{answer_parts_of, ask_of, offer_of};
 use crate::message::{Answer, Message};
-use hash_tree::Text;
 use std::alloc::Global;
+use tree_nodes::Text;
 use vclock::Refusal;
 
 /// Returns the message that has exactly these bytes. Doesn't validate an offer's format or range, or an answer's text.

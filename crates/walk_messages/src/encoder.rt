@@ -6,8 +6,8 @@ ghost use Rattle.walk_messages.specs.declared.message.Message.TheVariants as mes
 ghost use Rattle.walk_messages.specs.Messages.{node_bytes, message_text};
 
 use crate::message::{Answer, Message, Offer};
-use hash_tree::{NodeAt, Text};
 use std::alloc::{AllocError, Global};
+use tree_nodes::{NodeAt, Text};
 use vclock::Refusal;
 
 /// The number of bytes of an offer before its root.

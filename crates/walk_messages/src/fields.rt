@@ -1,7 +1,7 @@
 //! The fields of messages, read from the left.
 ghost use Rattle.std.specs.Prelude.{◌≡◌, ◌<◌, ℕ, List, ◌∷◌, ◌++◌, length, MatchOption};
 ghost use Rattle.std.specs.Int.{w32, w64, to_be_bytes};
-ghost use Rattle.hash_tree.specs.declared.node.NodeAt.{NodeAt};
+ghost use Rattle.tree_nodes.specs.declared.node.NodeAt.{NodeAt};
 ghost use Rattle.walk_messages.specs.declared.message.Answer.{Answer};
 ghost use Rattle.walk_messages.specs.declared.message.Ask.{Ask};
 ghost use Rattle.walk_messages.specs.declared.message.Offer.{Offer};
@@ -9,7 +9,7 @@ ghost use Rattle.walk_messages.specs.declared.message.Message.TheVariants as mes
 ghost use Rattle.walk_messages.specs.Messages.{node_bytes, message_text, IsMessage};
 
 use crate::message::{Ask, Offer};
-use hash_tree::{Digest, NodeAt};
+use tree_nodes::{Digest, NodeAt};
 
 /// Returns the number of an offer and the bytes after it, or `None` if there are fewer than four bytes.
 fn offer_number_at(bytes: &[u8]) -> Option<(u32, &[u8])>

@@ -1,5 +1,5 @@
 //! Messages, whose bytes this project's profile defines.
-use hash_tree::{Digest, NodeAt, Text};
+use tree_nodes::{Digest, NodeAt, Text};
 
 /// The offer of a replica's tree, by the digest of its root: the first message of a sync. A partner with another root
 /// opens a session with it.

@@ -2,7 +2,7 @@
 ghost use Rattle.std.specs.Prelude.{ℕ, ◌≡◌, ◌+◌, ◌<◌, ◌≤◌, ◌^◌, ◌++◌, ◌⊎◌, [], nat_eq, length, slice_get, MatchOption, IfOk, if◌then◌else◌};
 ghost use Rattle.std.specs.Vec.{vec_len, vec_capacity};
 ghost use Rattle.range_journal.specs.Log.{AreNumberedFrom};
-ghost use Rattle.hash_tree.specs.Nodes.{dirtied, tree_depth};
+ghost use Rattle.tree_nodes.specs.Nodes.{dirtied, tree_depth};
 ghost use Rattle.sync_session.specs.TreeNodes.{as_node};
 ghost use Rattle.sync_session.specs.Steps.{failed, IsDue};
 ghost use Rattle.sync_session.specs.Walks.{TakenText, IsCanonical};

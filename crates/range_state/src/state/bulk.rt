@@ -1,8 +1,8 @@
 //! Rehashing a whole tree.
 ghost use Rattle.std.specs.Prelude.{◌≡◌, ◌<◌, ⊤, ℕ, List, length, map, take, slice_index_or, false, IsTrue, IfOk, IfErr, OnOk, None};
 ghost use Rattle.vclock.specs.Answer.{Answers};
-ghost use Rattle.hash_tree.specs.Nodes.{are_clean, dirty_count, kept_digest, ready_from};
-ghost use Rattle.hash_tree.specs.declared.node.NodeAt.{NodeAt};
+ghost use Rattle.tree_nodes.specs.Nodes.{are_clean, dirty_count, kept_digest, ready_from};
+ghost use Rattle.tree_nodes.specs.declared.node.NodeAt.{NodeAt};
 ghost use Rattle.range_state.specs.State.{is_current, place_of};
 ghost use Rattle.range_state.specs.Trees.{rehashed, HasHashed, HashesSome, IsSameRange};
 

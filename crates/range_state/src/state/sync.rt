@@ -1,7 +1,7 @@
 //! Whole sessions with a partner that answers truly.
 ghost use Rattle.std.specs.Prelude.{◌≡◌, ◌≢◌, ◌⊎◌, ◌+◌, ◌≤◌, ⊤, None, length, slice_get, MatchOption, IfOk, IfErr, OnOk, OnErr, Err};
 ghost use Rattle.vclock.specs.Answer.{Answers, AnswersOrNoMemory, first_fault};
-ghost use Rattle.hash_tree.specs.Nodes.{tree_depth};
+ghost use Rattle.tree_nodes.specs.Nodes.{tree_depth};
 ghost use Rattle.sync_session.specs.TreeNodes.{as_node, text_of};
 ghost use Rattle.range_state.specs.State.{dirty_fault};
 ghost use Rattle.range_state.specs.Sessions.{standings, crowd_fault, unknown_fault, TakesFor};

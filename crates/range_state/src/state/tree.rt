@@ -3,7 +3,7 @@ ghost use Rattle.std.specs.Prelude.{◌≡◌, ◌+◌, ◌∷◌, [], None, IsT
 ghost use Rattle.sha2.specs.Sha256.{sha256};
 ghost use Rattle.vclock.specs.Answer.{Answers};
 ghost use Rattle.vclock.specs.Outcome.{DoesAtOnce};
-ghost use Rattle.hash_tree.specs.Nodes.{kept_digest, is_ready, ready_from};
+ghost use Rattle.tree_nodes.specs.Nodes.{kept_digest, is_ready, ready_from};
 ghost use Rattle.range_state.specs.State.{has_tree_node, place_of, text_in, GivesJob, AreJobs, is_current, install, installed};
 
 use crate::state::RangeState;

@@ -6,8 +6,9 @@ use Rattle.version_set.specs.Kind.{value_fault}
 use Rattle.version_set.specs.Version.{offer_fault}
 use Rattle.version_set.specs.declared.version.Version.{Version}
 use Rattle.hash_tree.specs.Leaves.{Bucket, versions_in}
-use Rattle.hash_tree.specs.Blocks.{joined, AreOf, nth_leaf, leaf_with_offer}
-use Rattle.hash_tree.proofs.BlockLaws.{number_within, read_at, set_at}
+use Rattle.tree_nodes.specs.Blocks.{joined, AreOf}
+use Rattle.hash_tree.specs.Blocks.{nth_leaf, leaf_with_offer}
+use Rattle.tree_nodes.proofs.BlockLaws.{number_within, read_at, set_at}
 use Rattle.hash_tree.proofs.OutcomeLaws.{does_within}
 use Rattle.hash_tree.proofs.leaves.offer_to_leaf.Goals as goal
 

@@ -1,5 +1,5 @@
 use Rattle.std.proofs.Common.{◌<◌, ◌≤◌, arith, sym}
-use Rattle.hash_tree.specs.Nodes.{tree_depth}
+use Rattle.tree_nodes.specs.Nodes.{tree_depth}
 use Rattle.outage_cluster.proofs.NodeLaws.{too_deep, too_wide}
 use Rattle.outage_cluster.proofs.cluster.tree_node.Goals as goal
 use Rattle.outage_cluster.proofs.cluster.tree_node.Goals.{then-depth-from-via-then-depth-from, then-depth-from-via-else-depth-from+then-index-from}

@@ -1,6 +1,6 @@
 use Rattle.std.proofs.Common.{ℕ, ◌^◌, [], replicate, ap, ◌∙◌}
 use Rattle.vclock.specs.declared.format.Format.{Format}
-use Rattle.hash_tree.specs.Nodes.{tree_depth}
+use Rattle.tree_nodes.specs.Nodes.{tree_depth}
 use Rattle.range_state.proofs.StateLaws.{fresh_leaves, leaves_of_tree}
 use Rattle.range_state.proofs.replay.leaves_of.Goals as goal
 

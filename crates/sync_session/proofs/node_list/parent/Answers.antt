@@ -1,5 +1,5 @@
 use Rattle.std.proofs.Common.{arith}
-use Rattle.hash_tree.proofs.PathLaws.{parent_within}
+use Rattle.tree_nodes.proofs.PathLaws.{parent_within}
 use Rattle.sync_session.proofs.node_list.parent.Goals as goal
 
 pub invariant_of-result : goal.invariant_of-result

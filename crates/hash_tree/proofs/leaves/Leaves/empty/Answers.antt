@@ -1,8 +1,8 @@
 use Rattle.std.proofs.Common.{◌≡◌, ℕ, ◌*◌, ◌^◌, List, [], Vec, Global, replicate, refl, arith, ap, ◌∙◌}
 use Rattle.hash_tree.specs.Leaves.{Bucket}
-use Rattle.hash_tree.specs.Nodes.{tree_depth}
-use Rattle.hash_tree.specs.Blocks.{joined}
-use Rattle.hash_tree.proofs.BlockLaws.{joined-replicate}
+use Rattle.tree_nodes.specs.Nodes.{tree_depth}
+use Rattle.tree_nodes.specs.Blocks.{joined}
+use Rattle.tree_nodes.proofs.BlockLaws.{joined-replicate}
 use Rattle.hash_tree.proofs.leaves.Leaves.empty.Goals as goal
 
 pub returns : goal.returns

@@ -1,9 +1,8 @@
 use Rattle.std.proofs.Common.{◌≡◌, ◌+◌, ◌*◌, ◌-◌, List, take, drop, length, arith, sym, ap, subst, ◌∙◌}
 use Rattle.std.proofs.lemmas.List.{length-take, length-drop}
-use Rattle.version_set.proofs.ListLaws.{all-append}
 use Rattle.hash_tree.specs.Leaves.{Bucket}
-use Rattle.hash_tree.specs.Blocks.{joined, AreOf}
-use Rattle.hash_tree.proofs.BlockLaws.{joined-more}
+use Rattle.tree_nodes.specs.Blocks.{joined, AreOf}
+use Rattle.tree_nodes.proofs.BlockLaws.{joined-more, AreOf-push}
 use Rattle.hash_tree.proofs.leaves.Leaves.from_vec.Goals as goal
 
 pub loop-number-preserved : goal.loop-number-preserved
@@ -14,5 +13,5 @@ loop-number-preserved c =
     let long : length c.in_ok-of.field-0 ≡ 64 = omega (arith, ap (λ (xs : List Bucket). length xs) block, length-take 64 (drop first c.args.leaves.items), length-drop first c.args.leaves.items, c.requires, c.block_count-count.ensures, c.loop-number-test.true) in
     record {
       so_far = ap (λ (bs : List (List Bucket)). joined bs) c.in_ok-push.ensures.items ∙ joined-more 64 c.loop-number.blocks.items c.args.leaves.items c.loop-number.number c.in_ok-of.field-0 c.loop-number.invariant.so_far block;
-      each = subst (AreOf 64) (sym c.in_ok-push.ensures.items) (all-append (λ (b : List Bucket). length b ≡ 64) c.loop-number.blocks.items _ c.loop-number.invariant.each (long, tt));
+      each = subst (AreOf 64) (sym c.in_ok-push.ensures.items) (AreOf-push 64 c.loop-number.blocks.items c.in_ok-of.field-0 c.loop-number.invariant.each long);
     }

@@ -1,5 +1,5 @@
 use Rattle.std.proofs.Common.{◌≡◌, ◌*◌, take}
-use Rattle.hash_tree.specs.Blocks.{joined, AreOf}
+use Rattle.tree_nodes.specs.Blocks.{joined, AreOf}
 use Rattle.hash_tree.proofs.leaves.Leaves.from_vec.Given as goal
 
 abbrev pub invariant-loop-number : goal.invariant-loop-number

@@ -2,8 +2,8 @@ use Rattle.std.proofs.Common.{◌≡◌, ◌<◌, ◌/◌, List, length, arith, 
 use Rattle.std.specs.Prelude.{slice_index_or}
 use Rattle.std.specs.Arc.{arc_value}
 use Rattle.hash_tree.specs.Leaves.{Bucket}
-use Rattle.hash_tree.specs.Blocks.{joined}
-use Rattle.hash_tree.proofs.BlockLaws.{number_within, read_at}
+use Rattle.tree_nodes.specs.Blocks.{joined}
+use Rattle.tree_nodes.proofs.BlockLaws.{number_within, read_at}
 use Rattle.hash_tree.proofs.leaves.Leaves.get.Goals as goal
 
 pub index-requires : goal.index-requires

@@ -1,8 +1,8 @@
 use Rattle.std.proofs.Common.{◌≡◌, ℕ, ◌<◌, ◌/◌, ◌%◌, List, Vec, Global, length, get_or, set, refl, arith, sym, ap, subst, ◌∙◌}
 use Rattle.std.specs.Arc.{arc_value}
 use Rattle.hash_tree.specs.Leaves.{Bucket}
-use Rattle.hash_tree.specs.Blocks.{joined, AreOf}
-use Rattle.hash_tree.proofs.BlockLaws.{number_within, set_at}
+use Rattle.tree_nodes.specs.Blocks.{joined, AreOf}
+use Rattle.tree_nodes.proofs.BlockLaws.{number_within, set_at}
 use Rattle.hash_tree.proofs.leaves.Leaves.with_leaf.Goals as goal
 
 -- the leaves with another one in its block

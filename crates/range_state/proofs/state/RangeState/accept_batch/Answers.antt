@@ -6,7 +6,7 @@ use Rattle.vclock.specs.declared.refusal.Refusal.TheVariants.{NoMemory}
 use Rattle.range_journal.specs.Journal.{reserve}
 use Rattle.range_journal.specs.Log.{Log}
 use Rattle.range_journal.proofs.JournalLaws.{reserve_ok}
-use Rattle.hash_tree.specs.Nodes.{Tree, dirtied}
+use Rattle.tree_nodes.specs.Nodes.{Tree, dirtied}
 use Rattle.row_bytes.specs.declared.row.Row.{Row}
 use Rattle.range_state.specs.State.{State, IsRight, AreLeaves}
 use Rattle.range_state.specs.Loads.{IsLoadable}

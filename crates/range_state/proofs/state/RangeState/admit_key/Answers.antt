@@ -7,7 +7,7 @@ use Rattle.version_set.specs.Kind.{value_fault}
 use Rattle.version_set.specs.Version.{offer_fault}
 use Rattle.range_journal.specs.Journal.{held}
 use Rattle.hash_tree.specs.Blocks.{nth_leaf, leaf_with_offer}
-use Rattle.hash_tree.specs.Nodes.{Tree, dirtied, tree_depth}
+use Rattle.tree_nodes.specs.Nodes.{Tree, dirtied, tree_depth}
 use Rattle.range_state.specs.State.{State, AreLeaves, leaf_in, place_fault, full_fault, entry_of, knows}
 use Rattle.range_journal.proofs.JournalLaws.{reserve_ok}
 use Rattle.hash_tree.proofs.OutcomeLaws.{given, no_memory}

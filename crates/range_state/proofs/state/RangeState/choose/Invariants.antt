@@ -1,5 +1,5 @@
 use Rattle.std.specs.Prelude.{IsTrue}
-use Rattle.hash_tree.specs.Nodes.{is_ready}
+use Rattle.tree_nodes.specs.Nodes.{is_ready}
 use Rattle.range_state.specs.State.{has_tree_node, place_of}
 use Rattle.range_state.proofs.state.RangeState.choose.Given as goal
 

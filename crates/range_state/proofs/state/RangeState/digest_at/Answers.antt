@@ -1,5 +1,5 @@
 use Rattle.std.proofs.Common.{subst, ap, ◌∙◌}
-use Rattle.hash_tree.specs.Nodes.{kept_digest}
+use Rattle.tree_nodes.specs.Nodes.{kept_digest}
 use Rattle.range_state.specs.State.{State, IsRight, place_of}
 use Rattle.range_state.proofs.TreeStepLaws.{digest_is}
 use Rattle.range_state.proofs.state.RangeState.digest_at.Goals as goal

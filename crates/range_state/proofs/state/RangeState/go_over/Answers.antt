@@ -1,7 +1,7 @@
 use Rattle.std.proofs.Common.{◌≡◌, List, sym, ap, subst, ◌∙◌}
 use Rattle.vclock.specs.Outcome.{gives}
 use Rattle.vclock.specs.declared.format.Format.TheVariants.{One}
-use Rattle.hash_tree.specs.Nodes.{Tree}
+use Rattle.tree_nodes.specs.Nodes.{Tree}
 use Rattle.range_journal.specs.declared.journal.Entry.{Entry}
 use Rattle.range_state.specs.Config.{Config}
 use Rattle.range_state.specs.State.{State, AreLeaves}

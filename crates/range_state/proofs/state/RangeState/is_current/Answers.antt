@@ -1,7 +1,7 @@
 use Rattle.std.proofs.Common.{◌≡◌, ◌↔◌, ◌<◌, List, ℕ, sym, subst, ap, ◌∙◌}
 use Rattle.std.specs.Prelude.{IsTrue}
 use Rattle.vclock.specs.declared.format.Format.{Format}
-use Rattle.hash_tree.specs.Nodes.{tree_depth, children_of}
+use Rattle.tree_nodes.specs.Nodes.{tree_depth, children_of}
 use Rattle.hash_tree.specs.Texts.{inner_text}
 use Rattle.range_state.specs.State.{State, IsRight, AreLeaves, place_of}
 use Rattle.range_state.proofs.TreeStepLaws.{leaf_current, inner_current}

@@ -2,7 +2,7 @@ use Rattle.std.proofs.Common.{◌≡◌, ◌<◌, List, ℕ, None, sym, subst, a
 use Rattle.vclock.specs.Answer.{Answers}
 use Rattle.vclock.specs.declared.format.Format.{Format}
 use Rattle.hash_tree.specs.Leaves.{Bucket}
-use Rattle.hash_tree.specs.Nodes.{tree_depth, children_of}
+use Rattle.tree_nodes.specs.Nodes.{tree_depth, children_of}
 use Rattle.hash_tree.specs.Texts.{leaf_text, inner_text}
 use Rattle.rehash.specs.Jobs.{NodeText}
 use Rattle.range_state.specs.State.{State, IsRight, AreLeaves, place_of}

@@ -1,6 +1,6 @@
 use Rattle.std.proofs.Common.{rules, ◌≡◌, ◌<◌, length, None, arith, sym, subst}
-use Rattle.hash_tree.specs.declared.node.NodeAt.{NodeAt}
-use Rattle.hash_tree.specs.Nodes.{kept_digest}
+use Rattle.tree_nodes.specs.declared.node.NodeAt.{NodeAt}
+use Rattle.tree_nodes.specs.Nodes.{kept_digest}
 use Rattle.range_state.specs.State.{place_of}
 use Rattle.range_state.proofs.BulkLaws.{cleaning_next}
 use Rattle.range_state.proofs.state.RangeState.make_all_clean.Goals as goal

@@ -1,5 +1,5 @@
 use Rattle.std.proofs.Common.{Some, set, subst, sym, ap, ◌∙◌, IsTrue}
-use Rattle.hash_tree.specs.Nodes.{Tree}
+use Rattle.tree_nodes.specs.Nodes.{Tree}
 use Rattle.range_state.specs.State.{State, is_current, place_of}
 use Rattle.range_state.proofs.TreeStepLaws.{cleaned_right}
 use Rattle.range_state.proofs.state.RangeState.make_clean.Goals as goal

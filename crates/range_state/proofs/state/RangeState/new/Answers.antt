@@ -1,7 +1,7 @@
 use Rattle.std.proofs.Common.{ℕ, ◌^◌, None, [], replicate, refl, ap, ◌∙◌}
 use Rattle.vclock.specs.declared.format.Format.{Format}
 use Rattle.range_journal.specs.Log.{Log}
-use Rattle.hash_tree.specs.Nodes.{Tree, tree_depth, node_count}
+use Rattle.tree_nodes.specs.Nodes.{Tree, tree_depth, node_count}
 use Rattle.range_state.proofs.StateLaws.{new_range, leaves_of_tree}
 use Rattle.range_state.proofs.state.RangeState.new.Goals as goal
 

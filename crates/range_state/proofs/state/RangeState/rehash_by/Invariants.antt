@@ -1,5 +1,5 @@
 use Rattle.std.proofs.Common.{◌≡◌}
-use Rattle.hash_tree.specs.Nodes.{dirty_count}
+use Rattle.tree_nodes.specs.Nodes.{dirty_count}
 use Rattle.range_state.specs.Trees.{IsSameRange}
 use Rattle.range_state.proofs.state.RangeState.rehash_by.Given as goal
 

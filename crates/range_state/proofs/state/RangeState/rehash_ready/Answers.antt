@@ -2,7 +2,7 @@ use Rattle.std.proofs.Common.{rules, ◌≡◌, true, length, map, arith, sym, s
 use Rattle.std.proofs.lemmas.Bool.{eqb-true, not-false}
 use Rattle.std.proofs.lemmas.List.{length-map}
 use Rattle.std.specs.Vec.{vec_len}
-use Rattle.hash_tree.specs.Nodes.{are_clean}
+use Rattle.tree_nodes.specs.Nodes.{are_clean}
 use Rattle.rehash.specs.Jobs.{NodeText}
 use Rattle.range_state.specs.State.{State}
 use Rattle.range_state.proofs.BulkLaws.{jobs_current, jobs_dirty, jobs_places, no_jobs}

@@ -1,5 +1,5 @@
 use Rattle.std.proofs.Common.{sym, ap, ◌∙◌}
-use Rattle.hash_tree.specs.Nodes.{Tree}
+use Rattle.tree_nodes.specs.Nodes.{Tree}
 use Rattle.range_state.specs.Config.{Config}
 use Rattle.range_state.specs.State.{State}
 use Rattle.range_state.proofs.RenewLaws.{limit_is, renewed_range}

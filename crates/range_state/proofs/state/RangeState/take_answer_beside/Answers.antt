@@ -2,7 +2,7 @@ use Rattle.std.proofs.Common.{rules, ◌≡◌, Option, Some, sym, ap, subst, �
 use Rattle.std.specs.Prelude.{MatchOption}
 use Rattle.vclock.specs.declared.format.Format.{Format}
 use Rattle.vclock.specs.declared.refusal.Refusal.TheVariants.{NotCanonical}
-use Rattle.hash_tree.specs.Nodes.{tree_depth}
+use Rattle.tree_nodes.specs.Nodes.{tree_depth}
 use Rattle.sync_session.specs.Steps.{IsDue, failed}
 use Rattle.sync_session.specs.TreeNodes.{as_node}
 use Rattle.sync_session.specs.Walks.{TakenText, IsCanonical}

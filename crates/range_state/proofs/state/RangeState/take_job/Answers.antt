@@ -1,5 +1,5 @@
 use Rattle.std.proofs.Common.{refl}
-use Rattle.hash_tree.proofs.ReadyLaws.{none_ready}
+use Rattle.tree_nodes.proofs.ReadyLaws.{none_ready}
 use Rattle.range_state.proofs.state.RangeState.take_job.Goals as goal
 
 pub returns-in-None : goal.returns-in-None

@@ -1,6 +1,6 @@
 use Rattle.std.proofs.Common.{◌≡◌, ◌++◌, ◌-◌, ◌≤◌, map, length}
 use Rattle.std.specs.List.{AllByRecursion}
-use Rattle.hash_tree.specs.Nodes.{ready_from}
+use Rattle.tree_nodes.specs.Nodes.{ready_from}
 use Rattle.rehash.specs.Jobs.{NodeText}
 use Rattle.range_state.specs.State.{IsJob, place_of}
 use Rattle.range_state.proofs.state.RangeState.take_jobs.Given as goal

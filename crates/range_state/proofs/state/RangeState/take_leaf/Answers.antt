@@ -4,7 +4,7 @@ use Rattle.std.proofs.lemmas.Result.{err_from_is_err_and}
 use Rattle.vclock.specs.declared.refusal.Refusal.TheVariants.{NoMemory}
 use Rattle.range_journal.proofs.JournalLaws.{reserve_ok}
 use Rattle.range_journal.specs.Log.{Log, AreNumberedFrom}
-use Rattle.hash_tree.specs.Nodes.{Tree, dirtied}
+use Rattle.tree_nodes.specs.Nodes.{Tree, dirtied}
 use Rattle.sync_session.specs.TreeNodes.{as_node}
 use Rattle.sync_session.proofs.DescentLaws.{entry}
 use Rattle.range_state.specs.State.{State, IsRight, AreLeaves}

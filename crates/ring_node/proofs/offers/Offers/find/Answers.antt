@@ -1,5 +1,5 @@
 use Rattle.std.proofs.Common.{rules, arith, inr, ◌≡◌}
-use Rattle.hash_tree.specs.Nodes.{tree_depth}
+use Rattle.tree_nodes.specs.Nodes.{tree_depth}
 use Rattle.ring_node.specs.Offers.{kept_under}
 use Rattle.ring_node.proofs.ReplyLaws.{too_deep}
 use Rattle.ring_node.proofs.offers.Offers.find.Goals as goal

@@ -4,7 +4,7 @@ use Rattle.vclock.specs.Answer.{Answers}
 use Rattle.vclock.specs.declared.refusal.Refusal.{Refusal}
 use Rattle.vclock.specs.declared.format.Format.{Format}
 use Rattle.hash_tree.specs.Leaves.{Bucket}
-use Rattle.hash_tree.specs.Nodes.{tree_depth}
+use Rattle.tree_nodes.specs.Nodes.{tree_depth}
 use Rattle.hash_tree.specs.Texts.{leaf_text}
 use Rattle.snapshot.specs.RowMaps.{RowMap}
 use Rattle.snapshot.specs.Snapshots.{answer_fault}

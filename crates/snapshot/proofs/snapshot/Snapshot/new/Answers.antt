@@ -2,7 +2,7 @@ use Rattle.std.proofs.Common.{◌≡◌, ◌^◌, refl, ◌∙◌}
 use Rattle.vclock.specs.declared.format.Format.{Format}
 use Rattle.vclock.specs.declared.format.Format.TheVariants.{One, Two}
 use Rattle.key_ring.specs.Places.{leaf_bits}
-use Rattle.hash_tree.specs.Nodes.{tree_depth}
+use Rattle.tree_nodes.specs.Nodes.{tree_depth}
 use Rattle.snapshot.specs.Snapshots.{map_of}
 use Rattle.snapshot.proofs.ShownLaws.{leaf_count}
 use Rattle.snapshot.proofs.snapshot.Snapshot.new.Goals as goal

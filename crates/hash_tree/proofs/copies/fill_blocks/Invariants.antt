@@ -1,5 +1,0 @@
-use Rattle.hash_tree.specs.Blocks.{AreCopies}
-use Rattle.hash_tree.proofs.copies.fill_blocks.Given as goal
-
-abbrev pub invariant-loop-place : goal.invariant-loop-place
-invariant-loop-place l = AreCopies l.digests l.blocks

@@ -1,9 +1,0 @@
-use Rattle.std.proofs.Common.{◌≡◌, ◌+◌, ◌≤◌, length}
-use Rattle.hash_tree.specs.Nodes.{ready_from}
-use Rattle.hash_tree.proofs.marks.Marks.ready_count.Given as goal
-
-abbrev pub invariant-loop-place : goal.invariant-loop-place
-invariant-loop-place l = record {
-  all : l.count + length (ready_from l.self.digests l.place) ≡ length (ready_from l.self.digests 0);
-  few : l.count ≤ l.place;
-}

@@ -1,0 +1,6 @@
+pub mod PlaceLaws
+pub mod PathLaws
+pub mod TreeLaws
+pub mod ReadyLaws
+pub mod BlockLaws
+pub mod CopyLaws

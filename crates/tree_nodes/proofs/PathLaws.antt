@@ -1,0 +1,114 @@
+-- Making the places of a path dirty, one after another.
+use Rattle.std.proofs.Common.{◌≡◌, ℕ, zero, suc, ◌+◌, ◌-◌, ◌/◌, ◌^◌, ◌<◌, ◌≤◌, cond, eqb, ◌||◌, Option, Some, None, List, [], ◌∷◌, length, set, refl, sym, ap, ◌∙◌, arith, inl, inr}
+use Rattle.std.proofs.Math.Nat.{pow-succ'}
+use Rattle.std.specs.Prelude.{map, MatchOption}
+use Rattle.std.specs.List.{list_any, range_with_len}
+use Rattle.std.proofs.lemmas.Bool.{cond_both, cases_eq, cond-true, or_left, eq-eqb, ne_eqb}
+use Rattle.std.proofs.lemmas.List.{get_or-set_same, get_or-set_other, length-set}
+use Rattle.std.proofs.lemmas.List.FromFn.{get_or-map-range_with_len, length-map-range_with_len, fill_by_all}
+use Rattle.vclock.specs.declared.format.Format.{Format}
+use Rattle.tree_nodes.proofs.PlaceLaws.{Digests}
+use Rattle.tree_nodes.specs.declared.node.NodeAt.{NodeAt}
+use Rattle.tree_nodes.specs.Nodes.{tree_depth, node_count, place_at, path_of, kept_digest, dirtied}
+
+-- the digests with some places dirty
+unfoldable pub cleared : List ℕ → Digests → Digests
+cleared places digests = map (λ (place : ℕ). cond (list_any (eqb place) places) None (kept_digest digests place)) (range_with_len 0 (length digests))
+
+-- A leaf's path is made dirty by making each of its places dirty.
+pub dirtied_is : (format : Format) (leaf : ℕ) (digests : Digests) → dirtied format leaf digests ≡ cleared (path_of (tree_depth format) leaf) digests
+unfolding cleared dirtied
+dirtied_is format leaf digests = refl
+
+-- Nothing is left to do.
+pub cleared_none : (digests : Digests) → cleared [] digests ≡ digests
+unfolding cleared
+cleared_none digests = sym (fill_by_all (kept_digest digests) digests (length digests) None refl (λ k less. refl))
+
+-- One place after another.
+pub cleared_first : (place : ℕ) (places : List ℕ) (digests : Digests) → cleared places (set digests place None) ≡ cleared (place ∷ places) digests
+unfolding cleared
+cleared_first place places digests =
+    let new = set digests place None in
+    let f = λ (k : ℕ). cond (list_any (eqb k) places) None (kept_digest new k) in
+    let g = λ (k : ℕ). cond (list_any (eqb k) (place ∷ places)) None (kept_digest digests k) in
+    fill_by_all g (map f (range_with_len 0 (length new))) (length digests) None (length-map-range_with_len f 0 (length new) ∙ length-set digests place None)
+    (λ k less. get_or-map-range_with_len f 0 (length new) k k None (omega (arith, length-set digests place (no_digest))) (omega arith) ∙ at digests place places k less)
+  where
+    no_digest : Option (List ℕ)
+    no_digest = None
+
+    at : (digests : Digests) (place : ℕ) (places : List ℕ) (k : ℕ) → k < length digests → cond (list_any (eqb k) places) None (kept_digest (set digests place None) k) ≡ cond (eqb k place || list_any (eqb k) places) None (kept_digest digests k)
+    at digests place places k less = elim (cases_eq k place) [
+      | inl same ↦
+          let here : kept_digest (set digests place None) k ≡ None = rw same (get_or-set_same digests place no_digest None (omega (arith, same))) in
+          cond_both (list_any (eqb k) places) no_digest (kept_digest (set digests place None) k) (λ (o : Option (List ℕ)). o ≡ None) (λ on. refl) (λ off. here)
+          ∙ sym (cond-true (eqb k place || list_any (eqb k) places) no_digest (kept_digest digests k) (or_left (eqb k place) (list_any (eqb k) places) (eq-eqb k place same)))
+      | inr other ↦ rw (ne_eqb k place other, get_or-set_other digests place k no_digest None other) refl
+    ]
+
+-- ---- from node to node
+
+-- the places that are left, from a node up
+abbrev pub path_left : Option NodeAt → List ℕ
+path_left None = []
+path_left (Some node) = path_of node.depth node.index
+
+-- how many places are left
+abbrev pub steps_left : Option NodeAt → ℕ
+steps_left None = 0
+steps_left (Some node) = node.depth + 1
+
+root_path : (depth index : ℕ) → depth ≡ 0 → index < 16 ^ depth → place_at depth index ∷ [] ≡ path_of depth index
+root_path zero index e within = ap (λ (p : ℕ). p ∷ []) (omega arith)
+root_path (suc depth) index e within = absurd (omega arith)
+
+longer_path : (depth index d i : ℕ) → d + 1 ≡ depth → i ≡ index / 16 → place_at depth index ∷ path_of d i ≡ path_of depth index
+longer_path zero index d i up e = absurd (omega arith)
+longer_path (suc depth) index d i up e =
+    let above : d ≡ depth = omega arith in
+    ap (λ (xs : List ℕ). place_at (suc depth) index ∷ xs) (λ t. path_of (above t) (e t))
+
+-- A node's path is its place and the path of the node above.
+pub path_step : (depth index : ℕ) (above : Option NodeAt) → index < 16 ^ depth → MatchOption above (depth ≡ 0) (λ (n : NodeAt). (n.depth + 1 ≡ depth) × (n.index ≡ index / 16)) → place_at depth index ∷ path_left above ≡ path_of depth index
+path_step depth index None within root = root_path depth index root within
+path_step depth index (Some n) within up = longer_path depth index n.depth n.index up.0 up.1
+
+-- Fewer places are left above a node.
+pub path_shorter : (depth index : ℕ) (above : Option NodeAt) → MatchOption above (depth ≡ 0) (λ (n : NodeAt). (n.depth + 1 ≡ depth) × (n.index ≡ index / 16)) → steps_left above < depth + 1
+path_shorter depth index None root = omega arith
+path_shorter depth index (Some n) up = omega (arith, up.0)
+
+-- The digests on the way: making dirty the places that are left is what is wanted.
+pub record IsClearing (format : Format) (leaf : ℕ) (start : Digests) (next : Option NodeAt) (digests : Digests) : Type 0 where
+  pub path : cleared (path_left next) digests ≡ dirtied format leaf start
+  pub all : length digests ≡ node_count format
+  pub inside : steps_left next ≤ suc (tree_depth format)
+
+-- At first the leaf's path is left.
+pub clearing_begins : (format : Format) (leaf : ℕ) (start : Digests) (node : NodeAt) → node.depth ≡ tree_depth format → node.index ≡ leaf → length start ≡ node_count format → IsClearing format leaf start (Some node) start
+clearing_begins format leaf start node deep at all = record {
+  path = (λ i. cleared (path_of (deep i) (at i)) start) ∙ sym (dirtied_is format leaf start);
+  all = all;
+  inside = omega (arith, deep);
+}
+
+-- Then that of the node above.
+pub clearing_goes_on : (format : Format) (leaf : ℕ) (start : Digests) (node : NodeAt) (above : Option NodeAt) (digests : Digests) → IsClearing format leaf start (Some node) digests
+    → MatchOption above (node.depth ≡ 0) (λ (n : NodeAt). (n.depth + 1 ≡ node.depth) × (n.index ≡ node.index / 16)) → IsClearing format leaf start above (set digests (place_at node.depth node.index) None)
+clearing_goes_on format leaf start node above digests before up = record {
+  path = cleared_first (place_at node.depth node.index) (path_left above) digests ∙ ap (λ (places : List ℕ). cleared places digests) (path_step node.depth node.index above node.within up) ∙ before.path;
+  all = simp length-set before.all;
+  inside = omega (arith, path_shorter node.depth node.index above up, before.inside);
+}
+
+-- At last nothing is left.
+pub clearing_done : (format : Format) (leaf : ℕ) (start : Digests) (digests : Digests) → IsClearing format leaf start None digests → digests ≡ dirtied format leaf start
+clearing_done format leaf start digests before = sym (cleared_none digests) ∙ before.path
+
+-- The node above another has an index of its depth.
+pub parent_within : (depth index : ℕ) → 0 < depth → index < 16 ^ depth → index / 16 < 16 ^ (depth - 1)
+parent_within zero index some within = absurd (omega arith)
+parent_within (suc depth) index some within =
+    let up : suc depth - 1 ≡ depth = omega arith in
+    rw up (omega (arith, pow-succ' 16 depth))

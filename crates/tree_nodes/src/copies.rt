@@ -1,0 +1,172 @@
+//! Copies of the digests of siblings, which marks share with the digests that were taken of them.
+ghost use Rattle.std.specs.Prelude.{◌≡◌, ◌+◌, ◌*◌, ◌<◌, ◌≤◌, ◌^◌, ℕ, List, Option, Some, None, ⊤, IsTrue, MatchOption, length, map, drop, replicate, slice_set};
+ghost use Rattle.vclock.specs.Answer.{Answers};
+ghost use Rattle.tree_nodes.specs.Nodes.{tree_depth, nodes_above, node_count, are_clean, dirtied};
+ghost use Rattle.tree_nodes.specs.Blocks.{joined, AreOf, IsCopy, AreCopies};
+
+use crate::digest::Digest;
+use crate::digest_block::DigestBlock;
+use crate::marks::{children_at, clean_digests, parent_of};
+use crate::node::{NodeAt, tree_depth};
+use crate::shared_digests::block_count;
+use std::alloc::Global;
+use vclock::{Format, Refusal};
+
+/// Returns no copy for each block of a tree. Refused: NoMemory.
+pub(crate) fn no_blocks(alloc: Global, format: Format) -> Result<Vec<Option<DigestBlock>>, Refusal>
+    ensures { Answers result None (λ blocks. AreCopies (replicate (node_count format) None) blocks.items) }
+{
+    let count = block_count(format);
+    let mut blocks = Vec::with_capacity(alloc, count)?;
+    for _ in 0..count {
+        blocks.push(None)?;
+    }
+    Ok(blocks)
+}
+
+/// Adds an owner to each copy, and returns the copies. Refused: NoMemory. Copies no digest.
+pub(crate) fn share_copies(
+    alloc: Global,
+    blocks: &[Option<DigestBlock>],
+) -> Result<Vec<Option<DigestBlock>>, Refusal>
+    ensures { Answers result None (λ shared. shared.items ≡ blocks.now) }
+{
+    let mut shared = Vec::with_capacity(alloc, blocks.len())?;
+    for block in blocks {
+        shared.push(share_copy(block)?)?;
+    }
+    Ok(shared)
+}
+
+/// Adds an owner to a copy, if there is one, and returns its handle. Refused: NoMemory.
+fn share_copy(copy: &Option<DigestBlock>) -> Result<Option<DigestBlock>, Refusal>
+    ensures { Answers result None (λ shared. shared ≡ copy.now) }
+{
+    match copy {
+        Some(block) => Ok(Some(block.share()?)),
+        None => Ok(None),
+    }
+}
+
+/// Drops the copies of the blocks that have a leaf or a node above it.
+pub(crate) fn drop_path(format: Format, leaf: u16, blocks: &mut [Option<DigestBlock>])
+    requires leaf { leaf < 16 ^ tree_depth format }
+    requires all { 16 * length blocks.old + 1 ≡ node_count format }
+    ensures { (digests : List (Option (List ℕ))) → AreCopies digests blocks.old
+        → AreCopies (dirtied format leaf digests) blocks.new }
+{
+    let mut next = parent_of(NodeAt {
+        depth: tree_depth(format),
+        index: leaf,
+    });
+    while let Some(node) = next {
+        blocks[node.place()] = None;
+        next = parent_of(node);
+    }
+}
+
+/// Drops the copy of the block that has the node at a place. The root is in no block.
+pub(crate) fn drop_block(place: usize, blocks: &mut [Option<DigestBlock>])
+    requires { place < 16 * length blocks.old + 1 }
+    ensures { (digests : List (Option (List ℕ))) (d : List ℕ) → AreCopies digests blocks.old
+        → AreCopies (slice_set digests place (Some d)) blocks.new }
+{
+    if let Some(before) = place.checked_sub(1) {
+        blocks[before / 16] = None;
+    }
+}
+
+/// Makes the copies that are missing, of the digests of a clean tree. Refused: NoMemory.
+pub(crate) fn fill_blocks(
+    alloc: Global,
+    digests: &[Option<Digest>],
+    blocks: &mut [Option<DigestBlock>],
+) -> Result<(), Refusal>
+    requires few { length digests.now < 2 ^ 32 }
+    requires clean { IsTrue (are_clean digests.now) }
+    requires copies { AreCopies digests.now blocks.old }
+    ensures answers { Answers result None (λ _. ⊤) }
+    ensures copies { AreCopies digests.now blocks.new }
+{
+    for place in 0..blocks.len() {
+        fill_block(alloc, digests, place, &mut blocks[place])?;
+    }
+    Ok(())
+}
+
+/// Makes the copy of the digests of the children of the node at a place, if it is missing. Refused: NoMemory.
+fn fill_block(
+    alloc: Global,
+    digests: &[Option<Digest>],
+    place: usize,
+    copy: &mut Option<DigestBlock>,
+) -> Result<(), Refusal>
+    requires small { place < 2 ^ 32 }
+    requires within { 16 * place + 17 ≤ length digests.now }
+    requires clean { IsTrue (are_clean digests.now) }
+    requires copy { MatchOption copy.old ⊤ (IsCopy digests.now place) }
+    ensures answers { Answers result None (λ _. ⊤) }
+    ensures copy { MatchOption copy.new ⊤ (IsCopy digests.now place) }
+{
+    if copy.is_none() {
+        *copy = Some(new_block(alloc, digests, place)?);
+    }
+    Ok(())
+}
+
+/// Returns the blocks of the digests of a clean tree, by the place of their parents: shares of the copies, and new
+/// blocks for those that are missing. Refused: NoMemory.
+pub(crate) fn share_blocks(
+    alloc: Global,
+    digests: &[Option<Digest>],
+    blocks: &[Option<DigestBlock>],
+) -> Result<Vec<DigestBlock>, Refusal>
+    requires few { length digests.now < 2 ^ 32 }
+    requires clean { IsTrue (are_clean digests.now) }
+    requires copies { AreCopies digests.now blocks.now }
+    ensures { Answers result None
+        (λ shared. AreOf 16 shared.items × (map Some (joined shared.items) ≡ drop 1 digests.now)) }
+{
+    let mut shared = Vec::with_capacity(alloc, blocks.len())?;
+    for place in 0..blocks.len() {
+        shared.push(share_block(alloc, digests, place, &blocks[place])?)?;
+    }
+    Ok(shared)
+}
+
+/// Returns the block of the digests of the children of the node at a place: a share of the copy, or a new block if it
+/// is missing. Refused: NoMemory.
+fn share_block(
+    alloc: Global,
+    digests: &[Option<Digest>],
+    place: usize,
+    copy: &Option<DigestBlock>,
+) -> Result<DigestBlock, Refusal>
+    requires small { place < 2 ^ 32 }
+    requires within { 16 * place + 17 ≤ length digests.now }
+    requires clean { IsTrue (are_clean digests.now) }
+    requires copy { MatchOption copy.now ⊤ (IsCopy digests.now place) }
+    ensures { Answers result None (IsCopy digests.now place) }
+{
+    match copy {
+        Some(block) => block.share(),
+        None => new_block(alloc, digests, place),
+    }
+}
+
+/// Makes the block of the digests of the children of the node at a place, in a clean tree. Refused: NoMemory.
+fn new_block(
+    alloc: Global,
+    digests: &[Option<Digest>],
+    place: usize,
+) -> Result<DigestBlock, Refusal>
+    requires small { place < 2 ^ 32 }
+    requires within { 16 * place + 17 ≤ length digests.now }
+    requires clean { IsTrue (are_clean digests.now) }
+    ensures { Answers result None (IsCopy digests.now place) }
+{
+    let Some(digests) = clean_digests(children_at(digests, place)) else {
+        unreachable!()
+    };
+    DigestBlock::new(alloc, digests)
+}

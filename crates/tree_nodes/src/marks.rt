@@ -1,0 +1,335 @@
+//! The clean nodes of a tree, and their digests.
+ghost use Rattle.std.specs.Prelude.{◌≡◌, ◌+◌, ◌/◌, ◌<◌, ◌≤◌, ◌^◌, ◌∷◌, [], length, Option, Some, None, map, replicate, slice_set, false, if◌then◌else◌, IsTrue, MatchOption};
+ghost use Rattle.vclock.specs.Answer.{Answers};
+ghost use Rattle.tree_nodes.specs.Nodes.{tree_depth, nodes_above, node_count, place_at, kept_digest, children_of, are_clean, is_ready, ready_from, dirtied, dirty_count, IsTree};
+
+use crate::copies::{drop_block, drop_path, fill_blocks, no_blocks, share_blocks, share_copies};
+use crate::digest::Digest;
+use crate::digest_block::DigestBlock;
+use crate::node::{NodeAt, tree_depth};
+use crate::shared_digests::SharedDigests;
+use std::alloc::Global;
+use std::marker::Model;
+use vclock::{Format, Refusal};
+
+/// The digests of the clean nodes of a tree. The other nodes are dirty and have no digest. A new version makes its leaf
+/// and all nodes above it dirty, and a rehash makes them clean from the leaves up, so the children of a clean node are
+/// clean. Beside its digests stand copies of some of them, in blocks, which `keep_digests` makes and a change drops.
+pub struct Marks {
+    format: Format,
+    digests: Vec<Option<Digest>>,
+    blocks: Vec<Option<DigestBlock>>,
+    whole: Option<SharedDigests>,
+}
+
+impl Model for Marks {
+    ghost use Rattle.tree_nodes.specs.Nodes.{Tree};
+    ghost use Rattle.tree_nodes.specs.Blocks.{AreMarks};
+
+    ghost Value = { Tree };
+
+    ghost view = { λ m. record { format = m.format; digests = m.digests.items } };
+
+    ghost invariant = { λ m. AreMarks m.format m.digests.items m.blocks.items m.whole };
+}
+
+impl Marks {
+    /// Creates the marks of a tree whose nodes are all dirty: 273, or 4,369 in format 2. Refused: NoMemory.
+    pub fn new(alloc: Global, format: Format) -> Result<Marks, Refusal>
+        ensures { Answers result None
+            (λ marks. marks ≡ record { format = format; digests = replicate (node_count format) None }) }
+    {
+        let count = count_of(format);
+        let mut digests = Vec::with_capacity(alloc, count)?;
+        for _ in 0..count {
+            digests.push(None)?;
+        }
+        Ok(Marks {
+            format,
+            digests,
+            blocks: no_blocks(alloc, format)?,
+            whole: None,
+        })
+    }
+
+    /// Copies the digests, and shares the copies of blocks. Refused: NoMemory.
+    pub fn try_clone(&self, alloc: Global) -> Result<Marks, Refusal>
+        ensures { Answers result None (λ copy. copy ≡ self.now) }
+    {
+        Ok(Marks {
+            format: self.format,
+            digests: copy_digests(alloc, &self.digests)?,
+            blocks: share_copies(alloc, &self.blocks)?,
+            whole: share_whole(&self.whole)?,
+        })
+    }
+
+    /// Returns the digest of a node, or `None` if the node is dirty or isn't in the tree. Doesn't allocate.
+    pub fn get(&self, node: NodeAt) -> Option<Digest>
+        ensures digest { result ≡ kept_digest self.now.digests (place_at node.depth node.index) }
+        ensures valid { IsTree self.now }
+    {
+        match self.digests.get(node.place()) {
+            Some(digest) => *digest,
+            None => None,
+        }
+    }
+
+    /// Returns the digests of a node's children, if all are clean. Doesn't allocate.
+    pub fn children(&self, node: NodeAt) -> Option<[Digest; 16]>
+        requires { node.depth < tree_depth self.now.format }
+        ensures { MatchOption result
+            (are_clean (children_of self.now.digests (place_at node.depth node.index)) ≡ false)
+            (λ digests. children_of self.now.digests (place_at node.depth node.index) ≡ map Some digests) }
+    {
+        clean_digests(children_at(&self.digests, node.place()))
+    }
+
+    /// Returns the first node, in order of place from `from` on, that can be hashed: it is dirty, and its children are
+    /// clean. Doesn't allocate.
+    pub fn next_ready(&self, from: usize) -> Option<NodeAt>
+        ensures { MatchOption result
+            (ready_from self.now.digests from ≡ [])
+            (λ node. ready_from self.now.digests from
+            ≡ place_at node.depth node.index ∷ ready_from self.now.digests (place_at node.depth node.index + 1)) }
+    {
+        for place in from..self.digests.len() {
+            if is_ready(&self.digests, place) {
+                return Some(node_of(place));
+            }
+        }
+        None
+    }
+
+    /// Counts the nodes that can be hashed. Doesn't allocate.
+    pub fn ready_count(&self) -> usize
+        ensures { result ≡ length (ready_from self.now.digests 0) }
+    {
+        let mut count = 0;
+        for place in 0..self.digests.len() {
+            if is_ready(&self.digests, place) {
+                count += 1;
+            }
+        }
+        count
+    }
+
+    /// Counts the dirty nodes. Doesn't allocate.
+    pub fn dirty_count(&self) -> usize
+        ensures { result ≡ dirty_count self.now.digests }
+    {
+        self.digests
+            .iter()
+            .filter(|digest| digest.is_none())
+            .count()
+    }
+
+    /// Returns the digests of all nodes, by place. Shares the copies of blocks. Refused, in order: Dirty (some node has
+    /// no digest), NoMemory.
+    pub fn digests(&self, alloc: Global) -> Result<SharedDigests, Refusal>
+        ensures { Answers result (if are_clean self.now.digests then None else Some Refusal.Dirty)
+            (λ digests. map Some digests ≡ self.now.digests) }
+    {
+        // The children of a clean node are clean, so all nodes are if the root is.
+        match self.digests[0] {
+            Some(root) => self.share_clean(alloc, root),
+            None => Err(Refusal::Dirty),
+        }
+    }
+
+    /// Returns the digests of all nodes as `digests` does, and keeps copies of all blocks, so that the next call shares
+    /// those that don't change until then. Refused, in order: Dirty, NoMemory.
+    pub fn keep_digests(&mut self, alloc: Global) -> Result<SharedDigests, Refusal>
+        ensures digests { Answers result (if are_clean self.old.digests then None else Some Refusal.Dirty)
+            (λ digests. map Some digests ≡ self.old.digests) }
+        ensures same { self.new ≡ self.old }
+    {
+        match self.digests[0] {
+            Some(root) => self.keep_clean(alloc, root),
+            None => Err(Refusal::Dirty),
+        }
+    }
+
+    /// Returns the digests of all nodes, if all are clean. Refused: NoMemory.
+    fn share_clean(&self, alloc: Global, root: Digest) -> Result<SharedDigests, Refusal>
+        requires clean { IsTrue (are_clean self.now.digests) }
+        requires root { kept_digest self.now.digests 0 ≡ Some root }
+        ensures { Answers result None (λ digests. map Some digests ≡ self.now.digests) }
+    {
+        if let Some(whole) = &self.whole {
+            return whole.share();
+        }
+        let blocks = share_blocks(alloc, &self.digests, &self.blocks)?;
+        SharedDigests::of_blocks(alloc, root, blocks)
+    }
+
+    /// Returns the digests of all nodes, if all are clean, and keeps copies of all. Refused: NoMemory.
+    fn keep_clean(&mut self, alloc: Global, root: Digest) -> Result<SharedDigests, Refusal>
+        requires clean { IsTrue (are_clean self.old.digests) }
+        requires root { kept_digest self.old.digests 0 ≡ Some root }
+        ensures digests { Answers result None (λ digests. map Some digests ≡ self.old.digests) }
+        ensures same { self.new ≡ self.old }
+    {
+        if self.whole.is_none() {
+            fill_blocks(alloc, &self.digests, &mut self.blocks)?;
+        }
+        let shared = self.share_clean(alloc, root)?;
+        self.whole = Some(shared.share()?);
+        Ok(shared)
+    }
+
+    /// Makes a leaf and every node above it dirty. Doesn't allocate.
+    pub fn dirty(&mut self, leaf: u16)
+        requires { leaf < 16 ^ tree_depth self.old.format }
+        ensures path { self.new ≡ record self.old { digests = dirtied self.old.format leaf self.old.digests } }
+        ensures valid { IsTree self.new }
+    {
+        dirty_up(self.format, leaf, &mut self.digests);
+        drop_path(self.format, leaf, &mut self.blocks);
+        self.whole = None;
+    }
+
+    /// Makes a node of the tree clean whose children are clean. Doesn't allocate.
+    pub fn set(&mut self, node: NodeAt, digest: Digest)
+        requires has { node.depth ≤ tree_depth self.old.format }
+        requires children { IsTrue (are_clean (children_of self.old.digests (place_at node.depth node.index))) }
+        ensures digest { self.new ≡ record self.old
+            { digests = slice_set self.old.digests (place_at node.depth node.index) (Some digest) } }
+        ensures valid { IsTree self.new }
+    {
+        let place = node.place();
+        self.digests[place] = Some(digest);
+        drop_block(place, &mut self.blocks);
+        self.whole = None;
+    }
+}
+
+/// Returns the number of nodes of a tree.
+fn count_of(format: Format) -> usize
+    ensures { result ≡ node_count format }
+{
+    match format {
+        Format::One => 273,
+        Format::Two => 4_369,
+    }
+}
+
+/// Copies digests. Refused: NoMemory.
+fn copy_digests(alloc: Global, digests: &[Option<Digest>]) -> Result<Vec<Option<Digest>>, Refusal>
+    ensures { Answers result None (λ copy. copy.items ≡ digests.now) }
+{
+    let mut copy = Vec::with_capacity(alloc, digests.len())?;
+    for digest in digests {
+        copy.push(*digest)?;
+    }
+    Ok(copy)
+}
+
+/// Adds an owner to the digests of all nodes, if they are there, and returns their handle. Refused: NoMemory.
+fn share_whole(whole: &Option<SharedDigests>) -> Result<Option<SharedDigests>, Refusal>
+    ensures { Answers result None (λ shared. shared ≡ whole.now) }
+{
+    match whole {
+        Some(digests) => Ok(Some(digests.share()?)),
+        None => Ok(None),
+    }
+}
+
+/// Returns the children of the node at a place. A leaf has no children.
+pub(crate) fn children_at(digests: &[Option<Digest>], place: usize) -> &[Option<Digest>]
+    requires { place < 2 ^ 32 }
+    ensures { result.now ≡ children_of digests.now place }
+{
+    let first = (16 * place + 1).min(digests.len());
+    let behind = &digests[first..];
+    &behind[..behind.len().min(16)]
+}
+
+/// Returns 16 digests, if all are there.
+pub(crate) fn clean_digests(nodes: &[Option<Digest>]) -> Option<[Digest; 16]>
+    requires { length nodes.now ≡ 16 }
+    ensures { MatchOption result (are_clean nodes.now ≡ false) (λ digests. nodes.now ≡ map Some digests) }
+{
+    let mut digests = [[0; 32]; 16];
+    for j in 0..16usize {
+        match nodes[j] {
+            Some(digest) => digests[j] = digest,
+            None => return None,
+        }
+    }
+    Some(digests)
+}
+
+/// Returns true if the node at a place can be hashed.
+fn is_ready(digests: &[Option<Digest>], place: usize) -> bool
+    requires small { place < 2 ^ 32 }
+    requires has { place < length digests.now }
+    ensures { result ≡ is_ready digests.now place }
+{
+    digests[place].is_none() && are_clean(children_at(digests, place))
+}
+
+/// Returns true if all these nodes are clean.
+fn are_clean(digests: &[Option<Digest>]) -> bool
+    ensures { result ≡ are_clean digests.now }
+{
+    digests.iter().all(|digest| digest.is_some())
+}
+
+/// Returns the node at a place.
+fn node_of(place: usize) -> NodeAt
+    requires { place < nodes_above 4 }
+    ensures { place_at result.depth result.index ≡ place }
+{
+    let (depth, before) = match place {
+        0 => (0, 0),
+        1..=16 => (1, 1),
+        17..=272 => (2, 17),
+        _ => (3, 273),
+    };
+    NodeAt {
+        depth,
+        index: (place - before) as u16,
+    }
+}
+
+/// Makes a leaf and every node above it dirty.
+fn dirty_up(format: Format, leaf: u16, digests: &mut [Option<Digest>])
+    requires leaf { leaf < 16 ^ tree_depth format }
+    requires all { length digests.old ≡ node_count format }
+    ensures { digests.new ≡ dirtied format leaf digests.old }
+{
+    let mut next = Some(NodeAt {
+        depth: tree_depth(format),
+        index: leaf,
+    });
+    while let Some(node) = next {
+        digests[node.place()] = None;
+        next = parent_of(node);
+    }
+}
+
+/// Returns the node above a node, or `None` for the root.
+pub(crate) fn parent_of(node: NodeAt) -> Option<NodeAt>
+    ensures { MatchOption result (node.depth ≡ 0) (λ n. (n.depth + 1 ≡ node.depth) × (n.index ≡ node.index / 16)) }
+{
+    if node.depth == 0 {
+        return None;
+    }
+    Some(NodeAt {
+        depth: node.depth - 1,
+        index: node.index / 16,
+    })
+}
+
+impl Drop for Marks {
+    /// Keeps the fields out of the proofs of callers that drop marks.
+    fn drop(self) {
+        let Marks {
+            format: _format,
+            digests: _digests,
+            blocks: _blocks,
+            whole: _whole,
+        } = self;
+    }
+}
