@@ -1,11 +1,11 @@
 //! Deliveries of hints.
 
 use crate::mirror::Mirror;
-use crate::model::plain::{PlainEntry, key_bytes};
 use crate::node::Node;
-use crate::trouble::{Trouble, expect};
 use admission::Slot;
 use caller_pass::Pass;
+use plain_model::plain::{PlainEntry, key_bytes};
+use plain_model::trouble::{Trouble, expect};
 use range_journal::Source;
 use ring_node::{DeliverReport, deliver};
 use std::alloc::Global;

@@ -1,8 +1,8 @@
 //! Partners whose digests are right and whose texts are not a node's.
 ghost use Rattle.ring_node.specs.Links.{CountsLosses};
 
-use crate::random::Random;
 use hash_tree::{Digest, Text, hash, inner_text};
+use plain_model::random::Random;
 use ring_node::{Link, Reached};
 use std::alloc::Global;
 use std::sync::Wait;

@@ -1,8 +1,8 @@
 //! The deeds of links that fail and lie.
 ghost use Rattle.std.specs.Prelude.{◌<◌};
 
-use crate::random::Random;
 use hash_tree::NodeAt;
+use plain_model::random::Random;
 use ring_node::Deed;
 use std::alloc::Global;
 use vclock::Refusal;

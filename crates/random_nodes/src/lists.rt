@@ -1,10 +1,10 @@
 //! Lists of steps: drawn, run, and shortened if they fail.
 
-use crate::random::Random;
 use crate::steps::{Setup, Step};
 use crate::tally::Tally;
 use crate::trial;
-use crate::trouble::Trouble;
+use plain_model::random::Random;
+use plain_model::trouble::Trouble;
 use std::alloc::Global;
 use std::sync::Wait;
 use std::thread::Threads;

@@ -1,13 +1,13 @@
 //! A node by the definitions: all that it must hold, offer, keep and remember.
 
-use crate::model::plain::{
+use crate::steps::Seen;
+use hash_tree::Digest;
+use plain_model::plain::{
     Fault, NODES, PlainEntry, PlainRange, PlainVersion, are_clocks_of, is_entry, joined,
 };
-use crate::model::trees::Tree;
-use crate::model::walks::Walk;
-use crate::steps::Seen;
-use crate::trouble::{Trouble, expect};
-use hash_tree::Digest;
+use plain_model::trees::Tree;
+use plain_model::trouble::{Trouble, expect};
+use plain_model::walks::Walk;
 use range_journal::Source;
 use range_state::{Accepted, Receipt};
 use std::alloc::Global;

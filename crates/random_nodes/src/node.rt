@@ -4,15 +4,15 @@
 ghost use Rattle.std.specs.Prelude.{◌≡◌, ◌≤◌};
 
 use crate::mirror::{Mirror, PlainHint, Published};
-use crate::model::leaves::Taken;
-use crate::model::plain::{Fault, PlainEntry, PlainRange, PlainVersion, are_equal, key_bytes};
-use crate::model::trees::{Tree, leaf_depth};
 use crate::partner::format_number;
 use crate::ranges::config_of;
 use crate::steps::{Seen, Setup, Side};
-use crate::trouble::{Trouble, expect};
 use caller_pass::{Pass, open_passes};
 use hash_tree::NodeAt;
+use plain_model::leaves::Taken;
+use plain_model::plain::{Fault, PlainEntry, PlainRange, PlainVersion, are_equal, key_bytes};
+use plain_model::trees::{Tree, leaf_depth};
+use plain_model::trouble::{Trouble, expect};
 use range_journal::Source;
 use range_state::{Loaded, RangeState, Receipt};
 use ring_node::{OfferPool, SharedHints, SharedRange};

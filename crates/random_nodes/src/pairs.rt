@@ -1,12 +1,12 @@
 //! Closed nodes, and pairs of them that are reconciled.
 
 use crate::mirror::Mirror;
-use crate::model::plain::{Fault, KEYS};
-use crate::model::trees::{Tree, differing, leaf_depth, width};
-use crate::model::walks::{Offering, Sent, Walk};
 use crate::ranges::{Range, reconcile_ranges};
-use crate::trouble::{Trouble, expect};
 use hash_tree::NodeAt;
+use plain_model::plain::{Fault, KEYS};
+use plain_model::trees::{Tree, differing, leaf_depth, width};
+use plain_model::trouble::{Trouble, expect};
+use plain_model::walks::{Offering, Sent, Walk};
 use range_state::Reconciled;
 use std::alloc::Global;
 use std::sync::Arc;

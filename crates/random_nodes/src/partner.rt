@@ -3,10 +3,10 @@
 use crate::failures::counted;
 use crate::forger::Forger;
 use crate::mirror::Mirror;
-use crate::model::messages::{PlainAnswer, PlainOffer, answer_bytes, offer_bytes, read_ask};
-use crate::model::trees::leaf_depth;
 use crate::node::Node;
-use crate::trouble::{Trouble, expect};
+use plain_model::messages::{PlainAnswer, PlainOffer, answer_bytes, offer_bytes, read_ask};
+use plain_model::trees::leaf_depth;
+use plain_model::trouble::{Trouble, expect};
 use ring_node::{Link, MemoryLink, Reached};
 use std::alloc::Global;
 use std::sync::Wait;

@@ -1,8 +1,8 @@
 //! The points of a worker, at which other steps are taken.
 ghost use Rattle.std.specs.Prelude.{◌<◌};
 
-use crate::random::Random;
 use crate::steps::Step;
+use plain_model::random::Random;
 use ring_node::{Gate, Step as Passed};
 use std::sync::Wait;
 

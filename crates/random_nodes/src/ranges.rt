@@ -1,10 +1,10 @@
 //! Ranges for one thread. Their methods have no clauses, so a function that calls them carries no facts about a range,
 //! and is proved fast.
 
-use crate::model::plain::{Part, PlainRange, are_equal, is_entry, key_bytes};
-use crate::model::walks::Walk;
-use crate::trouble::{Trouble, expect};
 use hash_tree::{Digest, NodeAt};
+use plain_model::plain::{Part, PlainRange, are_equal, is_entry, key_bytes};
+use plain_model::trouble::{Trouble, expect};
+use plain_model::walks::Walk;
 use range_journal::Journal;
 use range_state::{RangeConfig, RangeState, Reconciled, Record, reconcile};
 use std::alloc::Global;
@@ -79,7 +79,7 @@ impl Range {
     /// Compares each session with its walk.
     pub(crate) fn check_walks(&self, walks: &[Walk]) -> Result<(), Trouble> {
         for (walk, record) in walks.iter().zip(self.records()) {
-            expect(walk.is(record), "a session")?;
+            expect(walk.is(record.partner(), record.session()), "a session")?;
         }
         expect(self.records().len() == walks.len(), "a session")
     }

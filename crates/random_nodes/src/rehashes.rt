@@ -3,8 +3,8 @@
 use crate::node::Node;
 use crate::points::Points;
 use crate::steps::Step;
-use crate::trouble::{Trouble, expect};
 use admission::Slot;
+use plain_model::trouble::{Trouble, expect};
 use ring_node::{Gate, RehashReport, Step as Passed};
 use std::alloc::Global;
 use std::sync::ledger::Ledger;

@@ -3,8 +3,8 @@
 use crate::node::Made;
 use crate::steps::{Deed, Step};
 use crate::tally::Tally;
-use crate::trouble::Trouble;
 use crate::walking::Outcome;
+use plain_model::trouble::Trouble;
 use std::alloc::Global;
 use std::sync::{Mutex, Wait};
 

@@ -1,9 +1,9 @@
 //! The slots of both nodes' workers, and the same by the definitions.
 ghost use Rattle.std.specs.Prelude.{◌≡◌};
 
-use crate::model::slots::{CEILING, FLOOR, PlainSlots, THRESHOLD};
-use crate::trouble::{Trouble, expect};
 use admission::{Controller, Slot};
+use plain_model::slots::{CEILING, FLOOR, PlainSlots, THRESHOLD};
+use plain_model::trouble::{Trouble, expect};
 use ring_node::SharedController;
 use std::alloc::Global;
 use std::sync::ledger::{Blank, Ledger};

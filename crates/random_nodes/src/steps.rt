@@ -1,8 +1,8 @@
 //! The steps of a list, drawn by a seed before the list is run.
 ghost use Rattle.std.specs.Prelude.{◌<◌};
 
-use crate::model::plain::{Part, PlainVersion};
-use crate::random::Random;
+use plain_model::plain::{Part, PlainVersion};
+use plain_model::random::Random;
 use std::alloc::Global;
 use std::fmt;
 use vclock::{Format, Refusal};

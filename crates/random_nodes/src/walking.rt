@@ -1,13 +1,13 @@
 //! Syncs in progress, by the definitions.
 
 use crate::mirror::Mirror;
-use crate::model::messages::{PlainAnswer, PlainOffer, ask_bytes, read_answer, read_offer};
-use crate::model::plain::Fault;
-use crate::model::trees::Tree;
-use crate::model::walks::{Offering, Sent, Walk};
 use crate::partner::format_number;
-use crate::trouble::{Trouble, expect};
 use hash_tree::{Digest, NodeAt};
+use plain_model::messages::{PlainAnswer, PlainOffer, ask_bytes, read_answer, read_offer};
+use plain_model::plain::Fault;
+use plain_model::trees::Tree;
+use plain_model::trouble::{Trouble, expect};
+use plain_model::walks::{Offering, Sent, Walk};
 use ring_node::SyncReport;
 use std::alloc::Global;
 use std::mem::replace;

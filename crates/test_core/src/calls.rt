@@ -6,52 +6,15 @@ use hash_tree::{Digest, Hashed, NodeAt, Text, hash};
 use range_journal::Source;
 use range_state::{Accepted, AnswerTaken, Event, Loaded, RangeConfig, RangeState, Reply};
 use rehash::{Job, run_job};
-use row_bytes::{Row, RowList, a_held_set_is_a_row, read_row, read_rows, write_row};
 use snapshot::Snapshot;
 use std::alloc::Global;
 use std::sync::Arc;
 use std::test::Fail;
 use std::thread::Threads;
-use vclock::{Bytes, Clock, Format, Refusal};
-use version_set::{Kind, Offered, Version, VersionSet};
+use test_values::calls::clock;
+use vclock::{Bytes, Refusal};
+use version_set::{Kind, Version};
 use walk_messages::{Ask, Offer};
-
-/// Returns the clock of these pairs.
-pub(crate) fn clock(alloc: Global, pairs: &[(u64, u64)]) -> Result<Clock, Refusal> {
-    Clock::from_pairs(alloc, pairs)
-}
-
-/// Offers a version to a set.
-pub(crate) fn offer_version(set: &mut VersionSet, version: Version) -> Result<Offered, Refusal> {
-    set.offer(version)
-}
-
-/// Reads a row, and returns it with what follows.
-pub(crate) fn read(alloc: Global, format: Format, text: &[u8]) -> Result<(Row, &[u8]), Refusal> {
-    read_row(alloc, format, text)
-}
-
-/// Reads rows up to the end of a text.
-pub(crate) fn read_all(alloc: Global, format: Format, text: &[u8]) -> Result<RowList, Refusal> {
-    read_rows(alloc, format, text)
-}
-
-/// Reads a row from a text and writes it again. Returns the row and the text written.
-pub(crate) fn read_and_write(
-    alloc: Global,
-    format: Format,
-    text: &[u8],
-) -> Result<(Row, Vec<u8>), Refusal> {
-    let (row, _) = read_row(alloc, format, text)?;
-    a_held_set_is_a_row();
-    let written = write_row(alloc, format, &row)?;
-    Ok((row, written))
-}
-
-/// Returns a node of some tree.
-pub(crate) fn node_at(depth: u8, index: u16) -> Result<NodeAt, Fail> {
-    Ok(NodeAt::new(depth, index).ok_or("no such node")?)
-}
 
 /// Returns a text with its digest.
 pub(crate) fn hashed(alloc: Global, text: &[u8]) -> Result<Hashed, Refusal> {

@@ -1,9 +1,5 @@
 //! Lists of events.
-use crate::calls::{
-    clean_range, count_held, new_range, node_at, offer, run_events, snapshot_of_a, text_at,
-};
-use crate::checks::expect;
-use crate::versions::version;
+use crate::calls::{clean_range, count_held, new_range, offer, run_events, snapshot_of_a, text_at};
 use hash_tree::{Hashed, Text, hash};
 use range_journal::Source;
 use range_state::{
@@ -12,6 +8,9 @@ use range_state::{
 use snapshot::Snapshot;
 use std::alloc::Global;
 use std::test::Fail;
+use test_values::calls::node_at;
+use test_values::checks::expect;
+use test_values::versions::version;
 use vclock::{Bytes, Clock, Refusal};
 use version_set::Kind;
 

@@ -1,10 +1,10 @@
 //! Rows that are loaded from their texts.
 use crate::calls::{load_rows, new_range, rows_text};
-use crate::checks::expect;
-use crate::refusals::expect_refused;
 use range_state::{Loaded, RangeState};
 use std::alloc::Global;
 use std::test::Fail;
+use test_values::checks::expect;
+use test_values::refusals::expect_refused;
 use vclock::Refusal;
 
 /// The text of key `a` with the version of clock (1,1) and value `x`, in format 1: its leaf is 12 at 0 bits.

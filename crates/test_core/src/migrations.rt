@@ -1,16 +1,16 @@
 //! A range that is migrated to format 2.
 use crate::calls::{
-    count_held, migrate, new_range, next_job, node_at, offer, open_session, put_a, rehash,
-    run_events,
+    count_held, migrate, new_range, next_job, offer, open_session, put_a, rehash, run_events,
 };
-use crate::checks::expect;
-use crate::refusals::expect_refused;
 use range_state::{Event, RangeState, Reply};
 use rehash::run_job;
 use std::alloc::Global;
 use std::test::Fail;
 use std::thread::Threads;
 use sync_session::SessionState;
+use test_values::calls::node_at;
+use test_values::checks::expect;
+use test_values::refusals::expect_refused;
 use vclock::{Format, Refusal};
 
 /// Returns a range of format 1 that holds a value of `a`.

@@ -1,10 +1,8 @@
 //! Sessions of ranges with their partners.
 use crate::calls::{
-    abc, clean_range, count_held, hashed_at, new_range, node_at, offer, open_session, put, put_a,
+    abc, clean_range, count_held, hashed_at, new_range, offer, open_session, put, put_a,
     range_of_a, rehash, root_of, snapshot, snapshot_of_a, take_answer, text_at,
 };
-use crate::checks::expect;
-use crate::refusals::expect_refused;
 use hash_tree::{Digest, Hashed, NodeAt, Text, hash};
 use range_state::{AnswerTaken, RangeCounts, RangeState, Record};
 use snapshot::Snapshot;
@@ -12,6 +10,9 @@ use std::alloc::Global;
 use std::test::Fail;
 use std::thread::Threads;
 use sync_session::SessionState;
+use test_values::calls::node_at;
+use test_values::checks::expect;
+use test_values::refusals::expect_refused;
 use vclock::Refusal;
 use walk_messages::Offer;
 

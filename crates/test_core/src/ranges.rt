@@ -2,13 +2,13 @@
 ghost use Rattle.std.specs.Prelude.{◌<◌};
 
 use crate::calls::{accept, count_held, new_range, put_a};
-use crate::checks::expect;
-use crate::refusals::expect_refused;
-use crate::versions::{members, version};
 use range_journal::Source;
 use range_state::{RangeConfig, RangeState};
 use std::alloc::Global;
 use std::test::Fail;
+use test_values::checks::expect;
+use test_values::refusals::expect_refused;
+use test_values::versions::{members, version};
 use vclock::{Format, Refusal};
 use version_set::Kind;
 

@@ -2,13 +2,13 @@
 use crate::calls::{
     clean_range, count_held, migrate, new_range, offer, open_session, put, put_a, rehash, root_of,
 };
-use crate::checks::expect;
-use crate::refusals::expect_refused;
 use range_state::{RangeState, Reconciled, reconcile};
 use std::alloc::Global;
 use std::test::Fail;
 use std::thread::Threads;
 use sync_session::SessionState;
+use test_values::checks::expect;
+use test_values::refusals::expect_refused;
 use vclock::Refusal;
 
 /// Returns a range with `a` at the first node, whose nodes are all clean.

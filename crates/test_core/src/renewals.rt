@@ -1,12 +1,12 @@
 //! A range that is renewed.
 use crate::calls::{count_held, new_range, offer, open_session, put, rehash, renew, root_of};
-use crate::checks::expect;
-use crate::refusals::expect_refused;
 use range_journal::Source;
 use range_state::RangeState;
 use std::alloc::Global;
 use std::test::Fail;
 use std::thread::Threads;
+use test_values::checks::expect;
+use test_values::refusals::expect_refused;
 use vclock::Refusal;
 
 /// Returns a range with four entries that holds two versions of `a` and one of `b`. Its nodes are all clean, and it has

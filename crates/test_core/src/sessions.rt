@@ -1,13 +1,14 @@
 //! Sessions by themselves: the comparison of two trees, and the partner's answers.
-use crate::calls::{abc, clean_range, hashed_at, node_at, snapshot, snapshot_of_a};
-use crate::checks::expect;
-use crate::refusals::expect_refused;
+use crate::calls::{abc, clean_range, hashed_at, snapshot, snapshot_of_a};
 use hash_tree::{Digest, Hashed, NodeAt, tree_depth};
 use snapshot::Snapshot;
 use std::alloc::Global;
 use std::test::Fail;
 use std::thread::Threads;
 use sync_session::{Answered, Session, SessionState};
+use test_values::calls::node_at;
+use test_values::checks::expect;
+use test_values::refusals::expect_refused;
 use vclock::Refusal;
 
 /// Returns a session of a range without rows, with a partner of this root.

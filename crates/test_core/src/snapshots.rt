@@ -4,11 +4,9 @@ ghost use Rattle.sha2.specs.Sha256.{sha256};
 ghost use Rattle.hash_tree.specs.Texts.{inner_text};
 
 use crate::calls::{
-    clean_range, new_range, next_job, node_at, offer, open_session, put_a, range_of_a, rehash,
-    snapshot, text_at,
+    clean_range, new_range, next_job, offer, open_session, put_a, range_of_a, rehash, snapshot,
+    text_at,
 };
-use crate::checks::expect;
-use crate::refusals::expect_refused;
 use hash_tree::{Digest, NodeAt, SharedLeaf, inner_text, leaf_text};
 use range_state::RangeState;
 use rehash::run_job;
@@ -17,6 +15,9 @@ use snapshot::Snapshot;
 use std::alloc::Global;
 use std::test::Fail;
 use std::thread::Threads;
+use test_values::calls::node_at;
+use test_values::checks::expect;
+use test_values::refusals::expect_refused;
 use vclock::{Format, Refusal};
 
 #[test]

@@ -1,17 +1,17 @@
 //! Trees: node texts, marks, jobs and rehashes. Another program made the digests from the definition.
 use crate::calls::{
-    abc, accept, install, new_range, next_job, node_at, put_a, range_of_a, rehash, take_job,
-    take_jobs,
+    abc, accept, install, new_range, next_job, put_a, range_of_a, rehash, take_job, take_jobs,
 };
-use crate::checks::expect;
-use crate::refusals::expect_refused;
-use crate::versions::version;
 use hash_tree::{Digest, Hashed, Marks, NodeAt, Text, hash, inner_text, is_inner_text, leaf_text};
 use range_state::RangeState;
 use rehash::{Job, hash_all, hash_here, run_job};
 use std::alloc::Global;
 use std::test::Fail;
 use std::thread::Threads;
+use test_values::calls::node_at;
+use test_values::checks::expect;
+use test_values::refusals::expect_refused;
+use test_values::versions::version;
 use vclock::{Format, Refusal};
 use version_set::Kind;
 

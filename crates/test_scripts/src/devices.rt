@@ -1,10 +1,9 @@
 //! Scripts over readers and writers that fail.
-use crate::handoffs::WAITING;
-use crate::outages::FORK;
-use crate::scripts::{BAD_LINE, BAD_LINE_ANSWERS};
-use crate::syncs::ONE_KEY;
+use crate::scripts::{
+    BAD_LINE, BAD_LINE_ANSWERS, FORK, FORK_ANSWERS, ONE_KEY, ONE_KEY_ANSWERS, UPDATES,
+    UPDATES_ANSWERS, WAITING, WAITING_ANSWERS,
+};
 use outage_script::{ScriptEnd, run_script};
-use std::fmt::Write as _;
 use std::io;
 use std::io::{Read, Write};
 use std::test::Fail;
@@ -145,7 +144,7 @@ fn count_faults(
 }
 
 /// Fails the test with these words unless the condition holds.
-fn expect(holds: bool, what: &'static str) -> Result<(), Fail> {
+pub(crate) fn expect(holds: bool, what: &'static str) -> Result<(), Fail> {
     if holds { Ok(()) } else { Err(Fail::from(what)) }
 }
 
@@ -172,24 +171,10 @@ fn count_all(
     })
 }
 
-/// A script with an update that is refused.
-const UPDATES: &str = r#"{"put":{"node":1,"key":"61","context":[],"value":"78"}}
-{"put":{"node":1,"key":"61","context":[[1,1]],"value":"79"}}
-{"put":{"node":1,"key":"61","context":[[1,1]],"value":"79"}}
-{"get":{"node":1,"key":"61"}}
-"#;
-
-/// The script's output.
-const UPDATE_ANSWERS: &str = r#"{"clock":[[1,1]],"copied":0,"hinted":0,"number":0}
-{"clock":[[1,2]],"copied":0,"hinted":0,"number":1}
-{"cause":"StaleContext","held":[[[1,2]]],"refused":6}
-{"versions":[{"clock":[[1,2]],"value":"79"}]}
-"#;
-
 #[test]
 fn each_fault_of_a_device_ends_the_script(rt: HostRuntime) -> Result<(), Fail> {
     for script in [
-        (UPDATES, UPDATE_ANSWERS, ScriptEnd::Done),
+        (UPDATES, UPDATES_ANSWERS, ScriptEnd::Done),
         (BAD_LINE, BAD_LINE_ANSWERS, ScriptEnd::BadLine(3)),
     ] {
         let bytes = script.1.len() as u64;
@@ -209,21 +194,16 @@ fn each_fault_of_a_device_ends_the_script(rt: HostRuntime) -> Result<(), Fail> {
 /// The maximum length of a read and of a write in a script of many lines, in bytes.
 const SIZE: usize = 64;
 
-/// Runs the script of these lines with each call of a device failing in turn, and then with one byte a call. The run
-/// without a fault flushes after each read, and writes each answer at least once.
+/// Runs the script with each call of a device failing in turn, and then with one byte a call. The run without a fault
+/// flushes after each read, and writes each answer at least once.
 fn expect_faults(
     rt: &(impl AllocGlobal + Threads + Sync),
-    lines: &[(&str, &str)],
+    input: &str,
+    output: &str,
 ) -> Result<(), Fail> {
-    let mut input = String::new(rt.alloc());
-    let mut output = String::new(rt.alloc());
-    for (line, answer) in lines {
-        writeln!(input, "{line}")?;
-        writeln!(output, "{answer}")?;
-    }
-    let script = (input.as_str(), output.as_str(), ScriptEnd::Done);
+    let script = (input, output, ScriptEnd::Done);
     let reads = (input.len().div_ceil(SIZE) as u64).saturating_add(1);
-    let answers = lines.len() as u64;
+    let answers = output.lines().count() as u64;
     let counts = count_all(rt, script, SIZE)?;
     expect(
         counts.reads == reads && counts.flushes == reads,
@@ -270,15 +250,15 @@ fn no_fault() -> Calls {
 
 #[test]
 fn each_fault_ends_a_script_of_puts(rt: HostRuntime) -> Result<(), Fail> {
-    expect_faults(&rt, FORK)
+    expect_faults(&rt, FORK, FORK_ANSWERS)
 }
 
 #[test]
 fn each_fault_ends_a_script_of_syncs(rt: HostRuntime) -> Result<(), Fail> {
-    expect_faults(&rt, ONE_KEY)
+    expect_faults(&rt, ONE_KEY, ONE_KEY_ANSWERS)
 }
 
 #[test]
 fn each_fault_ends_a_script_of_hints(rt: HostRuntime) -> Result<(), Fail> {
-    expect_faults(&rt, WAITING)
+    expect_faults(&rt, WAITING, WAITING_ANSWERS)
 }

@@ -1,15 +1,9 @@
-//! Tests of scripts: worked examples, and devices that fail.
+//! Tests of scripts whose devices fail. `examples/check` runs the worked scripts.
 #![tactic(auto)]
 
 #[cfg(test)]
 mod devices;
 #[cfg(test)]
-mod handoffs;
-#[cfg(test)]
-mod outages;
+mod memory;
 #[cfg(test)]
 mod scripts;
-#[cfg(test)]
-mod syncs;
-#[cfg(test)]
-mod trees;

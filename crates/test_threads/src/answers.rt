@@ -11,8 +11,8 @@ use std::sync::ledger::{Blank, Ledger};
 use std::test::Fail;
 use std::thread::Threads;
 use sync_session::SessionState;
-use test_core::checks::expect;
-use test_core::refusals::is_refused;
+use test_values::checks::expect;
+use test_values::refusals::is_refused;
 use vclock::Refusal;
 use walk_messages::{Ask, Offer};
 

@@ -12,7 +12,7 @@ use std::sync::ledger::{Blank, Ledger};
 use std::test::Fail;
 use std::thread;
 use std::thread::Threads;
-use test_core::checks::expect;
+use test_values::checks::expect;
 
 /// Syncs over a channel, and stops its server.
 fn sync_and_stop<L: Ledger, C: Ledger, R: Wait>(

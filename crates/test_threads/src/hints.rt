@@ -9,8 +9,8 @@ use std::sync::Wait;
 use std::sync::ledger::Ledger;
 use std::test::Fail;
 use std::thread::Threads;
-use test_core::checks::expect;
-use test_core::versions::version;
+use test_values::checks::expect;
+use test_values::versions::version;
 use vclock::{Bytes, Refusal};
 use version_set::Kind;
 

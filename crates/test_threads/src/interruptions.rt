@@ -16,7 +16,7 @@ use std::test::Fail;
 use std::thread;
 use std::thread::Threads;
 use sync_session::SessionState;
-use test_core::checks::expect;
+use test_values::checks::expect;
 use vclock::Refusal;
 
 /// A link that is held at a barrier before each ask.

@@ -11,7 +11,7 @@ use std::sync::Wait;
 use std::sync::ledger::{Blank, Ledger};
 use std::test::Fail;
 use std::thread::Threads;
-use test_core::checks::expect;
+use test_values::checks::expect;
 use vclock::Refusal;
 
 /// The text of key `a` with the versions of the clocks (2,1) and (3,1) and the values `y` and `z`, in format 1.

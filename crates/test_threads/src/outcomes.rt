@@ -8,8 +8,8 @@ use std::sync::Wait;
 use std::sync::ledger::Ledger;
 use std::test::Fail;
 use sync_session::SessionState;
-use test_core::checks::expect;
-use test_core::versions::members;
+use test_values::checks::expect;
+use test_values::versions::members;
 use vclock::Refusal;
 
 /// Returns the report of the first session of a range, if it knew no version.

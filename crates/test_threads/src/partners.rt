@@ -10,7 +10,7 @@ use std::alloc::Global;
 use std::sync::{Arc, Wait};
 use std::test::Fail;
 use std::thread::Threads;
-use test_core::versions::version;
+use test_values::versions::version;
 use vclock::Refusal;
 use version_set::{Kind, Version};
 

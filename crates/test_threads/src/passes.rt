@@ -12,8 +12,8 @@ use std::process::Abort;
 use std::sync::ledger::{Blank, Ledger};
 use std::test::Fail;
 use std::thread::Threads;
-use test_core::checks::expect;
-use test_core::versions::version;
+use test_values::checks::expect;
+use test_values::versions::version;
 use vclock::{Bytes, Clock, Refusal};
 use version_set::Kind;
 

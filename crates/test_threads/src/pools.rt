@@ -12,8 +12,8 @@ use std::sync::ledger::Ledger;
 use std::sync::{Arc, Wait};
 use std::test::Fail;
 use std::thread::Threads;
-use test_core::checks::expect;
-use test_core::refusals::is_refused;
+use test_values::checks::expect;
+use test_values::refusals::is_refused;
 use vclock::Refusal;
 use walk_messages::Ask;
 

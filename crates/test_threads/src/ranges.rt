@@ -10,9 +10,9 @@ use std::marker::Brand;
 use std::sync::Wait;
 use std::sync::ledger::{Blank, Ledger};
 use std::test::Fail;
-use test_core::checks::expect;
-use test_core::refusals::is_refused;
-use test_core::versions::{members, version};
+use test_values::checks::expect;
+use test_values::refusals::is_refused;
+use test_values::versions::{members, version};
 use vclock::Refusal;
 use version_set::Kind;
 

@@ -13,7 +13,7 @@ use std::sync::ledger::{Blank, Ledger};
 use std::test::Fail;
 use std::thread;
 use std::thread::Threads;
-use test_core::checks::expect;
+use test_values::checks::expect;
 use vclock::Refusal;
 
 /// The maximum number of turns of a rehash.

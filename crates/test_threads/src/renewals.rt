@@ -12,8 +12,8 @@ use std::sync::Wait;
 use std::sync::ledger::{Blank, Ledger};
 use std::test::Fail;
 use std::thread::Threads;
-use test_core::checks::expect;
-use test_core::versions::members;
+use test_values::checks::expect;
+use test_values::versions::members;
 use vclock::{Bytes, Clock, Refusal};
 use version_set::Kind;
 

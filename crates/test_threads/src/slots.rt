@@ -10,8 +10,8 @@ use std::sync::Wait;
 use std::sync::ledger::Ledger;
 use std::test::Fail;
 use std::thread::Threads;
-use test_core::checks::expect;
-use test_core::refusals::is_refused;
+use test_values::checks::expect;
+use test_values::refusals::is_refused;
 use vclock::Refusal;
 
 /// Borrows a slot.

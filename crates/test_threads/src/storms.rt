@@ -9,7 +9,7 @@ use std::test::Fail;
 use std::thread;
 use std::thread::Threads;
 use storm::{MOST_PUTS, Tallies, run_storm};
-use test_core::checks::expect;
+use test_values::checks::expect;
 
 /// The maximum number of times that a thread checks if it may go on.
 const MOST_LOOKS: u64 = 10_000_000;

@@ -12,8 +12,8 @@ use std::sync::ledger::{Blank, Ledger};
 use std::test::Fail;
 use std::thread;
 use std::thread::Threads;
-use test_core::checks::expect;
-use test_core::versions::version;
+use test_values::checks::expect;
+use test_values::versions::version;
 use vclock::Refusal;
 use version_set::Kind;
 

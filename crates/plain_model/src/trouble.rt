@@ -1,0 +1,50 @@
+//! Reasons that end a list early.
+
+use std::alloc::{AllocError, AllocFailed};
+use std::fmt;
+use vclock::Refusal;
+
+/// The reason why a list ends early.
+#[derive(Drop)]
+pub enum Trouble {
+    /// A check that doesn't hold.
+    Differs(&'static str),
+    /// The refusal of a call that must not be refused.
+    Refused(Refusal),
+}
+
+impl fmt::Display for Trouble {
+    fn fmt<W: fmt::Write>(&self, f: &mut fmt::Formatter<W>) -> fmt::Result {
+        match self {
+            Trouble::Differs(what) => write!(f, "{what} differs"),
+            Trouble::Refused(refusal) => write!(f, "{refusal}"),
+        }
+    }
+}
+
+impl From<Refusal> for Trouble {
+    fn from(refusal: Refusal) -> Trouble {
+        Trouble::Refused(refusal)
+    }
+}
+
+impl From<AllocError> for Trouble {
+    fn from(_error: AllocError) -> Trouble {
+        Trouble::Refused(Refusal::NoMemory)
+    }
+}
+
+impl<T: Drop> From<AllocFailed<T>> for Trouble {
+    fn from(_failed: AllocFailed<T>) -> Trouble {
+        Trouble::Refused(Refusal::NoMemory)
+    }
+}
+
+/// Ends the list if a check doesn't hold.
+pub fn expect(holds: bool, what: &'static str) -> Result<(), Trouble> {
+    if holds {
+        Ok(())
+    } else {
+        Err(Trouble::Differs(what))
+    }
+}
