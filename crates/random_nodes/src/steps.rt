@@ -236,7 +236,7 @@ fn drawn(random: &mut Random, side: Side, deed: Deed) -> Step {
     Step {
         side,
         deed,
-        pace: random.pace(),
+        pace: pace(random),
         salt: random.below(u64::MAX),
     }
 }
@@ -280,17 +280,15 @@ fn draw_sample(random: &mut Random) -> Deed {
     }
 }
 
-impl Random {
-    /// Draws how seldom a worker's points take steps.
-    fn pace(&mut self) -> u64
-        ensures { 0 < result }
-    {
-        match self.below(4) {
-            0 => 1,
-            1 => 2,
-            2 => 5,
-            _ => 20,
-        }
+/// Draws how seldom a worker's points take steps.
+fn pace(random: &mut Random) -> u64
+    ensures { 0 < result }
+{
+    match random.below(4) {
+        0 => 1,
+        1 => 2,
+        2 => 5,
+        _ => 20,
     }
 }
 

@@ -115,6 +115,15 @@ pub fn migrate<L: Ledger, R: Wait>(
     range.migrate(rt, alloc)
 }
 
+/// Makes a snapshot of a range.
+pub fn snapshot<L: Ledger, R: Wait>(
+    rt: &R,
+    alloc: Global,
+    range: &SharedRange<L>,
+) -> Result<Arc<Snapshot, Global>, Refusal> {
+    range.snapshot(rt, alloc)
+}
+
 /// Publishes a snapshot, and returns its offer.
 pub fn publish<R: Wait>(
     rt: &R,
