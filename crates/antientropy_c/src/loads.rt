@@ -28,7 +28,7 @@ use vclock::Refusal;
 
 /// The result of a load.
 #[repr(C)]
-#[derive(Clone, Copy)]
+#[derive(Clone, Copy, Debug)]
 pub struct LoadReceipt {
     /// The number of new versions.
     pub taken: u64,
