@@ -9,7 +9,7 @@ use std::alloc::Global;
 
 /// The counts of a replica.
 #[repr(C)]
-#[derive(Clone, Copy, Debug)]
+#[derive(Clone, Copy)]
 pub struct Counts {
     /// The number of entries of the journal.
     pub entries: u64,

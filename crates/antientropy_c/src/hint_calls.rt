@@ -29,7 +29,7 @@ use version_set::Version;
 
 /// The numbers of hints.
 #[repr(C)]
-#[derive(Clone, Copy, Debug)]
+#[derive(Clone, Copy)]
 pub struct HintNumbers {
     /// The number of hints that wait for their owners.
     pub pending: u64,

@@ -28,7 +28,7 @@ use vclock::Refusal;
 
 /// The result of a load.
 #[repr(C)]
-#[derive(Clone, Copy, Debug)]
+#[derive(Clone, Copy)]
 pub struct LoadReceipt {
     /// The number of new versions.
     pub taken: u64,

@@ -13,7 +13,7 @@ use walk_messages::{Message, Offer, decode};
 
 /// The parts of an offer.
 #[repr(C)]
-#[derive(Clone, Copy, Debug)]
+#[derive(Clone, Copy)]
 pub struct OfferParts {
     /// The number of the offer at the replica that made it.
     pub number: u64,

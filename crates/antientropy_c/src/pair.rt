@@ -13,7 +13,7 @@ const FEW_PAIRS: usize = 4;
 
 /// A node with its counter.
 #[repr(C)]
-#[derive(Clone, Copy, Debug)]
+#[derive(Clone, Copy)]
 pub struct Pair {
     /// The node, 1 to 65,535 in a clock.
     pub node: u64,

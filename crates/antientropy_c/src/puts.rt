@@ -21,7 +21,7 @@ use version_set::{Kind, Version};
 
 /// The receipt of a put.
 #[repr(C)]
-#[derive(Clone, Copy, Debug)]
+#[derive(Clone, Copy)]
 pub struct PutReceipt {
     /// The number of the entry in the journal, from 0.
     pub number: u64,

@@ -14,7 +14,7 @@ use std::alloc::Global;
 
 /// The sizes and the kind of a version.
 #[repr(C)]
-#[derive(Clone, Copy, Debug)]
+#[derive(Clone, Copy)]
 pub struct Reading {
     /// The number of versions that are held for the key.
     pub versions: u64,

@@ -80,7 +80,7 @@ pub(crate) fn tell_number(told: &Result<u64, Refusal>, out: &mut u64)
 
 /// The receipt of an answer that a session took.
 #[repr(C)]
-#[derive(Clone, Copy, Debug)]
+#[derive(Clone, Copy)]
 pub struct TakenReceipt {
     /// The number of versions that were new, and are entries of the journal from then on.
     pub accepted: u64,

@@ -20,7 +20,7 @@ const SLOTS_MAX: u32 = 1_024;
 
 /// The 99th percentile of the latencies of the last minute.
 #[repr(C)]
-#[derive(Clone, Copy, Debug)]
+#[derive(Clone, Copy)]
 pub struct Percentile {
     /// 1 if there were samples, and 0 otherwise.
     pub found: u64,
@@ -30,7 +30,7 @@ pub struct Percentile {
 
 /// The numbers of slots.
 #[repr(C)]
-#[derive(Clone, Copy, Debug)]
+#[derive(Clone, Copy)]
 pub struct SlotNumbers {
     /// The target: the maximum number of slots lent.
     pub target: u64,

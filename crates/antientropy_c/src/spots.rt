@@ -13,7 +13,7 @@ use vclock::{Format, Refusal, check_key};
 
 /// The range of a key, and its leaf there.
 #[repr(C)]
-#[derive(Clone, Copy, Debug)]
+#[derive(Clone, Copy)]
 pub struct Spot {
     /// The range, from 0.
     pub range: u64,

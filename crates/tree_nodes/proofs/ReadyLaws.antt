@@ -1,12 +1,11 @@
 -- Which nodes can be hashed, and what the digests of a clean tree are.
-use Rattle.std.proofs.Common.{◌≡◌, ℕ, zero, suc, ◌+◌, ◌*◌, ◌-◌, ◌^◌, ◌<◌, ◌≤◌, Bool, true, false, cond, is_some, is_none, Option, Some, None, List, [], ◌∷◌, length, drop, refl, sym, ap, subst, ◌∙◌, arith, inl, inr}
+use Rattle.std.proofs.Common.{◌≡◌, ℕ, zero, suc, ◌+◌, ◌*◌, ◌-◌, ◌<◌, ◌≤◌, Bool, true, false, cond, is_some, is_none, Option, Some, None, List, [], ◌∷◌, length, drop, refl, sym, ap, subst, ◌∙◌, arith, inl, inr}
 use Rattle.std.specs.List.{filter, range_with_len}
 use Rattle.std.proofs.lemmas.Bool.{both_ways, cases_eq, cases_Bool, cond-true, cond-false, and_from, and_parts}
 use Rattle.std.proofs.lemmas.List.{get_or_default, length-take, length-drop}
-use Rattle.std.proofs.lemmas.List.Sums.{AllPass-from_list_all, list_all-from_AllPass}
-use Rattle.vclock.specs.declared.format.Format.{Format}
-use Rattle.tree_nodes.specs.Nodes.{tree_depth, node_count, place_at, kept_digest, children_of, are_clean, is_ready, ready_from}
-use Rattle.tree_nodes.proofs.PlaceLaws.{Digests, place_within}
+use Rattle.std.proofs.lemmas.List.Sums.{list_all-from_AllPass}
+use Rattle.tree_nodes.specs.Nodes.{kept_digest, children_of, are_clean, is_ready, ready_from}
+use Rattle.tree_nodes.proofs.PlaceLaws.{Digests}
 use Rattle.tree_nodes.proofs.TreeLaws.{child_at}
 
 -- ---- the numbers of a range that pass a test
