@@ -8,6 +8,7 @@
 mod node;
 pub mod storm;
 pub mod tally;
+mod threads;
 mod workers;
 mod writer;
 

@@ -1,22 +1,18 @@
-//! A node of a storm, and its threads.
+//! A node of a storm, with the passes of its threads.
 ghost use Rattle.std.specs.Prelude.{◌≡◌, ◌≤◌};
 
 use crate::tally::SharedTally;
-use crate::workers::{rehash_rounds, sync_rounds};
-use crate::writer::write;
 use caller_pass::{Pass, open_passes};
 use range_state::{RangeConfig, RangeState};
-use ring_node::{ChannelLink, ChannelServer, Gate, OfferPool, SharedController, SharedRange};
+use ring_node::{Gate, OfferPool, SharedController, SharedRange};
 use std::alloc::Global;
-use std::sync::Wait;
 use std::sync::ledger::{Blank, Ledger};
-use std::thread;
-use std::thread::Threads;
 use vclock::Refusal;
 use vclock::limits::ENTRIES_MAX;
 
 /// A node: its replica of the one range, the offers of its snapshots, the tally of its threads, and the number of the
 /// other node.
+#[derive(Drop)]
 pub(crate) struct Node<'a, L: Ledger> {
     pub(crate) range: SharedRange<L>,
     pub(crate) pool: OfferPool,
@@ -31,11 +27,10 @@ pub(crate) struct Passes<L: Ledger> {
     pub(crate) syncer: Pass<L>,
 }
 
-/// The link of a node to the other one, and the server for the other one's link.
-#[derive(Drop)]
-pub(crate) struct Ends {
-    pub(crate) link: ChannelLink,
-    pub(crate) server: ChannelServer,
+/// A node with its passes.
+pub(crate) struct Member<'a, L: Ledger> {
+    pub(crate) node: Node<'a, L>,
+    pub(crate) passes: Passes<L>,
 }
 
 /// The slots and the gate that the threads of both nodes share, and the number of puts of each writer.
@@ -46,7 +41,7 @@ pub(crate) struct Plan<'a, C: Ledger, G: Gate> {
     pub(crate) puts: u64,
 }
 
-impl<'a, L: Ledger> Node<'a, L> {
+impl<'a, L: Ledger> Member<'a, L> {
     /// Makes a node that has accepted nothing, and its passes. Refused: NoMemory.
     pub(crate) fn open(
         alloc: Global,
@@ -54,33 +49,28 @@ impl<'a, L: Ledger> Node<'a, L> {
         tally: &'a SharedTally,
         number: u16,
         partner: u16,
-    ) -> Result<(Node<'a, L>, Passes<L>), Refusal>
+    ) -> Result<Member<'a, L>, Refusal>
         requires ledger { (blank.name ≡ L.name) × (blank.parts ≡ L.parts) × (blank.parts ≡ 2) }
         requires number { 1 ≤ number }
     {
         let config = RangeConfig::new(1, 0, 0, ENTRIES_MAX).ok_or(Refusal::BadRing)?;
         let state = RangeState::new(alloc, config)?;
-        let (book, mut passes) = open_passes::<L>(blank, alloc, 2)?;
-        let syncer = passes.pop().ok_or(Refusal::Stranger)?;
-        let writer = passes.pop().ok_or(Refusal::Stranger)?;
+        let (book, passes) = open_passes::<L>(blank, alloc, 2)?;
         let node = Node {
             range: SharedRange::new(number, state, book),
             pool: OfferPool::new(alloc),
             tally,
             partner,
         };
-        Ok((node, Passes { writer, syncer }))
+        let passes = taken_apart(passes)?;
+        Ok(Member { node, passes })
     }
 
     /// Closes the range. Returns true if its passes agree with its journal. Refused: NoMemory.
-    pub(crate) fn close(self, alloc: Global, passes: Passes<L>) -> Result<bool, Refusal> {
+    pub(crate) fn close(self, alloc: Global) -> Result<bool, Refusal> {
+        let Member { node, passes } = self;
         let passes = listed(alloc, passes)?;
-        let Node {
-            range,
-            pool: _pool,
-            tally: _tally,
-            partner: _partner,
-        } = self;
+        let Node { range, .. } = node;
         match range.close(alloc, passes) {
             Ok(_) => Ok(true),
             Err(refused) => match refused.refusal {
@@ -91,16 +81,21 @@ impl<'a, L: Ledger> Node<'a, L> {
     }
 }
 
-impl<'a, L: Ledger> Drop for Node<'a, L> {
+impl<'a, L: Ledger> Drop for Member<'a, L> {
     /// Keeps the fields out of the proofs of callers that drop a node.
     fn drop(self) {
-        let Node {
-            range: _range,
-            pool: _pool,
-            tally: _tally,
-            partner: _partner,
+        let Member {
+            node: _node,
+            passes: _passes,
         } = self;
     }
+}
+
+/// Returns the two passes of a list.
+fn taken_apart<L: Ledger>(mut passes: Vec<Pass<L>>) -> Result<Passes<L>, Refusal> {
+    let syncer = passes.pop().ok_or(Refusal::Stranger)?;
+    let writer = passes.pop().ok_or(Refusal::Stranger)?;
+    Ok(Passes { writer, syncer })
 }
 
 /// Lists the passes of a node.
@@ -110,47 +105,4 @@ fn listed<L: Ledger>(alloc: Global, passes: Passes<L>) -> Result<Vec<Pass<L>>, R
     list.push_reserved(writer);
     list.push_reserved(syncer);
     Ok(list)
-}
-
-/// Runs the threads of a node until all have ended, and returns its passes.
-///
-/// Refused as the writer, the rehash worker and the sync worker are; also NoMemory, if a thread can't be made. Then the
-/// others have ended, too: the parts of a thread that can't be made, such as its ends of channels, are dropped before
-/// the others are waited for.
-pub(crate) fn run_node<L, C, R, G>(
-    rt: &R,
-    alloc: Global,
-    node: &Node<'_, L>,
-    plan: &Plan<'_, C, G>,
-    passes: Passes<L>,
-    ends: Ends,
-) -> Result<Passes<L>, Refusal>
-where
-    L: Ledger + Send + Sync,
-    C: Ledger + Send + Sync,
-    R: Threads + Wait + Sync,
-    G: Gate + Sync,
-{
-    let Passes { writer, syncer } = passes;
-    let Ends { link, server } = ends;
-    thread::scope(thread::scope_env(), rt, |scope| {
-        let serves = scope.spawn(move || server.run(rt, &node.pool));
-        let syncs = scope.spawn(move || sync_rounds(rt, alloc, node, plan, syncer, link));
-        let rehashes = scope.spawn(move || rehash_rounds(rt, alloc, node, plan));
-        let writes = scope.spawn(move || write(rt, alloc, node, plan, writer));
-        match (serves, syncs, rehashes, writes) {
-            (Ok(serves), Ok(syncs), Ok(rehashes), Ok(writes)) => {
-                let writer = writes.join(rt);
-                let rehashed = rehashes.join(rt);
-                let syncer = syncs.join(rt);
-                serves.join(rt);
-                rehashed?;
-                Ok(Passes {
-                    writer: writer?,
-                    syncer: syncer?,
-                })
-            }
-            _ => Err(Refusal::NoMemory),
-        }
-    })
 }

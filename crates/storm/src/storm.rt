@@ -1,17 +1,16 @@
 //! Storms.
 ghost use Rattle.std.specs.Prelude.{◌≡◌, ◌*◌, ◌≤◌, IfOk};
 
-use crate::node::{Ends, Node, Passes, Plan, run_node};
+use crate::node::{Member, Node, Plan};
 use crate::tally::Tallies;
+use crate::threads::run_nodes;
 use crate::workers::{rehash, sync};
 use admission::Controller;
-use caller_pass::Pass;
-use ring_node::{Gate, MemoryLink, OfferPool, SharedController, channel_link};
+use ring_node::{Gate, MemoryLink, OfferPool, SharedController};
 use std::alloc::Global;
 use std::marker::Brand;
 use std::sync::Wait;
 use std::sync::ledger::{Blank, Ledger};
-use std::thread;
 use std::thread::Threads;
 use vclock::Refusal;
 
@@ -82,22 +81,25 @@ where
         gate,
         puts,
     };
-    let (one, passes) = Node::<S>::open(alloc, first, &tallies.one, 1, 2)?;
-    let (two, others) = Node::<T>::open(alloc, second, &tallies.two, 2, 1)?;
-    let (passes, others) = run_nodes(rt, alloc, &one, &two, &plan, passes, others)?;
-    end_storm(rt, alloc, one, two, &plan, passes, others)
+    let mut one = Member::<S>::open(alloc, first, &tallies.one, 1, 2)?;
+    let mut two = Member::<T>::open(alloc, second, &tallies.two, 2, 1)?;
+    let equal = run_both(rt, alloc, &mut one, &mut two, &plan)?;
+    let (settled, other_settled) = (one.close(alloc), two.close(alloc));
+    Ok(StormEnd {
+        puts: 2 * puts,
+        equal,
+        settled: settled? && other_settled?,
+    })
 }
 
-/// Runs the threads of both nodes until all have ended.
-fn run_nodes<S, T, C, R, G>(
+/// Runs the threads of both nodes, brings the nodes together, and returns true if their roots are equal.
+fn run_both<S, T, C, R, G>(
     rt: &R,
     alloc: Global,
-    one: &Node<'_, S>,
-    two: &Node<'_, T>,
+    one: &mut Member<'_, S>,
+    two: &mut Member<'_, T>,
     plan: &Plan<'_, C, G>,
-    passes: Passes<S>,
-    others: Passes<T>,
-) -> Result<(Passes<S>, Passes<T>), Refusal>
+) -> Result<bool, Refusal>
 where
     S: Ledger + Send + Sync,
     T: Ledger + Send + Sync,
@@ -105,84 +107,39 @@ where
     R: Threads + Wait + Sync,
     G: Gate + Sync,
 {
-    let (to_one, server_of_one) = channel_link(alloc)?;
-    let (to_two, server_of_two) = channel_link(alloc)?;
-    let ends = Ends {
-        link: to_two,
-        server: server_of_one,
-    };
-    let other_ends = Ends {
-        link: to_one,
-        server: server_of_two,
-    };
-    thread::scope(thread::scope_env(), rt, |scope| {
-        let first = scope.spawn(move || run_node(rt, alloc, one, plan, passes, ends));
-        let second = scope.spawn(move || run_node(rt, alloc, two, plan, others, other_ends));
-        match (first, second) {
-            (Ok(first), Ok(second)) => {
-                let passes = first.join(rt);
-                let others = second.join(rt);
-                Ok((passes?, others?))
-            }
-            _ => Err(Refusal::NoMemory),
-        }
-    })
-}
-
-/// Rehashes and syncs both nodes, and closes them.
-fn end_storm<S: Ledger, T: Ledger, C: Ledger, R: Wait, G: Gate>(
-    rt: &R,
-    alloc: Global,
-    one: Node<'_, S>,
-    two: Node<'_, T>,
-    plan: &Plan<'_, C, G>,
-    mut passes: Passes<S>,
-    mut others: Passes<T>,
-) -> Result<StormEnd, Refusal>
-    requires { plan.now.puts ≤ MOST_PUTS }
-    ensures { IfOk result (λ end. end.puts ≡ 2 * plan.now.puts) }
-{
-    let (syncer, other) = (&mut passes.syncer, &mut others.syncer);
-    bring_together(rt, alloc, &one, &two, plan, syncer, other)?;
-    let equal = have_one_root(rt, alloc, &one, &two)?;
-    let settled = one.close(alloc, passes)?;
-    let other_settled = two.close(alloc, others)?;
-    Ok(StormEnd {
-        puts: 2 * plan.puts,
-        equal,
-        settled: settled && other_settled,
-    })
+    let (passes, others) = (&mut one.passes, &mut two.passes);
+    run_nodes(rt, alloc, &one.node, &two.node, plan, passes, others)?;
+    bring_together(rt, alloc, one, two, plan)?;
+    have_one_root(rt, alloc, &one.node, &two.node)
 }
 
 /// Rehashes both nodes, syncs them both ways, and rehashes them.
 fn bring_together<S: Ledger, T: Ledger, C: Ledger, R: Wait, G: Gate>(
     rt: &R,
     alloc: Global,
-    one: &Node<'_, S>,
-    two: &Node<'_, T>,
+    one: &mut Member<'_, S>,
+    two: &mut Member<'_, T>,
     plan: &Plan<'_, C, G>,
-    syncer: &mut Pass<S>,
-    other: &mut Pass<T>,
 ) -> Result<(), Refusal> {
-    rehash(rt, alloc, one, plan)?;
-    rehash(rt, alloc, two, plan)?;
-    sync_with(rt, alloc, one, &two.pool, plan, syncer)?;
-    sync_with(rt, alloc, two, &one.pool, plan, other)?;
-    rehash(rt, alloc, one, plan)?;
-    rehash(rt, alloc, two, plan)
+    rehash(rt, alloc, &one.node, plan)?;
+    rehash(rt, alloc, &two.node, plan)?;
+    sync_with(rt, alloc, one, &two.node.pool, plan)?;
+    sync_with(rt, alloc, two, &one.node.pool, plan)?;
+    rehash(rt, alloc, &one.node, plan)?;
+    rehash(rt, alloc, &two.node, plan)
 }
 
 /// Syncs a node with the offers of a pool. A link over memory is lost only if memory runs out.
 fn sync_with<L: Ledger, C: Ledger, R: Wait, G: Gate>(
     rt: &R,
     alloc: Global,
-    node: &Node<'_, L>,
+    member: &mut Member<'_, L>,
     pool: &OfferPool,
     plan: &Plan<'_, C, G>,
-    syncer: &mut Pass<L>,
 ) -> Result<(), Refusal> {
     let mut link = MemoryLink::new(alloc, pool);
-    match sync(rt, alloc, node, plan, &mut link, syncer) {
+    let syncer = &mut member.passes.syncer;
+    match sync(rt, alloc, &member.node, plan, &mut link, syncer) {
         Err(Refusal::LinkLost) => Err(Refusal::NoMemory),
         other => other,
     }

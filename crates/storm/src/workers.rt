@@ -38,22 +38,28 @@ pub(crate) fn sync_rounds<L: Ledger, C: Ledger, R: Wait, G: Gate>(
     alloc: Global,
     node: &Node<'_, L>,
     plan: &Plan<'_, C, G>,
-    pass: Pass<L>,
-    link: ChannelLink,
-) -> Result<Pass<L>, Refusal> {
-    let mut pass = pass;
-    let mut link = link;
-    let mut ended = Ok(());
+    pass: &mut Pass<L>,
+    mut link: ChannelLink,
+) -> Result<(), Refusal> {
+    let ended = sync_over(rt, alloc, node, plan, pass, &mut link);
+    link.stop(rt);
+    ended
+}
+
+/// Does all rounds over a link.
+fn sync_over<L: Ledger, C: Ledger, R: Wait, G: Gate>(
+    rt: &R,
+    alloc: Global,
+    node: &Node<'_, L>,
+    plan: &Plan<'_, C, G>,
+    pass: &mut Pass<L>,
+    link: &mut ChannelLink,
+) -> Result<(), Refusal> {
     for _ in 0..plan.puts.min(MOST_ROUNDS) {
         plan.gate.pass(rt, Step::Round);
-        ended = pass_over(sync(rt, alloc, node, plan, &mut link, &mut pass));
-        if ended.is_err() {
-            break;
-        }
+        pass_over(sync(rt, alloc, node, plan, link, pass))?;
     }
-    link.stop(rt);
-    ended?;
-    Ok(pass)
+    Ok(())
 }
 
 /// Rehashes a node's tree with a slot, and publishes a snapshot if it is clean then.

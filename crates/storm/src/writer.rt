@@ -1,7 +1,7 @@
 //! Writers.
 use crate::node::{Node, Plan};
 use caller_pass::Pass;
-use ring_node::{Gate, Step};
+use ring_node::{Gate, SharedRange, Step};
 use std::alloc::Global;
 use std::sync::Wait;
 use std::sync::ledger::Ledger;
@@ -15,26 +15,35 @@ pub(crate) fn write<L: Ledger, C: Ledger, R: Wait, G: Gate>(
     alloc: Global,
     node: &Node<'_, L>,
     plan: &Plan<'_, C, G>,
-    pass: Pass<L>,
-) -> Result<Pass<L>, Refusal> {
-    let mut pass = pass;
-    let writer = node.range.node();
+    pass: &mut Pass<L>,
+) -> Result<(), Refusal> {
     let context = Clock::from_pairs(alloc, &[])?;
     for number in 0..plan.puts {
-        let key = format!(in alloc; "{writer}-{number}")?;
-        let value = format!(in alloc; "{number}")?;
-        let value = Bytes::copy_of(alloc, value.as_bytes())?;
-        node.range.put(
-            rt,
-            alloc,
-            &mut pass,
-            key.as_bytes(),
-            &context,
-            Kind::Live,
-            value,
-        )?;
+        put(rt, alloc, &node.range, pass, &context, number)?;
         node.tally.count_put(rt);
         plan.gate.pass(rt, Step::Put);
     }
-    Ok(pass)
+    Ok(())
+}
+
+/// Puts the key of a number.
+fn put<L: Ledger, R: Wait>(
+    rt: &R,
+    alloc: Global,
+    range: &SharedRange<L>,
+    pass: &mut Pass<L>,
+    context: &Clock,
+    number: u64,
+) -> Result<(), Refusal> {
+    let writer = range.node();
+    let key = format!(in alloc; "{writer}-{number}")?;
+    let value = number_bytes(alloc, number)?;
+    range.put(rt, alloc, pass, key.as_bytes(), context, Kind::Live, value)?;
+    Ok(())
+}
+
+/// Returns the digits of a number.
+fn number_bytes(alloc: Global, number: u64) -> Result<Bytes, Refusal> {
+    let digits = format!(in alloc; "{number}")?;
+    Ok(Bytes::copy_of(alloc, digits.as_bytes())?)
 }
