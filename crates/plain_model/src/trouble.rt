@@ -5,38 +5,38 @@ use std::fmt;
 use vclock::Refusal;
 
 /// The reason why a list ends early.
-#[derive(Drop)]
+#[derive(Clone, Copy)]
 pub enum Trouble {
     /// A check that doesn't hold.
     Differs(&'static str),
-    /// The refusal of a call that must not be refused.
-    Refused(Refusal),
+    /// A call that must not be refused. Contains the refusal's name.
+    Refused(&'static str),
 }
 
 impl fmt::Display for Trouble {
     fn fmt<W: fmt::Write>(&self, f: &mut fmt::Formatter<W>) -> fmt::Result {
         match self {
             Trouble::Differs(what) => write!(f, "{what} differs"),
-            Trouble::Refused(refusal) => write!(f, "{refusal}"),
+            Trouble::Refused(name) => write!(f, "{name}"),
         }
     }
 }
 
 impl From<Refusal> for Trouble {
     fn from(refusal: Refusal) -> Trouble {
-        Trouble::Refused(refusal)
+        Trouble::Refused(refusal.name())
     }
 }
 
 impl From<AllocError> for Trouble {
     fn from(_error: AllocError) -> Trouble {
-        Trouble::Refused(Refusal::NoMemory)
+        Trouble::from(Refusal::NoMemory)
     }
 }
 
 impl<T: Drop> From<AllocFailed<T>> for Trouble {
     fn from(_failed: AllocFailed<T>) -> Trouble {
-        Trouble::Refused(Refusal::NoMemory)
+        Trouble::from(Refusal::NoMemory)
     }
 }
 

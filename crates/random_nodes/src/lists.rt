@@ -7,20 +7,19 @@ use plain_model::random::Random;
 use plain_model::trouble::Trouble;
 use std::alloc::Global;
 use std::sync::Wait;
-use std::thread::Threads;
 
 /// Runs the list of a seed, and adds its counts. Returns true if nothing differs. Otherwise it writes the first
 /// difference on standard error, with the steps that show it.
 pub(crate) fn run_list<R>(rt: &R, seed: u64, count: u64, tally: &mut Tally) -> bool
 where
-    R: Eprint + AllocGlobal + Threads + Wait + Sync,
+    R: Eprint + AllocGlobal + Wait,
 {
     let alloc = rt.alloc();
     let mut random = Random::new(seed);
     let setup = Setup::draw(&mut random);
     let result = match setup.draw_steps(alloc, &mut random, count) {
         Ok(steps) => run_steps(rt, alloc, &setup, &steps, tally),
-        Err(refusal) => Err(Trouble::Refused(refusal)),
+        Err(refusal) => Err(Trouble::from(refusal)),
     };
     match result {
         Ok(()) => true,
@@ -32,7 +31,7 @@ where
 }
 
 /// Runs steps, and adds their counts.
-fn run_steps<R: Eprint + Threads + Wait + Sync>(
+fn run_steps<R: Eprint + Wait>(
     rt: &R,
     alloc: Global,
     setup: &Setup,
@@ -52,7 +51,7 @@ fn run_steps<R: Eprint + Threads + Wait + Sync>(
 }
 
 /// Leaves out each step without which the list still fails, from the last one, and writes the others on standard error.
-fn show<R: Eprint + Threads + Wait + Sync>(
+fn show<R: Eprint + Wait>(
     rt: &R,
     alloc: Global,
     setup: &Setup,

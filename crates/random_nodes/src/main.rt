@@ -32,7 +32,6 @@ mod world;
 use std::env::Env;
 use std::process::ExitCode;
 use std::sync::Wait;
-use std::thread::Threads;
 use std::{env, io};
 use tally::Tally;
 
@@ -82,7 +81,7 @@ fn read_words(rt: &(impl Env + AllocGlobal)) -> Option<Run> {
 /// Runs lists up to the first one in which something differs. Returns true if there is none.
 fn run_lists<R>(rt: &R, run: Run) -> io::Result<bool>
 where
-    R: Print + Eprint + AllocGlobal + Threads + Wait + Sync,
+    R: Print + Eprint + AllocGlobal + Wait,
 {
     let mut tally = Tally::new();
     for number in 0..run.lists {

@@ -20,7 +20,6 @@ use snapshot::Snapshot;
 use std::alloc::Global;
 use std::sync::ledger::{Blank, Ledger};
 use std::sync::{Arc, Mutex, Wait};
-use std::thread::Threads;
 use vclock::{Bytes, Format, Refusal};
 use version_set::{Kind, VersionSet};
 use walk_messages::Offer;
@@ -55,8 +54,7 @@ pub(crate) struct Node<L: Ledger> {
 
 impl<L: Ledger> Node<L> {
     /// Opens a node whose range has accepted nothing, and whose tree is clean.
-    pub(crate) fn open<R: Threads + Sync>(
-        rt: &R,
+    pub(crate) fn open(
         alloc: Global,
         blank: Blank,
         setup: &Setup,
@@ -69,7 +67,7 @@ impl<L: Ledger> Node<L> {
             Side::Two => (1u8, setup.limits[1]),
         };
         let mut state = RangeState::new(alloc, config_of(setup.format, setup.part, limit)?)?;
-        state.rehash(rt, alloc)?;
+        state.rehash_here(alloc)?;
         let (book, passes) = open_passes::<L>(blank, alloc, SEATS)?;
         let plain = PlainRange {
             format: setup.format,

@@ -10,7 +10,6 @@ use plain_model::walks::{Offering, Sent, Walk};
 use range_state::Reconciled;
 use std::alloc::Global;
 use std::sync::Arc;
-use std::thread::Threads;
 use sync_session::SessionState;
 use vclock::Refusal;
 
@@ -63,17 +62,12 @@ impl Closed {
 
 /// Hashes two closed ranges of one format, reconciles them, and compares the result and both states. If nothing is
 /// refused, both hold the same versions.
-pub(crate) fn reconcile_both(
-    rt: &(impl Threads + Sync),
-    alloc: Global,
-    a: &mut Closed,
-    b: &mut Closed,
-) -> Result<(), Trouble> {
+pub(crate) fn reconcile_both(alloc: Global, a: &mut Closed, b: &mut Closed) -> Result<(), Trouble> {
     if a.mirror.plain.format != b.mirror.plain.format {
         return Ok(());
     }
-    a.range.rehash(rt, alloc)?;
-    b.range.rehash(rt, alloc)?;
+    a.range.rehash(alloc)?;
+    b.range.rehash(alloc)?;
     let (at_a, at_b) = (a.mirror.number, b.mirror.number);
     let reply = reconcile_ranges(alloc, (&mut a.range, at_a), (&mut b.range, at_b), SEAT);
     let wanted = catch_up_both(alloc, &mut a.mirror, &mut b.mirror)?;

@@ -8,7 +8,6 @@ use plain_model::walks::Walk;
 use range_journal::Journal;
 use range_state::{RangeConfig, RangeState, Reconciled, Record, reconcile};
 use std::alloc::Global;
-use std::thread::Threads;
 use vclock::{Format, Refusal};
 use version_set::Version;
 
@@ -29,12 +28,8 @@ impl Range {
     }
 
     /// Hashes the dirty nodes, and returns their number.
-    pub(crate) fn rehash(
-        &mut self,
-        rt: &(impl Threads + Sync),
-        alloc: Global,
-    ) -> Result<u64, Refusal> {
-        self.state.rehash(rt, alloc)
+    pub(crate) fn rehash(&mut self, alloc: Global) -> Result<u64, Refusal> {
+        self.state.rehash_here(alloc)
     }
 
     /// Returns the digest of a node, or `None` if it is dirty.

@@ -19,7 +19,6 @@ use std::alloc::Global;
 use std::marker::Brand;
 use std::sync::Wait;
 use std::sync::ledger::{Blank, Ledger};
-use std::thread::Threads;
 
 /// The limit of a journal that no list fills.
 const AMPLE: u64 = 1_000;
@@ -28,7 +27,7 @@ const AMPLE: u64 = 1_000;
 const TURNS: u64 = 10_000;
 
 /// Runs a list, and returns its counts.
-pub(crate) fn run_list<R: Threads + Wait + Sync>(
+pub(crate) fn run_list<R: Wait>(
     rt: &R,
     alloc: Global,
     setup: &Setup,
@@ -39,7 +38,7 @@ pub(crate) fn run_list<R: Threads + Wait + Sync>(
 }
 
 /// Runs a list on ranges and slots with these ledgers.
-fn run_in<L: Ledger, M: Ledger, C: Ledger, R: Threads + Wait + Sync>(
+fn run_in<L: Ledger, M: Ledger, C: Ledger, R: Wait>(
     rt: &R,
     alloc: Global,
     blanks: (Blank, Blank, Blank),
@@ -51,8 +50,8 @@ fn run_in<L: Ledger, M: Ledger, C: Ledger, R: Threads + Wait + Sync>(
     requires slots { (blanks.2.name ≡ C.name) × (blanks.2.parts ≡ C.parts) × (blanks.2.parts ≡ 1024) }
 {
     let (first, second, slots) = blanks;
-    let one = Node::<L>::open(rt, alloc, first, setup, Side::One)?;
-    let two = Node::<M>::open(rt, alloc, second, setup, Side::Two)?;
+    let one = Node::<L>::open(alloc, first, setup, Side::One)?;
+    let two = Node::<M>::open(alloc, second, setup, Side::Two)?;
     let slots = Slots::<C>::new(alloc, slots)?;
     let lives = steps.len();
     let world = World {
@@ -80,12 +79,7 @@ impl<L: Ledger, M: Ledger, C: Ledger> World<L, M, C> {
     }
 
     /// Does all steps, with a renewal after each life, and closes both nodes.
-    fn live<R: Threads + Wait + Sync>(
-        self,
-        rt: &R,
-        lives: usize,
-        setup: &Setup,
-    ) -> Result<Tally, Trouble> {
+    fn live<R: Wait>(self, rt: &R, lives: usize, setup: &Setup) -> Result<Tally, Trouble> {
         let mut world = self;
         for _ in 0..lives {
             match world.run_life(rt, lives)? {
@@ -242,7 +236,7 @@ impl<L: Ledger, M: Ledger, C: Ledger> World<L, M, C> {
     }
 
     /// Closes both ranges, and returns the counts. Reconciles them if they aren't at rest.
-    fn close<R: Threads + Wait + Sync>(self, rt: &R, rests: bool) -> Result<Tally, Trouble> {
+    fn close<R: Wait>(self, rt: &R, rests: bool) -> Result<Tally, Trouble> {
         let tally = self.schedule.tally(rt);
         check_pending(rt, self.alloc, &self.one, 2)?;
         check_pending(rt, self.alloc, &self.two, 1)?;
@@ -257,7 +251,7 @@ impl<L: Ledger, M: Ledger, C: Ledger> World<L, M, C> {
         one.check(alloc)?;
         two.check(alloc)?;
         if !rests {
-            reconcile_both(rt, alloc, &mut one, &mut two)?;
+            reconcile_both(alloc, &mut one, &mut two)?;
         }
         Ok(tally)
     }
