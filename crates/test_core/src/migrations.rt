@@ -1,8 +1,6 @@
 //! A range that is migrated to format 2.
-use crate::calls::{
-    count_held, migrate, new_range, next_job, offer, open_session, put_a, rehash, run_events,
-};
-use range_state::{Event, RangeState, Reply};
+use crate::calls::{count_held, migrate, new_range, next_job, offer, open_session, put_a, rehash};
+use range_state::RangeState;
 use rehash::run_job;
 use std::alloc::Global;
 use std::test::Fail;
@@ -87,33 +85,4 @@ fn expect_cancelled(
 fn open_sessions_are_cancelled(rt: HostRuntime) -> Result<(), Fail> {
     let alloc = rt.alloc();
     expect_cancelled(&rt, alloc, &mut range(alloc)?)
-}
-
-/// Asserts that a migration is an event that is done.
-fn expect_migrated(alloc: Global, state: &mut RangeState) -> Result<(), Fail> {
-    let mut events = Vec::with_capacity(alloc, 1)?;
-    events.push(Event::Migrate)?;
-    let replies = run_events(alloc, state, events)?;
-    expect(
-        matches!(replies.first(), Some(Reply::Migrate(Ok(())))),
-        "a migration is an event",
-    )
-}
-
-/// Asserts that another migration of a migrated range leaves no node to be hashed.
-fn expect_unchanged(
-    rt: &(impl Threads + Sync),
-    alloc: Global,
-    state: &mut RangeState,
-) -> Result<(), Fail> {
-    migrate(alloc, state)?;
-    rehash(rt, alloc, state)?;
-    expect_migrated(alloc, state)?;
-    expect(rehash(rt, alloc, state)? == 0, "no node is hashed again")
-}
-
-#[test]
-fn a_range_of_format_2_stays_as_it_is(rt: HostRuntime) -> Result<(), Fail> {
-    let alloc = rt.alloc();
-    expect_unchanged(&rt, alloc, &mut range(alloc)?)
 }

@@ -1,6 +1,6 @@
 //! Sessions by themselves: the comparison of two trees, and the partner's answers.
 use crate::calls::{abc, clean_range, hashed_at, snapshot, snapshot_of_a};
-use hash_tree::{Digest, Hashed, NodeAt, tree_depth};
+use hash_tree::{Digest, Hashed, NodeAt};
 use snapshot::Snapshot;
 use std::alloc::Global;
 use std::test::Fail;
@@ -75,70 +75,4 @@ fn a_session_ends_with_the_partners_rows(rt: HostRuntime) -> Result<(), Fail> {
     let alloc = rt.alloc();
     let partner = snapshot_of_a(&rt, alloc)?;
     expect_row(alloc, &mut start(&rt, alloc, partner.root())?, &partner)
-}
-
-/// Takes the partner's text of the first outstanding node, an inner one, by `take_inner` once `news_of` has judged it.
-fn take_inner(alloc: Global, session: &mut Session, partner: &Snapshot) -> Result<(), Fail> {
-    let outstanding = session.outstanding().first();
-    let node = *outstanding.ok_or("nothing is outstanding")?;
-    let text = hashed_at(alloc, partner, node)?;
-    session.news_of(alloc, node, &text)?;
-    if node.depth == tree_depth(session.own().format()) {
-        return Err("it is a leaf".into());
-    }
-    session.take_inner(alloc, node, text)?;
-    Ok(())
-}
-
-/// Asserts that two inner texts that were judged before are taken, and ask the path to the partner's row.
-fn expect_path(alloc: Global, session: &mut Session, partner: &Snapshot) -> Result<(), Fail> {
-    take_inner(alloc, session, partner)?;
-    take_inner(alloc, session, partner)?;
-    let leaf = node_at(2, 12)?;
-    expect(
-        session.asked().len() == 3 && session.outstanding() == [leaf].as_slice(),
-        "the leaf of the row is asked",
-    )
-}
-
-#[test]
-fn an_inner_text_is_taken_once_it_is_judged(rt: HostRuntime) -> Result<(), Fail> {
-    let alloc = rt.alloc();
-    let partner = snapshot_of_a(&rt, alloc)?;
-    expect_path(alloc, &mut start(&rt, alloc, partner.root())?, &partner)
-}
-
-/// Asserts that the text `abc` of the root fails a session, and that a session that failed isn't cancelled.
-fn expect_failure(alloc: Global, session: &mut Session) -> Result<(), Fail> {
-    let answer = take(alloc, session, node_at(0, 0)?, abc(alloc)?);
-    expect_refused(
-        answer,
-        Refusal::NotCanonical,
-        "a text of no node is refused",
-    )?;
-    session.cancel();
-    expect(
-        session.state() == SessionState::Failed && session.outstanding().is_empty(),
-        "the session has failed",
-    )
-}
-
-#[test]
-fn a_session_fails_by_a_text_of_no_node(rt: HostRuntime) -> Result<(), Fail> {
-    let alloc = rt.alloc();
-    expect_failure(alloc, &mut start(&rt, alloc, abc(alloc)?.digest())?)
-}
-
-/// Cancels a session that is open, and asserts that it asks nothing more.
-fn expect_cancelled(session: &mut Session) -> Result<(), Fail> {
-    session.cancel();
-    expect(
-        session.state() == SessionState::Cancelled && session.outstanding().is_empty(),
-        "a cancelled session asks nothing",
-    )
-}
-
-#[test]
-fn a_cancelled_session_asks_nothing_more(rt: HostRuntime) -> Result<(), Fail> {
-    expect_cancelled(&mut start(&rt, rt.alloc(), [7; 32])?)
 }

@@ -132,30 +132,6 @@ fn a_late_digest_is_not_installed(rt: HostRuntime) -> Result<(), Fail> {
     expect_rehash(&rt, alloc, &mut new_range(alloc, 1, 1_000)?)
 }
 
-/// Asserts that the caller's thread hashes all nodes of a new range, which then has the root that `rehash` makes.
-fn expect_rehash_here(
-    rt: &(impl Threads + Sync),
-    alloc: Global,
-    state: &mut RangeState,
-) -> Result<(), Fail> {
-    put_a(alloc, state, &[])?;
-    let dirty = state.dirty_count();
-    let hashed = state.rehash_here(alloc)?;
-    expect(dirty == 273 && hashed == 273, "all nodes are hashed")?;
-    let root = node_at(0, 0)?;
-    let other = range_of_a(rt, alloc)?.digest_at(root);
-    expect(
-        state.dirty_count() == 0 && state.digest_at(root) == other,
-        "it has the same root",
-    )
-}
-
-#[test]
-fn a_range_is_rehashed_in_the_callers_thread(rt: HostRuntime) -> Result<(), Fail> {
-    let alloc = rt.alloc();
-    expect_rehash_here(&rt, alloc, &mut new_range(alloc, 1, 1_000)?)
-}
-
 /// Asserts that a portion of the nodes is hashed, and how many are dirty then.
 fn expect_portion(
     alloc: Global,
@@ -195,19 +171,6 @@ fn expect_portions(
 fn a_range_is_rehashed_in_portions(rt: HostRuntime) -> Result<(), Fail> {
     let alloc = rt.alloc();
     expect_portions(&rt, alloc, &mut new_range(alloc, 1, 1_000)?)
-}
-
-/// Asserts that two workers take different jobs.
-fn expect_different(alloc: Global, state: &RangeState) -> Result<(), Fail> {
-    let first = state.take_job(alloc, 0)?.ok_or("no job")?;
-    let second = state.take_job(alloc, 1)?.ok_or("no job")?;
-    expect(first.node() != second.node(), "the jobs are different")
-}
-
-#[test]
-fn workers_take_different_jobs(rt: HostRuntime) -> Result<(), Fail> {
-    let alloc = rt.alloc();
-    expect_different(alloc, &new_range(alloc, 2, 1_000)?)
 }
 
 /// Asserts the number of jobs of a range that are taken, if a number is asked for.

@@ -7,9 +7,9 @@ use hash_tree::{Digest, Hashed, NodeAt, Text, hash};
 use snapshot::Snapshot;
 use std::alloc::Global;
 use std::marker::Brand;
+use std::process::Abort;
 use std::sync::ledger::{Blank, Ledger};
 use std::test::Fail;
-use std::thread::Threads;
 use sync_session::SessionState;
 use test_values::checks::expect;
 use test_values::refusals::is_refused;
@@ -151,16 +151,12 @@ fn answer<L: Ledger>(
 }
 
 /// Answers the sessions of a new range, with a partner that has `a`.
-fn answer_all<L: Ledger>(
-    rt: &(impl Threads + Sync),
-    alloc: Global,
-    blank: Blank,
-) -> Result<(), Fail>
+fn answer_all<L: Ledger>(_rt: &impl Abort, alloc: Global, blank: Blank) -> Result<(), Fail>
     requires name { blank.name ≡ L.name }
     requires parts { (blank.parts ≡ L.parts) × (L.parts ≡ 2) }
 {
-    let partner = snapshot_of(rt, alloc, &[Row::new(b"a", 1)])?;
-    let mut locked = Locked::<L>::open(rt, alloc, blank)?;
+    let partner = snapshot_of(alloc, &[Row::new(b"a", 1)])?;
+    let mut locked = Locked::<L>::open(alloc, blank)?;
     answer(alloc, &mut locked, &partner)
 }
 

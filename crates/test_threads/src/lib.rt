@@ -46,5 +46,3 @@ mod slots;
 mod storms;
 #[cfg(test)]
 mod syncs;
-#[cfg(test)]
-mod threads;

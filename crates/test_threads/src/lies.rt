@@ -84,22 +84,6 @@ fn lies_are_counted_and_asked_again(rt: HostRuntime) -> Result<(), Fail> {
     sync_by(&rt, rt.alloc(), &[Row::new(b"a", 1)], &LIES, 7, outcome)
 }
 
-/// A true offer, then a forged answer, which comes twice, among true ones to three asks.
-const REPEATED: [Deed; 6] = [
-    Deed::Pass,
-    Deed::Change(528),
-    Deed::Repeat,
-    Deed::Pass,
-    Deed::Pass,
-    Deed::Pass,
-];
-
-#[test]
-fn a_repeated_lie_is_a_bad_answer(rt: HostRuntime) -> Result<(), Fail> {
-    let outcome = Outcome::reported(report(SessionState::Finished, 3, 1, 2), 1);
-    sync_by(&rt, rt.alloc(), &[Row::new(b"a", 1)], &REPEATED, 5, outcome)
-}
-
 #[test]
 fn a_session_is_cancelled_when_its_turns_are_used(rt: HostRuntime) -> Result<(), Fail> {
     let outcome = Outcome::reported(report(SessionState::Cancelled, 3, 0, 4), 0);
@@ -239,94 +223,5 @@ impl<'a> NodeTest for Forged<'a> {
 #[test]
 fn a_text_of_no_node_fails_the_session(rt: HostRuntime) -> Result<(), Fail> {
     let test = Forged(Outcome::reported(report(SessionState::Failed, 1, 0, 0), 0));
-    run_node(&rt, rt.alloc(), 1_000, &test)
-}
-
-/// The length of a flood, in bytes.
-const FLOOD: usize = 16 * 1_024 * 1_024;
-
-/// The first bytes of the floods: of no message, of an answer whose text should have 2^64 - 1 bytes, and of one with
-/// the true length of its text.
-const HEADS: [&[u8]; 3] = [
-    b"\xff",
-    b"\x03\x00\x00\x00\x01\x00\x00\x00\xff\xff\xff\xff\xff\xff\xff\xff",
-    b"\x03\x00\x00\x00\x01\x00\x00\x00\x00\x00\x00\x00\x00\xff\xff\xf0",
-];
-
-/// A link to a partner whose offer is true, and whose answer to each ask is a flood.
-#[derive(Drop)]
-struct Flood<K: Link> {
-    alloc: Global,
-    link: K,
-    asks: usize,
-}
-
-impl<K: Link> Flood<K> {
-    /// Returns the bytes that answer an ask of that number.
-    fn flooded(&self, ask: usize) -> Result<Vec<u8>, Refusal> {
-        let head = HEADS.get(ask).ok_or(Refusal::BadMessage)?;
-        let mut bytes = Vec::from_slice(self.alloc, head)?;
-        bytes.resize(FLOOD, 0)?;
-        Ok(bytes)
-    }
-}
-
-impl<K: Link> Link for Flood<K> {
-    ghost failed = { λ f. K.failed f.link };
-
-    fn failures(&self) -> u64 {
-        self.link.failures()
-    }
-
-    fn offer<R: Wait>(&mut self, rt: &R) -> Reached {
-        self.link.offer(rt)
-    }
-
-    fn ask<R: Wait>(&mut self, _rt: &R, _message: &[u8]) -> Reached {
-        let ask = self.asks;
-        self.asks = ask.saturating_add(1);
-        match self.flooded(ask) {
-            Ok(bytes) => Reached::Bytes(bytes),
-            Err(_) => Reached::Gone,
-        }
-    }
-}
-
-/// A sync of three turns with a partner that answers by floods.
-#[derive(Clone, Copy)]
-struct Flooded<'a> {
-    /// The pool that the offer is from.
-    pool: &'a OfferPool,
-    /// The expected outcome.
-    outcome: Outcome<'a>,
-}
-
-impl<'a> NodeTest for Flooded<'a> {
-    fn run<L: Ledger, C: Ledger, R: Threads + Wait + Sync>(
-        &self,
-        rt: &R,
-        alloc: Global,
-        node: &mut Node<L, C>,
-    ) -> Result<(), Fail> {
-        let mut link = Flood {
-            alloc,
-            link: MemoryLink::new(alloc, self.pool),
-            asks: 0,
-        };
-        self.outcome.expect_sync(rt, alloc, node, &mut link, 3)
-    }
-
-    fn check(&self, alloc: Global, state: &RangeState) -> Result<(), Fail> {
-        self.outcome.expect_state(alloc, state)
-    }
-}
-
-#[test]
-fn floods_are_bad_answers(rt: HostRuntime) -> Result<(), Fail> {
-    let pool = pool_of(&rt, rt.alloc(), &[Row::new(b"a", 1)])?;
-    let test = Flooded {
-        pool: &pool,
-        outcome: Outcome::reported(report(SessionState::Cancelled, 1, 0, 3), 0),
-    };
     run_node(&rt, rt.alloc(), 1_000, &test)
 }

@@ -7,10 +7,10 @@ use crate::nodes::{Replica, all_keys};
 use range_state::Loaded;
 use std::alloc::Global;
 use std::marker::Brand;
+use std::process::Abort;
 use std::sync::Wait;
 use std::sync::ledger::{Blank, Ledger};
 use std::test::Fail;
-use std::thread::Threads;
 use test_values::checks::expect;
 use vclock::Refusal;
 
@@ -59,15 +59,11 @@ fn a_shared_range_loads_rows(rt: HostRuntime) -> Result<(), Fail> {
 }
 
 /// Loads a row into a locked range for its seat 1.
-fn load_into_locked<L: Ledger>(
-    rt: &(impl Threads + Sync),
-    alloc: Global,
-    blank: Blank,
-) -> Result<(), Fail>
+fn load_into_locked<L: Ledger>(_rt: &impl Abort, alloc: Global, blank: Blank) -> Result<(), Fail>
     requires name { blank.name ≡ L.name }
     requires parts { (blank.parts ≡ L.parts) × (L.parts ≡ 2) }
 {
-    let mut locked = Locked::<L>::open(rt, alloc, blank)?;
+    let mut locked = Locked::<L>::open(alloc, blank)?;
     let Locked { range, one, .. } = &mut locked;
     expect_loaded(load_locked(alloc, range, one, TWO_VERSIONS), (2, 0))?;
     expect(one.receipts().len() == 2, "the pass has two receipts")

@@ -7,15 +7,14 @@ use range_state::{RangeConfig, RangeState};
 use std::alloc::Global;
 use std::sync::ledger::{Blank, Ledger};
 use std::test::Fail;
-use std::thread::Threads;
 
 /// Returns the state of a range of format 1 that has accepted nothing, whose nodes are all clean.
-fn clean_state(rt: &(impl Threads + Sync), alloc: Global) -> Result<RangeState, Fail>
+fn clean_state(alloc: Global) -> Result<RangeState, Fail>
     ensures { IfOk result (λ state. state.entries ≡ []) }
 {
     let config = RangeConfig::new(1, 0, 0, 1_000).ok_or("no such range")?;
     let mut state = RangeState::new(alloc, config)?;
-    state.rehash(rt, alloc)?;
+    state.rehash_here(alloc)?;
     Ok(state)
 }
 
@@ -31,11 +30,11 @@ pub struct Locked<L: Ledger> {
 
 impl<L: Ledger> Locked<L> {
     /// Opens a range that has accepted nothing, whose nodes are all clean.
-    pub fn open(rt: &(impl Threads + Sync), alloc: Global, blank: Blank) -> Result<Locked<L>, Fail>
+    pub fn open(alloc: Global, blank: Blank) -> Result<Locked<L>, Fail>
         requires name { blank.name ≡ L.name }
         requires parts { (blank.parts ≡ L.parts) × (L.parts ≡ 2) }
     {
-        let state = clean_state(rt, alloc)?;
+        let state = clean_state(alloc)?;
         let (book, mut passes) = open_passes::<L>(blank, alloc, 2)?;
         let one = passes.pop().ok_or("no pass")?;
         let zero = passes.pop().ok_or("one pass")?;

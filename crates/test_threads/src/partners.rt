@@ -3,13 +3,12 @@
 use crate::calls::publish;
 use crate::nodes::all_keys;
 use range_journal::Source;
-use range_state::{RangeConfig, RangeState};
+use range_state::RangeState;
 use ring_node::OfferPool;
 use snapshot::Snapshot;
 use std::alloc::Global;
 use std::sync::{Arc, Wait};
 use std::test::Fail;
-use std::thread::Threads;
 use test_values::versions::version;
 use vclock::Refusal;
 use version_set::{Kind, Version};
@@ -43,7 +42,6 @@ impl<'a> Row<'a> {
 
 /// Has a range accept these rows, makes all its nodes clean, and returns its snapshot.
 fn fill(
-    rt: &(impl Threads + Sync),
     alloc: Global,
     state: &mut RangeState,
     rows: &[Row<'_>],
@@ -52,29 +50,14 @@ fn fill(
         let version = row.version(alloc)?;
         state.accept(alloc, 0, Source::Copy, row.key, version)?;
     }
-    state.rehash(rt, alloc)?;
+    state.rehash_here(alloc)?;
     state.snapshot(alloc)
 }
 
-/// Returns the snapshot of a partner's range that has these rows.
-fn snapshot_in(
-    rt: &(impl Threads + Sync),
-    alloc: Global,
-    config: RangeConfig,
-    rows: &[Row<'_>],
-) -> Result<Arc<Snapshot, Global>, Fail> {
-    let mut state = RangeState::new(alloc, config)?;
-    Ok(fill(rt, alloc, &mut state, rows)?)
-}
-
 /// Returns the snapshot of a partner's range of format 1, with all keys, that has these rows.
-pub fn snapshot_of(
-    rt: &(impl Threads + Sync),
-    alloc: Global,
-    rows: &[Row<'_>],
-) -> Result<Arc<Snapshot, Global>, Fail> {
-    let config = all_keys(1_000)?;
-    snapshot_in(rt, alloc, config, rows)
+pub fn snapshot_of(alloc: Global, rows: &[Row<'_>]) -> Result<Arc<Snapshot, Global>, Fail> {
+    let mut state = RangeState::new(alloc, all_keys(1_000)?)?;
+    Ok(fill(alloc, &mut state, rows)?)
 }
 
 /// Returns the pool of a partner that has published a snapshot.
@@ -88,24 +71,9 @@ fn pool_with<R: Wait>(
     Ok(pool)
 }
 
-/// Returns the pool of a partner that has published the snapshot of a range with these rows.
-pub fn pool_in<R: Threads + Wait + Sync>(
-    rt: &R,
-    alloc: Global,
-    config: RangeConfig,
-    rows: &[Row<'_>],
-) -> Result<OfferPool, Fail> {
-    let snapshot = snapshot_in(rt, alloc, config, rows)?;
-    Ok(pool_with(rt, alloc, snapshot)?)
-}
-
 /// Returns the pool of a partner that has published the snapshot of a range of format 1, with all keys, that has these
 /// rows.
-pub fn pool_of<R: Threads + Wait + Sync>(
-    rt: &R,
-    alloc: Global,
-    rows: &[Row<'_>],
-) -> Result<OfferPool, Fail> {
-    let snapshot = snapshot_of(rt, alloc, rows)?;
+pub fn pool_of<R: Wait>(rt: &R, alloc: Global, rows: &[Row<'_>]) -> Result<OfferPool, Fail> {
+    let snapshot = snapshot_of(alloc, rows)?;
     Ok(pool_with(rt, alloc, snapshot)?)
 }

@@ -11,7 +11,6 @@ use std::marker::Brand;
 use std::process::Abort;
 use std::sync::ledger::{Blank, Ledger};
 use std::test::Fail;
-use std::thread::Threads;
 use test_values::checks::expect;
 use test_values::versions::version;
 use vclock::{Bytes, Clock, Refusal};
@@ -42,29 +41,6 @@ fn absorb_two<L: Ledger>(_rt: &impl Abort, alloc: Global, blank: Blank) -> Resul
 #[test]
 fn a_book_absorbs_its_passes(rt: HostRuntime) -> Result<(), Fail> {
     absorb_two::<Brand>(&rt, rt.alloc(), Blank::new(2))
-}
-
-/// Opens two passes, takes both back, and settles. It takes the runtime as [`absorb_two`] does.
-fn settle_two<L: Ledger>(_rt: &impl Abort, alloc: Global, blank: Blank) -> Result<(), Fail>
-    requires name { blank.name ≡ L.name }
-    requires parts { (blank.parts ≡ L.parts) × (L.parts ≡ 2) }
-{
-    let (mut book, mut passes) = open_passes::<L>(blank, alloc, 2)?;
-    let one = passes.pop().ok_or("no pass")?;
-    let zero = passes.pop().ok_or("one pass")?;
-    let Ok(()) = book.absorb(zero) else {
-        return Err(Fail::from("no room"));
-    };
-    let Ok(()) = book.absorb(one) else {
-        return Err(Fail::from("no room"));
-    };
-    book.settle();
-    expect(book.seats() == 2, "the book has two seats")
-}
-
-#[test]
-fn a_book_settles(rt: HostRuntime) -> Result<(), Fail> {
-    settle_two::<Brand>(&rt, rt.alloc(), Blank::new(2))
 }
 
 /// Puts `x` under `a` at node 1, with an empty context. Returns the number of the entry.
@@ -181,11 +157,11 @@ fn close_with_both<L: Ledger>(alloc: Global, locked: Locked<L>) -> Result<(), Fa
 }
 
 /// Opens a range with two passes, and calls it with both up to the close.
-fn tell_two<L: Ledger>(rt: &(impl Threads + Sync), alloc: Global, blank: Blank) -> Result<(), Fail>
+fn tell_two<L: Ledger>(_rt: &impl Abort, alloc: Global, blank: Blank) -> Result<(), Fail>
     requires name { blank.name ≡ L.name }
     requires parts { (blank.parts ≡ L.parts) × (L.parts ≡ 2) }
 {
-    let mut locked = Locked::<L>::open(rt, alloc, blank)?;
+    let mut locked = Locked::<L>::open(alloc, blank)?;
     tell(alloc, &mut locked)?;
     let locked = close_with_one(alloc, locked)?;
     close_with_both(alloc, locked)

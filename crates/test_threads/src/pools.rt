@@ -114,6 +114,6 @@ impl<'a> NodeTest for Seventeen<'a> {
 
 #[test]
 fn the_seventeenth_offer_drops_the_first(rt: HostRuntime) -> Result<(), Fail> {
-    let snapshot = snapshot_of(&rt, rt.alloc(), &[])?;
+    let snapshot = snapshot_of(rt.alloc(), &[])?;
     run_node(&rt, rt.alloc(), 1, &Seventeen(&snapshot))
 }

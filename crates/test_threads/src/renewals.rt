@@ -8,10 +8,10 @@ use caller_pass::{LockedRange, Pass, Renewed, ReturnedPass};
 use ring_node::{NotClosed, RenewedRange, SharedRange};
 use std::alloc::Global;
 use std::marker::Brand;
+use std::process::Abort;
 use std::sync::Wait;
 use std::sync::ledger::{Blank, Ledger};
 use std::test::Fail;
-use std::thread::Threads;
 use test_values::checks::expect;
 use test_values::versions::members;
 use vclock::{Bytes, Clock, Refusal};
@@ -191,15 +191,11 @@ fn renew_with_both<L: Ledger>(alloc: Global, locked: Locked<L>) -> Result<(), Fa
 
 /// Opens a range, puts a value at its seat 1, and renews it. The proof of a test names its ledger only if the call takes
 /// the runtime.
-fn renew_locked<L: Ledger>(
-    rt: &(impl Threads + Sync),
-    alloc: Global,
-    blank: Blank,
-) -> Result<(), Fail>
+fn renew_locked<L: Ledger>(_rt: &impl Abort, alloc: Global, blank: Blank) -> Result<(), Fail>
     requires name { blank.name ≡ L.name }
     requires parts { (blank.parts ≡ L.parts) × (L.parts ≡ 2) }
 {
-    let mut locked = Locked::<L>::open(rt, alloc, blank)?;
+    let mut locked = Locked::<L>::open(alloc, blank)?;
     let Locked { range, one, .. } = &mut locked;
     put_one(alloc, range, one)?;
     renew_with_both(alloc, locked)

@@ -48,17 +48,6 @@ fn run_with<L: Ledger, C: Ledger, T: NodeTest, R: Threads + Wait + Sync>(
     test.check(alloc, &state)
 }
 
-/// Runs a test on a node of one seat, whose range has this configuration.
-pub fn run_in<T: NodeTest, R: Threads + Wait + Sync>(
-    rt: &R,
-    alloc: Global,
-    config: RangeConfig,
-    test: &T,
-) -> Result<(), Fail> {
-    let (blank, slots) = (Blank::new(1), Blank::new(1_024));
-    run_with::<Brand, Brand, T, R>(rt, alloc, blank, slots, config, test)
-}
-
 /// Runs a test on a node of one seat, whose range has format 1, all keys, and a journal of this number of entries.
 pub fn run_node<T: NodeTest, R: Threads + Wait + Sync>(
     rt: &R,
@@ -66,5 +55,7 @@ pub fn run_node<T: NodeTest, R: Threads + Wait + Sync>(
     limit: u64,
     test: &T,
 ) -> Result<(), Fail> {
-    run_in(rt, alloc, all_keys(limit)?, test)
+    let (blank, slots) = (Blank::new(1), Blank::new(1_024));
+    let config = all_keys(limit)?;
+    run_with::<Brand, Brand, T, R>(rt, alloc, blank, slots, config, test)
 }

@@ -1,12 +1,12 @@
 //! Sync workers whose partners answer with true texts.
 
 use crate::calls::publish;
-use crate::nodes::{Node, TURNS, all_keys};
+use crate::nodes::{Node, TURNS};
 use crate::outcomes::{Outcome, finished};
-use crate::partners::{Row, pool_in, pool_of, snapshot_of};
-use crate::runs::{NodeTest, run_in, run_node};
-use range_state::{RangeConfig, RangeState};
-use ring_node::{Link, MemoryLink, OfferPool, Reached, SyncReport};
+use crate::partners::{Row, pool_of, snapshot_of};
+use crate::runs::{NodeTest, run_node};
+use range_state::RangeState;
+use ring_node::{Link, MemoryLink, OfferPool, Reached};
 use snapshot::Snapshot;
 use std::alloc::Global;
 use std::sync::ledger::Ledger;
@@ -47,26 +47,7 @@ impl<'a> NodeTest for Truthful<'a> {
     }
 }
 
-/// Syncs a node that knows rows with a partner that offers rows. Their ranges have these configurations.
-fn sync_in<R: Threads + Wait + Sync>(
-    rt: &R,
-    alloc: Global,
-    own: RangeConfig,
-    known: &[Row<'_>],
-    config: RangeConfig,
-    offered: &[Row<'_>],
-    outcome: Outcome<'_>,
-) -> Result<(), Fail> {
-    let pool = pool_in(rt, alloc, config, offered)?;
-    let test = Truthful {
-        known,
-        pool: &pool,
-        outcome,
-    };
-    run_in(rt, alloc, own, &test)
-}
-
-/// Syncs a node that knows rows with a partner that offers rows. Their ranges have all keys.
+/// Syncs a node that knows rows with a partner that offers rows.
 fn sync_rows<R: Threads + Wait + Sync>(
     rt: &R,
     alloc: Global,
@@ -74,8 +55,13 @@ fn sync_rows<R: Threads + Wait + Sync>(
     offered: &[Row<'_>],
     outcome: Outcome<'_>,
 ) -> Result<(), Fail> {
-    let config = all_keys(1_000)?;
-    sync_in(rt, alloc, config, known, config, offered, outcome)
+    let pool = pool_of(rt, alloc, offered)?;
+    let test = Truthful {
+        known,
+        pool: &pool,
+        outcome,
+    };
+    run_node(rt, alloc, 1_000, &test)
 }
 
 #[test]
@@ -103,44 +89,6 @@ fn two_values_with_equal_clocks_are_held(rt: HostRuntime) -> Result<(), Fail> {
         ..Outcome::reported(finished(3, 1), 2)
     };
     sync_rows(&rt, rt.alloc(), &[valued(b"p")], &[valued(b"q")], outcome)
-}
-
-#[test]
-fn the_known_versions_of_all_answers_are_counted(rt: HostRuntime) -> Result<(), Fail> {
-    let report = SyncReport {
-        known: 2,
-        ..finished(5, 2)
-    };
-    let (a, b) = (Row::new(b"a", 1), Row::new(b"b", 1));
-    let offered = [a, Row::new(b"a", 2), b, Row::new(b"b", 2)];
-    sync_rows(
-        &rt,
-        rt.alloc(),
-        &[a, b],
-        &offered,
-        Outcome::reported(report, 4),
-    )
-}
-
-/// Returns the configuration of one of two ranges.
-fn half(number: u64) -> Result<RangeConfig, Fail> {
-    Ok(RangeConfig::new(1, 1, number, 1_000).ok_or("no such range")?)
-}
-
-#[test]
-fn an_offer_of_another_range_is_refused(rt: HostRuntime) -> Result<(), Fail> {
-    let synced = Outcome::reported(finished(3, 1), 1);
-    let refused = Outcome::refused(Refusal::OtherRange.number(), 0, None);
-    // `a` is in the first range, and `b` in the second.
-    for (offered, key) in [(0, b"a".as_slice()), (1, b"b".as_slice())] {
-        for number in [0, 1] {
-            let outcome = if number == offered { synced } else { refused };
-            let (own, config) = (half(number)?, half(offered)?);
-            let rows = [Row::new(key, 1)];
-            sync_in(&rt, rt.alloc(), own, &[], config, &rows, outcome)?;
-        }
-    }
-    Ok(())
 }
 
 /// A link whose partner publishes 16 more snapshots before it answers the second ask.
@@ -219,7 +167,7 @@ fn a_dropped_offer_is_gone(rt: HostRuntime) -> Result<(), Fail> {
     let cancelled = Some(SessionState::Cancelled);
     let (pool, snapshot) = (
         pool_of(&rt, rt.alloc(), &[Row::new(b"a", 1)])?,
-        snapshot_of(&rt, rt.alloc(), &[])?,
+        snapshot_of(rt.alloc(), &[])?,
     );
     let test = DroppedOffer {
         pool: &pool,

@@ -1,4 +1,4 @@
-use Rattle.test_threads.proofs.runs.run_in.Given as goal
+use Rattle.test_threads.proofs.runs.run_node.Given as goal
 
 abbrev pub ghosts-run_with-L-Ledger : goal.ghosts-run_with-L-Ledger
 ghosts-run_with-L-Ledger g a = record { name = a.blank.name; parts = a.blank.parts }
