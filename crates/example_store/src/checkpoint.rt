@@ -1,4 +1,5 @@
 //! A range as bytes: its rows, saved and loaded.
+use crate::replica::Replica;
 use caller_pass::Pass;
 use hash_tree::Digest;
 use key_ring::leaf_count;
@@ -18,7 +19,7 @@ pub(crate) struct Checkpoint {
 
 impl Checkpoint {
     /// Saves the rows of a snapshot. Refused: NoMemory.
-    pub(crate) fn of(alloc: Global, snapshot: &Snapshot) -> Result<Checkpoint, Refusal> {
+    fn of(alloc: Global, snapshot: &Snapshot) -> Result<Checkpoint, Refusal> {
         let mut leaves = Vec::new(alloc);
         for leaf in 0..leaf_count(snapshot.format()) {
             leaves.push(snapshot.rows_text(alloc, leaf)?)?;
@@ -47,5 +48,13 @@ impl Checkpoint {
     /// Returns the digest of the root over the rows. After a load and a rehash the range's root must be equal.
     pub(crate) fn root(&self) -> Digest {
         self.root
+    }
+}
+
+impl<L: Ledger> Replica<L> {
+    /// Saves the rows of a replica. Refused: Dirty (a put followed the last rehash), NoMemory.
+    pub(crate) fn save<R: Wait>(&self, rt: &R, alloc: Global) -> Result<Checkpoint, Refusal> {
+        let snapshot = self.range.snapshot(rt, alloc)?;
+        Checkpoint::of(alloc, &snapshot)
     }
 }

@@ -32,7 +32,7 @@ fn context_of(alloc: Global, versions: &VersionSet) -> Result<Clock, Refusal> {
 
 /// Puts a value for a key in place of the versions that the context has seen, and returns the new version. Refused as
 /// [`SharedRange::put`] is.
-pub(crate) fn put<L: Ledger, R: Wait>(
+fn put<L: Ledger, R: Wait>(
     rt: &R,
     alloc: Global,
     range: &SharedRange<L>,
@@ -58,4 +58,37 @@ pub(crate) fn update<L: Ledger, R: Wait>(
     let versions = read(rt, alloc, range, pass, key)?;
     let context = context_of(alloc, &versions)?;
     put(rt, alloc, range, pass, key, &context, value)
+}
+
+/// Puts a value for a key without a read. Returns the number of clocks that the key holds if the put is refused for
+/// them, and none if the value was put. Refused as [`put`] is, but not as StaleContext.
+pub(crate) fn put_unread<L: Ledger, R: Wait>(
+    rt: &R,
+    alloc: Global,
+    range: &SharedRange<L>,
+    pass: &mut Pass<L>,
+    key: &[u8],
+    value: &[u8],
+) -> Result<Option<usize>, Refusal> {
+    let nothing = Clock::from_pairs(alloc, &[])?;
+    match put(rt, alloc, range, pass, key, &nothing, value) {
+        Err(Refusal::StaleContext(held)) => Ok(Some(held.as_slice().len())),
+        Err(refusal) => Err(refusal),
+        Ok(_) => Ok(None),
+    }
+}
+
+/// Reads each key, and puts the same value in place of all versions found. Refused as [`update`] is.
+pub(crate) fn update_each<L: Ledger, R: Wait>(
+    rt: &R,
+    alloc: Global,
+    range: &SharedRange<L>,
+    pass: &mut Pass<L>,
+    keys: &[String],
+    value: &[u8],
+) -> Result<(), Refusal> {
+    for key in keys {
+        update(rt, alloc, range, pass, key.as_bytes(), value)?;
+    }
+    Ok(())
 }

@@ -1,7 +1,6 @@
 //! The close of a replica, and its renewal.
 use crate::replica::Replica;
-use caller_pass::Pass;
-use ring_node::{OfferPool, RenewedRange, SharedHints, SharedRange};
+use ring_node::RenewedRange;
 use std::alloc::Global;
 use std::sync::ledger::Ledger;
 use vclock::Refusal;
@@ -32,25 +31,5 @@ impl<L: Ledger> Replica<L> {
             }
             Err(refused) => Err(refused.refusal),
         }
-    }
-
-    /// Returns the range, its passes, the hints and the offers.
-    fn into_parts(
-        self,
-        alloc: Global,
-    ) -> Result<(SharedRange<L>, Vec<Pass<L>>, SharedHints, OfferPool), Refusal> {
-        let Replica {
-            range,
-            hints,
-            offers,
-            client,
-            peer,
-            syncer,
-        } = self;
-        let mut passes = Vec::with_capacity(alloc, 3)?;
-        passes.push_reserved(client);
-        passes.push_reserved(peer);
-        passes.push_reserved(syncer);
-        Ok((range, passes, hints, offers))
     }
 }

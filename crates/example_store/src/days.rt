@@ -2,52 +2,29 @@
 ghost use Rattle.std.specs.Prelude.{◌≡◌, ◌^◌, ◌<◌};
 
 use crate::checkpoint::Checkpoint;
-use crate::client::{put, read, update};
+use crate::client::{put_unread, read, update, update_each};
 use crate::fault::Fault;
 use crate::handoff::Health;
 use crate::links::{sync_over_channel, sync_over_deeds};
 use crate::replica::Replica;
 use crate::rounds::put_beside_rehash;
-use crate::routes::{homes_of, keys_in};
-use crate::slots::{open_slots, report_latency};
+use crate::slots::report_latency;
+use crate::store::Store;
 use key_ring::Ring;
-use range_state::RangeConfig;
-use ring_node::{Deed, SharedController, SyncReport};
+use ring_node::{Deed, SyncReport};
 use std::alloc::Global;
 use std::io;
 use std::marker::Brand;
 use std::sync::Wait;
 use std::sync::ledger::{Blank, Ledger};
 use std::thread::Threads;
-use vclock::{Clock, Refusal};
-
-/// The number of the format of both replicas.
-const FORMAT: u64 = 1;
-
-/// The maximum number of entries in a journal.
-const JOURNAL_LIMIT: u64 = 1_000_000;
-
-/// The number of carts in both ranges together.
-const CARTS: u64 = 6;
-
-/// The number of orders in both ranges together.
-const ORDERS: u64 = 100;
+use vclock::Refusal;
 
 /// The place of a byte of the root's text in its answer: after the 16 bytes of the head and the first byte of the text.
 const BYTE_OF_THE_TEXT: usize = 17;
 
 /// The number of the node under which a lost replica returns: one that was never used.
 const RETURNED: u16 = 3;
-
-/// Both replicas of a range, the slots of their background work, and the keys.
-struct Store<A: Ledger, B: Ledger, C: Ledger> {
-    alloc: Global,
-    first: Replica<A>,
-    second: Replica<B>,
-    slots: SharedController<C>,
-    carts: Vec<String>,
-    orders: Vec<String>,
-}
 
 /// Runs the three days of a range, from its opening to its close, with new ledgers.
 pub(crate) fn run_days<R: Threads + Wait + Print + Sync>(
@@ -86,24 +63,7 @@ where
     requires third { (third.name ≡ D.name) × (third.parts ≡ D.parts) × (third.parts ≡ 3) }
     requires slots { (slots.name ≡ C.name) × (slots.parts ≡ C.parts) × (slots.parts ≡ 1024) }
 {
-    let homes = homes_of(ring, range)?;
-    let (bits, number) = (u64::from(ring.bits()), u64::from(range));
-    let config = RangeConfig::new(FORMAT, bits, number, JOURNAL_LIMIT).ok_or(Refusal::BadRing)?;
-    let (first_node, second_node) = (homes.first, homes.second);
-    println!(rt; "range {range}: puts at node {first_node}, copies at node {second_node}")?;
-    let carts = keys_in(alloc, ring, range, "cart", CARTS)?;
-    let orders = keys_in(alloc, ring, range, "order", ORDERS)?;
-    let slots = open_slots::<C>(alloc, slots)?;
-    let first = Replica::<A>::open(alloc, first, homes.first, config)?;
-    let second = Replica::<B>::open(alloc, second, homes.second, config)?;
-    let mut store = Store {
-        alloc,
-        first,
-        second,
-        slots,
-        carts,
-        orders,
-    };
+    let mut store = Store::<A, B, C>::open(rt, alloc, ring, range, first, second, slots)?;
     store.first_day(rt)?;
     let mut store = store.renew(rt)?;
     store.second_day(rt)?;
@@ -132,7 +92,7 @@ where
     /// Puts a value for each cart at the first replica, and sends each version to the second one.
     fn put_carts<R: Wait>(&mut self, rt: &R, value: &[u8], health: Health) -> Result<(), Refusal> {
         let (alloc, first, second) = (self.alloc, &mut self.first, &mut self.second);
-        for cart in &self.carts {
+        for cart in &self.keys.carts {
             let key = cart.as_bytes();
             let version = update(rt, alloc, &first.range, &mut first.client, key, value)?;
             first.send(rt, alloc, second, health, key, version)?;
@@ -143,38 +103,24 @@ where
     /// Puts each cart, and then tries to put one without a read.
     fn morning<R: Wait + Print>(&mut self, rt: &R) -> Result<(), Fault> {
         self.put_carts(rt, b"empty", Health::Up)?;
-        println!(rt; "  morning: {} carts put and copied", self.carts.len())?;
-        let Some(cart) = self.carts.first() else {
+        tell_count(rt, "morning", self.keys.carts.len(), "carts put and copied")?;
+        let Some(cart) = self.keys.carts.first() else {
             return Ok(());
         };
-        let nothing = Clock::from_pairs(self.alloc, &[])?;
         let (range, pass) = (&self.first.range, &mut self.first.client);
-        match put(
-            rt,
-            self.alloc,
-            range,
-            pass,
-            cart.as_bytes(),
-            &nothing,
-            b"empty",
-        ) {
-            Err(Refusal::StaleContext(held)) => {
-                let held = held.as_slice().len();
-                println!(rt; "  morning: {cart} put without a read: StaleContext, {held} held")?;
-                Ok(())
-            }
-            Err(refusal) => Err(Fault::Refused(refusal)),
-            Ok(_) => Ok(()),
+        let held = put_unread(rt, self.alloc, range, pass, cart.as_bytes(), b"empty")?;
+        if let Some(held) = held {
+            println!(rt; "  morning: {cart} put without a read: StaleContext, {held} held")?;
         }
+        Ok(())
     }
 
     /// Keeps hints while the second node is down, and delivers them when it is up again.
     fn outage<R: Wait + Print>(&mut self, rt: &R) -> Result<(), Fault> {
         self.put_carts(rt, b"a book", Health::Down)?;
-        println!(rt; "  outage: {} hints kept", self.carts.len())?;
-        let report = self
-            .first
-            .hand_off(rt, self.alloc, &self.slots, &mut self.second)?;
+        tell_count(rt, "outage", self.keys.carts.len(), "hints kept")?;
+        let second = &mut self.second;
+        let report = self.first.hand_off(rt, self.alloc, &self.slots, second)?;
         println!(rt;
             "  outage: {} delivered, {} known",
             report.delivered, report.known
@@ -185,22 +131,38 @@ where
     /// Puts at both nodes while no message reaches the other one.
     fn partition<R: Threads + Wait + Print + Sync>(&mut self, rt: &R) -> Result<(), Fault> {
         let (range, pass) = (&self.first.range, &mut self.first.client);
-        put_beside_rehash(rt, self.alloc, &self.slots, range, pass, &self.orders)?;
-        println!(rt;
-            "  partition: {} orders put during a rehash",
-            self.orders.len()
+        put_beside_rehash(rt, self.alloc, &self.slots, range, pass, &self.keys.orders)?;
+        tell_count(
+            rt,
+            "partition",
+            self.keys.orders.len(),
+            "orders put during a rehash",
         )?;
-        for cart in &self.carts {
-            let key = cart.as_bytes();
-            let (range, pass) = (&self.first.range, &mut self.first.client);
-            update(rt, self.alloc, range, pass, key, b"two books")?;
-            let (range, pass) = (&self.second.range, &mut self.second.client);
-            update(rt, self.alloc, range, pass, key, b"a book, a lamp")?;
-        }
-        println!(rt; "  partition: {} carts put at both nodes", self.carts.len())?;
+        self.put_apart(rt)?;
+        tell_count(
+            rt,
+            "partition",
+            self.keys.carts.len(),
+            "carts put at both nodes",
+        )?;
         let slots = report_latency(rt, &self.slots, 0, 80_000)?;
         println!(rt; "  partition: a put took 80,000 microseconds, so {slots} slots")?;
         Ok(())
+    }
+
+    /// Puts each cart at both nodes, with different values.
+    fn put_apart<R: Wait>(&mut self, rt: &R) -> Result<(), Refusal> {
+        let (range, pass) = (&self.first.range, &mut self.first.client);
+        update_each(rt, self.alloc, range, pass, &self.keys.carts, b"two books")?;
+        let (range, pass) = (&self.second.range, &mut self.second.client);
+        update_each(
+            rt,
+            self.alloc,
+            range,
+            pass,
+            &self.keys.carts,
+            b"a book, a lamp",
+        )
     }
 
     /// Syncs the second replica with the first one, over a channel.
@@ -222,11 +184,10 @@ where
             &mut self.first,
             &self.second,
         );
-        match sync_over_deeds(rt, alloc, slots, first, second, &[Deed::Lost]) {
-            Err(Refusal::LinkLost) => println!(rt; "  sync over a lost link: LinkLost")?,
-            Err(refusal) => return Err(Fault::Refused(refusal)),
-            Ok(report) => tell(rt, "lost link", &report)?,
-        }
+        tell_loss(
+            rt,
+            sync_over_deeds(rt, alloc, slots, first, second, &[Deed::Lost]),
+        )?;
         let deeds = [Deed::Pass, Deed::Change(BYTE_OF_THE_TEXT)];
         let report = sync_over_deeds(rt, alloc, slots, first, second, &deeds)?;
         tell(rt, "forging link", &report)?;
@@ -235,7 +196,7 @@ where
 
     /// Merges the concurrent versions of each cart.
     fn merge<R: Wait + Print>(&mut self, rt: &R) -> Result<(), Fault> {
-        for cart in &self.carts {
+        for cart in &self.keys.carts {
             let (range, pass) = (&self.first.range, &mut self.first.client);
             let found = read(rt, self.alloc, range, pass, cart.as_bytes())?;
             println!(rt; "  merge: {} concurrent versions of {cart}", found.len())?;
@@ -261,35 +222,15 @@ where
         Ok(())
     }
 
-    /// Renews both replicas: each goes on with the versions that it holds.
-    fn renew<R: Wait + Print>(self, rt: &R) -> Result<Store<A, B, C>, Fault> {
-        let Store {
-            alloc,
-            first,
-            second,
-            slots,
-            carts,
-            orders,
-        } = self;
-        let before = first.range.counts(rt).entries;
-        let first = first.renew(alloc, JOURNAL_LIMIT)?;
-        let second = second.renew(alloc, JOURNAL_LIMIT)?;
-        let after = first.range.counts(rt).entries;
-        println!(rt; "  night: {before} entries settled and renewed to {after}")?;
-        Ok(Store {
-            alloc,
-            first,
-            second,
-            slots,
-            carts,
-            orders,
-        })
-    }
-
     /// Puts each cart again.
     fn second_day<R: Wait + Print>(&mut self, rt: &R) -> Result<(), Fault> {
         self.put_carts(rt, b"a pen", Health::Up)?;
-        println!(rt; "  second day: {} carts put and copied", self.carts.len())?;
+        tell_count(
+            rt,
+            "second day",
+            self.keys.carts.len(),
+            "carts put and copied",
+        )?;
         self.end_day(rt)
     }
 
@@ -298,57 +239,57 @@ where
     fn third_day<D: Ledger, R: Wait + Print>(&self, rt: &R, blank: Blank) -> Result<(), Fault>
         requires ledger { (blank.name ≡ D.name) × (blank.parts ≡ D.parts) × (blank.parts ≡ 3) }
     {
-        let alloc = self.alloc;
-        let snapshot = self.first.range.snapshot(rt, alloc)?;
-        let saved = Checkpoint::of(alloc, &snapshot)?;
+        let mut third = self.restart::<D, R>(rt, blank)?;
+        let (range, pass) = (&third.range, &mut third.client);
+        update_each(rt, self.alloc, range, pass, &self.keys.carts, b"a lamp")?;
+        let entries = third.close(self.alloc)?;
+        println!(rt; "  third day: {entries} entries at node {RETURNED}, all receipts settled")?;
+        Ok(())
+    }
+
+    /// Saves the rows of the first replica, and returns a new replica that has loaded them.
+    fn restart<D: Ledger, R: Wait + Print>(&self, rt: &R, blank: Blank) -> Result<Replica<D>, Fault>
+        requires ledger { (blank.name ≡ D.name) × (blank.parts ≡ D.parts) × (blank.parts ≡ 3) }
+    {
+        let saved = self.first.save(rt, self.alloc)?;
         let config = self.first.range.config(rt);
-        let mut third = Replica::<D>::open(alloc, blank, RETURNED, config)?;
-        let loaded = saved.load(rt, alloc, &third.range, &mut third.peer)?;
-        let root = third.end_day(rt, alloc, &self.slots)?;
+        let mut third = Replica::<D>::open(self.alloc, blank, RETURNED, config)?;
+        self.load(rt, &saved, &mut third)?;
+        Ok(third)
+    }
+
+    /// Loads saved rows into a new replica, and compares the roots.
+    fn load<D: Ledger, R: Wait + Print>(
+        &self,
+        rt: &R,
+        saved: &Checkpoint,
+        third: &mut Replica<D>,
+    ) -> Result<(), Fault> {
+        let loaded = saved.load(rt, self.alloc, &third.range, &mut third.peer)?;
+        let root = third.end_day(rt, self.alloc, &self.slots)?;
         let roots = if root == saved.root() {
             "its root"
         } else {
             "another root"
         };
         println!(rt; "  third day: {loaded} versions loaded at node {RETURNED}, with {roots}")?;
-        for cart in &self.carts {
-            let (range, pass) = (&third.range, &mut third.client);
-            update(rt, alloc, range, pass, cart.as_bytes(), b"a lamp")?;
-        }
-        let entries = third.close(alloc)?;
-        println!(rt; "  third day: {entries} entries at node {RETURNED}, all receipts settled")?;
-        Ok(())
-    }
-
-    /// Closes both replicas.
-    fn close<R: Print>(self, rt: &R) -> Result<(), Fault> {
-        let Store {
-            alloc,
-            first,
-            second,
-            slots: _slots,
-            carts: _carts,
-            orders: _orders,
-        } = self;
-        let (first, second) = (first.close(alloc), second.close(alloc));
-        let (entries, others) = (first?, second?);
-        println!(rt; "  evening: {entries} and {others} entries, all receipts settled")?;
         Ok(())
     }
 }
 
-impl<A: Ledger, B: Ledger, C: Ledger> Drop for Store<A, B, C> {
-    /// Keeps the fields out of the proofs of functions that drop a store.
-    fn drop(self) {
-        let Store {
-            alloc: _alloc,
-            first: _first,
-            second: _second,
-            slots: _slots,
-            carts: _carts,
-            orders: _orders,
-        } = self;
+/// Prints how many things were done at a time of the days.
+fn tell_count<R: Print>(rt: &R, time: &str, count: usize, things: &str) -> io::Result<()> {
+    println!(rt; "  {time}: {count} {things}")
+}
+
+/// Prints the end of a sync over a link that loses a call.
+fn tell_loss<R: Print>(rt: &R, end: Result<SyncReport, Refusal>) -> Result<(), Fault> {
+    match end {
+        Err(Refusal::LinkLost) => println!(rt; "  sync over a lost link: LinkLost")?,
+        Err(refusal) => return Err(Fault::Refused(refusal)),
+        Ok(report) => tell(rt, "lost link", &report)?,
     }
+    Ok(())
 }
 
 /// Prints the report of a sync worker.

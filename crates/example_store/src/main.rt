@@ -15,6 +15,7 @@ mod replica;
 mod rounds;
 mod routes;
 mod slots;
+mod store;
 
 use days::run_days;
 use fault::Fault;

@@ -13,7 +13,6 @@ const SEATS: u16 = 3;
 
 /// A node's replica of a range: the range, the hints that the node keeps for the other replica, the offers that it
 /// makes to it, and a pass for each caller: one for clients, one for copies and hints, and one for syncs.
-#[derive(Drop)]
 pub(crate) struct Replica<L: Ledger> {
     pub(crate) range: SharedRange<L>,
     pub(crate) hints: SharedHints,
@@ -44,17 +43,67 @@ impl<L: Ledger> Replica<L> {
     /// Makes a replica of a range and its passes, which are in the order of their seats.
     pub(crate) fn of_parts(
         range: SharedRange<L>,
-        mut passes: Vec<Pass<L>>,
+        passes: Vec<Pass<L>>,
         hints: SharedHints,
         offers: OfferPool,
     ) -> Result<Replica<L>, Refusal> {
+        let (client, peer, syncer) = three_of(passes)?;
         Ok(Replica {
             range,
             hints,
             offers,
-            client: passes.pop().ok_or(Refusal::Stranger)?,
-            peer: passes.pop().ok_or(Refusal::Stranger)?,
-            syncer: passes.pop().ok_or(Refusal::Stranger)?,
+            client,
+            peer,
+            syncer,
         })
     }
+
+    /// Returns the range, its passes, the hints and the offers. Refused: NoMemory.
+    pub(crate) fn into_parts(
+        self,
+        alloc: Global,
+    ) -> Result<(SharedRange<L>, Vec<Pass<L>>, SharedHints, OfferPool), Refusal> {
+        let mut passes = Vec::with_capacity(alloc, 3)?;
+        let Replica {
+            range,
+            hints,
+            offers,
+            client,
+            peer,
+            syncer,
+        } = self;
+        passes.push_reserved(client);
+        passes.push_reserved(peer);
+        passes.push_reserved(syncer);
+        Ok((range, passes, hints, offers))
+    }
+}
+
+impl<L: Ledger> Drop for Replica<L> {
+    /// Keeps the fields out of the proofs of functions that drop a replica.
+    fn drop(self) {
+        let Replica {
+            range: _range,
+            hints: _hints,
+            offers: _offers,
+            client: _client,
+            peer: _peer,
+            syncer: _syncer,
+        } = self;
+    }
+}
+
+/// Returns the passes of the clients, of copies and hints, and of syncs: the one of the last seat first. Refused:
+/// Stranger (a pass is missing).
+fn three_of<L: Ledger>(mut passes: Vec<Pass<L>>) -> Result<(Pass<L>, Pass<L>, Pass<L>), Refusal> {
+    let Some(client) = passes.pop() else {
+        return Err(Refusal::Stranger);
+    };
+    let Some(peer) = passes.pop() else {
+        return Err(Refusal::Stranger);
+    };
+    let Some(syncer) = passes.pop() else {
+        return Err(Refusal::Stranger);
+    };
+    Ok((client, peer, syncer))
 }

@@ -1,5 +1,5 @@
 //! Rounds of anti-entropy.
-use crate::client::update;
+use crate::client::update_each;
 use crate::replica::Replica;
 use caller_pass::Pass;
 use hash_tree::Digest;
@@ -8,7 +8,7 @@ use std::alloc::Global;
 use std::sync::Wait;
 use std::sync::ledger::Ledger;
 use std::thread;
-use std::thread::Threads;
+use std::thread::{JoinHandle, Threads};
 use vclock::Refusal;
 use walk_messages::Offer;
 
@@ -18,6 +18,9 @@ const REHASH_TURNS: u64 = 5_000;
 
 /// The maximum number of turns of a sync: more than two for each node of a tree.
 const SYNC_TURNS: u64 = 10_000;
+
+/// The thread of a rehash worker.
+type Worker = JoinHandle<Result<RehashReport, Refusal>>;
 
 /// Hashes the dirty nodes of a range. Workers have different numbers, so that they take different nodes. Refused:
 /// NoSlot, NoMemory.
@@ -50,20 +53,26 @@ where
     R: Threads + Wait + Sync,
 {
     thread::scope(thread::scope_env(), rt, |scope| {
-        let one = scope.spawn(move || rehash(rt, alloc, slots, range, 0));
-        let two = scope.spawn(move || rehash(rt, alloc, slots, range, 1));
-        for key in keys {
-            update(rt, alloc, range, pass, key.as_bytes(), b"open")?;
-        }
-        match (one, two) {
-            (Ok(one), Ok(two)) => {
-                one.join(rt)?;
-                two.join(rt)?;
-                Ok(())
-            }
-            _ => Err(Refusal::NoMemory),
-        }
+        let one = scope.spawn(move || rehash(rt, alloc, slots, range, 0)).ok();
+        let two = scope.spawn(move || rehash(rt, alloc, slots, range, 1)).ok();
+        let puts = update_each(rt, alloc, range, pass, keys, b"open");
+        let rehashes = join_both(rt, one, two);
+        puts?;
+        rehashes
     })
+}
+
+/// Waits for both workers. Refused as they are; NoMemory if one of them has no thread.
+fn join_both<R: Threads>(rt: &R, one: Option<Worker>, two: Option<Worker>) -> Result<(), Refusal> {
+    let Some(one) = one else {
+        return Err(Refusal::NoMemory);
+    };
+    let Some(two) = two else {
+        return Err(Refusal::NoMemory);
+    };
+    one.join(rt)?;
+    two.join(rt)?;
+    Ok(())
 }
 
 impl<L: Ledger> Replica<L> {

@@ -5,6 +5,12 @@ use key_ring::Ring;
 use std::alloc::Global;
 use vclock::Refusal;
 
+/// The number of carts in both ranges together.
+const CARTS: u64 = 6;
+
+/// The number of orders in both ranges together.
+const ORDERS: u64 = 100;
+
 /// The two nodes that keep a range, in the order of its preference list.
 #[derive(Clone, Copy)]
 pub(crate) struct Homes {
@@ -28,7 +34,7 @@ pub(crate) fn homes_of(ring: &Ring, range: u16) -> Result<Homes, Refusal>
 }
 
 /// Returns the keys in a range among the first `count` of `NAME-0`, `NAME-1` and so on. Refused: NoMemory.
-pub(crate) fn keys_in(
+fn keys_in(
     alloc: Global,
     ring: &Ring,
     range: u16,
@@ -43,4 +49,29 @@ pub(crate) fn keys_in(
         }
     }
     Ok(keys)
+}
+
+/// The keys of a range.
+pub(crate) struct Keys {
+    pub(crate) carts: Vec<String>,
+    pub(crate) orders: Vec<String>,
+}
+
+impl Keys {
+    /// Returns the keys in a range among those of all carts and orders. Refused: NoMemory.
+    pub(crate) fn of(alloc: Global, ring: &Ring, range: u16) -> Result<Keys, Refusal> {
+        let carts = keys_in(alloc, ring, range, "cart", CARTS)?;
+        let orders = keys_in(alloc, ring, range, "order", ORDERS)?;
+        Ok(Keys { carts, orders })
+    }
+}
+
+impl Drop for Keys {
+    /// Keeps the fields out of the proofs of functions that drop keys.
+    fn drop(self) {
+        let Keys {
+            carts: _carts,
+            orders: _orders,
+        } = self;
+    }
 }
