@@ -1,8 +1,7 @@
 //! Rehash and sync workers.
 use crate::node::{Node, Plan};
-use admission::Slot;
 use caller_pass::Pass;
-use ring_node::{ChannelLink, Gate, Link, SharedController, Step};
+use ring_node::{ChannelLink, Gate, Link, Step};
 use std::alloc::Global;
 use std::sync::Wait;
 use std::sync::ledger::Ledger;

@@ -7,7 +7,6 @@ use crate::thread_calls::closing::Closing;
 use crate::thread_calls::ended::{Ended, Left};
 use crate::thread_calls::partner::Partner;
 use crate::thread_calls::scene::{Scene, ended_after};
-use std::alloc::Global;
 use std::io;
 use std::marker::Brand;
 use std::sync::Wait;
