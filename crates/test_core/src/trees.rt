@@ -173,6 +173,19 @@ fn a_range_is_rehashed_in_portions(rt: HostRuntime) -> Result<(), Fail> {
     expect_portions(&rt, alloc, &mut new_range(alloc, 1, 1_000)?)
 }
 
+/// Asserts that two workers take different jobs.
+fn expect_different(alloc: Global, state: &RangeState) -> Result<(), Fail> {
+    let first = state.take_job(alloc, 0)?.ok_or("no job")?;
+    let second = state.take_job(alloc, 1)?.ok_or("no job")?;
+    expect(first.node() != second.node(), "the jobs are different")
+}
+
+#[test]
+fn workers_take_different_jobs(rt: HostRuntime) -> Result<(), Fail> {
+    let alloc = rt.alloc();
+    expect_different(alloc, &new_range(alloc, 2, 1_000)?)
+}
+
 /// Asserts the number of jobs of a range that are taken, if a number is asked for.
 fn expect_count(alloc: Global, state: &RangeState, most: usize, count: usize) -> Result<(), Fail> {
     let jobs = take_jobs(alloc, state, most)?;
