@@ -2,7 +2,7 @@
 
 use crate::nodes::Node;
 use crate::runs::{NodeTest, run_node};
-use hint_store::Delivery;
+use hint_store::{Delivery, HintCounts};
 use ring_node::SharedHints;
 use std::alloc::Global;
 use std::sync::Wait;
@@ -75,4 +75,53 @@ impl NodeTest for OneHint {
 #[test]
 fn a_shared_hint_is_confirmed_once(rt: HostRuntime) -> Result<(), Fail> {
     run_node(&rt, rt.alloc(), 1, &OneHint)
+}
+
+/// Returns the numbers of pending and of delivered hints.
+fn count<R: Wait>(rt: &R, hints: &SharedHints) -> HintCounts {
+    hints.counts(rt)
+}
+
+/// Drops the delivered hints, and numbers the others anew.
+fn renew<R: Wait>(rt: &R, alloc: Global, hints: &mut SharedHints) -> Result<(), Refusal> {
+    hints.renew(rt, alloc)
+}
+
+/// Two hints for node 2, the first of which is delivered before they are numbered anew.
+struct TwoHints;
+
+impl NodeTest for TwoHints {
+    fn run<L: Ledger, C: Ledger, R: Threads + Wait + Sync>(
+        &self,
+        rt: &R,
+        alloc: Global,
+        node: &mut Node<L, C>,
+    ) -> Result<(), Fail> {
+        let first = version(alloc, (1, 1), Kind::Live, b"x")?;
+        node.keep(rt, alloc, 2, b"a", first)?;
+        let second = version(alloc, (1, 2), Kind::Live, b"x")?;
+        node.keep(rt, alloc, 2, b"a", second)?;
+        expect(
+            is_confirmed(rt, alloc, &node.hints, 1)?,
+            "the first hint is confirmed",
+        )?;
+        let counts = count(rt, &node.hints);
+        expect(
+            counts.pending == 1 && counts.delivered == 1,
+            "one hint is pending",
+        )?;
+        renew(rt, alloc, &mut node.hints)?;
+        let counts = count(rt, &node.hints);
+        expect(
+            counts.pending == 1 && counts.delivered == 0,
+            "one hint is left",
+        )?;
+        let found = node.pending(rt, alloc, 2, 0)?;
+        expect(found == Some(1), "it is the first")
+    }
+}
+
+#[test]
+fn renewed_hints_are_numbered_from_1(rt: HostRuntime) -> Result<(), Fail> {
+    run_node(&rt, rt.alloc(), 1, &TwoHints)
 }
