@@ -19,7 +19,7 @@ static void is(const char *what, int holds)
     }
 }
 
-/* Accepts a version of a key of so many bytes, with a value of so many. */
+/* Accepts a version of a key of `key_len` bytes with a value of `value_len` bytes. */
 static uint32_t accept(struct antientropy *replica, size_t key_len, const struct antientropy_pair *clock, size_t pairs,
                        size_t value_len)
 {

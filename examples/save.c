@@ -3,7 +3,7 @@
  *     save FOLDER
  *
  * It writes FOLDER/one.checkpoint, which has the one row of the example in docs/FORMATS.md, and FOLDER/cart.checkpoint,
- * and loads them again. It refuses a file that was cut, one with a changed byte, and one of another range. It ends with
+ * and loads them again. It refuses a truncated file, one with a changed byte, and one of another range. It ends with
  * status 1 if a call returns another number than the one wanted. */
 #define _POSIX_C_SOURCE 200809L
 #include "antientropy.h"
@@ -157,11 +157,11 @@ static const char *load_leaves(struct antientropy *replica, struct range range, 
     for (unsigned leaf = 0; leaf < leaves(range); leaf++) {
         uint64_t len = 0;
         if (file->len - at < 8)
-            return "the file is cut";
+            return "the file is truncated, or a length in it is damaged";
         for (int n = 0; n < 8; n++)
             len = len << 8 | file->at[at++];
         if (file->len - at < len)
-            return "the file is cut";
+            return "the file is truncated, or a length in it is damaged";
         uint32_t got = antientropy_load(replica, file->at + at, len, &loaded);
         if (got == ANTIENTROPY_ROW_BROKEN || got == ANTIENTROPY_OTHER_RANGE || got == ANTIENTROPY_CROWDED)
             return "the rows are damaged";
@@ -254,7 +254,7 @@ int main(int argc, char **argv)
 
     try("for another range", other, &file);
     file.len--;
-    try("cut by a byte", second, &file);
+    try("truncated by a byte", second, &file);
     file.len++;
     uint8_t *milk = file.at;
     while (memcmp(milk, "milk", 4) != 0)

@@ -73,7 +73,7 @@ extern "C" {
 #define ANTIENTROPY_OPEN_SESSIONS_MAX 64  /* open sessions of a replica */
 #define ANTIENTROPY_LEAVES_1 256          /* leaves of a tree of format 1 */
 #define ANTIENTROPY_LEAVES_2 4096         /* leaves of a tree of format 2 */
-#define ANTIENTROPY_NODES_1 273           /* nodes of a tree of format 1: at most so many asks in a session */
+#define ANTIENTROPY_NODES_1 273           /* nodes of a tree of format 1, and the most asks of a session */
 #define ANTIENTROPY_NODES_2 4369          /* nodes of a tree of format 2 */
 #define ANTIENTROPY_ROOT_LEN 32
 #define ANTIENTROPY_OFFER_LEN 39
@@ -228,7 +228,7 @@ struct antientropy_hint_counts {
 
 /* Counts of slots. */
 struct antientropy_slot_counts {
-    uint64_t target; /* at most so many slots are lent */
+    uint64_t target; /* the most slots that may be lent */
     uint64_t lent;   /* slots lent */
     uint64_t free;   /* slots that could be lent now */
 };

@@ -162,7 +162,7 @@ private:
 enum class Fault {
     NotWritten, ///< the stream failed
     NoCheckpoint, ///< the bytes don't begin as a checkpoint of format 1 or 2 does
-    Cut, ///< the file ends early, or can't be read
+    Truncated, ///< the file ends early, a length in it is damaged, or it can't be read
     Damaged, ///< its numbers or rows are refused, its root differs, or bytes follow
     Refused ///< a call was refused for a cause that isn't the file's: BadRing (the limit), JournalFull, NoMemory, Empty
 };
@@ -672,7 +672,7 @@ inline std::string to_bytes(const Head &head) {
 
 inline FileResult<Head> read_head(std::istream &file) {
     const auto bytes = read_bytes(file, head_length);
-    if (!bytes) return FileError{Fault::Cut, std::nullopt};
+    if (!bytes) return FileError{Fault::Truncated, std::nullopt};
     const std::string_view head = *bytes, numbers = head.substr(magic.size());
     const Head read{to_number(numbers.substr(0, 1)), to_number(numbers.substr(1, 1)), to_number(numbers.substr(2, 2)),
                     std::string(numbers.substr(4))};
@@ -936,7 +936,7 @@ private:
         return asks;
     }
 
-    /// Exchanges so many asks at a time.
+    /// Exchanges all asks, `in_flight_` of them at a time.
     Result<void> exchange_all(const std::vector<std::string> &asks) {
         for (std::size_t first = 0; first < asks.size() && !gives_up(); first += in_flight_) {
             const auto from = asks.begin() + static_cast<std::ptrdiff_t>(first);
@@ -1029,7 +1029,7 @@ public:
 
     /// Returns a new replica with the rows of a checkpoint, and a journal of at most `limit` entries. The root finds
     /// damage, but no forged file. Check `format`, `bits` and `range` against the configuration.
-    /// Errors: NoCheckpoint, Cut, Damaged, Refused.
+    /// Errors: NoCheckpoint, Truncated, Damaged, Refused.
     static FileResult<Replica> load(std::istream &file, std::uint64_t limit = ANTIENTROPY_ENTRIES_MAX) {
         const auto head = detail::read_head(file);
         if (!head) return head.error();
@@ -1300,7 +1300,7 @@ private:
     std::optional<FileError> load_leaves(std::istream &file) {
         for (unsigned leaf = 0; leaf < detail::leaves_of(format_); leaf++) {
             const auto rows = detail::read_leaf(file);
-            if (!rows) return FileError{Fault::Cut, std::nullopt};
+            if (!rows) return FileError{Fault::Truncated, std::nullopt};
             const auto error = load_leaf(*rows);
             if (error) return error;
         }

@@ -143,7 +143,7 @@ func readRows(in io.Reader) ([]byte, error) {
 	}
 	rows, err := io.ReadAll(io.LimitReader(in, int64(length)))
 	if err == nil && uint64(len(rows)) != length {
-		err = damaged("it is cut")
+		err = damaged("it is truncated, or a length in it is damaged")
 	}
 	return rows, err
 }
@@ -152,7 +152,7 @@ func readRows(in io.Reader) ([]byte, error) {
 func readField(in io.Reader, field any) error {
 	err := binary.Read(in, binary.BigEndian, field)
 	if err == io.EOF || err == io.ErrUnexpectedEOF {
-		return damaged("it is cut")
+		return damaged("it is truncated, or a length in it is damaged")
 	}
 	return err
 }

@@ -106,7 +106,7 @@ func TestBrokenFile(t *testing.T) {
 func TestCut(t *testing.T) {
 	file := saved(shopping())
 	for _, length := range []int{0, 7, 8, 43, 44, 50, len(file) / 2, len(file) - 1} {
-		isDamaged(t, file[:length], "it is cut")
+		isDamaged(t, file[:length], "it is truncated, or a length in it is damaged")
 	}
 }
 
@@ -137,7 +137,7 @@ func TestHugeLength(t *testing.T) {
 		file := saved(shopping())
 		copy(file[44:], bytes.Repeat([]byte{0xff}, 8))
 		file[44] = first
-		isDamaged(t, file, "it is cut")
+		isDamaged(t, file, "it is truncated, or a length in it is damaged")
 	}
 }
 

@@ -7,7 +7,7 @@
 namespace {
 
 std::string fault_of(const FileError &error) {
-    const char *names[] = {"NotWritten", "NoCheckpoint", "Cut", "Damaged", "Refused"};
+    const char *names[] = {"NotWritten", "NoCheckpoint", "Truncated", "Damaged", "Refused"};
     return std::string(names[static_cast<int>(error.fault)]) + (error.refusal ? ' ' + name(*error.refusal) : "");
 }
 
@@ -296,7 +296,9 @@ void damaged_checkpoints() {
     sure(replica.put(1, "cart", "milk"));
     const std::string bytes = saved(replica);
     CHECK(load(bytes) == "loaded");
-    for (std::size_t length = 0; length < bytes.size(); length += 7) CHECK(load(bytes.substr(0, length)) == "Cut");
+    for (std::size_t length = 0; length < bytes.size(); length += 7) {
+        CHECK(load(bytes.substr(0, length)) == "Truncated");
+    }
     CHECK(load(bytes + '\0') == "Damaged");
     for (std::size_t at = 0; at < bytes.size(); at++) {
         std::string changed = bytes;
@@ -304,7 +306,7 @@ void damaged_checkpoints() {
         CHECK(load(changed) != "loaded");
         CHECK(load(changed).substr(0, 7) != "Refused");
     }
-    CHECK(load("") == "Cut");
+    CHECK(load("") == "Truncated");
     CHECK(load("ANTIENT" + bytes.substr(7)) == "NoCheckpoint");
     CHECK(load(bytes, 0) == "Refused BadRing");
     std::string bits = bytes;

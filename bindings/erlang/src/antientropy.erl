@@ -279,7 +279,7 @@ reversed(Refused) -> Refused.
 rehash(Replica) ->
     antientropy_nif:rehash(Replica).
 
-%% @doc Hashes at most so many nodes, and returns the number of those that then have no digest.
+%% @doc Hashes at most `Most` nodes, and returns the number of those that then have no digest.
 %%
 %% A program that repeats it until that is 0 lets other calls between.
 -spec rehash_some(replica(), Most :: non_neg_integer()) -> {ok, Left :: non_neg_integer()} | refused().

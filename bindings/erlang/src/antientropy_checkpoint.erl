@@ -7,9 +7,9 @@
 
 -type failed() :: {error, {file, file:posix() | badarg | terminated} | {damaged, damage()}}.
 %% A file that can't be read or written, or that is damaged.
--type damage() :: not_checkpoint | cut | too_long | root | {leaf, Leaf :: non_neg_integer()}.
-%% The file doesn't begin as a checkpoint does; it ends too early; bytes follow its last leaf; the rows have another
-%% root than the file has; or the rows of a leaf are refused.
+-type damage() :: not_checkpoint | truncated | too_long | root | {leaf, Leaf :: non_neg_integer()}.
+%% The file doesn't begin as a checkpoint does; it ends early, or a length in it is damaged; bytes follow its last
+%% leaf; the rows have another root than the file has; or the rows of a leaf are refused.
 
 -define(MAGIC, "antient", 1).
 -define(HEAD_LEN, 44).
@@ -74,7 +74,7 @@ fill(Replica, File, Leaves, Root) ->
 
 read_leaves(Replica, File, End, End, Root) ->
     case get_bytes(File, 1) of
-        {error, {damaged, cut}} -> check_root(Replica, Root);
+        {error, {damaged, truncated}} -> check_root(Replica, Root);
         {ok, _} -> damaged(too_long);
         Failed -> Failed
     end;
@@ -123,7 +123,7 @@ put_bytes(File, Bytes) ->
         {error, Reason} -> {error, {file, Reason}}
     end.
 
-%% Reads so many bytes.
+%% Reads `Length` bytes.
 get_bytes(File, Length) ->
     get_pieces(File, Length, []).
 
@@ -132,6 +132,6 @@ get_pieces(_, 0, Pieces) ->
 get_pieces(File, Length, Pieces) ->
     case file:read(File, min(Length, ?PIECE)) of
         {ok, Piece} -> get_pieces(File, Length - byte_size(Piece), [Piece | Pieces]);
-        eof -> damaged(cut);
+        eof -> damaged(truncated);
         {error, Reason} -> {error, {file, Reason}}
     end.

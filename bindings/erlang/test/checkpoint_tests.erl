@@ -1,4 +1,4 @@
-%% Checkpoints: saved, loaded, cut and changed.
+%% Checkpoints: saved, loaded, truncated and changed.
 -module(checkpoint_tests).
 
 -include_lib("eunit/include/eunit.hrl").
@@ -11,7 +11,7 @@ checkpoints_test_() ->
         fun save_and_load/1,
         fun log_after_the_checkpoint/1,
         fun file_on_a_disk/1,
-        fun cut/1,
+        fun truncated/1,
         fun too_long/1,
         fun changed_head/1,
         fun changed_rows/1,
@@ -103,9 +103,9 @@ file_on_a_disk({Replica, Saved}) ->
     ?assertEqual({error, {file, einval}}, antientropy:load(Read)),
     ok = file:delete(Path).
 
-cut({_, Saved}) ->
+truncated({_, Saved}) ->
     [
-        damaged(cut, binary:part(Saved, 0, Length))
+        damaged(truncated, binary:part(Saved, 0, Length))
      || Length <- [0, 7, 43, 44, 50, byte_size(Saved) div 2, byte_size(Saved) - 1]
     ].
 
@@ -123,7 +123,7 @@ changed_rows({_, Saved}) ->
     damaged({leaf, Leaf}, flip(Saved, place(<<"cart">>, Saved) - 1)).
 
 huge_length({_, <<Head:44/binary, _:8/binary, Leaves/binary>>}) ->
-    damaged(cut, <<Head/binary, (1 bsl 64 - 1):64, Leaves/binary>>).
+    damaged(truncated, <<Head/binary, (1 bsl 64 - 1):64, Leaves/binary>>).
 
 %% Rows of two leaves are refused.
 another_leaf({Replica, <<Head:44/binary, _/binary>>}) ->

@@ -7,7 +7,7 @@
 
 -define(WRITERS, 4).
 -define(PUTS, 500).
-%% Values of so many keys take some tenths of a second to hash.
+%% It takes some tenths of a second to hash the values of this many keys.
 -define(LARGE_KEYS, 500).
 -define(LARGE_VALUE, binary:copy(<<"v">>, 65_536)).
 
@@ -184,8 +184,8 @@ a_snapshot_does_not_wait(Replica) ->
     ?assertEqual(pending, peek(Rehash)),
     ?assertEqual(ok, await(Rehash)).
 
-%% A process that is killed in a call doesn't keep the lock, and the call is completed. On a busy machine the process may
-%% be killed before its call begins: then it is tried again.
+%% A process that is killed in a call doesn't keep the lock, and the call is completed. On a busy machine the process
+%% may be killed before its call begins: then the test tries again.
 a_process_is_killed(Replica) ->
     {Rehashing, Monitor} = start_rehash(Replica),
     {Waiting, _} = async(fun() -> antientropy:count(Replica) end),

@@ -57,7 +57,7 @@ start_epmd() ->
     ok = wait_for(Number, 50),
     {Epmd, [{"ERL_EPMD_PORT", Port}, {"ERL_EPMD_ADDRESS", "127.0.0.1"}]}.
 
-%% Waits until a port is open: at most so many tenths of a second.
+%% Waits until a port is open, at most this number of tenths of a second.
 wait_for(Number, Tenths) when Tenths > 0 ->
     case gen_tcp:connect({127, 0, 0, 1}, Number, []) of
         {ok, Socket} ->

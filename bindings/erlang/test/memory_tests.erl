@@ -69,7 +69,7 @@ long_clocks_test_() ->
         support:badarg(fun() -> antientropy:compare(Pairs, none) end)
     end).
 
-%% Makes calls again and again, in processes that end. If so many bytes were lost each time, that would be 64 MiB. Half
+%% Makes calls again and again, in processes that end. If `Bytes` were lost each time, that would be 64 MiB. Half
 %% as many calls before are for what the allocators keep.
 freed(Bytes, Call) ->
     {timeout, 120, fun() ->

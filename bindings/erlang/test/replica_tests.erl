@@ -148,7 +148,7 @@ rehash_some_test() ->
     ?assertEqual({ok, 0}, rehash_all(Replica, 3)),
     ?assertMatch({ok, #{dirty := 0}}, antientropy:count(Replica)).
 
-%% Rehashes one node after another: at most so many turns.
+%% Rehashes one node after another, in at most this number of turns.
 rehash_all(Replica, Turns) ->
     case antientropy:rehash_some(Replica, 1) of
         {ok, Left} when Left > 0, Turns > 1 -> rehash_all(Replica, Turns - 1);

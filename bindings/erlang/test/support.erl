@@ -36,7 +36,7 @@ crowd(Replica, Key) ->
 live(Clock, Value) ->
     #{clock => Clock, value => Value}.
 
-%% @doc Puts so many keys at node 1.
+%% @doc Puts `Count` keys at node 1.
 fill(Replica, Count) ->
     [{ok, _} = antientropy:put(Replica, 1, key(Number), <<"value">>) || Number <- lists:seq(1, Count)],
     Replica.

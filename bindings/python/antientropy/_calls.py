@@ -10,7 +10,7 @@ from typing import Any, Dict, Tuple
 
 PREFIX = "antientropy_"
 
-#: Pairs of a clock: a call returns at most so many.
+#: The most pairs of a clock.
 CLOCK_MAX = 32
 
 #: Bytes of a digest.

@@ -64,12 +64,12 @@ def _load_rows(replica: Replica, leaf: int, rows: bytes) -> None:
 
 
 def _read(file: BinaryIO, length: int) -> bytes:
-    """Reads so many bytes."""
+    """Reads `length` bytes."""
     pieces = []
     while length:
         piece = file.read(min(length, _PIECE))
         if not piece:
-            raise ValueError("the checkpoint is cut")
+            raise ValueError("the checkpoint is truncated, or a length in it is damaged")
         pieces.append(piece)
         length -= len(piece)
     return b"".join(pieces)

@@ -16,7 +16,7 @@ _LIVE, _TOMBSTONE = int(Kind.LIVE), int(Kind.TOMBSTONE)
 
 
 def fits(number: int, bits: int) -> int:
-    """Returns a number that an unsigned C type of so many bits can hold. ctypes would cut other numbers silently."""
+    """Returns a number that an unsigned C type of `bits` bits can hold. ctypes truncates other numbers silently."""
     if number >> bits:
         raise OverflowError(f"{number} doesn't fit in {bits} bits")
     return number

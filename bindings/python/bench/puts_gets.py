@@ -14,7 +14,7 @@ from antientropy import Replica
 
 
 def measure(calls: int, call: Callable[[], Any]) -> int:
-    """Returns the number of calls a second, of a function that makes so many."""
+    """Returns the number of calls a second of a function that makes `calls` calls."""
     start = time.perf_counter()
     call()
     return round(calls / (time.perf_counter() - start))

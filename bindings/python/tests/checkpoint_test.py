@@ -1,4 +1,4 @@
-"""Checkpoints: saved, loaded, cut and changed."""
+"""Checkpoints: saved, loaded, truncated and changed."""
 
 import hashlib
 import io
@@ -99,7 +99,7 @@ class CheckpointTest(unittest.TestCase):
         with self.assertRaises(BlockingIOError):
             self.replica.save(Full())
 
-    def test_cut(self):
+    def test_truncated(self):
         for length in (0, 7, 43, 44, 50, len(self.saved) // 2, len(self.saved) - 1):
             with self.subTest(length):
                 self.assert_damaged(self.saved[:length])

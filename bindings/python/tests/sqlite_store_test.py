@@ -402,7 +402,7 @@ class StoreTest(unittest.TestCase):
         self.assertEqual(store.get(b"a"), [Version({1: 1}, b"x")])
 
     def test_a_failed_commit_ends_the_process(self):
-        """Files may have at most so many bytes: nothing that didn't fit was acknowledged."""
+        """Files have a greatest size: nothing that didn't fit was acknowledged."""
         most = 200_000
         process = StoreProcess(self.path, 1000, lambda: resource.setrlimit(resource.RLIMIT_FSIZE, (most, most)))
         process.start()

@@ -29,8 +29,8 @@ pub enum CheckpointError {
 pub enum Damage {
     /// The file doesn't begin as a checkpoint does.
     NotCheckpoint,
-    /// The file ends too early.
-    Cut,
+    /// The file ends early, or a length in it is damaged.
+    Truncated,
     /// Bytes follow the last leaf.
     TooLong,
     /// The rows of the leaf of this number are refused.
@@ -53,7 +53,7 @@ impl fmt::Display for Damage {
     fn fmt(&self, out: &mut fmt::Formatter<'_>) -> fmt::Result {
         match self {
             Damage::NotCheckpoint => write!(out, "this isn't a checkpoint"),
-            Damage::Cut => write!(out, "the checkpoint is cut"),
+            Damage::Truncated => write!(out, "the checkpoint is truncated, or a length in it is damaged"),
             Damage::TooLong => write!(out, "the checkpoint is damaged: bytes follow its last leaf"),
             Damage::Leaf(leaf) => write!(out, "the checkpoint is damaged: the rows of leaf {leaf} are refused"),
             Damage::Root => write!(out, "the checkpoint is damaged: its root differs"),
@@ -154,14 +154,14 @@ fn load_rows(replica: &mut Replica, leaf: u16, rows: &[u8]) -> Result<(), Checkp
     }
 }
 
-/// Reads so many bytes. A damaged length may be huge, so the memory grows with the bytes that are there.
+/// Reads `len` bytes. A damaged length may be huge, so the memory grows with the bytes that are there.
 fn read(file: &mut (impl Read + ?Sized), len: u64) -> Result<Vec<u8>, CheckpointError> {
     let mut bytes = Vec::new();
     file.take(len).read_to_end(&mut bytes)?;
     if bytes.len() as u64 == len {
         Ok(bytes)
     } else {
-        Err(Damage::Cut.into())
+        Err(Damage::Truncated.into())
     }
 }
 
@@ -170,7 +170,7 @@ fn read_array<const N: usize>(file: &mut (impl Read + ?Sized)) -> Result<[u8; N]
     let mut bytes = [0; N];
     match file.read_exact(&mut bytes) {
         Ok(()) => Ok(bytes),
-        Err(error) if error.kind() == io::ErrorKind::UnexpectedEof => Err(Damage::Cut.into()),
+        Err(error) if error.kind() == io::ErrorKind::UnexpectedEof => Err(Damage::Truncated.into()),
         Err(error) => Err(error.into()),
     }
 }

@@ -10,7 +10,7 @@ use crate::values::{Clock, Kind, Pair};
 /// Bytes that a call gets on the stack for its result. A longer result needs a second call.
 const BYTES_ROOM: usize = 16 << 10;
 
-/// Pairs of a clock: a call returns at most so many.
+/// The most pairs of a clock.
 pub(crate) const CLOCK_MAX: usize = 32;
 
 /// A call that frees a handle.
@@ -73,7 +73,7 @@ pub(crate) unsafe fn fill<T: Copy, const N: usize>(
     let mut need = 0;
     let mut room = [MaybeUninit::<T>::uninit(); N];
     match check(call(room.as_mut_ptr().cast(), N, &mut need)) {
-        // SAFETY: the call has written so many elements.
+        // SAFETY: the call has written that many elements.
         Ok(()) => Ok(unsafe { slice::from_raw_parts(room.as_ptr().cast(), need as usize) }.to_vec()),
         // SAFETY: the conditions are the same.
         Err(Refusal::Small) => unsafe { fill_exactly(call, need) },
@@ -92,7 +92,7 @@ unsafe fn fill_exactly<T: Copy>(
 ) -> Result<Vec<T>, Refusal> {
     let mut out = Vec::with_capacity(need as usize);
     check(call(out.as_mut_ptr(), out.capacity(), &mut need))?;
-    // SAFETY: the call has written so many elements.
+    // SAFETY: the call has written that many elements.
     unsafe { out.set_len(need as usize) };
     Ok(out)
 }

@@ -1,4 +1,4 @@
-//! Checkpoints: saved, loaded, cut and changed.
+//! Checkpoints: saved, loaded, truncated and changed.
 
 use std::io::{self, Read, Write};
 
@@ -152,10 +152,10 @@ fn broken_file() {
 }
 
 #[test]
-fn cut() {
+fn truncated() {
     let file = saved();
     for len in [0, 7, 8, 43, 44, 50, file.len() / 2, file.len() - 1] {
-        assert_eq!(damage(&file[..len]), Damage::Cut);
+        assert_eq!(damage(&file[..len]), Damage::Truncated);
     }
 }
 
@@ -189,7 +189,7 @@ fn changed_rows() {
 fn huge_length() {
     let mut file = saved();
     file[44..52].fill(0xff);
-    assert_eq!(damage(&file), Damage::Cut);
+    assert_eq!(damage(&file), Damage::Truncated);
 }
 
 #[test]

@@ -16,7 +16,7 @@ fn resident() -> usize {
     statm.split(' ').nth(1).unwrap().parse::<usize>().unwrap() * 4096
 }
 
-/// Makes something of so many bytes again and again: without frees the process would grow by 128 MiB each round. Other
+/// Makes something of `bytes` bytes again and again: without frees the process would grow by 128 MiB each round. Other
 /// tests run meanwhile, so one of three rounds has to grow by less.
 #[track_caller]
 fn assert_freed(bytes: usize, make: impl Fn()) {

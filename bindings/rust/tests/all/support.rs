@@ -11,7 +11,7 @@ pub fn replica() -> Replica {
     with_limit(20_000)
 }
 
-/// Returns an empty replica with a journal of so many entries.
+/// Returns an empty replica whose journal may have `limit` entries.
 pub fn with_limit(limit: u64) -> Replica {
     Replica::new(Config { limit, ..Config::default() }).unwrap()
 }
