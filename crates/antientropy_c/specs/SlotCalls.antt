@@ -4,7 +4,6 @@ use Rattle.vclock.specs.Outcome.{Outcome, gives, ◌>>◌}
 use Rattle.vclock.specs.declared.refusal.Refusal.{Refusal}
 use Rattle.vclock.specs.declared.refusal.Refusal.TheVariants.{BadRing}
 use Rattle.admission.specs.Admission.{Admission, free_of}
-use Rattle.antientropy_c.specs.Calls.{CallsOn}
 use Rattle.antientropy_c.specs.declared.slots.Slots.{Slots}
 use Rattle.antientropy_c.specs.declared.slot_calls.Percentile.{Percentile}
 use Rattle.antientropy_c.specs.declared.slot_calls.SlotNumbers.{SlotNumbers}

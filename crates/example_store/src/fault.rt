@@ -1,5 +1,5 @@
 //! The faults that end the program before its work is done.
-use std::alloc::{AllocError, AllocFailed};
+use std::alloc::AllocFailed;
 use std::io;
 use thiserror::Error;
 use vclock::Refusal;
@@ -13,12 +13,6 @@ pub(crate) enum Fault {
     /// The output can't be written.
     #[error("{0}")]
     Device(#[from] io::Error),
-}
-
-impl From<AllocError> for Fault {
-    fn from(error: AllocError) -> Fault {
-        Fault::Refused(Refusal::from(error))
-    }
 }
 
 impl<T: Drop> From<AllocFailed<T>> for Fault {

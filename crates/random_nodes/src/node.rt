@@ -6,7 +6,7 @@ ghost use Rattle.std.specs.Prelude.{◌≡◌, ◌≤◌};
 use crate::mirror::{Mirror, PlainHint, Published};
 use crate::partner::format_number;
 use crate::ranges::config_of;
-use crate::steps::{Seen, Setup, Side};
+use crate::steps::{Seen, Setup, Side, Written};
 use caller_pass::{Pass, open_passes};
 use hash_tree::NodeAt;
 use plain_model::leaves::Taken;
@@ -32,15 +32,6 @@ pub(crate) const SEATS: u16 = 4;
 pub(crate) struct Made {
     pub(crate) key: u64,
     pub(crate) version: PlainVersion,
-}
-
-/// A value or a tombstone that is put.
-#[derive(Clone, Copy)]
-pub(crate) struct Written {
-    pub(crate) key: u64,
-    pub(crate) seen: Seen,
-    pub(crate) kind: Kind,
-    pub(crate) value: Option<u8>,
 }
 
 /// A node.

@@ -26,23 +26,24 @@ pub(crate) enum Seen {
     Earlier(u64),
 }
 
+/// A value or a tombstone that is put.
+#[derive(Clone, Copy)]
+pub(crate) struct Written {
+    pub(crate) key: u64,
+    pub(crate) seen: Seen,
+    pub(crate) kind: Kind,
+    pub(crate) value: Option<u8>,
+}
+
 /// The deed of a step, at a node.
 #[derive(Clone, Copy)]
 pub(crate) enum Deed {
     /// Puts a value or a tombstone.
-    Put {
-        key: u64,
-        seen: Seen,
-        kind: Kind,
-        value: Option<u8>,
-    },
+    Put(Written),
     /// Sends the node a version that some node made, counted back from the last one.
     Copy(u64),
     /// Sends the node a version of other nodes.
-    Accept {
-        key: u64,
-        version: PlainVersion,
-    },
+    Accept { key: u64, version: PlainVersion },
     /// Keeps a hint for the other node, with such a version.
     Keep(u64),
     /// Delivers the other node's hints in this number of turns.
@@ -54,28 +55,17 @@ pub(crate) enum Deed {
     /// Loads the rows of a leaf that the other node offers.
     Load(u64),
     /// Hashes dirty nodes in this number of turns.
-    Rehash {
-        skip: u64,
-        turns: u64,
-    },
+    Rehash { skip: u64, turns: u64 },
     /// Publishes a snapshot this number of times.
     Publish(u8),
     /// Syncs with the other node in this number of turns. Once in `lies` calls the link fails or lies.
-    Sync {
-        turns: u64,
-        lies: u64,
-    },
+    Sync { turns: u64, lies: u64 },
     /// Syncs with a forger.
-    SyncForged {
-        turns: u64,
-    },
+    SyncForged { turns: u64 },
     /// Migrates to format 2.
     Migrate,
     /// Keeps a sample of this number of microseconds, this number of milliseconds after the last one.
-    Sample {
-        after: u64,
-        micros: u32,
-    },
+    Sample { after: u64, micros: u32 },
     /// Adjusts the slots, this number of milliseconds after the last sample.
     Adjust(u64),
     /// Brings the node down or up.
@@ -203,12 +193,12 @@ impl Setup {
                 Some(if random.once_in(2) { b'x' } else { b'y' }),
             )
         };
-        Deed::Put {
+        Deed::Put(Written {
             key: self.key(random),
             seen,
             kind,
             value,
-        }
+        })
     }
 
     /// Draws a deed that is seldom.
@@ -314,12 +304,14 @@ impl fmt::Display for Seen {
 impl fmt::Display for Deed {
     fn fmt<W: fmt::Write>(&self, f: &mut fmt::Formatter<W>) -> fmt::Result {
         match self {
-            Deed::Put {
-                key,
-                seen,
-                kind,
-                ..
-            } => {
+            Deed::Put(
+                Written {
+                    key,
+                    seen,
+                    kind,
+                    ..
+                },
+            ) => {
                 let what = if *kind == Kind::Live { "put" } else { "delete" };
                 write!(f, "{what} of key {key}, {seen}")
             }

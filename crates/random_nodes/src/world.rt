@@ -1,7 +1,7 @@
 //! Two nodes with replicas of one range, and the steps that are done to them.
 
 use crate::deliveries::deliver_hints;
-use crate::node::{Made, Node, Written};
+use crate::node::{Made, Node};
 use crate::rehashes::run_rehash;
 use crate::schedule::Schedule;
 use crate::slots::Slots;
@@ -118,23 +118,10 @@ impl<L: Ledger, M: Ledger, C: Ledger> World<L, M, C> {
     ) -> Result<(), Trouble> {
         let alloc = self.alloc;
         match deed {
-            Deed::Put {
-                key,
-                seen,
-                kind,
-                value,
-            } => {
-                let written = Written {
-                    key,
-                    seen,
-                    kind,
-                    value,
-                };
-                match here.put(rt, alloc, depth, written)? {
-                    Some(made) => self.schedule.add(rt, made),
-                    None => Ok(()),
-                }
-            }
+            Deed::Put(written) => match here.put(rt, alloc, depth, written)? {
+                Some(made) => self.schedule.add(rt, made),
+                None => Ok(()),
+            },
             Deed::Copy(back) => match self.schedule.made(rt, back) {
                 Some(made) => here.copy(rt, alloc, depth, made),
                 None => Ok(()),

@@ -1,13 +1,11 @@
 -- What a pass gains by a partner's text, and why a sync worker is refused.
-use Rattle.std.proofs.Common.{◌≡◌, inl, inr, ℕ, ◌+◌, ◌-◌, ◌<◌, ◌≤◌, true, false, cond, List, [], ◌∷◌, ◌++◌, length, Option, Some, None, Result, Ok, Err, refl, sym, ap, subst, ◌∙◌, max, arith, append_assoc, length-append, slice_get}
-use Rattle.std.specs.Prelude.{IfOk, IfErr, OnErr, nat_eq}
+use Rattle.std.proofs.Common.{◌≡◌, inl, inr, ℕ, ◌+◌, ◌-◌, ◌≤◌, List, length, Option, Some, None, Result, Ok, Err, sym, ap, subst, ◌∙◌, arith, length-append, slice_get}
+use Rattle.std.specs.Prelude.{IfOk, IfErr, OnErr}
 use Rattle.std.specs.List.{AllByRecursion}
-use Rattle.std.proofs.lemmas.Bool.{eqb-true}
-use Rattle.std.proofs.lemmas.List.{append-nil, append_cancel_left}
+use Rattle.std.proofs.lemmas.List.{append_cancel_left}
 use Rattle.vclock.specs.Outcome.{Does, through}
 use Rattle.vclock.specs.declared.refusal.Refusal.{Refusal}
 use Rattle.vclock.specs.declared.refusal.Refusal.TheVariants.{Crowded, JournalFull, UnknownSession, NotAsked, WrongDigest, NotCanonical, LinkLost, NoMemory}
-use Rattle.version_set.specs.declared.version.Version.{Version}
 use Rattle.range_journal.specs.declared.journal.Entry.{Entry}
 use Rattle.range_journal.specs.declared.journal.Source.{Source}
 use Rattle.range_journal.specs.declared.journal.Source.TheVariants.{Partner}
@@ -15,7 +13,7 @@ use Rattle.sync_session.specs.Walks.{TakenText}
 use Rattle.range_state.specs.declared.«record».Record.{Record}
 use Rattle.range_state.specs.declared.event.AnswerTaken.{AnswerTaken}
 use Rattle.range_state.specs.declared.event.AnswerCounted.{AnswerCounted}
-use Rattle.range_state.specs.State.{State, knows, journaled, entry_of, accept_step}
+use Rattle.range_state.specs.State.{State}
 use Rattle.range_state.specs.Sessions.{offers_of, open_session, taken_in, Refuses, TakesInner, TakesLeaf, TakesFor}
 use Rattle.caller_pass.specs.Passes.{PassView, with_receipts, seen_after}
 use Rattle.caller_pass.specs.Locks.{Locked, moved, IsToldOf, TellsAnswer}
