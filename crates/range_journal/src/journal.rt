@@ -1,8 +1,9 @@
 //! A journal of accepted versions.
-ghost use Rattle.std.specs.Prelude.{◌≡◌, ◌≤◌, ◌↔◌, ◌⊎◌, [], length, None, IfOk, IfErr, slice_get, IsTrue};
+ghost use Rattle.std.specs.Prelude.{◌≡◌, ◌≤◌, ◌↔◌, ◌⊎◌, [], length, take, None, IfOk, IfErr, slice_get, IsTrue};
 ghost use Rattle.std.specs.Option.{option_copied};
 ghost use Rattle.vclock.specs.Answer.{Answers};
 ghost use Rattle.vclock.specs.Outcome.{Does};
+ghost use Rattle.range_journal.specs.Counters.{top_counter};
 ghost use Rattle.range_journal.specs.Log.{IsLog};
 ghost use Rattle.range_journal.specs.Journal.{append, reserve, with_entry, held, NeverCrowded};
 
@@ -135,6 +136,16 @@ impl Journal {
         &self.entries
     }
 
+    /// Returns the greatest counter of a node in the clocks of the versions that the first `front` entries accepted for a
+    /// key: of all entries if there are fewer, and 0 if no clock has the node. Reads each of these entries. Doesn't
+    /// allocate.
+    pub fn top_counter(&self, node: u16, key: &[u8], front: u64) -> u64
+        ensures { result ≡ top_counter (take front self.now.entries) key.now node }
+    {
+        let most = front.min(self.len()) as usize;
+        top_of(&self.entries[..most], node, key)
+    }
+
     /// Makes room for `entries` more entries, so that adding them doesn't allocate.
     ///
     /// Refused, in order: JournalFull (they would pass the limit), NoMemory.
@@ -193,6 +204,19 @@ impl Journal {
         self.room -= 1;
         number
     }
+}
+
+/// Returns the greatest counter of a node in the clocks of the versions that entries have for a key.
+fn top_of(entries: &[Entry], node: u16, key: &[u8]) -> u64
+    ensures { result ≡ top_counter entries.now key.now node }
+{
+    let mut top = 0;
+    for entry in entries {
+        if entry.key.as_slice() == key {
+            top = entry.version.clock.get(node).max(top);
+        }
+    }
+    top
 }
 
 /// Returns the versions that entries hold for a key: the accepted versions that are below no other. It offers the

@@ -1,9 +1,12 @@
 //! Laws of journals, proved from their definitions.
-ghost use Rattle.std.specs.Prelude.{◌≡◌, ◌↔◌, ◌++◌, ◌∷◌, [], List, ℕ, false, Any, Contains, if◌then◌else◌};
+ghost use Rattle.std.specs.Prelude.{◌≡◌, ◌≤◌, ◌↔◌, ◌++◌, ◌∷◌, [], List, ℕ, false, Any, Contains, if◌then◌else◌};
+ghost use Rattle.std.specs.List.{AllByRecursion};
+ghost use Rattle.vclock.specs.Clock.{counter};
 ghost use Rattle.version_set.specs.declared.version.Version.{Version};
 ghost use Rattle.version_set.specs.Version.{covered, offered};
 ghost use Rattle.std.specs.Str.{bytes_eq};
 ghost use Rattle.range_journal.specs.declared.journal.Entry.{Entry};
+ghost use Rattle.range_journal.specs.Counters.{top_in, top_counter};
 ghost use Rattle.range_journal.specs.Journal.{versions_of, accepted, held, AreNews};
 
 /// The accepted versions of a key are those of the entries with that key.
@@ -32,4 +35,15 @@ pub fn held_versions_grow_by_an_offer()
     ensures { (entries : List Entry) (entry : Entry) (key : List ℕ)
         → held (entries ++ entry ∷ []) key
         ≡ (if bytes_eq entry.key key then offered entry.version (held entries key) else held entries key) }
+{}
+
+/// The greatest counter of a node for a key is at least that of each accepted version of the key, and is that of the held
+/// versions. More entries never lower it.
+pub fn counters_never_go_back()
+    ensures all { (entries : List Entry) (node : ℕ)
+        → AllByRecursion (λ e. counter e.version.clock node ≤ top_counter entries e.key node) entries }
+    ensures held { (entries : List Entry) (key : List ℕ) (node : ℕ)
+        → top_counter entries key node ≡ top_in (held entries key) node }
+    ensures later { (entries more : List Entry) (key : List ℕ) (node : ℕ)
+        → top_counter entries key node ≤ top_counter (entries ++ more) key node }
 {}
