@@ -1,17 +1,19 @@
 -- What callers rely on.
-use Rattle.std.proofs.Common.{◌≡◌, ℕ, zero, suc, ◌<◌, ◌≤◌, Bool, true, false, cond, ◌&&◌, ◌||◌, Option, Some, None, List, [], ◌∷◌, ◌++◌, length, get_or, take, refl, sym, ap, subst, ◌∙◌, arith, inl, inr, eq-eqb}
+use Rattle.std.proofs.Common.{◌≡◌, ℕ, zero, suc, ◌<◌, ◌≤◌, Bool, true, false, cond, ◌&&◌, ◌||◌, Option, Some, None, List, [], ◌∷◌, ◌++◌, length, get_or, take, append_assoc, refl, sym, ap, subst, ◌∙◌, arith, inl, inr, eq-eqb}
+use Rattle.std.proofs.Math.Seq.{take-length}
 use Rattle.std.specs.Prelude.{nat_eq, not, slice_get, filter, All, Any, Contains}
 use Rattle.std.specs.Cmp.Lexicographic.{pointwise}
 use Rattle.std.specs.Ordering.{is_eq}
 use Rattle.std.specs.List.{AllByRecursion}
-use Rattle.std.proofs.lemmas.Bool.{cases_lt, cases_Bool, lt-ltb, le-ltb}
+use Rattle.std.proofs.lemmas.Bool.{cases_lt, cases_Bool, lt-ltb, le-ltb, or_right}
 use Rattle.std.proofs.lemmas.Cmp.{tied_itself}
 use Rattle.std.proofs.lemmas.List.{length-append}
-use Rattle.std.proofs.lemmas.List.Elements.{All-from_recursion}
+use Rattle.std.proofs.lemmas.List.Elements.{All-from_recursion, All-weaker}
 use Rattle.std.proofs.lemmas.List.Folds.{list_any_at}
 use Rattle.std.proofs.lemmas.Slice.Eq.{bytes_eq-Decides}
 use Rattle.version_set.specs.declared.version.Version.{Version}
 use Rattle.version_set.specs.Version.{covered, is_same, is_below}
+use Rattle.version_set.proofs.ListLaws.{all-filter}
 use Rattle.version_set.proofs.SetLaws.{version_total}
 use Rattle.range_journal.specs.declared.journal.Entry.{Entry}
 use Rattle.range_journal.specs.Journal.{held, versions_of}
@@ -19,7 +21,10 @@ use Rattle.range_journal.proofs.JournalLaws.{covered-held, contains_cons, contai
 use Rattle.caller_pass.specs.declared.reading.Reading.{Reading}
 use Rattle.caller_pass.specs.Passes.{PassView, new_pass, new_passes}
 use Rattle.caller_pass.specs.Locks.{Locked, IsLocked, is_missing, first_missing, missing_fault, behind_fault}
-use Rattle.caller_pass.specs.Closings.{IsTrueReading, IsSettled, AllThere}
+use Rattle.range_state.specs.State.{State}
+use Rattle.range_state.specs.Renewals.{renewed_by}
+use Rattle.range_state.proofs.RenewLaws.{renewed_holds}
+use Rattle.caller_pass.specs.Closings.{of_seat, IsTrueReading, IsSettled, AllThere}
 
 -- ---- own writes
 
@@ -81,6 +86,55 @@ never_back entries r s is later key le k d below =
     let first : covered v (held (take r.front entries) r.key) ≡ true = ap (covered v) is.versions ∙ covers_member r.versions k d below in
     let more = covers_more v r.key entries r.front s.front le (sym (covered-held v (take r.front entries) r.key) ∙ first) in
     ap (covered v) (sym later.versions) ∙ ap (λ (x : List ℕ). covered v (held (take s.front entries) x)) (sym key) ∙ covered-held v (take s.front entries) r.key ∙ more
+
+-- ---- renewed ranges
+
+-- what a list of entries covers is covered by a longer one
+covers_behind : (v : Version) (key : List ℕ) (before es : List Entry) → covered v (versions_of es key) ≡ true → covered v (versions_of (before ++ es) key) ≡ true
+covers_behind v key [] es h = h
+covers_behind v key (x ∷ before) es h = by_key (pointwise nat_eq x.key key) (covers_behind v key before es h)
+  where
+    by_key : (b : Bool) → covered v (versions_of (before ++ es) key) ≡ true → covered v (cond b (x.version ∷ versions_of (before ++ es) key) (versions_of (before ++ es) key)) ≡ true
+    by_key true h = or_right (is_same v x.version || is_below v x.version) (covered v (versions_of (before ++ es) key)) h
+    by_key false h = h
+
+-- each entry's version is covered
+covers_entry : (e : Entry) (es : List Entry) → covered e.version (versions_of (e ∷ es) e.key) ≡ true
+covers_entry e es =
+    let same : is_same e.version e.version ≡ true = ap is_eq (tied_itself version_total e.version) in
+    rw ((bytes_eq-Decides e.key e.key).1 refl, same) refl
+
+covers_entries : (before es : List Entry) → AllByRecursion (λ (e : Entry). covered e.version (versions_of (before ++ es) e.key) ≡ true) es
+covers_entries before [] = tt
+covers_entries before (e ∷ es) = (
+  covers_behind e.version e.key before (e ∷ es) (covers_entry e es),
+  subst (λ (all : List Entry). AllByRecursion (λ (x : Entry). covered x.version (versions_of all x.key) ≡ true) es) (append_assoc before (e ∷ []) es) (covers_entries (before ++ e ∷ []) es),
+)
+
+-- what is covered in a range is covered in its renewal
+renewed_covers : (s : State) (seat limit : ℕ) (v : Version) (key : List ℕ) → covered v (held s.entries key) ≡ true → covered v (held (renewed_by s seat limit).entries key) ≡ true
+renewed_covers s seat limit v key h = ap (covered v) (renewed_holds s seat key) ∙ h
+
+pub renewed_receipts : (s : State) (seat limit : ℕ) (p : PassView) → IsSettled s.entries p → All (λ (e : Entry). covered e.version (held (renewed_by s seat limit).entries e.key) ≡ true) p.receipts
+renewed_receipts s seat limit p is =
+    let IsCovered : Entry → Type 0 = λ e. covered e.version (versions_of s.entries e.key) ≡ true in
+    let each : All IsCovered (of_seat p.seat s.entries) = All-from_recursion IsCovered (of_seat p.seat s.entries) (all-filter IsCovered (λ e. nat_eq e.seat p.seat) s.entries (covers_entries [] s.entries)) in
+    subst (All (λ (e : Entry). covered e.version (held (renewed_by s seat limit).entries e.key) ≡ true)) (sym is.receipts)
+    (All-weaker IsCovered (λ (e : Entry). covered e.version (held (renewed_by s seat limit).entries e.key) ≡ true) (λ e h. renewed_covers s seat limit e.version e.key (covered-held e.version s.entries e.key ∙ h)) (of_seat p.seat s.entries) each)
+
+-- a reading of all entries
+whole : (entries : List Entry) (key : List ℕ) → Reading
+whole entries key = record { front = length entries; key = key; versions = held entries key }
+
+pub renewed_readings : (s : State) (seat limit : ℕ) (p : PassView) → IsSettled s.entries p
+    → All (λ (r : Reading). All (λ (v : Version). covered v (held (renewed_by s seat limit).entries r.key) ≡ true) r.versions) p.readings
+renewed_readings s seat limit p is =
+    All-weaker (IsTrueReading s.entries) (λ (r : Reading). All (λ (v : Version). covered v (held (renewed_by s seat limit).entries r.key) ≡ true) r.versions)
+    (λ r true_of.
+        let now : IsTrueReading s.entries (whole s.entries r.key) = record { within = omega arith; versions = ap (λ (es : List Entry). held es r.key) (take-length s.entries) } in
+        All-weaker (λ (v : Version). covered v (held s.entries r.key) ≡ true) (λ (v : Version). covered v (held (renewed_by s seat limit).entries r.key) ≡ true) (λ v h. renewed_covers s seat limit v r.key h) r.versions
+        (never_back s.entries r (whole s.entries r.key) true_of now refl true_of.within))
+    p.readings is.readings
 
 -- ---- closed ranges
 

@@ -16,7 +16,10 @@ use Rattle.range_state.specs.declared.event.Accepted.{Accepted}
 use Rattle.range_state.specs.declared.event.Accepted.TheVariants.{Taken, Known}
 use Rattle.range_state.specs.declared.event.AnswerTaken.{AnswerTaken}
 use Rattle.range_state.specs.declared.event.AnswerCounted.{AnswerCounted}
-use Rattle.range_state.specs.State.{State, IsRight, put, accept}
+use Rattle.range_state.specs.declared.context_test.ContextTest.{ContextTest}
+use Rattle.range_state.specs.declared.context_test.ContextTest.TheVariants.{Fresh, Read}
+use Rattle.range_state.specs.ContextTests.{put_by}
+use Rattle.range_state.specs.State.{State, IsRight, accept}
 use Rattle.range_state.specs.Sessions.{TakesAnswer}
 use Rattle.range_state.specs.Told.{count_of}
 use Rattle.caller_pass.specs.Passes.{PassView, BookView, counted, with_receipts, with_reading}
@@ -41,11 +44,19 @@ moved l s = record l { state = s }
 abbrev pub told : Locked → PassView → State → List Entry → Locked × PassView
 told l p s es = (record { state = s; book = counted l.book (length es) }, with_receipts p (length s.entries) es)
 
--- a put by the pass, which gets the receipt
-abbrev pub put_in : Locked → PassView → ℕ → List ℕ → Pairs → Kind → List ℕ → Outcome Entry (Locked × PassView)
-put_in l p at key context kind value = do
-  entry ← put l.state p.seat at key context kind value
+-- a put by the pass, by a test of its context: the pass gets the receipt
+abbrev pub put_in_by : ContextTest → Locked → PassView → ℕ → List ℕ → Pairs → Kind → List ℕ → Outcome Entry (Locked × PassView)
+put_in_by test l p at key context kind value = do
+  entry ← put_by test l.state p.seat at key context kind value
   gives entry.0 (told l p entry.1 (entry.0 ∷ []))
+
+-- a put by the pass
+abbrev pub put_in : Locked → PassView → ℕ → List ℕ → Pairs → Kind → List ℕ → Outcome Entry (Locked × PassView)
+put_in l p at key context kind value = put_in_by Fresh l p at key context kind value
+
+-- a put by the pass, that checks what its client has read
+abbrev pub put_read_in : Locked → PassView → ℕ → List ℕ → Pairs → Kind → List ℕ → Outcome Entry (Locked × PassView)
+put_read_in l p at key context kind value = put_in_by Read l p at key context kind value
 
 -- range and pass after a version of another node: the pass gets the receipt if it was accepted
 abbrev pub after_sent : Locked → PassView → Accepted → State → Locked × PassView

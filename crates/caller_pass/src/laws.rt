@@ -3,6 +3,8 @@ ghost use Rattle.std.specs.Prelude.{◌≡◌, ◌<◌, ◌≤◌, ℕ, List, No
 ghost use Rattle.version_set.specs.Version.{covered};
 ghost use Rattle.range_journal.specs.declared.journal.Entry.{Entry};
 ghost use Rattle.range_journal.specs.Journal.{held};
+ghost use Rattle.range_state.specs.State.{State};
+ghost use Rattle.range_state.specs.Renewals.{renewed_by};
 ghost use Rattle.caller_pass.specs.declared.reading.Reading.{Reading};
 ghost use Rattle.caller_pass.specs.Passes.{PassView, new_pass, new_passes};
 ghost use Rattle.caller_pass.specs.Locks.{Locked, IsLocked, behind_fault};
@@ -28,6 +30,16 @@ pub fn settled_passes_have_each_entry()
     ensures { (seats : ℕ) (range : Locked) (passes : List PassView) → IsLocked seats range → AllThere seats passes
         → All (IsSettled range.state.entries) passes
         → (entry : Entry) → Contains range.state.entries entry → Any (λ p. Contains p.receipts entry) passes }
+{}
+
+/// Through a renewal, too, a caller reads its own writes, and its readings don't go back: for each pass that was settled,
+/// the versions that the renewed range holds cover each receipt, and each version of each reading.
+pub fn renewed_ranges_cover_settled_passes()
+    ensures receipts { (s : State) (seat limit : ℕ) (pass : PassView) → IsSettled s.entries pass
+        → All (λ e. IsTrue (covered e.version (held (renewed_by s seat limit).entries e.key))) pass.receipts }
+    ensures readings { (s : State) (seat limit : ℕ) (pass : PassView) → IsSettled s.entries pass
+        → All (λ r. All (λ v. IsTrue (covered v (held (renewed_by s seat limit).entries r.key))) r.versions)
+        pass.readings }
 {}
 
 /// The passes of a new book have its seats in order, from 0.

@@ -12,7 +12,7 @@ ghost use Rattle.range_state.specs.Migrates.{migrate};
 ghost use Rattle.range_state.specs.Syncs.{IsFirstOf};
 ghost use Rattle.caller_pass.specs.Loads.{load_in, load_text_in};
 ghost use Rattle.caller_pass.specs.Passes.{seen_after};
-ghost use Rattle.caller_pass.specs.Locks.{IsLocked, moved, put_in, accept_in, get_in, plainly, TellsAnswer};
+ghost use Rattle.caller_pass.specs.Locks.{IsLocked, moved, put_in_by, put_in, put_read_in, accept_in, get_in, plainly, TellsAnswer};
 
 use crate::book::Book;
 use crate::missing::find_missing;
@@ -23,7 +23,7 @@ use hash_tree::{Hashed, NodeAt};
 use key_ring::HashedKey;
 use range_journal::Source;
 use range_state::{
-    Accepted, AnswerCounted, LeafRows, Loaded, RangeConfig, RangeCounts, RangeState, Receipt,
+    Accepted, AnswerCounted, ContextTest, LeafRows, Loaded, RangeConfig, RangeCounts, RangeState, Receipt,
     Record,
 };
 use rehash::Job;
@@ -102,13 +102,40 @@ impl<L: Ledger> LockedRange<L> {
         ensures early { IfErr result (λ e. e ≡ Refusal.NoMemory
             → ask_fault self.old.state.config at key.now context.now kind value ≡ None) }
     {
-        self.put_hashed(alloc, pass, at, &HashedKey::new(key), context, kind, value)
+        let key = HashedKey::new(key);
+        self.put_hashed(alloc, ContextTest::Fresh, pass, at, &key, context, kind, value)
     }
 
-    /// Puts a value as [`LockedRange::put`] does, for a key that was hashed before the lock was taken.
+    /// Puts a value at a node, as `RangeState::put_read` does for the seat of the pass, and adds the receipt to the
+    /// pass: only if its client has read all that the node put.
+    ///
+    /// Refused as `RangeState::put_read` is. On error range and pass are unchanged.
+    pub fn put_read(
+        &mut self,
+        alloc: Global,
+        pass: &mut Pass<L>,
+        at: u16,
+        key: &[u8],
+        context: &Clock,
+        kind: Kind,
+        value: Bytes,
+    ) -> Result<Receipt, Refusal>
+        requires { 1 ≤ at }
+        ensures puts { DoesOrNoMemory result (self.old, pass.old) (self.new, pass.new)
+            (put_read_in self.old pass.old at key.now context.now kind value) }
+        ensures early { IfErr result (λ e. e ≡ Refusal.NoMemory
+            → ask_fault self.old.state.config at key.now context.now kind value ≡ None) }
+    {
+        let key = HashedKey::new(key);
+        self.put_hashed(alloc, ContextTest::Read, pass, at, &key, context, kind, value)
+    }
+
+    /// Puts a value as [`LockedRange::put`] does, or as [`LockedRange::put_read`] does, by the test of its context, for
+    /// a key that was hashed before the lock was taken.
     pub fn put_hashed(
         &mut self,
         alloc: Global,
+        test: ContextTest,
         pass: &mut Pass<L>,
         at: u16,
         key: &HashedKey,
@@ -118,7 +145,7 @@ impl<L: Ledger> LockedRange<L> {
     ) -> Result<Receipt, Refusal>
         requires { 1 ≤ at }
         ensures puts { DoesOrNoMemory result (self.old, pass.old) (self.new, pass.new)
-            (put_in self.old pass.old at key.now context.now kind value) }
+            (put_in_by test self.old pass.old at key.now context.now kind value) }
         ensures early { IfErr result (λ e. e ≡ Refusal.NoMemory
             → ask_fault self.old.state.config at key.now context.now kind value ≡ None) }
     {
@@ -131,7 +158,7 @@ impl<L: Ledger> LockedRange<L> {
             by_key,
             share,
         } = pass;
-        let receipt = state.put_into(alloc, receipts, *seat, at, key, context, kind, value)?;
+        let receipt = state.put_into(alloc, receipts, test, *seat, at, key, context, kind, value)?;
         by_key.note(receipts, key.front());
         book.count(share, 1);
         *seen = (*seen).max(state.journal().len());

@@ -31,7 +31,7 @@ fn context_of(alloc: Global, versions: &VersionSet) -> Result<Clock, Refusal> {
 }
 
 /// Puts a value for a key in place of the versions that the context has seen, and returns the new version. Refused as
-/// [`SharedRange::put`] is.
+/// [`SharedRange::put_read`] is.
 fn put<L: Ledger, R: Wait>(
     rt: &R,
     alloc: Global,
@@ -42,7 +42,7 @@ fn put<L: Ledger, R: Wait>(
     value: &[u8],
 ) -> Result<Version, Refusal> {
     let value = Bytes::copy_of(alloc, value)?;
-    let receipt = range.put(rt, alloc, pass, key, context, Kind::Live, value)?;
+    let receipt = range.put_read(rt, alloc, pass, key, context, Kind::Live, value)?;
     Ok(receipt.version)
 }
 

@@ -90,7 +90,7 @@ offers_few f (r ∷ rows) all = omega (arith, offers_few f rows all.1, all.0.few
 -- ---- their versions
 
 -- a version that has its place in a range
-placed : (c : Config) (key : List ℕ) (v : Version) → key_fault key ≡ None → value_fault c.format v.kind v.value ≡ None → range_at c.bits key ≡ c.range → place_fault c key v.kind v.value ≡ None
+pub placed : (c : Config) (key : List ℕ) (v : Version) → key_fault key ≡ None → value_fault c.format v.kind v.value ≡ None → range_at c.bits key ≡ c.range → place_fault c key v.kind v.value ≡ None
 placed c key v fits value range = rw (fits, value, range, eq_itself c.range) refl
 
 row_offers : (c : Config) (leaf : ℕ) (rows : List Row) → AllByRecursion (IsRow c.format) rows → AllByRecursion (λ (r : Row). range_at c.bits r.key ≡ c.range) rows → AllByRecursion (λ (r : Row). leaf_in c r.key ≡ leaf) rows
@@ -120,12 +120,12 @@ step_right t seat source key v other ok here clock fits = elim (knows t key v) a
 ] refl
 
 -- versions that no partner sent keep it right
-pub sent_right : (c : Config) (t : State) (leaf seat : ℕ) (source : Source) (offers : Offers) → ¬ (source ≡ Partner) → t.config ≡ c → IsRight t → AllByRecursion (λ o. IsOfferFor c leaf o.0 o.1) offers → crowded_in t seat source offers ≡ None → IsRight (accepted_in t seat source offers)
-sent_right c t leaf seat source [] other same ok all none = ok
-sent_right c t leaf seat source (o ∷ offers) other same ok all none =
+pub sent_right : (c : Config) (t : State) (seat : ℕ) (source : Source) (offers : Offers) → ¬ (source ≡ Partner) → t.config ≡ c → IsRight t → AllByRecursion (λ o. IsOfferFor c (leaf_in c o.0) o.0 o.1) offers → crowded_in t seat source offers ≡ None → IsRight (accepted_in t seat source offers)
+sent_right c t seat source [] other same ok all none = ok
+sent_right c t seat source (o ∷ offers) other same ok all none =
     let here = ap (λ (x : Config). place_fault x o.0 o.1.kind o.1.value) same ∙ all.0.here in
     let fits = first_none (offer_fault o.1 (held t.entries o.0)) _ none in
-    sent_right c (accept_step t seat source o.0 o.1) leaf seat source offers other (step_config t seat source o.0 o.1 ∙ same) (step_right t seat source o.0 o.1 other ok here all.0.clock fits) all.1 (later_none (offer_fault o.1 (held t.entries o.0)) _ none)
+    sent_right c (accept_step t seat source o.0 o.1) seat source offers other (step_config t seat source o.0 o.1 ∙ same) (step_right t seat source o.0 o.1 other ok here all.0.clock fits) all.1 (later_none (offer_fault o.1 (held t.entries o.0)) _ none)
 
 -- a state that was reached by so many entries more
 reached_is : (s : State) (leaf : ℕ) (t : State) (n : ℕ) → length t.entries ≡ length s.entries + n → Reached s leaf t
@@ -163,7 +163,7 @@ loaded_is s seat leaf rows b entries marks is =
 pub loaded_right : (s : State) (seat leaf : ℕ) (rows : List Row) (b : Batch) (entries : List Entry) (marks : List (Option (List ℕ))) → IsRight s → IsLoaded s seat leaf rows b entries marks
     → IsRight (record { config = s.config; entries = entries; marks = marks; records = s.records })
 loaded_right s seat leaf rows b entries marks ok is =
-    subst IsRight (sym (loaded_is s seat leaf rows b entries marks is)) (sent_right s.config s leaf seat Copy (offers_of rows) (λ same. cc) refl ok (leaf_offers s.config leaf rows is.loads.rows_are) is.loads.fits)
+    subst IsRight (sym (loaded_is s seat leaf rows b entries marks is)) (sent_right s.config s seat Copy (offers_of rows) (λ same. cc) refl ok (All-weaker _ _ (offers_of rows) (λ o x. record { leaf_is = refl; here = x.here; clock = x.clock }) (leaf_offers s.config leaf rows is.loads.rows_are)) is.loads.fits)
 
 pub loaded_leaves : (s : State) (seat leaf : ℕ) (rows : List Row) (b : Batch) (entries : List Entry) (marks : List (Option (List ℕ))) (leaves : List Bucket) → AreLeaves s.config s.entries leaves → IsLoaded s seat leaf rows b entries marks
     → AreLeaves s.config entries (set leaves leaf b.leaf)

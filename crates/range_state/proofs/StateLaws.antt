@@ -196,10 +196,6 @@ room_left s log new entries limit h =
 pub admit_given : (s : State) (x : Entry) → full_fault s ≡ None → IsTrue (is_given (admit s x))
 admit_given s x room = rw room refl
 
--- some version that is held has seen the clock
-pub stale : (versions set : List Version) (clock : Pairs) (clocks : List Pairs) → set ≡ versions → list_any (λ v. at_most clock v.clock) set ≡ true → clocks ≡ map (λ (v : Version). v.clock) set → stale_fault versions clock ≡ Some (StaleContext clocks)
-stale versions set clock clocks is seen are = subst (λ (t : List Version). stale_fault t clock ≡ Some (StaleContext clocks)) is (rw seen (ap (λ (t : List Pairs). Some (StaleContext t)) (sym are)))
-
 -- ---- after an entry
 
 -- a leaf's number is that of a leaf of the tree

@@ -2,6 +2,7 @@ pub mod Config
 pub mod Rows
 pub mod Records
 pub mod State
+pub mod ContextTests
 pub mod Fitting
 pub mod Sessions
 pub mod Told
@@ -10,6 +11,7 @@ pub mod Unions
 pub mod Reconciles
 pub mod Batches
 pub mod Loads
+pub mod FormatLoads
 pub mod Migrates
 pub mod Renewals
 pub mod Trees

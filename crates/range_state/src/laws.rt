@@ -1,7 +1,8 @@
 //! Laws of rows and sessions, proved from their definitions.
-ghost use Rattle.std.specs.Prelude.{◌≡◌, ◌≢◌, ◌≤◌, ◌↔◌, [], ℕ, List, length, None, Any, Contains, true};
+ghost use Rattle.std.specs.Prelude.{◌≡◌, ◌≢◌, ◌<◌, ◌≤◌, ◌⊎◌, ◌↔◌, [], ℕ, List, length, None, Any, Contains, true};
 ghost use Rattle.std.specs.List.{AllByRecursion, flat_map};
 ghost use Rattle.range_journal.specs.declared.journal.Entry.{Entry};
+ghost use Rattle.range_journal.specs.Counters.{top_counter};
 ghost use Rattle.range_journal.specs.Journal.{held};
 ghost use Rattle.row_bytes.specs.Rows.{AreRows, row_text};
 ghost use Rattle.row_bytes.specs.declared.row.Row.{Row};
@@ -18,13 +19,19 @@ ghost use Rattle.range_state.specs.declared.«record».Record.{Record};
 ghost use Rattle.range_state.specs.Records.{IsOver};
 ghost use Rattle.range_state.specs.Rows.{rows_of};
 ghost use Rattle.range_state.specs.Unions.{union_of, offered_all};
+ghost use Rattle.version_set.specs.declared.kind.Kind.{Kind};
 ghost use Rattle.version_set.specs.declared.version.Version.{Version};
 ghost use Rattle.version_set.specs.Version.{maximal, Ascends};
-ghost use Rattle.range_state.specs.State.{State, IsRight, IsFromPartner, all_dirty, fresh, rows_now, dirty_fault, stale_fault};
+ghost use Rattle.range_state.specs.ContextTests.{put_read};
+ghost use Rattle.range_state.specs.Run.{Run};
+ghost use Rattle.range_state.specs.declared.event.Event.{Event};
+ghost use Rattle.range_state.specs.declared.event.Reply.{Reply};
+ghost use Rattle.range_state.specs.declared.state.loading.Loaded.{Loaded};
+ghost use Rattle.range_state.specs.State.{State, IsRight, IsFromPartner, all_dirty, fresh, rows_now, dirty_fault, stale_fault, put};
 ghost use Rattle.range_state.specs.Syncs.{IsOfRange, synced};
 ghost use Rattle.range_state.specs.Loads.{load, load_text, load_all, leaves_of};
 ghost use Rattle.range_state.specs.Renewals.{config_to, renewed_by, renew_fault};
-ghost use Rattle.vclock.specs.Clock.{Pairs};
+ghost use Rattle.vclock.specs.Clock.{counter, IsAtMost, Pairs};
 ghost use Rattle.vclock.specs.Outcome.{gives};
 
 /// The rows of a journal have each key that has an entry, and no other key, each with the versions that are held for
@@ -145,4 +152,30 @@ pub fn loaded_ranges_are_renewed()
     ensures all { (s : State) (seat limit : ℕ) → IsRight s → renew_fault s limit ≡ None
         → load_all (fresh (config_to s.config limit)) seat (leaves_of s)
         ≡ gives tt (record (renewed_by s seat limit) { marks = all_dirty s.config.format }) }
+{}
+
+/// A put that checks what its client has read is a put. Each version that was held is held still, or the put's context has
+/// seen everything that it has. The new version has a greater counter of the node than any that was accepted for the key.
+pub fn a_checked_put_replaces_only_what_was_read()
+    ensures put { (s t : State) (seat at : ℕ) (key : List ℕ) (context : Pairs) (kind : Kind) (value : List ℕ)
+        (e : Entry) → put_read s seat at key context kind value ≡ gives e t
+        → put s seat at key context kind value ≡ gives e t }
+    ensures read { (s t : State) (seat at : ℕ) (key : List ℕ) (context : Pairs) (kind : Kind) (value : List ℕ)
+        (e : Entry) → put_read s seat at key context kind value ≡ gives e t
+        → AllByRecursion (λ v. Contains (held t.entries key) v ⊎ IsAtMost v.clock context) (held s.entries key) }
+    ensures counter { (s t : State) (seat at : ℕ) (key : List ℕ) (context : Pairs) (kind : Kind) (value : List ℕ)
+        (e : Entry) → put_read s seat at key context kind value ≡ gives e t
+        → top_counter s.entries key at < counter e.version.clock at }
+{}
+
+/// No call lowers the greatest counter of a node for a key: not an event, a load or a whole session. A renewal keeps it.
+pub fn no_call_lowers_a_counter()
+    ensures run { (s t : State) (events : List Event) (replies : List Reply) (key : List ℕ) (node : ℕ)
+        → Run s events replies t → top_counter s.entries key node ≤ top_counter t.entries key node }
+    ensures load { (s t : State) (seat : ℕ) (rows : List Row) (told : Loaded) (key : List ℕ) (node : ℕ)
+        → load s seat rows ≡ gives told t → top_counter s.entries key node ≤ top_counter t.entries key node }
+    ensures sync { (s : State) (seat : ℕ) (other : RowMap) (key : List ℕ) (node : ℕ)
+        → top_counter s.entries key node ≤ top_counter (synced s seat other).state.entries key node }
+    ensures renewal { (s : State) (seat limit : ℕ) (key : List ℕ) (node : ℕ)
+        → top_counter (renewed_by s seat limit).entries key node ≡ top_counter s.entries key node }
 {}

@@ -105,7 +105,7 @@ fn is_home(config: &RangeConfig, leaf: u16, row: &Row) -> bool
 }
 
 /// Returns the range and the leaf of a key, in a configuration.
-fn place_in(config: &RangeConfig, key: &[u8]) -> KeyPlace
+pub(crate) fn place_in(config: &RangeConfig, key: &[u8]) -> KeyPlace
     ensures range { result.range ≡ range_at config.now.bits key.now }
     ensures leaf { result.leaf ≡ leaf_in config.now key.now }
     ensures in_tree { result.leaf < leaf_count config.now }

@@ -3,7 +3,8 @@
 //! read versions, and to synchronise replicas.
 //!
 //! - [`config`]: the number of a range, its format, and the limit of its journal.
-//! - [`state`]: the state and its calls: `put`, `accept`, `get`, `versions` and `rows`; for the tree `take_job`,
+//! - [`context_test`]: the tests of a put's context.
+//! - [`state`]: the state and its calls: `put`, `put_read`, `accept`, `get`, `versions` and `rows`; for the tree `take_job`,
 //!   `take_jobs`, `install`, `digest_at`, `dirty_count`, `rehash`, `rehash_here`, `rehash_some` and `snapshot`; for
 //!   sessions with partners `open_session`, `take_answer`, `cancel_session`, `records` and `open_sessions`, and
 //!   `sync_with` for a whole session; `reconcile` for a session each way; `migrate` to format 2; `renewed` for a new range
@@ -22,6 +23,7 @@
 #![tactic(auto)]
 
 pub mod config;
+pub mod context_test;
 pub mod event;
 pub mod laws;
 pub mod leaf_rows;
@@ -31,6 +33,7 @@ pub mod run;
 pub mod state;
 
 pub use config::RangeConfig;
+pub use context_test::ContextTest;
 pub use event::{
     AcceptEvent, Accepted, AnswerCounted, AnswerEvent, AnswerTaken, Event, InstallEvent, OpenEvent,
     PutEvent, Receipt, Reply,

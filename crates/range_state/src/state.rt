@@ -1,9 +1,9 @@
 //! The state of a range.
-ghost use Rattle.std.specs.Prelude.{◌≡◌, ◌<◌, ◌≤◌, ◌^◌, ⊤, [], false, if◌then◌else◌, None, Some, unwrap_or, option_map, replicate, MatchOption, true, IsTrue, IfOk, IfErr};
+ghost use Rattle.std.specs.Prelude.{◌≡◌, ◌<◌, ◌≤◌, ◌^◌, ⊤, [], false, if◌then◌else◌, nat_lt, None, Some, unwrap_or, option_map, replicate, MatchOption, true, IsTrue, IfOk, IfErr};
 ghost use Rattle.std.specs.List.{list_any, AllByRecursion};
 ghost use Rattle.vclock.specs.Answer.{Answers, AnswersAtOnce, AnswersOrNoMemory};
 ghost use Rattle.vclock.specs.Outcome.{Does, DoesOrNoMemory};
-ghost use Rattle.vclock.specs.Clock.{at_most};
+ghost use Rattle.vclock.specs.Clock.{at_most, counter, raised};
 ghost use Rattle.version_set.specs.Kind.{value_fault};
 ghost use Rattle.version_set.specs.Version.{covered, offer_fault};
 ghost use Rattle.range_journal.specs.Journal.{held};
@@ -11,10 +11,12 @@ ghost use Rattle.range_journal.specs.declared.journal.Source.{Source};
 ghost use Rattle.key_ring.specs.Places.{leaf_bits};
 ghost use Rattle.hash_tree.specs.Leaves.{rows_in_leaf};
 ghost use Rattle.range_state.specs.State.{is_sent, IsRight, fresh, leaf_in, leaf_count, place_fault, ask_fault, stale_fault, full_fault, entry_of, put_version, knows, admit, accept, put};
+ghost use Rattle.range_state.specs.ContextTests.{fails, context_fault, put_by, put_read};
 ghost use Rattle.range_state.specs.Rows.{rows_of};
 ghost use Rattle.range_state.specs.Fitting.{IsFitting, made_fault, sent_fault};
 
 use crate::config::RangeConfig;
+use crate::context_test::ContextTest;
 use crate::event::{Accepted, Receipt};
 use crate::record::Record;
 use hash_tree::{Leaves, Marks, SharedLeaf, Spot};
@@ -28,6 +30,7 @@ use version_set::{Kind, Version, VersionSet};
 mod answers;
 mod bulk;
 pub mod counts;
+mod format_loading;
 pub mod loading;
 mod migration;
 mod preparation;
@@ -203,8 +206,71 @@ impl RangeState {
         ensures early { IfErr result (λ e. e ≡ Refusal.NoMemory
             → ask_fault self.old.config at key.now context.now kind value ≡ None) }
     {
+        self.put_by(
+            alloc,
+            ContextTest::Fresh,
+            seat,
+            at,
+            key,
+            context,
+            kind,
+            value,
+        )
+    }
+
+    /// Puts a value at a node as `put` does, if its client has read all that the node put: otherwise the put could
+    /// replace a version that the client never read. So each version that it replaces is one that the context has seen.
+    ///
+    /// Refused as `put` is, and as StaleContext also if some held version has a greater counter of the node than the
+    /// context.
+    pub fn put_read(
+        &mut self,
+        alloc: Global,
+        seat: u16,
+        at: u16,
+        key: &[u8],
+        context: &Clock,
+        kind: Kind,
+        value: Bytes,
+    ) -> Result<Receipt, Refusal>
+        requires { 1 ≤ at }
+        ensures puts { DoesOrNoMemory result self.old self.new
+            (put_read self.old seat at key.now context.now kind value) }
+        ensures early { IfErr result (λ e. e ≡ Refusal.NoMemory
+            → ask_fault self.old.config at key.now context.now kind value ≡ None) }
+    {
+        self.put_by(
+            alloc,
+            ContextTest::Read,
+            seat,
+            at,
+            key,
+            context,
+            kind,
+            value,
+        )
+    }
+
+    /// Puts a value whose context is tested so.
+    fn put_by(
+        &mut self,
+        alloc: Global,
+        test: ContextTest,
+        seat: u16,
+        at: u16,
+        key: &[u8],
+        context: &Clock,
+        kind: Kind,
+        value: Bytes,
+    ) -> Result<Receipt, Refusal>
+        requires { 1 ≤ at }
+        ensures puts { DoesOrNoMemory result self.old self.new
+            (put_by test self.old seat at key.now context.now kind value) }
+        ensures early { IfErr result (λ e. e ≡ Refusal.NoMemory
+            → ask_fault self.old.config at key.now context.now kind value ≡ None) }
+    {
         let hashed = HashedKey::new(key);
-        let (home, version) = self.make_put(alloc, at, &hashed, context, kind, value)?;
+        let (home, version) = self.make_put(alloc, test, at, &hashed, context, kind, value)?;
         self.admit(alloc, home, seat, Source::Client, key, version)
     }
 
@@ -212,6 +278,7 @@ impl RangeState {
     fn make_put(
         &self,
         alloc: Global,
+        test: ContextTest,
         at: u16,
         key: &HashedKey,
         context: &Clock,
@@ -219,7 +286,7 @@ impl RangeState {
         value: Bytes,
     ) -> Result<(Home, Version), Refusal>
         requires { 1 ≤ at }
-        ensures made { AnswersOrNoMemory result (made_fault self.now at key.now context.now kind value)
+        ensures made { AnswersOrNoMemory result (made_fault test self.now at key.now context.now kind value)
             (λ made. IsFitting self.now made.0.leaf key.now made.1 × (made.1 ≡ put_version at context.now kind value)) }
         ensures early { IfErr result (λ e. e ≡ Refusal.NoMemory
             → ask_fault self.now.config at key.now context.now kind value ≡ None) }
@@ -229,7 +296,7 @@ impl RangeState {
         // Called for its clause alone: the pairs are those of a clock.
         let _valid = clock.pairs();
         let (set, near) = self.search(leaf, key);
-        check_context(alloc, set, &clock)?;
+        check_context(alloc, test, set, at, context, &clock)?;
         let version = Version { clock, kind, value };
         if crowds(set, &version) {
             return Err(Refusal::Crowded);
@@ -371,17 +438,53 @@ fn crowds(found: Option<&VersionSet>, version: &Version) -> bool
     }
 }
 
-/// Refuses a clock if some version of a set, if any, has seen everything that the clock has.
-fn check_context(alloc: Global, found: Option<&VersionSet>, clock: &Clock) -> Result<(), Refusal>
+/// Refuses a context by a test, for the members of a set, if any. The clock is the context with the node's counter
+/// raised.
+fn check_context(
+    alloc: Global,
+    test: ContextTest,
+    found: Option<&VersionSet>,
+    at: u16,
+    context: &Clock,
+    clock: &Clock,
+) -> Result<(), Refusal>
+    requires { clock.now ≡ raised context.now at }
     ensures { AnswersOrNoMemory result
-        (stale_fault (unwrap_or (option_map (λ s. s.now) found.entry) []) clock.now) (λ _. ⊤) }
+        (context_fault test (unwrap_or (option_map (λ s. s.now) found.entry) []) at context.now) (λ _. ⊤) }
 {
     if let Some(set) = found
-        && any_has_seen(set.as_slice(), clock)
+        && fails(test, set.as_slice(), at, context, clock)
     {
         return Err(Refusal::StaleContext(set.clocks(alloc)?));
     }
     Ok(())
+}
+
+/// Returns true if a context fails a test against versions. The clock is the context with the node's counter raised.
+fn fails(test: ContextTest, versions: &[Version], at: u16, context: &Clock, clock: &Clock) -> bool
+    requires { clock.now ≡ raised context.now at }
+    ensures { result ≡ fails test versions.now at context.now }
+{
+    match test {
+        ContextTest::Fresh => any_has_seen(versions, clock),
+        ContextTest::Read => any_is_unread(versions, at, context.get(at)),
+    }
+}
+
+/// Returns true if some version has a greater counter of a node than the one that was seen.
+fn any_is_unread(versions: &[Version], node: u16, seen: u64) -> bool
+    ensures { result ≡ list_any (λ v. nat_lt seen (counter v.clock node)) versions.now }
+{
+    versions
+        .iter()
+        .any(|version| is_unread(version, node, seen))
+}
+
+/// Returns true if a version has a greater counter of a node than the one that was seen.
+fn is_unread(version: &Version, node: u16, seen: u64) -> bool
+    ensures { result ≡ nat_lt seen (counter version.now.clock node) }
+{
+    version.clock.get(node) > seen
 }
 
 /// Returns true if some version has seen everything that the clock has.

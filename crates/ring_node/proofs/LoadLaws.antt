@@ -16,7 +16,7 @@ use Rattle.range_state.specs.State.{State}
 use Rattle.caller_pass.specs.Passes.{PassView, with_receipts, seen_after}
 use Rattle.caller_pass.specs.Locks.{Locked}
 use Rattle.caller_pass.specs.Loads.{load_in, load_text_in, after_load}
-use Rattle.caller_pass.proofs.GrowthLaws.{load_gives}
+use Rattle.range_state.proofs.PutLaws.{load_gives}
 use Rattle.caller_pass.proofs.LoadLaws.{was_read}
 use Rattle.caller_pass.proofs.PassLaws.{seen_rises}
 use Rattle.ring_node.specs.Gains.{IsGain, Gains}

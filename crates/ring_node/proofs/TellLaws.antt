@@ -17,10 +17,13 @@ use Rattle.range_journal.specs.declared.journal.Source.TheVariants.{Client}
 use Rattle.range_journal.specs.Journal.{held}
 use Rattle.range_state.specs.declared.event.Accepted.{Accepted}
 use Rattle.range_state.specs.declared.event.Accepted.TheVariants.{Taken, Known}
+use Rattle.range_state.specs.declared.context_test.ContextTest.{ContextTest}
+use Rattle.range_state.specs.ContextTests.{put_by}
+use Rattle.range_state.proofs.PutLaws.{put_by_is_put, put_by_refuses}
 use Rattle.range_state.specs.State.{State, place_fault, ask_fault, full_fault, stale_fault, put_entry, put_version, entry_of, journaled, knows, admit, accept, put}
 use Rattle.range_state.proofs.StateLaws.{first_none, later_none}
 use Rattle.caller_pass.specs.Passes.{PassView, with_receipts}
-use Rattle.caller_pass.specs.Locks.{Locked, UnreadView, told, put_in, accept_in, after_sent, first_missing, missing_fault, behind_fault, get_in, plainly}
+use Rattle.caller_pass.specs.Locks.{Locked, UnreadView, told, put_in_by, accept_in, after_sent, first_missing, missing_fault, behind_fault, get_in, plainly}
 use Rattle.ring_node.specs.Passes.{IsReceiptOf, HasReceiptOf, IsSent, IsPutRefusal, IsSentRefusal, IsBehind}
 use Rattle.ring_node.proofs.OutcomeLaws.{given, refused, first_cause}
 use Rattle.ring_node.proofs.CauseLaws.{of_key, of_value, of_range, place_cause, clock_cause, crowd_cause, where_holds, where_fails}
@@ -44,10 +47,11 @@ pub record PutTold (p q : PassView) (at : ℕ) (key : List ℕ) (context : Pairs
   pub told_of : HasReceiptOf p q e
   pub fits : (key_fault key ≡ None) × (raise_fault context at ≡ None)
 
-put_told : (l m : Locked) (p q : PassView) (at : ℕ) (key : List ℕ) (context : Pairs) (kind : Kind) (value : List ℕ) (e : Entry) → put_in l p at key context kind value ≡ gives e (m, q) → PutTold p q at key context kind value e
-put_told l m p q at key context kind value e is =
-    let g = given (put l.state p.seat at key context kind value) (λ entry. gives entry.0 (told l p entry.1 (entry.0 ∷ []))) e (m, q) is in
-    let place = passed (place_fault l.state.config key kind value) _ g.first g.between g.gave in
+put_told : (test : ContextTest) (l m : Locked) (p q : PassView) (at : ℕ) (key : List ℕ) (context : Pairs) (kind : Kind) (value : List ℕ) (e : Entry) → put_in_by test l p at key context kind value ≡ gives e (m, q) → PutTold p q at key context kind value e
+put_told test l m p q at key context kind value e is =
+    let g = given (put_by test l.state p.seat at key context kind value) (λ entry. gives entry.0 (told l p entry.1 (entry.0 ∷ []))) e (m, q) is in
+    let gave = put_by_is_put test l.state p.seat at key context kind value g.first g.between g.gave in
+    let place = passed (place_fault l.state.config key kind value) _ g.first g.between gave in
     let clock = passed (raise_fault context at) _ g.first g.between place.1 in
     let stale = passed (stale_fault (held l.state.entries key) (raised context at)) _ g.first g.between clock.1 in
     let crowd = passed (offer_fault (put_version at context kind value) (held l.state.entries key)) _ g.first g.between stale.1 in
@@ -66,10 +70,9 @@ put_told l m p q at key context kind value e is =
       fits = (first_none (key_fault key) _ place.0, clock.0);
     }
 
-put_refused : (l : Locked) (p : PassView) (at : ℕ) (key : List ℕ) (context : Pairs) (kind : Kind) (value : List ℕ) (e : Refusal) → put_in l p at key context kind value ≡ refuses e → IsPutRefusal at key context kind value e
-put_refused l p at key context kind value e is =
+put_refused : (l : Locked) (p : PassView) (at : ℕ) (key : List ℕ) (context : Pairs) (kind : Kind) (value : List ℕ) (e : Refusal) → put l.state p.seat at key context kind value ≡ refuses e → IsPutRefusal at key context kind value e
+put_refused l p at key context kind value e r =
     let Why : Refusal → Type 0 = IsPutRefusal at key context kind value in
-    let r = refused (put l.state p.seat at key context kind value) (λ entry. gives entry.0 (told l p entry.1 (entry.0 ∷ []))) e (λ x. refl) is in
     elim (first_cause (place_fault l.state.config key kind value) _ e r) as (λ _. Why e) [
       | inl place ↦
           elim (place_cause l.state.config key kind value e place) as (λ _. Why e) [
@@ -101,6 +104,19 @@ put_refused l p at key context kind value e is =
           ]
     ]
 
+put_refused_by : (test : ContextTest) (l : Locked) (p : PassView) (at : ℕ) (key : List ℕ) (context : Pairs) (kind : Kind) (value : List ℕ) (e : Refusal) → put_in_by test l p at key context kind value ≡ refuses e → IsPutRefusal at key context kind value e
+put_refused_by test l p at key context kind value e is =
+    let Why : Refusal → Type 0 = IsPutRefusal at key context kind value in
+    let r = refused (put_by test l.state p.seat at key context kind value) (λ entry. gives entry.0 (told l p entry.1 (entry.0 ∷ []))) e (λ x. refl) is in
+    elim (put_by_refuses test l.state p.seat at key context kind value e r) as (λ _. Why e) [
+      | inl plain ↦ put_refused l p at key context kind value e plain
+      | inr unread ↦
+          subst Why (sym unread.1.1) (
+            first_none (key_fault key) _ (first_none (place_fault l.state.config key kind value) _ unread.0),
+            later_none (place_fault l.state.config key kind value) (raise_fault context at) unread.0,
+          )
+    ]
+
 -- what a put says of pass and result
 pub record PutTells (p q : PassView) (at : ℕ) (key : List ℕ) (context : Pairs) (kind : Kind) (value : List ℕ) (r : Result Entry Refusal) : Type 0 where
   pub receipt : IfOk r (IsReceiptOf p.seat Client key (put_version at context kind value))
@@ -109,12 +125,12 @@ pub record PutTells (p q : PassView) (at : ℕ) (key : List ℕ) (context : Pair
   pub refusal : IfErr r (IsPutRefusal at key context kind value)
   pub same : OnErr r (q ≡ p)
 
-pub put_tells : (l m : Locked) (p q : PassView) (at : ℕ) (key : List ℕ) (context : Pairs) (kind : Kind) (value : List ℕ) (r : Result Entry Refusal) → DoesOrNoMemory r (l, p) (m, q) (put_in l p at key context kind value)
+pub put_tells : (test : ContextTest) (l m : Locked) (p q : PassView) (at : ℕ) (key : List ℕ) (context : Pairs) (kind : Kind) (value : List ℕ) (r : Result Entry Refusal) → DoesOrNoMemory r (l, p) (m, q) (put_in_by test l p at key context kind value)
     → IfErr r (λ e. e ≡ NoMemory → ask_fault l.state.config at key context kind value ≡ None) → PutTells p q at key context kind value r
-put_tells l m p q at key context kind value (Ok e) does early =
-    let t = put_told l m p q at key context kind value e does in
+put_tells test l m p q at key context kind value (Ok e) does early =
+    let t = put_told test l m p q at key context kind value e does in
     record { receipt = t.receipt; told_of = t.told_of; fits = t.fits; refusal = tt; same = tt }
-put_tells l m p q at key context kind value (Err e) does early =
+put_tells test l m p q at key context kind value (Err e) does early =
     let Why : Refusal → Type 0 = IsPutRefusal at key context kind value in
     record {
       receipt = tt;
@@ -128,7 +144,7 @@ put_tells l m p q at key context kind value (Err e) does early =
                   first_none (key_fault key) _ (first_none (place_fault l.state.config key kind value) _ ask),
                   later_none (place_fault l.state.config key kind value) (raise_fault context at) ask,
                 )
-            | inr is ↦ put_refused l p at key context kind value e is
+            | inr is ↦ put_refused_by test l p at key context kind value e is
           ];
       same = ap (λ (x : Locked × PassView). x.1) does.0;
     }

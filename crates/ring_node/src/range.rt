@@ -10,7 +10,7 @@ ghost use Rattle.range_state.specs.Counts.{counts_of};
 ghost use Rattle.range_state.specs.Migrates.{migrate};
 ghost use Rattle.range_state.specs.State.{is_sent, put_version, dirty_fault, rows_now};
 ghost use Rattle.caller_pass.specs.Closings.{AllThere, IsSettled, IsUnclosed};
-ghost use Rattle.caller_pass.specs.Locks.{IsLocked, moved, put_in, accept_in, get_in, plainly};
+ghost use Rattle.caller_pass.specs.Locks.{IsLocked, moved, put_in, put_read_in, accept_in, get_in, plainly};
 ghost use Rattle.caller_pass.specs.Loads.{load_text_in};
 ghost use Rattle.caller_pass.specs.Renewals.{carried_passes, renewed_in, pass_of, IsUnrenewed};
 ghost use Rattle.ring_node.specs.Gains.{Gains};
@@ -20,7 +20,9 @@ ghost use Rattle.ring_node.specs.Passes.{IsReceiptOf, HasReceiptOf, IsSent, IsPu
 use caller_pass::{Book, Closed, LockedRange, Pass, Renewed, ReturnedPass, Unclosed, Unread};
 use key_ring::HashedKey;
 use range_journal::Source;
-use range_state::{Accepted, LeafRows, Loaded, RangeConfig, RangeCounts, RangeState, Receipt};
+use range_state::{
+    Accepted, ContextTest, LeafRows, Loaded, RangeConfig, RangeCounts, RangeState, Receipt,
+};
 use snapshot::Snapshot;
 use std::alloc::Global;
 use std::marker::Model;
@@ -36,7 +38,7 @@ use version_set::{Kind, Version, VersionSet};
 ///
 /// ```
 /// let value = Bytes::copy_of(alloc, value)?;
-/// let receipt = range.put(rt, alloc, pass, key, context, Kind::Live, value)?;
+/// let receipt = range.put_read(rt, alloc, pass, key, context, Kind::Live, value)?;
 /// Ok(receipt.version)
 /// ```
 #[derive(Drop)]
@@ -134,7 +136,40 @@ impl<L: Ledger> SharedRange<L> {
         let mut range = self.range.lock(rt);
         // Called for its clause `valid` alone: the range is right.
         let _valid = range.config();
-        range.put_hashed(alloc, pass, node, &key, context, kind, value)
+        range.put_hashed(alloc, ContextTest::Fresh, pass, node, &key, context, kind, value)
+    }
+
+    /// Puts a value at the range's node, or a tombstone, as [`LockedRange::put_read`] does: only if its client has read
+    /// all that the node put. The pass gets the receipt.
+    ///
+    /// Refused as [`SharedRange::put`] is, and as StaleContext also if some held version has a greater counter of the
+    /// node than the context. On error range and pass are unchanged.
+    pub fn put_read<R: Wait>(
+        &self,
+        rt: &R,
+        alloc: Global,
+        pass: &mut Pass<L>,
+        key: &[u8],
+        context: &Clock,
+        kind: Kind,
+        value: Bytes,
+    ) -> Result<Receipt, Refusal>
+        ensures receipt { IfOk result (IsReceiptOf pass.old.seat Source.Client key.now
+            (put_version self.now context.now kind value)) }
+        ensures told { IfOk result (HasReceiptOf pass.old pass.new) }
+        ensures fits { OnOk result ((key_fault key.now ≡ None) × (raise_fault context.now self.now ≡ None)) }
+        ensures refusal { IfErr result (IsPutRefusal self.now key.now context.now kind value) }
+        ensures same { OnErr result (pass.new ≡ pass.old) }
+        ensures moment { ChangedAtSomeMoment (IsLocked L.parts) (λ before after.
+            DoesOrNoMemory result (before, pass.old) (after, pass.new)
+            (put_read_in before pass.old self.now key.now context.now kind value)) }
+    {
+        let node = self.node();
+        let key = HashedKey::new(key);
+        let mut range = self.range.lock(rt);
+        // Called for its clause `valid` alone: the range is right.
+        let _valid = range.config();
+        range.put_hashed(alloc, ContextTest::Read, pass, node, &key, context, kind, value)
     }
 
     /// Accepts a version that another node sent, as a copy or as a hint, as [`LockedRange::accept`] does. The pass gets

@@ -81,6 +81,18 @@ pub(crate) fn put_a(
     put(alloc, state, 1, context, b"a", b"x")
 }
 
+/// Puts `x` under `a` at node 1 with a context, by a put that checks what its client has read.
+pub(crate) fn put_read_a(
+    alloc: Global,
+    state: &mut RangeState,
+    context: &[(u64, u64)],
+) -> Result<u64, Refusal> {
+    let context = clock(alloc, context)?;
+    let value = Bytes::copy_of(alloc, b"x")?;
+    let receipt = state.put_read(alloc, 0, 1, b"a", &context, Kind::Live, value)?;
+    Ok(receipt.number)
+}
+
 /// Accepts a copy at seat 3, and returns the number of its entry, or `None` if it is known.
 pub(crate) fn accept(
     alloc: Global,

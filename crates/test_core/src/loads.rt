@@ -1,11 +1,11 @@
 //! Rows that are loaded from their texts.
-use crate::calls::{load_rows, new_range, rows_text};
+use crate::calls::{load_rows, new_range, root_of, rows_text};
 use range_state::{Loaded, RangeState};
 use std::alloc::Global;
 use std::test::Fail;
 use test_values::checks::expect;
 use test_values::refusals::expect_refused;
-use vclock::Refusal;
+use vclock::{Format, Refusal};
 
 /// The text of key `a` with the version of clock (1,1) and value `x`, in format 1: its leaf is 12 at 0 bits.
 const ROW: &[u8] =
@@ -76,5 +76,53 @@ fn the_rows_of_a_leaf_are_written(rt: HostRuntime) -> Result<(), Fail> {
         rows_text(alloc, &state, 256),
         Refusal::BadMessage,
         "there is no such leaf",
+    )
+}
+
+/// The text of key `a` with a tombstone of clock (1,1), in format 2.
+const TOMBSTONE: &[u8] =
+    b"\x00\x01a\x00\x01\x01\x01\x00\x01\x00\x00\x00\x00\x00\x00\x00\x01\x00\x00\x00\x00";
+
+/// Asserts that rows of a format aren't loaded, for this cause, and that the range holds nothing afterwards.
+fn expect_no_rows(
+    alloc: Global,
+    state: &mut RangeState,
+    format: Format,
+    text: &[u8],
+    cause: Refusal,
+) -> Result<(), Fail> {
+    let loaded = state.load_format(alloc, 4, format, text);
+    expect_refused(loaded, cause, "the rows aren't loaded")?;
+    expect(state.journal().len() == 0, "no version is taken")
+}
+
+#[test]
+fn rows_of_any_leaves_are_loaded_whole_or_not_at_all(rt: HostRuntime) -> Result<(), Fail> {
+    let alloc = rt.alloc();
+    let mut state = new_range(alloc, 1, 1)?;
+    let (front, _) = TWO_LEAVES.split_at(41);
+    expect_no_rows(alloc, &mut state, Format::Two, ROW, Refusal::OtherFormat)?;
+    expect_no_rows(alloc, &mut state, Format::One, front, Refusal::RowBroken(41))?;
+    expect_no_rows(alloc, &mut state, Format::One, TWO_LEAVES, Refusal::JournalFull)?;
+    let mut state = new_range(alloc, 2, 3)?;
+    let Loaded { taken, known } = state.load_format(alloc, 4, Format::One, TWO_LEAVES)?;
+    expect((taken, known) == (2, 0), "rows of two leaves are taken")?;
+    let Loaded { taken, known } = state.load_format(alloc, 4, Format::Two, TOMBSTONE)?;
+    expect((taken, known) == (1, 0), "a tombstone of the same clock is news")
+}
+
+#[test]
+fn rows_saved_before_a_migration_are_loaded_after_it(rt: HostRuntime) -> Result<(), Fail> {
+    let alloc = rt.alloc();
+    let mut before = new_range(alloc, 1, 10)?;
+    before.load_format(alloc, 4, Format::One, TWO_LEAVES)?;
+    before.migrate(alloc)?;
+    let mut after = new_range(alloc, 2, 10)?;
+    after.load_format(alloc, 4, Format::One, TWO_LEAVES)?;
+    before.rehash_here(alloc)?;
+    after.rehash_here(alloc)?;
+    expect(
+        root_of(alloc, &before)? == root_of(alloc, &after)?,
+        "both have the same root",
     )
 }

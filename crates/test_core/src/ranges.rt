@@ -1,7 +1,7 @@
 //! Range states.
 ghost use Rattle.std.specs.Prelude.{◌<◌};
 
-use crate::calls::{accept, count_held, new_range, put_a};
+use crate::calls::{accept, count_held, new_range, put_a, put_read_a};
 use range_journal::Source;
 use range_state::{RangeConfig, RangeState};
 use std::alloc::Global;
@@ -122,4 +122,59 @@ fn rows_lie_in_the_leaf_of_their_key(rt: HostRuntime) -> Result<(), Fail> {
     let alloc = rt.alloc();
     expect_a_in(alloc, &mut new_range(alloc, 1, 1)?, 12)?;
     expect_a_in(alloc, &mut new_range(alloc, 2, 1)?, 204)
+}
+
+/// Makes a range in which client 1 put `x` under `a`, and then again, beside a copy of node 2. The clocks that are held
+/// are (1, 2) and (2, 1).
+fn range_of_two_clients(alloc: Global) -> Result<RangeState, Fail> {
+    let mut state = new_range(alloc, 1, 10)?;
+    put_a(alloc, &mut state, &[])?;
+    expect_accepted(alloc, &mut state, b"y", Some(1))?;
+    put_read_a(alloc, &mut state, &[(1, 1)])?;
+    expect_held(alloc, &state, "[(1, 2)] Live [120]\n[(2, 1)] Live [121]\n")?;
+    Ok(state)
+}
+
+#[test]
+fn a_put_that_checks_replaces_only_what_was_read(rt: HostRuntime) -> Result<(), Fail> {
+    let alloc = rt.alloc();
+    let mut state = range_of_two_clients(alloc)?;
+    // Client 2 read `a` before client 1 put it again.
+    let unread = put_read_a(alloc, &mut state, &[(1, 1), (2, 1)]);
+    expect(
+        matches!(unread, Err(Refusal::StaleContext(_))),
+        "a version that wasn't read isn't replaced",
+    )?;
+    expect_held(alloc, &state, "[(1, 2)] Live [120]\n[(2, 1)] Live [121]\n")?;
+    put_read_a(alloc, &mut state, &[(1, 2), (2, 1)])?;
+    expect_held(alloc, &state, "[(1, 3), (2, 1)] Live [120]\n")
+}
+
+#[test]
+fn a_put_that_does_not_check_replaces_an_unread_version(rt: HostRuntime) -> Result<(), Fail> {
+    let alloc = rt.alloc();
+    let mut state = range_of_two_clients(alloc)?;
+    put_a(alloc, &mut state, &[(1, 1), (2, 1)])?;
+    expect_held(alloc, &state, "[(1, 2), (2, 1)] Live [120]\n")
+}
+
+#[test]
+fn the_greatest_counter_is_that_of_the_entries_so_far(rt: HostRuntime) -> Result<(), Fail> {
+    let alloc = rt.alloc();
+    let state = range_of_two_clients(alloc)?;
+    for (node, entries, counter) in [
+        (1, 0, 0),
+        (1, 1, 1),
+        (1, 2, 1),
+        (1, 3, 2),
+        (1, 18_446_744_073_709_551_615, 2),
+        (2, 1, 0),
+        (2, 2, 1),
+        (3, 3, 0),
+    ] {
+        let top = state.journal().top_counter(node, b"a", entries);
+        expect(top == counter, "a node's greatest counter for a key")?;
+    }
+    let other = state.journal().top_counter(1, b"b", 3);
+    expect(other == 0, "another key has no counter")
 }

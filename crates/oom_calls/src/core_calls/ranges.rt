@@ -6,7 +6,7 @@ use range_journal::{Replay, Source};
 use range_state::{Accepted, RangeConfig, RangeState, Receipt};
 use std::alloc::Global;
 use std::io;
-use vclock::{Bytes, Clock, Refusal};
+use vclock::{Bytes, Clock, Format, Refusal};
 use version_set::Kind;
 
 /// The keys, of one byte each, whose copies are accepted one after the other.
@@ -16,12 +16,18 @@ pub(crate) const KEYS: &[u8] = b"abcdee";
 pub(crate) const TWO_VERSIONS: &[u8] =
     b"\x00\x01a\x00\x02\x01\x00\x02\x00\x00\x00\x00\x00\x00\x00\x01\x00\x00\x00\x01y\x01\x00\x03\x00\x00\x00\x00\x00\x00\x00\x01\x00\x00\x00\x01z";
 
+/// The texts of the keys `a` and `b`, each with one version, `x`.
+const TWO_KEYS: &[u8] =
+    b"\x00\x01a\x00\x01\x01\x00\x01\x00\x00\x00\x00\x00\x00\x00\x01\x00\x00\x00\x01x\x00\x01b\x00\x01\x01\x00\x01\x00\x00\x00\x00\x00\x00\x00\x01\x00\x00\x00\x01x";
+
 /// Shows the calls on range states.
 pub(crate) fn show_all<R: Print + AllocGlobal>(rt: &R) -> io::Result<()> {
     let alloc = rt.alloc();
     show(rt, "RangeState::new and Leaves::empty", new(alloc))?;
     show(rt, "RangeState::put and Leaves::offer", put(alloc))?;
     show(rt, "RangeState::put, stale", stale_put(alloc))?;
+    show(rt, "RangeState::put_read", put_read(alloc))?;
+    show(rt, "RangeState::put_read, unread", unread_put(alloc))?;
     show(rt, "RangeState::accept", accept(alloc))?;
     show(rt, "RangeState::get", get(alloc))?;
     show(rt, "RangeState::migrate", migrate(alloc))?;
@@ -31,6 +37,7 @@ pub(crate) fn show_all<R: Print + AllocGlobal>(rt: &R) -> io::Result<()> {
         renewed(alloc),
     )?;
     show(rt, "RangeState::load_rows", load_rows(alloc))?;
+    show(rt, "RangeState::load_format", load_format(alloc))?;
     show(
         rt,
         "RangeState::rows_text and SharedLeaf::put_rows",
@@ -91,6 +98,31 @@ fn put(alloc: Global) -> Result<u64, Refusal> {
 fn stale_put(alloc: Global) -> Result<u64, Refusal> {
     let mut state = range_before(alloc, 3)?;
     match put_at(alloc, &mut state, 2) {
+        Err(Refusal::StaleContext(held)) => Ok(held.as_slice().len() as u64),
+        Err(refusal) => Err(unchanged(refusal, is_before(alloc, &state, 3))),
+        Ok(_) => Err(Refusal::Stale),
+    }
+}
+
+/// Puts `x` under `a` with the context of one node, by a put that checks what its client has read.
+fn put_read_at(alloc: Global, state: &mut RangeState, node: u64) -> Result<Receipt, Refusal> {
+    let (context, value) = put_parts(alloc, node)?;
+    state.put_read(alloc, 0, 1, b"a", &context, Kind::Live, value)
+}
+
+/// Makes the first put of a range, and returns the number of its entry.
+fn put_read(alloc: Global) -> Result<u64, Refusal> {
+    let mut state = range(alloc)?;
+    match put_read_at(alloc, &mut state, 2) {
+        Ok(receipt) => Ok(receipt.number),
+        Err(refusal) => Err(unchanged(refusal, is_before(alloc, &state, 2))),
+    }
+}
+
+/// Makes a put whose client hasn't read all that the node put, and returns the number of clocks in its refusal.
+fn unread_put(alloc: Global) -> Result<u64, Refusal> {
+    let mut state = range_before(alloc, 3)?;
+    match put_read_at(alloc, &mut state, 3) {
         Err(Refusal::StaleContext(held)) => Ok(held.as_slice().len() as u64),
         Err(refusal) => Err(unchanged(refusal, is_before(alloc, &state, 3))),
         Ok(_) => Err(Refusal::Stale),
@@ -160,6 +192,16 @@ fn load_rows(alloc: Global) -> Result<u64, Refusal> {
     match state.load_rows(alloc, 0, TWO_VERSIONS) {
         Ok(loaded) => Ok(loaded.taken),
         Err(refusal) => Err(unchanged(refusal, is_before(alloc, &state, 2))),
+    }
+}
+
+/// Loads the rows of two keys in format 1 into a range of format 2, and returns the number of versions taken.
+fn load_format(alloc: Global) -> Result<u64, Refusal> {
+    let config = RangeConfig::new(2, 0, 0, 100).ok_or(Refusal::BadRing)?;
+    let mut state = RangeState::new(alloc, config)?;
+    match state.load_format(alloc, 0, Format::One, TWO_KEYS) {
+        Ok(loaded) => Ok(loaded.taken),
+        Err(refusal) => Err(unchanged(refusal, Ok(state.journal().len() == 0))),
     }
 }
 

@@ -8,7 +8,7 @@ use crate::lines::{show, unchanged};
 use crate::states::begins;
 use key_ring::HashedKey;
 use range_journal::Source;
-use range_state::{Accepted, LeafRows, RangeState, Receipt};
+use range_state::{Accepted, ContextTest, LeafRows, RangeState, Receipt};
 use snapshot::Snapshot;
 use std::alloc::Global;
 use std::io;
@@ -47,7 +47,17 @@ fn put_at(
 ) -> Result<Receipt, Refusal> {
     let (context, value) = put_parts(alloc, node)?;
     let key = HashedKey::new(b"a");
-    state.put_into(alloc, told, 0, 1, &key, &context, Kind::Live, value)
+    state.put_into(
+        alloc,
+        told,
+        ContextTest::Fresh,
+        0,
+        1,
+        &key,
+        &context,
+        Kind::Live,
+        value,
+    )
 }
 
 /// Puts until the journal, the set and the list have had to grow.

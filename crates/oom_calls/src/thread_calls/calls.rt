@@ -11,6 +11,8 @@ pub(crate) enum LockedCall {
     Put(u8),
     /// A put that is refused as StaleContext.
     StalePut(u8),
+    /// A put that checks what its client has read, and is refused as StaleContext.
+    UnreadPut(u8),
     Accept(u8),
     Index,
     Get(u8),
@@ -27,6 +29,8 @@ pub(crate) enum SharedCall {
     Put(u8),
     /// A put that is refused as StaleContext.
     StalePut(u8),
+    /// A put that checks what its client has read, and is refused as StaleContext.
+    UnreadPut(u8),
     Copy(u8),
     Get(u8),
     Look(u8),
@@ -52,7 +56,7 @@ pub(crate) enum Call {
 }
 
 /// The calls in order. Each list that grows by its calls grows at least twice.
-pub(crate) const CALLS: [Call; 49] = [
+pub(crate) const CALLS: [Call; 51] = [
     Call::Locked(LockedCall::Hash),
     Call::Locked(LockedCall::Snapshot),
     Call::Locked(LockedCall::OpenSession),
@@ -65,6 +69,7 @@ pub(crate) const CALLS: [Call; 49] = [
     Call::Locked(LockedCall::Put(b'b')),
     Call::Locked(LockedCall::Put(b'c')),
     Call::Locked(LockedCall::StalePut(b'b')),
+    Call::Locked(LockedCall::UnreadPut(b'b')),
     Call::Locked(LockedCall::Accept(b'd')),
     Call::Locked(LockedCall::Accept(b'd')),
     Call::Locked(LockedCall::Accept(b'e')),
@@ -78,6 +83,7 @@ pub(crate) const CALLS: [Call; 49] = [
     Call::Shared(SharedCall::Put(b'b')),
     Call::Shared(SharedCall::Put(b'c')),
     Call::Shared(SharedCall::StalePut(b'b')),
+    Call::Shared(SharedCall::UnreadPut(b'b')),
     Call::Shared(SharedCall::Copy(b'd')),
     Call::Shared(SharedCall::Copy(b'd')),
     Call::Shared(SharedCall::Copy(b'e')),
@@ -137,6 +143,7 @@ impl LockedCall {
             LockedCall::TakeAnswer => "LockedRange::take_answer",
             LockedCall::Put(_) => "LockedRange::put and LockedRange::put_hashed",
             LockedCall::StalePut(_) => "LockedRange::put, stale",
+            LockedCall::UnreadPut(_) => "LockedRange::put_read",
             LockedCall::Accept(_) => "LockedRange::accept and LockedRange::accept_hashed",
             LockedCall::Index => "Pass::index",
             LockedCall::Get(_) => "LockedRange::get",
@@ -153,6 +160,7 @@ impl SharedCall {
         match self {
             SharedCall::Put(_) => "SharedRange::put",
             SharedCall::StalePut(_) => "SharedRange::put, stale",
+            SharedCall::UnreadPut(_) => "SharedRange::put_read",
             SharedCall::Copy(_) => "SharedRange::copy",
             SharedCall::Get(_) => "SharedRange::get",
             SharedCall::Look(_) => "SharedRange::look",

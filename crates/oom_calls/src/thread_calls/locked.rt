@@ -67,6 +67,7 @@ impl<L: Ledger> Locked<L> {
             LockedCall::TakeAnswer => self.take_answer(alloc, partner),
             LockedCall::Put(key) => self.put(alloc, key),
             LockedCall::StalePut(key) => self.put_stale(alloc, key),
+            LockedCall::UnreadPut(key) => self.put_unread(alloc, key),
             LockedCall::Accept(key) => self.accept(alloc, key),
             LockedCall::Index => self.index(),
             LockedCall::Get(key) => self.get(alloc, key),
@@ -119,6 +120,20 @@ impl<L: Ledger> Locked<L> {
             Err(Refusal::StaleContext(held)) => Ok(held.as_slice().len() as u64),
             Ok(_) => Err(Refusal::Stale),
             other => other,
+        }
+    }
+
+    /// Makes a put whose client hasn't read all that the node put, and returns the number of clocks in its refusal.
+    fn put_unread(&mut self, alloc: Global, key: u8) -> Result<u64, Refusal> {
+        let (context, value) = put_parts(alloc)?;
+        let pass = self.passes.get_mut(0).ok_or(Refusal::Stranger)?;
+        match self
+            .range
+            .put_read(alloc, pass, 1, &[key], &context, Kind::Live, value)
+        {
+            Err(Refusal::StaleContext(held)) => Ok(held.as_slice().len() as u64),
+            Err(refusal) => Err(refusal),
+            Ok(_) => Err(Refusal::Stale),
         }
     }
 

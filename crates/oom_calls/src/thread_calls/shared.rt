@@ -137,6 +137,7 @@ impl<L: Ledger, C: Ledger> Shared<L, C> {
         match call {
             SharedCall::Put(key) => self.put(rt, alloc, key),
             SharedCall::StalePut(key) => self.put_stale(rt, alloc, key),
+            SharedCall::UnreadPut(key) => self.put_unread(rt, alloc, key),
             SharedCall::Copy(key) => self.copy(rt, alloc, key),
             SharedCall::Get(key) => self.get(rt, alloc, key),
             SharedCall::Look(key) => Ok(self.range.look(rt, alloc, &[key])?.len() as u64),
@@ -182,6 +183,20 @@ impl<L: Ledger, C: Ledger> Shared<L, C> {
             Err(Refusal::StaleContext(held)) => Ok(held.as_slice().len() as u64),
             Ok(_) => Err(Refusal::Stale),
             other => other,
+        }
+    }
+
+    /// Makes a put whose client hasn't read all that the node put, and returns the number of clocks in its refusal.
+    fn put_unread<R: Wait>(&mut self, rt: &R, alloc: Global, key: u8) -> Result<u64, Refusal> {
+        let (context, value) = put_parts(alloc)?;
+        let pass = self.passes.get_mut(0).ok_or(Refusal::Stranger)?;
+        match self
+            .range
+            .put_read(rt, alloc, pass, &[key], &context, Kind::Live, value)
+        {
+            Err(Refusal::StaleContext(held)) => Ok(held.as_slice().len() as u64),
+            Err(refusal) => Err(refusal),
+            Ok(_) => Err(Refusal::Stale),
         }
     }
 

@@ -89,7 +89,7 @@ impl RangeState {
     }
 
     /// Adds the versions of a row to the batch.
-    fn prepare_row(
+    pub(super) fn prepare_row(
         &self,
         alloc: Global,
         seat: u16,

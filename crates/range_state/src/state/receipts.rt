@@ -3,10 +3,12 @@ ghost use Rattle.std.specs.Prelude.{◌≡◌, ◌+◌, ◌≤◌, ◌++◌, ◌
 ghost use Rattle.std.specs.Vec.{vec_len, vec_capacity};
 ghost use Rattle.vclock.specs.Outcome.{Does, DoesOrNoMemory};
 ghost use Rattle.sync_session.specs.TreeNodes.{as_node};
-ghost use Rattle.range_state.specs.State.{is_sent, ask_fault, entry_of, admit, accept, put};
+ghost use Rattle.range_state.specs.ContextTests.{put_by};
+ghost use Rattle.range_state.specs.State.{is_sent, ask_fault, entry_of, admit, accept};
 ghost use Rattle.range_state.specs.Fitting.{IsFitting};
 ghost use Rattle.range_state.specs.Told.{with_put, with_sent, CountsAnswer};
 
+use crate::context_test::ContextTest;
 use crate::event::{Accepted, AnswerCounted, AnswerTaken, Receipt};
 use crate::state::{Home, RangeState};
 use hash_tree::{Hashed, NodeAt};
@@ -17,12 +19,13 @@ use vclock::{Bytes, Clock, Refusal};
 use version_set::{Kind, Version};
 
 impl RangeState {
-    /// Puts a value as `put` does, for a key that was hashed before, and appends a copy of the receipt to a list.
-    /// Refused as `put` is. On error the list is unchanged.
+    /// Puts a value as `put` does, or as `put_read` does, by the test of its context, for a key that was hashed before,
+    /// and appends a copy of the receipt to a list. Refused as that one is. On error the list is unchanged.
     pub fn put_into(
         &mut self,
         alloc: Global,
         receipts: &mut Vec<Receipt>,
+        test: ContextTest,
         seat: u16,
         at: u16,
         key: &HashedKey,
@@ -32,12 +35,12 @@ impl RangeState {
     ) -> Result<Receipt, Refusal>
         requires { 1 ≤ at }
         ensures puts { DoesOrNoMemory result self.old self.new
-            (put self.old seat at key.now context.now kind value) }
+            (put_by test self.old seat at key.now context.now kind value) }
         ensures early { IfErr result (λ e. e ≡ Refusal.NoMemory
             → ask_fault self.old.config at key.now context.now kind value ≡ None) }
         ensures told { receipts.new.items ≡ with_put receipts.old.items result }
     {
-        let (home, version) = self.make_put(alloc, at, key, context, kind, value)?;
+        let (home, version) = self.make_put(alloc, test, at, key, context, kind, value)?;
         let key = key.bytes();
         self.admit_into(alloc, receipts, home, seat, Source::Client, key, version)
     }

@@ -8,7 +8,8 @@ use Rattle.range_state.specs.Told.{with_sent}
 use Rattle.caller_pass.specs.Indexes.{IsIndex}
 use Rattle.caller_pass.specs.Locks.{Locked, IsLocked}
 use Rattle.caller_pass.specs.Passes.{PassView}
-use Rattle.caller_pass.proofs.GrowthLaws.{accept_gives, grown_by_one}
+use Rattle.range_state.proofs.PutLaws.{accept_gives}
+use Rattle.caller_pass.proofs.GrowthLaws.{grown_by_one}
 use Rattle.caller_pass.proofs.LockLaws.{locked_grown}
 use Rattle.caller_pass.proofs.PassLaws.{pass_after}
 use Rattle.caller_pass.proofs.IndexLaws.{grown, last_front}

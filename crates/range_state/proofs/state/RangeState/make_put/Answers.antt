@@ -2,7 +2,8 @@ use Rattle.std.proofs.Common.{rules, ◌≡◌, List, None, sym, ap, subst, ◌�
 use Rattle.version_set.specs.declared.version.Version.{Version}
 use Rattle.version_set.specs.Version.{offer_fault}
 use Rattle.range_journal.specs.Journal.{held}
-use Rattle.range_state.specs.State.{place_fault, stale_fault, put_version}
+use Rattle.range_state.specs.ContextTests.{context_fault}
+use Rattle.range_state.specs.State.{place_fault, put_version}
 use Rattle.range_state.proofs.FittingLaws.{fitting_put}
 use Rattle.range_state.proofs.state.RangeState.make_put.Goals as goal
 
@@ -13,6 +14,6 @@ returns-clause-made c =
     let v : Version = record { clock = c.in_ok-clock.clock; kind = c.args.kind; value = c.args.value } in
     let here : place_fault s.config key c.args.kind c.args.value ≡ None = ap (place_fault s.config key c.args.kind) (sym c.as_slice.ensures) ∙ c.in_ok-leaf.ensures.0 in
     let is : v ≡ put_version c.args.at c.args.context.now c.args.kind c.args.value = search rules in
-    let stale = subst (λ (S : List Version). stale_fault S v.clock ≡ None) c.search.ensures.set c.in_ok-check_context.ensures.0 in
+    let passes = subst (λ (S : List Version). context_fault c.args.test S c.args.at c.args.context.now ≡ None) c.search.ensures.set c.in_ok-check_context.ensures.0 in
     let fits : offer_fault v (held s.entries key) ≡ None = rw (c.search.ensures.set, c.if-crowds.false) at c.crowds.ensures in
-    fitting_put s c.in_ok-leaf.leaf c.args.at key c.args.context.now c.args.kind c.args.value v c.in_ok-leaf.ensures.1 here c.in_ok-clock.ensures.answers.0 is c.pairs-valid.ensures.valid stale fits
+    fitting_put c.args.test s c.in_ok-leaf.leaf c.args.at key c.args.context.now c.args.kind c.args.value v c.in_ok-leaf.ensures.1 here c.in_ok-clock.ensures.answers.0 is c.pairs-valid.ensures.valid passes fits

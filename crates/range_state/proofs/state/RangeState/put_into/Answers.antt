@@ -10,6 +10,6 @@ returns-in_err-home-clause-puts c =
       refl,
       elim c.in_err-home.ensures.made [
         | inl none ↦ inl none
-        | inr fault ↦ inr (put_refused c.args.self.now c.args.seat c.args.at c.args.key.now c.args.context.now c.args.kind c.args.value c.in_err-home.field-0.0 fault)
+        | inr fault ↦ inr (put_refused c.args.test c.args.self.now c.args.seat c.args.at c.args.key.now c.args.context.now c.args.kind c.args.value c.in_err-home.field-0.0 fault)
       ],
     )

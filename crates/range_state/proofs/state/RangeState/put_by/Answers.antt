@@ -1,7 +1,7 @@
 use Rattle.std.proofs.Common.{refl, inl, inr}
 use Rattle.std.proofs.lemmas.Result.{err_from_is_err_and}
 use Rattle.range_state.proofs.FittingLaws.{put_refused}
-use Rattle.range_state.proofs.state.RangeState.put.Goals as goal
+use Rattle.range_state.proofs.state.RangeState.put_by.Goals as goal
 
 pub returns-in_err-home-clause-puts : goal.returns-in_err-home-clause-puts
 returns-in_err-home-clause-puts c =
@@ -10,6 +10,6 @@ returns-in_err-home-clause-puts c =
       refl,
       elim c.in_err-home.ensures.made [
         | inl none ↦ inl none
-        | inr fault ↦ inr (put_refused c.args.self.now c.args.seat c.args.at c.args.key.now c.args.context.now c.args.kind c.args.value c.in_err-home.field-0.0 (rw c.new-hashed.ensures at fault))
+        | inr fault ↦ inr (put_refused c.args.test c.args.self.now c.args.seat c.args.at c.args.key.now c.args.context.now c.args.kind c.args.value c.in_err-home.field-0.0 (rw c.new-hashed.ensures at fault))
       ],
     )
