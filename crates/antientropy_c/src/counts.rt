@@ -31,7 +31,8 @@ pub extern "C" fn antientropy_count(
     replica: &mut Replica,
     counts: &mut Counts,
 ) -> u32
-    ensures { Calls result replica.old replica.new (λ s t. (t ≡ s) × (result ≡ 0) × (counts.new ≡ counts_of s)) }
+    ensures { Calls result replica.old replica.new (counts.new ≡ counts.old)
+        (λ s t. (t ≡ s) × (result ≡ 0) × (counts.new ≡ counts_of s)) }
 {
     let Some(state) = replica.take(alloc) else {
         return EMPTY;

@@ -11,7 +11,7 @@ ghost use Rattle.snapshot.specs.Snapshots.{leaf_fault};
 ghost use Rattle.range_state.specs.Loads.{load_text};
 ghost use Rattle.range_state.specs.declared.state.loading.Loaded.{Loaded};
 ghost use Rattle.antientropy_c.specs.Calls.{Calls};
-ghost use Rattle.antientropy_c.specs.Hands.{HandsOutRight};
+ghost use Rattle.antientropy_c.specs.Hands.{HandsNothing, HandsOutRight};
 ghost use Rattle.antientropy_c.specs.Loads.{TellsLoaded};
 ghost use Rattle.antientropy_c.specs.Numbers.{Returns};
 ghost use Rattle.antientropy_c.specs.Offers.{ShowsRows};
@@ -49,7 +49,8 @@ pub extern "C" fn antientropy_rows(
     out: &mut [u8],
     need: &mut u64,
 ) -> u32
-    ensures { ShowsRows result publication.old publication.new (λ m. HandsOutRight result (need.old, out.old) (need.new, out.new)
+    ensures { ShowsRows result publication.old publication.new (HandsNothing (need.old, out.old) (need.new, out.new))
+        (λ m. HandsOutRight result (need.old, out.old) (need.new, out.new)
         (λ r. Answers r (leaf_fault m.format leaf)
         (λ bytes. bytes ≡ flat_map (row_text m.format) (rows_in_leaf (leaf_in m) leaf m.rows)))) }
 {
@@ -82,7 +83,8 @@ pub extern "C" fn antientropy_load(
     rows: &[u8],
     loaded: &mut LoadReceipt,
 ) -> u32
-    ensures { Calls result replica.old replica.new (λ s t. Returns result (λ (r : Result Loaded Refusal).
+    ensures { Calls result replica.old replica.new (loaded.new ≡ loaded.old)
+        (λ s t. Returns result (λ (r : Result Loaded Refusal).
         DoesOrNoMemory r s t (load_text s 0 rows.now) × TellsLoaded r loaded.old loaded.new)) }
 {
     let Some(mut state) = replica.take(alloc) else {

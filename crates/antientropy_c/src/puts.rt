@@ -46,7 +46,8 @@ pub extern "C" fn antientropy_put(
     value: &[u8],
     receipt: &mut PutReceipt,
 ) -> u32
-    ensures { Calls result replica.old replica.new (λ s t. Returns result (λ (r : Result Entry Refusal).
+    ensures { Calls result replica.old replica.new (receipt.new ≡ receipt.old)
+        (λ s t. Returns result (λ (r : Result Entry Refusal).
         DoesOrNoMemory r s t (put_at s node key.now (clock_pairs context.now) kind value.now)
         × TellsPut node r receipt.old receipt.new)) }
 {
@@ -96,7 +97,8 @@ pub extern "C" fn antientropy_accept(
     value: &[u8],
     taken: &mut u64,
 ) -> u32
-    ensures { Calls result replica.old replica.new (λ s t. Returns result (λ (r : Result Accepted Refusal).
+    ensures { Calls result replica.old replica.new (taken.new ≡ taken.old)
+        (λ s t. Returns result (λ (r : Result Accepted Refusal).
         DoesOrNoMemory r s t (accept_at s key.now (clock_pairs clock.now) kind value.now)
         × TellsAccepted r taken.old taken.new)) }
 {

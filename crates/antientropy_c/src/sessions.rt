@@ -1,5 +1,5 @@
 //! Sessions with other replicas.
-ghost use Rattle.std.specs.Prelude.{◌≡◌, ℕ, Result, Some, slice_get};
+ghost use Rattle.std.specs.Prelude.{◌≡◌, ℕ, Result, Some, slice_get, ⊤};
 ghost use Rattle.vclock.specs.Answer.{AnswersAtOnce};
 ghost use Rattle.vclock.specs.Outcome.{DoesAtOnce};
 ghost use Rattle.vclock.specs.declared.refusal.Refusal.{Refusal};
@@ -32,7 +32,8 @@ pub extern "C" fn antientropy_open(
     offer: &[u8],
     session: &mut u64,
 ) -> u32
-    ensures { Calls result replica.old replica.new (λ s t. Returns result (λ (r : Result ℕ Refusal).
+    ensures { Calls result replica.old replica.new (session.new ≡ session.old)
+        (λ s t. Returns result (λ (r : Result ℕ Refusal).
         Reads offer.now (Opens s partner r t) × TellsNumber r session.old session.new)) }
 {
     let Some(mut state) = replica.take(alloc) else {
@@ -106,7 +107,8 @@ pub extern "C" fn antientropy_take(
     answer: &[u8],
     receipt: &mut TakenReceipt,
 ) -> u32
-    ensures { Calls result replica.old replica.new (λ s t. Returns result (λ (r : Result AnswerTaken Refusal).
+    ensures { Calls result replica.old replica.new (receipt.new ≡ receipt.old)
+        (λ s t. Returns result (λ (r : Result AnswerTaken Refusal).
         Reads answer.now (TakesMessage s session number r t) × TellsTaken r receipt.old receipt.new)) }
 {
     let Some(mut state) = replica.take(alloc) else {
@@ -196,7 +198,7 @@ fn number_of(state: SessionState) -> u64
 #[unsafe(no_mangle)]
 #[tactic(auto, using(crate::proofs::CallLaws::empty, crate::proofs::CallLaws::held, crate::proofs::CallLaws::returns))]
 pub extern "C" fn antientropy_cancel(alloc: Global, replica: &mut Replica, session: u64) -> u32
-    ensures { Calls result replica.old replica.new (λ s t. Returns result (λ (r : Result (Unit {0}) Refusal).
+    ensures { Calls result replica.old replica.new ⊤ (λ s t. Returns result (λ (r : Result (Unit {0}) Refusal).
         DoesAtOnce r s t (cancel_session s session))) }
 {
     let Some(mut state) = replica.take(alloc) else {
@@ -216,7 +218,8 @@ pub extern "C" fn antientropy_session(
     session: u64,
     standing: &mut u64,
 ) -> u32
-    ensures { Calls result replica.old replica.new (λ s t. (t ≡ s) × Returns result (λ (r : Result ℕ Refusal).
+    ensures { Calls result replica.old replica.new (standing.new ≡ standing.old)
+        (λ s t. (t ≡ s) × Returns result (λ (r : Result ℕ Refusal).
         (r ≡ session_seen s session) × TellsNumber r standing.old standing.new)) }
 {
     let Some(state) = replica.take(alloc) else {
