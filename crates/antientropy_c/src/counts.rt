@@ -21,6 +21,10 @@ pub struct Counts {
     pub sessions: u64,
     /// The number of sessions that are open.
     pub open_sessions: u64,
+    /// 0; reserved for journals that are trimmed.
+    pub first: u64,
+    /// 0; reserved for journals that are trimmed.
+    pub front: u64,
 }
 
 /// Counts the parts of a replica. Refused: EMPTY.
@@ -52,5 +56,7 @@ fn count(state: &RangeState) -> Counts
         dirty: state.dirty_count() as u64,
         sessions: state.records().len() as u64,
         open_sessions: state.open_sessions() as u64,
+        first: 0,
+        front: 0,
     }
 }

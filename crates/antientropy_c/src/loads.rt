@@ -21,6 +21,7 @@ use crate::output::hand_out;
 use crate::publication::Publication;
 use crate::replica::Replica;
 use hash_tree::Text;
+use key_ring::leaf_count;
 use range_state::Loaded;
 use snapshot::Snapshot;
 use std::alloc::Global;
@@ -45,7 +46,7 @@ pub struct LoadReceipt {
 pub extern "C" fn antientropy_rows(
     alloc: Global,
     publication: &mut Publication,
-    leaf: u16,
+    leaf: u64,
     out: &mut [u8],
     need: &mut u64,
 ) -> u32
@@ -63,11 +64,14 @@ pub extern "C" fn antientropy_rows(
 }
 
 /// Writes the texts of the rows of a leaf of a snapshot.
-fn rows_of(alloc: Global, snapshot: &Snapshot, leaf: u16) -> Result<Text, Refusal>
+fn rows_of(alloc: Global, snapshot: &Snapshot, leaf: u64) -> Result<Text, Refusal>
     ensures { Answers result (leaf_fault snapshot.now.format leaf)
         (λ bytes. bytes ≡ flat_map (row_text snapshot.now.format) (rows_in_leaf (leaf_in snapshot.now) leaf snapshot.now.rows)) }
 {
-    Ok(Text::from(snapshot.rows_text(alloc, leaf)?))
+    if leaf >= u64::from(leaf_count(snapshot.format())) {
+        return Err(Refusal::BadMessage);
+    }
+    Ok(Text::from(snapshot.rows_text(alloc, leaf as u16)?))
 }
 
 /// Loads rows of one leaf from their texts, as [`RangeState::load_rows`](range_state::RangeState::load_rows) does at
