@@ -11,26 +11,26 @@ use Rattle.vclock.specs.Clock.{Pairs}
 use Rattle.walk_messages.specs.Messages.{Decodes}
 use Rattle.walk_messages.specs.declared.message.Message.{Message}
 
-pub on_held : (was now : Bool) (code : ℕ) (Right : Type 0) → was ≡ true → now ≡ true → Right → OnHeld was now code Right
-on_held true now code Right is_was is_now right = (is_now, right)
-on_held false now code Right is_was is_now right = absurd (cc)
+pub on_held : (was now : Bool) (code : ℕ) (Same Right : Type 0) → was ≡ true → now ≡ true → Right → OnHeld was now code Same Right
+on_held true now code Same Right is_was is_now right = (is_now, right)
+on_held false now code Same Right is_was is_now right = absurd (cc)
 
-pub on_empty : (was now : Bool) (code : ℕ) (Right : Type 0) → was ≡ false → now ≡ false → code ≡ EMPTY → OnHeld was now code Right
-on_empty true now code Right is_was is_now is_code = absurd (cc)
-on_empty false now code Right is_was is_now is_code = (is_now, is_code)
+pub on_empty : (was now : Bool) (code : ℕ) (Same Right : Type 0) → was ≡ false → now ≡ false → code ≡ EMPTY → Same → OnHeld was now code Same Right
+on_empty true now code Same Right is_was is_now is_code same = absurd (cc)
+on_empty false now code Same Right is_was is_now is_code same = (is_now, is_code, same)
 
 -- nothing was held
-pub empty : {S : Type 0} (code : ℕ) (old new : Bool × S) (Right : S → S → Type 0)
-    → old.0 ≡ false → new.0 ≡ false → code ≡ EMPTY → CallsOn code old new Right
+pub empty : {S : Type 0} (code : ℕ) (old new : Bool × S) (Same : Type 0) (Right : S → S → Type 0)
+    → old.0 ≡ false → new.0 ≡ false → code ≡ EMPTY → Same → CallsOn code old new Same Right
 unfolding CallsOn
-empty code old new Right was now is_code = on_empty old.0 new.0 code (Right old.1 new.1) was now is_code
+empty code old new Same Right was now is_code same = on_empty old.0 new.0 code Same (Right old.1 new.1) was now is_code same
 
 -- a value was held, and taken from s to t
-pub held : {S : Type 0} (code : ℕ) (old new : Bool × S) (Right : S → S → Type 0) (s t : S)
-    → old.0 ≡ true → new.0 ≡ true → s ≡ old.1 → new.1 ≡ t → Right s t → CallsOn code old new Right
+pub held : {S : Type 0} (code : ℕ) (old new : Bool × S) (Same : Type 0) (Right : S → S → Type 0) (s t : S)
+    → old.0 ≡ true → new.0 ≡ true → s ≡ old.1 → new.1 ≡ t → Right s t → CallsOn code old new Same Right
 unfolding CallsOn
-held {S} code old new Right s t was now is_old is_new right =
-    on_held old.0 new.0 code (Right old.1 new.1) was now
+held {S} code old new Same Right s t was now is_old is_new right =
+    on_held old.0 new.0 code Same (Right old.1 new.1) was now
     (subst (λ (x : S). Right x new.1) is_old (subst (λ (x : S). Right s x) (sym is_new) right))
 
 -- the number is that of a result

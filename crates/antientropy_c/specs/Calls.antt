@@ -10,22 +10,22 @@ use Rattle.tree_nodes.specs.Nodes.{dirty_count}
 use Rattle.range_state.specs.Records.{open_count}
 use Rattle.antientropy_c.specs.declared.counts.Counts.{Counts}
 
--- the call of a full handle leaves it full, and is right; the call of an empty handle leaves it empty, and returns
--- EMPTY
-abbrev pub OnHeld : Bool → Bool → ℕ → Type 0 → Type 0
-OnHeld true now code Right = (now ≡ true) × Right
-OnHeld false now code Right = (now ≡ false) × (code ≡ EMPTY)
+-- the call of a full handle leaves it full, and is right; the call of an empty handle leaves it empty, returns EMPTY,
+-- and its other arguments are the same
+abbrev pub OnHeld : Bool → Bool → ℕ → Type 0 → Type 0 → Type 0
+OnHeld true now code Same Right = (now ≡ true) × Right
+OnHeld false now code Same Right = (now ≡ false) × (code ≡ EMPTY) × Same
 
 -- a call on a handle, by its flag and the value in it
-unfoldable pub CallsOn : {S : Type 0} → ℕ → Bool × S → Bool × S → (S → S → Type 0) → Type 0
-CallsOn code old new Right = OnHeld old.0 new.0 code (Right old.1 new.1)
+unfoldable pub CallsOn : {S : Type 0} → ℕ → Bool × S → Bool × S → Type 0 → (S → S → Type 0) → Type 0
+CallsOn code old new Same Right = OnHeld old.0 new.0 code Same (Right old.1 new.1)
 
 abbrev pub replica_in : Replica → Bool × State
 replica_in h = (h.held, h.state)
 
 -- a call on a replica, that changes its state
-abbrev pub Calls : ℕ → Replica → Replica → (State → State → Type 0) → Type 0
-Calls code old new Right = CallsOn code (replica_in old) (replica_in new) Right
+abbrev pub Calls : ℕ → Replica → Replica → Type 0 → (State → State → Type 0) → Type 0
+Calls code old new Same Right = CallsOn code (replica_in old) (replica_in new) Same Right
 
 -- A statement about the bytes of a message, by their decoding.
 pub record Reads (bytes : List ℕ) (Right : Result Message Refusal → Type 0) : Type 0 where
@@ -34,4 +34,4 @@ pub record Reads (bytes : List ℕ) (Right : Result Message Refusal → Type 0) 
   pub right : Right decoded
 
 abbrev pub counts_of : State → Counts
-counts_of s = record { entries = length s.entries; limit = s.config.limit; dirty = dirty_count s.marks; sessions = length s.records; open_sessions = open_count s.records }
+counts_of s = record { entries = length s.entries; limit = s.config.limit; dirty = dirty_count s.marks; sessions = length s.records; open_sessions = open_count s.records; first = 0; front = 0 }

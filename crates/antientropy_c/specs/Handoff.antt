@@ -16,8 +16,8 @@ abbrev pub hints_in : Hints → Bool × List Kept
 hints_in h = (h.held, h.kept)
 
 -- a call that does not change the hints
-abbrev pub ShowsHints : ℕ → Hints → Hints → (List Kept → Type 0) → Type 0
-ShowsHints code old new Right = CallsOn code (hints_in old) (hints_in new) (λ s t. (t ≡ s) × Right s)
+abbrev pub ShowsHints : ℕ → Hints → Hints → Type 0 → (List Kept → Type 0) → Type 0
+ShowsHints code old new Same Right = CallsOn code (hints_in old) (hints_in new) Same (λ s t. (t ≡ s) × Right s)
 
 -- a version is kept for an owner; its value may have the length that format 2 allows
 abbrev pub keep_at : List Kept → ℕ → List ℕ → Pairs → ℕ → List ℕ → Outcome ℕ (List Kept)

@@ -12,6 +12,10 @@ copied bytes room = if nat_le (length bytes) (length room) then bytes ++ drop (l
 abbrev pub copy_code : {A : Type 0} → List A → List A → ℕ
 copy_code bytes room = if nat_le (length bytes) (length room) then 0 else SMALL
 
+-- the stored number and the buffer are the same before and after
+abbrev pub HandsNothing : {A : Type 0} → ℕ × List A → ℕ × List A → Type 0
+HandsNothing before after = (after.0 ≡ before.0) × (after.1 ≡ before.1)
+
 -- Of bytes the caller gets their number, and the bytes if all of them fit; of a refusal only its number. Before and
 -- after are the stored number and the buffer.
 abbrev pub HandsOut : Result (List ℕ) Refusal → ℕ → ℕ × List ℕ → ℕ × List ℕ → Type 0

@@ -20,8 +20,8 @@ abbrev pub rows_in : Publication → Bool × RowMap
 rows_in h = (h.held, h.rows)
 
 -- a call on a publication that does not change it
-abbrev pub ShowsRows : ℕ → Publication → Publication → (RowMap → Type 0) → Type 0
-ShowsRows code old new Right = CallsOn code (rows_in old) (rows_in new) (λ m n. (n ≡ m) × Right m)
+abbrev pub ShowsRows : ℕ → Publication → Publication → Type 0 → (RowMap → Type 0) → Type 0
+ShowsRows code old new Same Right = CallsOn code (rows_in old) (rows_in new) Same (λ m n. (n ≡ m) × Right m)
 
 -- the publication holds the rows, or is empty on error
 abbrev pub TakesRows : Publication → Option Refusal → RowMap → Result (Unit {0}) Refusal → Type 0

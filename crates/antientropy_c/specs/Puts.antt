@@ -1,5 +1,5 @@
 -- Versions from C: their numbers need not be right.
-use Rattle.std.specs.Prelude.{◌≡◌, ℕ, nat_le, ◌==◌, List, Option, Some, None, Result, Ok, Err, if◌then◌else◌}
+use Rattle.std.specs.Prelude.{◌≡◌, ℕ, ◌&&◌, nat_le, ◌==◌, List, Option, Some, None, Result, Ok, Err, if◌then◌else◌}
 use Rattle.vclock.specs.Clock.{Pairs, counter, clock_of, pairs_fault}
 use Rattle.vclock.specs.Outcome.{Outcome, ◌>>◌}
 use Rattle.vclock.specs.declared.refusal.Refusal.{Refusal}
@@ -13,9 +13,9 @@ use Rattle.range_state.specs.declared.event.Accepted.{Accepted}
 use Rattle.range_state.specs.declared.event.Accepted.TheVariants.{Taken, Known}
 use Rattle.antientropy_c.specs.declared.puts.PutReceipt.{PutReceipt}
 
--- the fault of a number that is not a node's
+-- the fault of a number that is not a node's: a node has a number from 1 to 65,535
 abbrev pub node_fault : ℕ → Option Refusal
-node_fault node = if node == 0 then Some BadClock else None
+node_fault node = if nat_le 1 node && nat_le node 65535 then None else Some BadClock
 
 -- the fault of a number that is not a kind's
 abbrev pub kind_fault : ℕ → Option Refusal

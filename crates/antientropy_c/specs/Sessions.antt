@@ -1,8 +1,8 @@
 -- Sessions, as C runs them.
-use Rattle.std.specs.Prelude.{◌≡◌, ℕ, ◌==◌, length, slice_get, Option, Some, None, Result, Ok, Err, MatchBool}
+use Rattle.std.specs.Prelude.{◌≡◌, ℕ, ◌==◌, nat_le, List, length, slice_get, Option, Some, None, Result, Ok, Err, MatchBool, if◌then◌else◌}
 use Rattle.vclock.specs.Outcome.{Does}
 use Rattle.vclock.specs.declared.refusal.Refusal.{Refusal}
-use Rattle.vclock.specs.declared.refusal.Refusal.TheVariants.{BadMessage, UnknownSession}
+use Rattle.vclock.specs.declared.refusal.Refusal.TheVariants.{BadClock, BadMessage, UnknownSession}
 use Rattle.walk_messages.specs.declared.message.Answer.{Answer}
 use Rattle.walk_messages.specs.declared.message.Message.{Message}
 use Rattle.walk_messages.specs.declared.message.Message.TheVariants as messages
@@ -13,6 +13,7 @@ use Rattle.range_state.specs.State.{State}
 use Rattle.range_state.specs.Sessions.{open_session, TakesAnswer}
 use Rattle.range_state.specs.declared.«record».Record.{Record}
 use Rattle.range_state.specs.declared.event.AnswerTaken.{AnswerTaken}
+use Rattle.antientropy_c.specs.Calls.{Reads}
 use Rattle.antientropy_c.specs.declared.sessions.TakenReceipt.{TakenReceipt}
 
 -- a session is opened by a decoded message, if it is an offer
@@ -21,6 +22,15 @@ Opens s partner r t (Ok (messages.Offer offer)) = Does r s t (open_session s par
 Opens s partner r t (Ok (messages.Ask ask)) = (r ≡ Err BadMessage) × (t ≡ s)
 Opens s partner r t (Ok (messages.Answer answer)) = (r ≡ Err BadMessage) × (t ≡ s)
 Opens s partner r t (Err e) = (r ≡ Err e) × (t ≡ s)
+
+-- the fault of a number that no partner has: it is over 65,535
+abbrev pub partner_fault : ℕ → Option Refusal
+partner_fault partner = if nat_le partner 65535 then None else Some BadClock
+
+-- a session is opened by the bytes of a message, unless there is a cause before they are decoded
+abbrev pub OpensUnless : Option Refusal → State → ℕ → List ℕ → Result ℕ Refusal → State → Type 0
+OpensUnless None s partner bytes r t = Reads bytes (Opens s partner r t)
+OpensUnless (Some e) s partner bytes r t = (r ≡ Err e) × (t ≡ s)
 
 -- the caller's number is that of the result, if it has one
 abbrev pub TellsNumber : Result ℕ Refusal → ℕ → ℕ → Type 0

@@ -6,7 +6,7 @@ ghost use Rattle.sync_session.specs.TreeNodes.{as_node};
 ghost use Rattle.range_state.specs.Sessions.{unknown_fault};
 ghost use Rattle.antientropy_c.specs.Asks.{outstanding_count, Asks};
 ghost use Rattle.antientropy_c.specs.Calls.{Calls};
-ghost use Rattle.antientropy_c.specs.Hands.{HandsOutRight};
+ghost use Rattle.antientropy_c.specs.Hands.{HandsNothing, HandsOutRight};
 ghost use Rattle.antientropy_c.specs.Numbers.{Returns};
 ghost use Rattle.antientropy_c.specs.Sessions.{TellsNumber};
 
@@ -29,7 +29,8 @@ pub extern "C" fn antientropy_outstanding(
     session: u64,
     count: &mut u64,
 ) -> u32
-    ensures { Calls result replica.old replica.new (λ s t. (t ≡ s) × Returns result (λ (r : Result ℕ Refusal).
+    ensures { Calls result replica.old replica.new (count.new ≡ count.old)
+        (λ s t. (t ≡ s) × Returns result (λ (r : Result ℕ Refusal).
         (r ≡ outstanding_count s session) × TellsNumber r count.old count.new)) }
 {
     let Some(state) = replica.take(alloc) else {
@@ -60,7 +61,8 @@ pub extern "C" fn antientropy_ask(
     out: &mut [u8],
     need: &mut u64,
 ) -> u32
-    ensures { Calls result replica.old replica.new (λ s t. (t ≡ s) × HandsOutRight result (need.old, out.old) (need.new, out.new)
+    ensures { Calls result replica.old replica.new (HandsNothing (need.old, out.old) (need.new, out.new))
+        (λ s t. (t ≡ s) × HandsOutRight result (need.old, out.old) (need.new, out.new)
         (Asks s session 0 number)) }
 {
     let Some(state) = replica.take(alloc) else {
@@ -84,7 +86,8 @@ pub extern "C" fn antientropy_ask_at(
     out: &mut [u8],
     need: &mut u64,
 ) -> u32
-    ensures { Calls result replica.old replica.new (λ s t. (t ≡ s) × HandsOutRight result (need.old, out.old) (need.new, out.new)
+    ensures { Calls result replica.old replica.new (HandsNothing (need.old, out.old) (need.new, out.new))
+        (λ s t. (t ≡ s) × HandsOutRight result (need.old, out.old) (need.new, out.new)
         (Asks s session place number)) }
 {
     let Some(state) = replica.take(alloc) else {

@@ -21,6 +21,10 @@ pub struct Counts {
     pub sessions: u64,
     /// The number of sessions that are open.
     pub open_sessions: u64,
+    /// 0; reserved for journals that are trimmed.
+    pub first: u64,
+    /// 0; reserved for journals that are trimmed.
+    pub front: u64,
 }
 
 /// Counts the parts of a replica. Refused: EMPTY.
@@ -31,7 +35,8 @@ pub extern "C" fn antientropy_count(
     replica: &mut Replica,
     counts: &mut Counts,
 ) -> u32
-    ensures { Calls result replica.old replica.new (λ s t. (t ≡ s) × (result ≡ 0) × (counts.new ≡ counts_of s)) }
+    ensures { Calls result replica.old replica.new (counts.new ≡ counts.old)
+        (λ s t. (t ≡ s) × (result ≡ 0) × (counts.new ≡ counts_of s)) }
 {
     let Some(state) = replica.take(alloc) else {
         return EMPTY;
@@ -51,5 +56,7 @@ fn count(state: &RangeState) -> Counts
         dirty: state.dirty_count() as u64,
         sessions: state.records().len() as u64,
         open_sessions: state.open_sessions() as u64,
+        first: 0,
+        front: 0,
     }
 }

@@ -2,7 +2,7 @@
 ghost use Rattle.std.specs.Prelude.{◌≡◌, slice_get};
 ghost use Rattle.antientropy_c.specs.Calls.{Calls};
 ghost use Rattle.antientropy_c.specs.Entries.{key_in, version_in, source_in, number_of_source};
-ghost use Rattle.antientropy_c.specs.Hands.{HandsAny, TellsAny};
+ghost use Rattle.antientropy_c.specs.Hands.{HandsNothing, HandsAny, TellsAny};
 ghost use Rattle.antientropy_c.specs.Versions.{ShowsValue, ShowsClock};
 
 use crate::numbers::{EMPTY, NO_VERSION};
@@ -24,7 +24,7 @@ pub extern "C" fn antientropy_entry_key(
     out: &mut [u8],
     need: &mut u64,
 ) -> u32
-    ensures { Calls result replica.old replica.new (λ s t. (t ≡ s)
+    ensures { Calls result replica.old replica.new (HandsNothing (need.old, out.old) (need.new, out.new)) (λ s t. (t ≡ s)
         × HandsAny (key_in (slice_get s.entries number)) result (need.old, out.old) (need.new, out.new)) }
 {
     let Some(state) = replica.take(alloc) else {
@@ -58,7 +58,8 @@ pub extern "C" fn antientropy_entry_value(
     out: &mut [u8],
     need: &mut u64,
 ) -> u32
-    ensures { Calls result replica.old replica.new (λ s t. (t ≡ s)
+    ensures { Calls result replica.old replica.new ((kind.new ≡ kind.old) × HandsNothing (need.old, out.old) (need.new, out.new))
+        (λ s t. (t ≡ s)
         × ShowsValue (version_in (slice_get s.entries number)) result kind.old kind.new (need.old, out.old) (need.new, out.new)) }
 {
     let Some(state) = replica.take(alloc) else {
@@ -92,7 +93,7 @@ pub extern "C" fn antientropy_entry_clock(
     out: &mut [Pair],
     need: &mut u64,
 ) -> u32
-    ensures { Calls result replica.old replica.new (λ s t. (t ≡ s)
+    ensures { Calls result replica.old replica.new (HandsNothing (need.old, out.old) (need.new, out.new)) (λ s t. (t ≡ s)
         × ShowsClock (version_in (slice_get s.entries number)) result (need.old, out.old) (need.new, out.new)) }
 {
     let Some(state) = replica.take(alloc) else {
@@ -123,7 +124,7 @@ pub extern "C" fn antientropy_entry_source(
     number: u64,
     source: &mut u64,
 ) -> u32
-    ensures { Calls result replica.old replica.new (λ s t. (t ≡ s)
+    ensures { Calls result replica.old replica.new (source.new ≡ source.old) (λ s t. (t ≡ s)
         × TellsAny (source_in (slice_get s.entries number)) result source.old source.new) }
 {
     let Some(state) = replica.take(alloc) else {

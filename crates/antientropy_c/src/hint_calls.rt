@@ -1,5 +1,5 @@
 //! Hints: versions that a carrier keeps for replicas that are down.
-ghost use Rattle.std.specs.Prelude.{◌≡◌, ℕ, [], ◌∷◌, false, None, Result, option_map};
+ghost use Rattle.std.specs.Prelude.{◌≡◌, ℕ, [], ◌∷◌, false, None, Result, option_map, ⊤};
 ghost use Rattle.vclock.specs.Answer.{Answers};
 ghost use Rattle.vclock.specs.Outcome.{Does, DoesAtOnce, DoesOrNoMemory, gives};
 ghost use Rattle.vclock.specs.declared.refusal.Refusal.{Refusal};
@@ -8,7 +8,7 @@ ghost use Rattle.hint_store.specs.Hints.{kept_at, next_hint, settle};
 ghost use Rattle.hint_store.specs.Renewals.{renewed};
 ghost use Rattle.antientropy_c.specs.Calls.{CallsOn};
 ghost use Rattle.antientropy_c.specs.Handoff.{hints_in, ShowsHints, keep_at, owner_in, hint_key_in, hint_version_in};
-ghost use Rattle.antientropy_c.specs.Hands.{HandsAny, TellsAny};
+ghost use Rattle.antientropy_c.specs.Hands.{HandsNothing, HandsAny, TellsAny};
 ghost use Rattle.antientropy_c.specs.Makes.{MakesIn, Takes};
 ghost use Rattle.antientropy_c.specs.Numbers.{Returns};
 ghost use Rattle.antientropy_c.specs.Pairs.{clock_pairs};
@@ -86,7 +86,8 @@ pub extern "C" fn antientropy_hint_keep(
     value: &[u8],
     id: &mut u64,
 ) -> u32
-    ensures { CallsOn result (hints_in hints.old) (hints_in hints.new) (λ s t. Returns result (λ (r : Result ℕ Refusal).
+    ensures { CallsOn result (hints_in hints.old) (hints_in hints.new) (id.new ≡ id.old)
+        (λ s t. Returns result (λ (r : Result ℕ Refusal).
         DoesOrNoMemory r s t (keep_at s owner key.now (clock_pairs clock.now) kind value.now)
         × TellsNumber r id.old id.new)) }
 {
@@ -135,7 +136,7 @@ pub extern "C" fn antientropy_hint_next(
     after: u32,
     id: &mut u64,
 ) -> u32
-    ensures { ShowsHints result hints.old hints.new (λ s.
+    ensures { ShowsHints result hints.old hints.new (id.new ≡ id.old) (λ s.
         TellsAny (option_map (λ h. h.id) (next_hint (owner ∷ []) after s)) result id.old id.new) }
 {
     let Some(store) = hints.take(alloc) else {
@@ -166,7 +167,8 @@ pub extern "C" fn antientropy_hint_owner(
     id: u32,
     owner: &mut u64,
 ) -> u32
-    ensures { ShowsHints result hints.old hints.new (λ s. TellsAny (owner_in (kept_at s id)) result owner.old owner.new) }
+    ensures { ShowsHints result hints.old hints.new (owner.new ≡ owner.old)
+        (λ s. TellsAny (owner_in (kept_at s id)) result owner.old owner.new) }
 {
     let Some(store) = hints.take(alloc) else {
         return EMPTY;
@@ -197,7 +199,7 @@ pub extern "C" fn antientropy_hint_key(
     out: &mut [u8],
     need: &mut u64,
 ) -> u32
-    ensures { ShowsHints result hints.old hints.new (λ s.
+    ensures { ShowsHints result hints.old hints.new (HandsNothing (need.old, out.old) (need.new, out.new)) (λ s.
         HandsAny (hint_key_in (kept_at s id)) result (need.old, out.old) (need.new, out.new)) }
 {
     let Some(store) = hints.take(alloc) else {
@@ -231,7 +233,7 @@ pub extern "C" fn antientropy_hint_value(
     out: &mut [u8],
     need: &mut u64,
 ) -> u32
-    ensures { ShowsHints result hints.old hints.new (λ s.
+    ensures { ShowsHints result hints.old hints.new ((kind.new ≡ kind.old) × HandsNothing (need.old, out.old) (need.new, out.new)) (λ s.
         ShowsValue (hint_version_in (kept_at s id)) result kind.old kind.new (need.old, out.old) (need.new, out.new)) }
 {
     let Some(store) = hints.take(alloc) else {
@@ -265,7 +267,7 @@ pub extern "C" fn antientropy_hint_clock(
     out: &mut [Pair],
     need: &mut u64,
 ) -> u32
-    ensures { ShowsHints result hints.old hints.new (λ s.
+    ensures { ShowsHints result hints.old hints.new (HandsNothing (need.old, out.old) (need.new, out.new)) (λ s.
         ShowsClock (hint_version_in (kept_at s id)) result (need.old, out.old) (need.new, out.new)) }
 {
     let Some(store) = hints.take(alloc) else {
@@ -296,7 +298,8 @@ pub extern "C" fn antientropy_hint_confirm(
     id: u32,
     known: bool,
 ) -> u32
-    ensures { CallsOn result (hints_in hints.old) (hints_in hints.new) (λ s t. Returns result (λ (r : Result (Unit {0}) Refusal).
+    ensures { CallsOn result (hints_in hints.old) (hints_in hints.new) ⊤
+        (λ s t. Returns result (λ (r : Result (Unit {0}) Refusal).
         DoesAtOnce r s t (settle s id known))) }
 {
     let Some(mut store) = hints.take(alloc) else {
@@ -312,7 +315,8 @@ pub extern "C" fn antientropy_hint_confirm(
 #[unsafe(no_mangle)]
 #[tactic(auto, using(crate::proofs::CallLaws::empty, crate::proofs::CallLaws::held, crate::proofs::CallLaws::returns))]
 pub extern "C" fn antientropy_hints_renew(alloc: Global, hints: &mut Hints) -> u32
-    ensures { CallsOn result (hints_in hints.old) (hints_in hints.new) (λ s t. Returns result (λ (r : Result (Unit {0}) Refusal).
+    ensures { CallsOn result (hints_in hints.old) (hints_in hints.new) ⊤
+        (λ s t. Returns result (λ (r : Result (Unit {0}) Refusal).
         Does r s t (gives tt (renewed s)))) }
 {
     let Some(mut store) = hints.take(alloc) else {
@@ -339,7 +343,7 @@ pub extern "C" fn antientropy_hints_count(
     hints: &mut Hints,
     counts: &mut HintNumbers,
 ) -> u32
-    ensures { ShowsHints result hints.old hints.new (λ s. (result ≡ 0)
+    ensures { ShowsHints result hints.old hints.new (counts.new ≡ counts.old) (λ s. (result ≡ 0)
         × (counts.new ≡ record { pending = (counts_of s).pending; delivered = (counts_of s).delivered })) }
 {
     let Some(store) = hints.take(alloc) else {

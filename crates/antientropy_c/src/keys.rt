@@ -3,6 +3,7 @@ ghost use Rattle.std.specs.Prelude.{◌≡◌, option_map};
 ghost use Rattle.row_bytes.specs.Rows.{is_before};
 ghost use Rattle.hash_tree.specs.Leaves.{AscendByKey};
 ghost use Rattle.antientropy_c.specs.Calls.{Calls};
+ghost use Rattle.antientropy_c.specs.Hands.{HandsNothing};
 ghost use Rattle.antientropy_c.specs.Keys.{key_after, HandsKeyAfter};
 
 use crate::numbers::{EMPTY, NO_VERSION};
@@ -23,12 +24,12 @@ use vclock::Refusal;
 pub extern "C" fn antientropy_key_after(
     alloc: Global,
     replica: &mut Replica,
-    leaf: u16,
+    leaf: u64,
     key: &[u8],
     out: &mut [u8],
     need: &mut u64,
 ) -> u32
-    ensures { Calls result replica.old replica.new (λ s t. (t ≡ s)
+    ensures { Calls result replica.old replica.new (HandsNothing (need.old, out.old) (need.new, out.new)) (λ s t. (t ≡ s)
         × HandsKeyAfter s leaf key.now result (need.old, out.old) (need.new, out.new)) }
 {
     let Some(state) = replica.take(alloc) else {
@@ -40,13 +41,13 @@ pub extern "C" fn antientropy_key_after(
 }
 
 /// Copies out the least key of a leaf above a key.
-fn show_key_after(state: &RangeState, leaf: u16, key: &[u8], out: &mut [u8], need: &mut u64) -> u32
+fn show_key_after(state: &RangeState, leaf: u64, key: &[u8], out: &mut [u8], need: &mut u64) -> u32
     ensures { HandsKeyAfter state.now leaf key.now result (need.old, out.old) (need.new, out.new) }
 {
-    if leaf >= leaf_count(state.config().format()) {
+    if leaf >= u64::from(leaf_count(state.config().format())) {
         return Refusal::BadMessage.number() as u32;
     }
-    match key_after(state.rows(leaf), key) {
+    match key_after(state.rows(leaf as u16), key) {
         Some(next) => copy_out(next, out, need),
         None => NO_VERSION,
     }

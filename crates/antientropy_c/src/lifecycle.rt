@@ -1,5 +1,5 @@
 //! The making, migration and freeing of replicas.
-ghost use Rattle.std.specs.Prelude.{◌≡◌, false, Result};
+ghost use Rattle.std.specs.Prelude.{◌≡◌, false, Result, ⊤};
 ghost use Rattle.vclock.specs.Answer.{Answers};
 ghost use Rattle.vclock.specs.Outcome.{Does};
 ghost use Rattle.vclock.specs.declared.refusal.Refusal.{Refusal};
@@ -78,7 +78,7 @@ fn fresh(
 #[unsafe(no_mangle)]
 #[tactic(auto, using(crate::proofs::CallLaws::empty, crate::proofs::CallLaws::held, crate::proofs::CallLaws::returns))]
 pub extern "C" fn antientropy_migrate(alloc: Global, replica: &mut Replica) -> u32
-    ensures { Calls result replica.old replica.new (λ s t. Returns result (λ (r : Result (Unit {0}) Refusal).
+    ensures { Calls result replica.old replica.new ⊤ (λ s t. Returns result (λ (r : Result (Unit {0}) Refusal).
         Does r s t (migrate s))) }
 {
     let Some(mut state) = replica.take(alloc) else {

@@ -11,7 +11,7 @@ ghost use Rattle.snapshot.specs.Snapshots.{leaf_fault};
 ghost use Rattle.range_state.specs.Loads.{load_text};
 ghost use Rattle.range_state.specs.declared.state.loading.Loaded.{Loaded};
 ghost use Rattle.antientropy_c.specs.Calls.{Calls};
-ghost use Rattle.antientropy_c.specs.Hands.{HandsOutRight};
+ghost use Rattle.antientropy_c.specs.Hands.{HandsNothing, HandsOutRight};
 ghost use Rattle.antientropy_c.specs.Loads.{TellsLoaded};
 ghost use Rattle.antientropy_c.specs.Numbers.{Returns};
 ghost use Rattle.antientropy_c.specs.Offers.{ShowsRows};
@@ -21,6 +21,7 @@ use crate::output::hand_out;
 use crate::publication::Publication;
 use crate::replica::Replica;
 use hash_tree::Text;
+use key_ring::leaf_count;
 use range_state::Loaded;
 use snapshot::Snapshot;
 use std::alloc::Global;
@@ -45,11 +46,12 @@ pub struct LoadReceipt {
 pub extern "C" fn antientropy_rows(
     alloc: Global,
     publication: &mut Publication,
-    leaf: u16,
+    leaf: u64,
     out: &mut [u8],
     need: &mut u64,
 ) -> u32
-    ensures { ShowsRows result publication.old publication.new (λ m. HandsOutRight result (need.old, out.old) (need.new, out.new)
+    ensures { ShowsRows result publication.old publication.new (HandsNothing (need.old, out.old) (need.new, out.new))
+        (λ m. HandsOutRight result (need.old, out.old) (need.new, out.new)
         (λ r. Answers r (leaf_fault m.format leaf)
         (λ bytes. bytes ≡ flat_map (row_text m.format) (rows_in_leaf (leaf_in m) leaf m.rows)))) }
 {
@@ -62,11 +64,14 @@ pub extern "C" fn antientropy_rows(
 }
 
 /// Writes the texts of the rows of a leaf of a snapshot.
-fn rows_of(alloc: Global, snapshot: &Snapshot, leaf: u16) -> Result<Text, Refusal>
+fn rows_of(alloc: Global, snapshot: &Snapshot, leaf: u64) -> Result<Text, Refusal>
     ensures { Answers result (leaf_fault snapshot.now.format leaf)
         (λ bytes. bytes ≡ flat_map (row_text snapshot.now.format) (rows_in_leaf (leaf_in snapshot.now) leaf snapshot.now.rows)) }
 {
-    Ok(Text::from(snapshot.rows_text(alloc, leaf)?))
+    if leaf >= u64::from(leaf_count(snapshot.format())) {
+        return Err(Refusal::BadMessage);
+    }
+    Ok(Text::from(snapshot.rows_text(alloc, leaf as u16)?))
 }
 
 /// Loads rows of one leaf from their texts, as [`RangeState::load_rows`](range_state::RangeState::load_rows) does at
@@ -82,7 +87,8 @@ pub extern "C" fn antientropy_load(
     rows: &[u8],
     loaded: &mut LoadReceipt,
 ) -> u32
-    ensures { Calls result replica.old replica.new (λ s t. Returns result (λ (r : Result Loaded Refusal).
+    ensures { Calls result replica.old replica.new (loaded.new ≡ loaded.old)
+        (λ s t. Returns result (λ (r : Result Loaded Refusal).
         DoesOrNoMemory r s t (load_text s 0 rows.now) × TellsLoaded r loaded.old loaded.new)) }
 {
     let Some(mut state) = replica.take(alloc) else {

@@ -6,7 +6,7 @@ ghost use Rattle.walk_messages.specs.declared.message.Message.TheVariants as mes
 ghost use Rattle.snapshot.specs.RowMaps.{root_of};
 ghost use Rattle.range_state.specs.State.{rows_now, dirty_fault};
 ghost use Rattle.antientropy_c.specs.Calls.{Calls, Reads};
-ghost use Rattle.antientropy_c.specs.Hands.{HandsOut, HandsOutRight};
+ghost use Rattle.antientropy_c.specs.Hands.{HandsNothing, HandsOut, HandsOutRight};
 ghost use Rattle.antientropy_c.specs.Offers.{ShowsRows, Publishes, TakesRows, offer_numbered, ServesAsk, Serves};
 
 use crate::numbers::{EMPTY, HELD, code};
@@ -30,7 +30,7 @@ pub extern "C" fn antientropy_snapshot(
     replica: &mut Replica,
     publication: &mut Publication,
 ) -> u32
-    ensures { Calls result replica.old replica.new (λ s t. (t ≡ s)
+    ensures { Calls result replica.old replica.new (publication.new ≡ publication.old) (λ s t. (t ≡ s)
         × Publishes result publication.old publication.new (dirty_fault s) (rows_now s)) }
 {
     let Some(state) = replica.take(alloc) else {
@@ -80,7 +80,7 @@ pub extern "C" fn antientropy_root(
     out: &mut [u8],
     need: &mut u64,
 ) -> u32
-    ensures { ShowsRows result publication.old publication.new
+    ensures { ShowsRows result publication.old publication.new (HandsNothing (need.old, out.old) (need.new, out.new))
         (λ m. HandsOut (Ok (root_of m)) result (need.old, out.old) (need.new, out.new)) }
 {
     let Some(rows) = publication.take(alloc) else {
@@ -109,7 +109,8 @@ pub extern "C" fn antientropy_offer(
     out: &mut [u8],
     need: &mut u64,
 ) -> u32
-    ensures { ShowsRows result publication.old publication.new (λ m. HandsOutRight result (need.old, out.old) (need.new, out.new)
+    ensures { ShowsRows result publication.old publication.new (HandsNothing (need.old, out.old) (need.new, out.new))
+        (λ m. HandsOutRight result (need.old, out.old) (need.new, out.new)
         (λ r. Answers r None (λ bytes. bytes ≡ message_text (messages.Offer (offer_numbered number m))))) }
 {
     let Some(rows) = publication.take(alloc) else {
@@ -142,7 +143,8 @@ pub extern "C" fn antientropy_serve(
     out: &mut [u8],
     need: &mut u64,
 ) -> u32
-    ensures { ShowsRows result publication.old publication.new (λ m. HandsOutRight result (need.old, out.old) (need.new, out.new)
+    ensures { ShowsRows result publication.old publication.new (HandsNothing (need.old, out.old) (need.new, out.new))
+        (λ m. HandsOutRight result (need.old, out.old) (need.new, out.new)
         (λ r. Reads ask.now (Serves m number r))) }
 {
     let Some(rows) = publication.take(alloc) else {

@@ -1,5 +1,5 @@
 //! Puts, and versions of other replicas.
-ghost use Rattle.std.specs.Prelude.{◌≡◌, Result};
+ghost use Rattle.std.specs.Prelude.{◌≡◌, ◌≤◌, Result, OnOk};
 ghost use Rattle.vclock.specs.Answer.{AnswersAtOnce};
 ghost use Rattle.vclock.specs.Outcome.{DoesOrNoMemory};
 ghost use Rattle.vclock.specs.declared.refusal.Refusal.{Refusal};
@@ -8,7 +8,7 @@ ghost use Rattle.antientropy_c.specs.Numbers.{Returns};
 ghost use Rattle.antientropy_c.specs.Calls.{Calls};
 ghost use Rattle.antientropy_c.specs.Pairs.{clock_pairs};
 ghost use Rattle.range_state.specs.declared.event.Accepted.{Accepted};
-ghost use Rattle.antientropy_c.specs.Puts.{kind_fault, kind_numbered, put_at, accept_at, TellsPut, TellsAccepted};
+ghost use Rattle.antientropy_c.specs.Puts.{node_fault, kind_fault, kind_numbered, put_at, accept_at, TellsPut, TellsAccepted};
 
 use crate::numbers::{EMPTY, code};
 use crate::pair::{Pair, clock_of};
@@ -16,6 +16,7 @@ use crate::replica::Replica;
 use range_journal::Source;
 use range_state::{Accepted, RangeState, Receipt};
 use std::alloc::Global;
+use vclock::limits::NODE_MAX;
 use vclock::{Bytes, Refusal};
 use version_set::{Kind, Version};
 
@@ -31,22 +32,23 @@ pub struct PutReceipt {
 
 /// Puts a value, or a tombstone, for a key at a node.
 ///
-/// Refused, in order: EMPTY; BadClock (the node is 0, or the context isn't a clock), ClockFull (the context has over 32
-/// pairs), BadValue (the kind is neither 0 nor 1); then as [`RangeState::put`] is. On error the replica and the receipt
-/// are unchanged. NoMemory may replace any cause but EMPTY.
+/// Refused, in order: EMPTY; BadClock (the node is 0 or over 65,535, or the context isn't a clock), ClockFull (the
+/// context has over 32 pairs), BadValue (the kind is neither 0 nor 1); then as [`RangeState::put`] is. On error the
+/// replica and the receipt are unchanged. NoMemory may replace any cause but EMPTY.
 #[unsafe(no_mangle)]
 #[tactic(auto, using(crate::proofs::CallLaws::empty, crate::proofs::CallLaws::held, crate::proofs::CallLaws::returns))]
 pub extern "C" fn antientropy_put(
     alloc: Global,
     replica: &mut Replica,
-    node: u16,
+    node: u64,
     key: &[u8],
     context: &[Pair],
     kind: u8,
     value: &[u8],
     receipt: &mut PutReceipt,
 ) -> u32
-    ensures { Calls result replica.old replica.new (λ s t. Returns result (λ (r : Result Entry Refusal).
+    ensures { Calls result replica.old replica.new (receipt.new ≡ receipt.old)
+        (λ s t. Returns result (λ (r : Result Entry Refusal).
         DoesOrNoMemory r s t (put_at s node key.now (clock_pairs context.now) kind value.now)
         × TellsPut node r receipt.old receipt.new)) }
 {
@@ -63,21 +65,30 @@ pub extern "C" fn antientropy_put(
 fn put(
     alloc: Global,
     state: &mut RangeState,
-    node: u16,
+    node: u64,
     key: &[u8],
     context: &[Pair],
     kind: u8,
     value: &[u8],
 ) -> Result<Receipt, Refusal>
-    ensures { DoesOrNoMemory result state.old state.new (put_at state.old node key.now (clock_pairs context.now) kind value.now) }
+    ensures does { DoesOrNoMemory result state.old state.new (put_at state.old node key.now (clock_pairs context.now) kind value.now) }
+    ensures node { OnOk result (node ≤ 65535) }
 {
-    if node == 0 {
-        return Err(Refusal::BadClock);
-    }
+    let node = node_of(node)?;
     let context = clock_of(alloc, context)?;
     let kind = kind_of(kind)?;
     let value = Bytes::copy_of(alloc, value)?;
     state.put(alloc, 0, node, key, &context, kind, value)
+}
+
+/// Returns the node of a number. Refused: BadClock (it is 0 or over 65,535).
+pub(crate) fn node_of(number: u64) -> Result<u16, Refusal>
+    ensures { AnswersAtOnce result (node_fault number) (λ node. node ≡ number) }
+{
+    if number == 0 || number > NODE_MAX {
+        return Err(Refusal::BadClock);
+    }
+    Ok(number as u16)
 }
 
 /// Accepts a version of another replica, as a copy. Stores 1 if it was accepted, and 0 if it was known.
@@ -96,7 +107,8 @@ pub extern "C" fn antientropy_accept(
     value: &[u8],
     taken: &mut u64,
 ) -> u32
-    ensures { Calls result replica.old replica.new (λ s t. Returns result (λ (r : Result Accepted Refusal).
+    ensures { Calls result replica.old replica.new (taken.new ≡ taken.old)
+        (λ s t. Returns result (λ (r : Result Accepted Refusal).
         DoesOrNoMemory r s t (accept_at s key.now (clock_pairs clock.now) kind value.now)
         × TellsAccepted r taken.old taken.new)) }
 {
@@ -128,13 +140,14 @@ fn accept(
 }
 
 /// Stores the receipt of a put, if it was not refused.
-fn tell_put(told: &Result<Receipt, Refusal>, node: u16, receipt: &mut PutReceipt)
+fn tell_put(told: &Result<Receipt, Refusal>, node: u64, receipt: &mut PutReceipt)
+    requires { OnOk told.now (node ≤ 65535) }
     ensures { TellsPut node told.now receipt.old receipt.new }
 {
     if let Ok(entry) = told {
         *receipt = PutReceipt {
             number: entry.number,
-            counter: entry.version.clock.get(node),
+            counter: entry.version.clock.get(node as u16),
         };
     }
 }

@@ -40,7 +40,8 @@ pub extern "C" fn antientropy_read(
     pairs: &mut [Pair],
     value: &mut [u8],
 ) -> u32
-    ensures { Calls result replica.old replica.new (λ s t. (t ≡ s)
+    ensures { Calls result replica.old replica.new ((reading.new ≡ reading.old) × (pairs.new ≡ pairs.old) × (value.new ≡ value.old))
+        (λ s t. (t ≡ s)
         × ReadsVersion (slice_get (held s.entries key.now) index) (length (held s.entries key.now)) result
         reading.old reading.new (pairs.old, value.old) (pairs.new, value.new)) }
 {

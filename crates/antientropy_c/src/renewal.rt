@@ -24,7 +24,7 @@ pub extern "C" fn antientropy_renew(
     into: &mut Replica,
     limit: u64,
 ) -> u32
-    ensures { Calls result from.old from.new (λ s t. (t ≡ s)
+    ensures { Calls result from.old from.new (into.new ≡ into.old) (λ s t. (t ≡ s)
         × Makes result into.old into.new (renew_fault s limit) (λ new. new ≡ renewed_by s 0 limit)) }
 {
     let Some(state) = from.take(alloc) else {

@@ -4,7 +4,7 @@ ghost use Rattle.vclock.specs.Answer.{Answers};
 ghost use Rattle.vclock.specs.Bytes.{key_fault};
 ghost use Rattle.range_journal.specs.Journal.{held};
 ghost use Rattle.antientropy_c.specs.Calls.{Calls};
-ghost use Rattle.antientropy_c.specs.Hands.{HandsOutRight};
+ghost use Rattle.antientropy_c.specs.Hands.{HandsNothing, HandsOutRight};
 ghost use Rattle.antientropy_c.specs.Shows.{row_shown};
 
 use crate::numbers::EMPTY;
@@ -27,7 +27,8 @@ pub extern "C" fn antientropy_get(
     out: &mut [u8],
     need: &mut u64,
 ) -> u32
-    ensures { Calls result replica.old replica.new (λ s t. (t ≡ s) × HandsOutRight result (need.old, out.old) (need.new, out.new)
+    ensures { Calls result replica.old replica.new (HandsNothing (need.old, out.old) (need.new, out.new))
+        (λ s t. (t ≡ s) × HandsOutRight result (need.old, out.old) (need.new, out.new)
         (λ r. Answers r (key_fault key.now) (λ bytes. bytes ≡ row_shown s key.now))) }
 {
     let Some(state) = replica.take(alloc) else {
@@ -64,7 +65,7 @@ pub extern "C" fn antientropy_versions(
     key: &[u8],
     count: &mut u64,
 ) -> u32
-    ensures { Calls result replica.old replica.new (λ s t. (t ≡ s) × (result ≡ 0)
+    ensures { Calls result replica.old replica.new (count.new ≡ count.old) (λ s t. (t ≡ s) × (result ≡ 0)
         × (count.new ≡ length (held s.entries key.now))) }
 {
     let Some(state) = replica.take(alloc) else {

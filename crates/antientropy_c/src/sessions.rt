@@ -1,5 +1,5 @@
 //! Sessions with other replicas.
-ghost use Rattle.std.specs.Prelude.{◌≡◌, ℕ, Result, Some, slice_get};
+ghost use Rattle.std.specs.Prelude.{◌≡◌, ℕ, Result, Some, slice_get, ⊤};
 ghost use Rattle.vclock.specs.Answer.{AnswersAtOnce};
 ghost use Rattle.vclock.specs.Outcome.{DoesAtOnce};
 ghost use Rattle.vclock.specs.declared.refusal.Refusal.{Refusal};
@@ -7,7 +7,7 @@ ghost use Rattle.range_state.specs.Sessions.{cancel_session, unknown_fault};
 ghost use Rattle.range_state.specs.declared.event.AnswerTaken.{AnswerTaken};
 ghost use Rattle.antientropy_c.specs.Numbers.{Returns};
 ghost use Rattle.antientropy_c.specs.Calls.{Calls, Reads};
-ghost use Rattle.antientropy_c.specs.Sessions.{Opens, TellsNumber, TakesWith, TakesMessage, TellsTaken, number_of_state, session_seen};
+ghost use Rattle.antientropy_c.specs.Sessions.{Opens, OpensUnless, partner_fault, TellsNumber, TakesWith, TakesMessage, TellsTaken, number_of_state, session_seen};
 
 use crate::numbers::{EMPTY, code};
 use crate::replica::Replica;
@@ -16,24 +16,26 @@ use range_state::{AnswerTaken, RangeState, Record};
 use std::alloc::Global;
 use sync_session::SessionState;
 use vclock::Refusal;
+use vclock::limits::NODE_MAX;
 use walk_messages::{Answer, Message, decode};
 
 /// Opens a session with a partner by the bytes of its offer, and stores the session's number, from 0.
 ///
-/// Refused, in order: EMPTY, BadMessage (the bytes aren't an offer); then as [`RangeState::open_session`] is:
-/// OtherFormat, OtherRange, SessionsFull, Dirty, NoMemory. If the bytes are an answer, NoMemory may replace BadMessage.
-/// On error the replica and the stored number are unchanged.
+/// Refused, in order: EMPTY, BadClock (the partner is over 65,535), BadMessage (the bytes aren't an offer); then as
+/// [`RangeState::open_session`] is: OtherFormat, OtherRange, SessionsFull, Dirty, NoMemory. If the bytes are an answer,
+/// NoMemory may replace BadMessage. On error the replica and the stored number are unchanged.
 #[unsafe(no_mangle)]
 #[tactic(auto, using(crate::proofs::CallLaws::empty, crate::proofs::CallLaws::held, crate::proofs::CallLaws::returns))]
 pub extern "C" fn antientropy_open(
     alloc: Global,
     replica: &mut Replica,
-    partner: u16,
+    partner: u64,
     offer: &[u8],
     session: &mut u64,
 ) -> u32
-    ensures { Calls result replica.old replica.new (λ s t. Returns result (λ (r : Result ℕ Refusal).
-        Reads offer.now (Opens s partner r t) × TellsNumber r session.old session.new)) }
+    ensures { Calls result replica.old replica.new (session.new ≡ session.old)
+        (λ s t. Returns result (λ (r : Result ℕ Refusal).
+        OpensUnless (partner_fault partner) s partner offer.now r t × TellsNumber r session.old session.new)) }
 {
     let Some(mut state) = replica.take(alloc) else {
         return EMPTY;
@@ -44,9 +46,24 @@ pub extern "C" fn antientropy_open(
     code(&told)
 }
 
+/// Opens a session by the bytes of an offer, if the partner's number isn't over 65,535.
+fn open(alloc: Global, state: &mut RangeState, partner: u64, bytes: &[u8]) -> Result<u64, Refusal>
+    ensures { OpensUnless (partner_fault partner) state.old partner bytes.now result state.new }
+{
+    if partner > NODE_MAX {
+        return Err(Refusal::BadClock);
+    }
+    open_bytes(alloc, state, partner as u16, bytes)
+}
+
 /// Opens a session by the bytes of an offer.
 #[tactic(auto, using(crate::proofs::CallLaws::reads))]
-fn open(alloc: Global, state: &mut RangeState, partner: u16, bytes: &[u8]) -> Result<u64, Refusal>
+fn open_bytes(
+    alloc: Global,
+    state: &mut RangeState,
+    partner: u16,
+    bytes: &[u8],
+) -> Result<u64, Refusal>
     ensures { Reads bytes.now (Opens state.old partner result state.new) }
 {
     let decoded = decode(alloc, bytes);
@@ -106,7 +123,8 @@ pub extern "C" fn antientropy_take(
     answer: &[u8],
     receipt: &mut TakenReceipt,
 ) -> u32
-    ensures { Calls result replica.old replica.new (λ s t. Returns result (λ (r : Result AnswerTaken Refusal).
+    ensures { Calls result replica.old replica.new (receipt.new ≡ receipt.old)
+        (λ s t. Returns result (λ (r : Result AnswerTaken Refusal).
         Reads answer.now (TakesMessage s session number r t) × TellsTaken r receipt.old receipt.new)) }
 {
     let Some(mut state) = replica.take(alloc) else {
@@ -196,7 +214,7 @@ fn number_of(state: SessionState) -> u64
 #[unsafe(no_mangle)]
 #[tactic(auto, using(crate::proofs::CallLaws::empty, crate::proofs::CallLaws::held, crate::proofs::CallLaws::returns))]
 pub extern "C" fn antientropy_cancel(alloc: Global, replica: &mut Replica, session: u64) -> u32
-    ensures { Calls result replica.old replica.new (λ s t. Returns result (λ (r : Result (Unit {0}) Refusal).
+    ensures { Calls result replica.old replica.new ⊤ (λ s t. Returns result (λ (r : Result (Unit {0}) Refusal).
         DoesAtOnce r s t (cancel_session s session))) }
 {
     let Some(mut state) = replica.take(alloc) else {
@@ -216,7 +234,8 @@ pub extern "C" fn antientropy_session(
     session: u64,
     standing: &mut u64,
 ) -> u32
-    ensures { Calls result replica.old replica.new (λ s t. (t ≡ s) × Returns result (λ (r : Result ℕ Refusal).
+    ensures { Calls result replica.old replica.new (standing.new ≡ standing.old)
+        (λ s t. (t ≡ s) × Returns result (λ (r : Result ℕ Refusal).
         (r ≡ session_seen s session) × TellsNumber r standing.old standing.new)) }
 {
     let Some(state) = replica.take(alloc) else {

@@ -1,5 +1,5 @@
 //! Slots for background work, as numbers.
-ghost use Rattle.std.specs.Prelude.{◌≡◌, ℕ, false, Option, Result};
+ghost use Rattle.std.specs.Prelude.{◌≡◌, ℕ, false, Option, Result, ⊤};
 ghost use Rattle.vclock.specs.Answer.{Answers, AnswersAtOnce};
 ghost use Rattle.vclock.specs.Outcome.{DoesAtOnce};
 ghost use Rattle.vclock.specs.declared.refusal.Refusal.{Refusal};
@@ -107,7 +107,8 @@ pub extern "C" fn antientropy_slots_free(alloc: Global, slots: &mut Slots)
 #[unsafe(no_mangle)]
 #[tactic(auto, using(crate::proofs::CallLaws::empty, crate::proofs::CallLaws::held, crate::proofs::CallLaws::returns))]
 pub extern "C" fn antientropy_slot_lend(alloc: Global, slots: &mut Slots) -> u32
-    ensures { CallsOn result (slots_in slots.old) (slots_in slots.new) (λ s t. Returns result (λ (r : Result (Unit {0}) Refusal).
+    ensures { CallsOn result (slots_in slots.old) (slots_in slots.new) ⊤
+        (λ s t. Returns result (λ (r : Result (Unit {0}) Refusal).
         DoesAtOnce r s t (lend s))) }
 {
     let Some(mut budget) = slots.take(alloc) else {
@@ -122,7 +123,8 @@ pub extern "C" fn antientropy_slot_lend(alloc: Global, slots: &mut Slots) -> u32
 #[unsafe(no_mangle)]
 #[tactic(auto, using(crate::proofs::CallLaws::empty, crate::proofs::CallLaws::held, crate::proofs::CallLaws::returns))]
 pub extern "C" fn antientropy_slot_give_back(alloc: Global, slots: &mut Slots) -> u32
-    ensures { CallsOn result (slots_in slots.old) (slots_in slots.new) (λ s t. Returns result (λ (r : Result (Unit {0}) Refusal).
+    ensures { CallsOn result (slots_in slots.old) (slots_in slots.new) ⊤
+        (λ s t. Returns result (λ (r : Result (Unit {0}) Refusal).
         DoesAtOnce r s t (give_back s))) }
 {
     let Some(mut budget) = slots.take(alloc) else {
@@ -143,7 +145,7 @@ pub extern "C" fn antientropy_slots_sample(
     moment: u64,
     micros: u32,
 ) -> u32
-    ensures { CallsOn result (slots_in slots.old) (slots_in slots.new) (λ s t. Returns result (λ (r : Result ℕ Refusal).
+    ensures { CallsOn result (slots_in slots.old) (slots_in slots.new) ⊤ (λ s t. Returns result (λ (r : Result ℕ Refusal).
         DoesAtOnce r s t (sample s moment micros))) }
 {
     let Some(mut budget) = slots.take(alloc) else {
@@ -164,7 +166,8 @@ pub extern "C" fn antientropy_slots_adjust(
     now: u64,
     percentile: &mut Percentile,
 ) -> u32
-    ensures { CallsOn result (slots_in slots.old) (slots_in slots.new) (λ s t. Returns result (λ (r : Result (Option ℕ) Refusal).
+    ensures { CallsOn result (slots_in slots.old) (slots_in slots.new) (percentile.new ≡ percentile.old)
+        (λ s t. Returns result (λ (r : Result (Option ℕ) Refusal).
         DoesAtOnce r s t (adjust s now) × TellsPercentile r percentile.old percentile.new)) }
 {
     let Some(mut budget) = slots.take(alloc) else {
@@ -206,7 +209,8 @@ fn percentile_of(found: Option<u32>) -> Percentile
 #[unsafe(no_mangle)]
 #[tactic(auto, using(crate::proofs::CallLaws::empty, crate::proofs::CallLaws::held, crate::proofs::CallLaws::returns))]
 pub extern "C" fn antientropy_slots_set_target(alloc: Global, slots: &mut Slots, target: u32) -> u32
-    ensures { CallsOn result (slots_in slots.old) (slots_in slots.new) (λ s t. Returns result (λ (r : Result (Unit {0}) Refusal).
+    ensures { CallsOn result (slots_in slots.old) (slots_in slots.new) ⊤
+        (λ s t. Returns result (λ (r : Result (Unit {0}) Refusal).
         DoesAtOnce r s t (set_target s target))) }
 {
     let Some(mut budget) = slots.take(alloc) else {
@@ -237,7 +241,8 @@ pub extern "C" fn antientropy_slots_count(
     slots: &mut Slots,
     numbers: &mut SlotNumbers,
 ) -> u32
-    ensures { CallsOn result (slots_in slots.old) (slots_in slots.new) (λ s t. (t ≡ s) × (result ≡ 0) × (numbers.new ≡ numbers_of s)) }
+    ensures { CallsOn result (slots_in slots.old) (slots_in slots.new) (numbers.new ≡ numbers.old)
+        (λ s t. (t ≡ s) × (result ≡ 0) × (numbers.new ≡ numbers_of s)) }
 {
     let Some(budget) = slots.take(alloc) else {
         return EMPTY;

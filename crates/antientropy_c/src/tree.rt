@@ -1,5 +1,5 @@
 //! Rehashing in the caller's thread.
-ghost use Rattle.std.specs.Prelude.{◌≡◌, ℕ, Result, None};
+ghost use Rattle.std.specs.Prelude.{◌≡◌, ℕ, Result, None, ⊤};
 ghost use Rattle.vclock.specs.Answer.{Answers};
 ghost use Rattle.vclock.specs.declared.refusal.Refusal.{Refusal};
 ghost use Rattle.range_state.specs.Trees.{rehashed, HashesSome, IsSameRange};
@@ -19,7 +19,7 @@ use vclock::Refusal;
 #[unsafe(no_mangle)]
 #[tactic(auto, using(crate::proofs::CallLaws::empty, crate::proofs::CallLaws::held, crate::proofs::CallLaws::returns))]
 pub extern "C" fn antientropy_rehash(alloc: Global, replica: &mut Replica) -> u32
-    ensures { Calls result replica.old replica.new (λ s t. Returns result (λ (r : Result (Unit {0}) Refusal).
+    ensures { Calls result replica.old replica.new ⊤ (λ s t. Returns result (λ (r : Result (Unit {0}) Refusal).
         Answers r None (λ _. t ≡ rehashed s) × IsSameRange s t)) }
 {
     let Some(mut state) = replica.take(alloc) else {
@@ -49,7 +49,7 @@ pub extern "C" fn antientropy_rehash_some(
     most: u64,
     left: &mut u64,
 ) -> u32
-    ensures { Calls result replica.old replica.new (λ s t. Returns result (λ (r : Result ℕ Refusal).
+    ensures { Calls result replica.old replica.new (left.new ≡ left.old) (λ s t. Returns result (λ (r : Result ℕ Refusal).
         HashesSome r most s t × TellsNumber r left.old left.new)) }
 {
     let Some(mut state) = replica.take(alloc) else {

@@ -2,6 +2,7 @@
 ghost use Rattle.std.specs.Prelude.{◌≡◌, slice_get};
 ghost use Rattle.range_journal.specs.Journal.{held};
 ghost use Rattle.antientropy_c.specs.Calls.{Calls};
+ghost use Rattle.antientropy_c.specs.Hands.{HandsNothing};
 ghost use Rattle.antientropy_c.specs.Versions.{ShowsValue, ShowsClock, HandsPairs};
 
 use crate::numbers::{EMPTY, NO_VERSION, SMALL};
@@ -25,7 +26,8 @@ pub extern "C" fn antientropy_value(
     out: &mut [u8],
     need: &mut u64,
 ) -> u32
-    ensures { Calls result replica.old replica.new (λ s t. (t ≡ s)
+    ensures { Calls result replica.old replica.new ((kind.new ≡ kind.old) × HandsNothing (need.old, out.old) (need.new, out.new))
+        (λ s t. (t ≡ s)
         × ShowsValue (slice_get (held s.entries key.now) index) result kind.old kind.new (need.old, out.old) (need.new, out.new)) }
 {
     let Some(state) = replica.take(alloc) else {
@@ -69,7 +71,7 @@ pub extern "C" fn antientropy_clock(
     out: &mut [Pair],
     need: &mut u64,
 ) -> u32
-    ensures { Calls result replica.old replica.new (λ s t. (t ≡ s)
+    ensures { Calls result replica.old replica.new (HandsNothing (need.old, out.old) (need.new, out.new)) (λ s t. (t ≡ s)
         × ShowsClock (slice_get (held s.entries key.now) index) result (need.old, out.old) (need.new, out.new)) }
 {
     let Some(state) = replica.take(alloc) else {
