@@ -1,7 +1,7 @@
 -- The counters that calls leave: each call keeps the entries, and may add some.
-use Rattle.std.proofs.Common.{◌≡◌, ◌≤◌, ◌+◌, ◌⊎◌, ℕ, Bool, true, false, cond, List, [], ◌∷◌, ◌++◌, Option, Some, None, Result, Ok, Err, refl, sym, ap, subst, ◌∙◌, append-nil, append_assoc, inl, inr}
+use Rattle.std.proofs.Common.{◌≡◌, ◌≤◌, ◌+◌, ℕ, Bool, true, false, cond, List, [], ◌∷◌, ◌++◌, Option, Some, None, Result, Ok, Err, refl, sym, ap, subst, ◌∙◌, append-nil, append_assoc, inl, inr}
 use Rattle.std.specs.Prelude.{⊤, slice_get}
-use Rattle.vclock.specs.Outcome.{Outcome, gives, refuses, Does, DoesAtOnce, DoesOrNoMemory, ◌>>◌}
+use Rattle.vclock.specs.Outcome.{Outcome, gives, refuses, Does, DoesAtOnce, DoesOrNoMemory}
 use Rattle.vclock.specs.declared.refusal.Refusal.{Refusal}
 use Rattle.vclock.specs.declared.refusal.Refusal.TheVariants as refusals
 use Rattle.version_set.specs.declared.version.Version.{Version}

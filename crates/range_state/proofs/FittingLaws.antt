@@ -1,20 +1,22 @@
 -- What comes of a put and of a version that another node sent, by the causes before the journal's.
 use Rattle.std.proofs.Common.{◌≡◌, ℕ, ◌+◌, Bool, true, false, cond, List, [], ◌∷◌, Option, Some, None, map, refl, sym, ap, subst, ◌∙◌, inl, inr, arith}
-use Rattle.std.specs.Prelude.{nat_lt}
+use Rattle.std.specs.Prelude.{Result, Ok, Err, nat_lt}
 use Rattle.std.specs.List.{list_any}
 use Rattle.std.proofs.lemmas.Bool.{cases_Bool, cases_lt, lt-ltb, le-ltb}
 use Rattle.vclock.specs.Answer.{first_fault}
 use Rattle.vclock.specs.Clock.{at_most, counter, raised, raise_fault, Pairs, IsClock}
 use Rattle.vclock.proofs.ClockLaws.{at_most-counters, counter-with_counter}
-use Rattle.vclock.specs.Outcome.{Outcome, refuses, ◌>>◌}
+use Rattle.vclock.specs.Outcome.{Outcome, refuses, Does, DoesOrNoMemory, ◌>>◌}
 use Rattle.vclock.specs.declared.refusal.Refusal.{Refusal}
 use Rattle.vclock.specs.declared.refusal.Refusal.TheVariants.{StaleContext}
 use Rattle.version_set.specs.Version.{covered, offer_fault}
 use Rattle.version_set.specs.declared.kind.Kind.{Kind}
 use Rattle.version_set.specs.declared.version.Version.{Version}
+use Rattle.range_journal.specs.declared.journal.Entry.{Entry}
 use Rattle.range_journal.specs.declared.journal.Source.{Source}
+use Rattle.range_journal.specs.declared.journal.Source.TheVariants.{Client}
 use Rattle.range_journal.specs.Journal.{held}
-use Rattle.range_state.specs.State.{State, leaf_in, place_fault, stale_fault, put_version, put_entry, knows, admit, accept}
+use Rattle.range_state.specs.State.{State, leaf_in, place_fault, stale_fault, put_version, put_entry, entry_of, knows, admit, accept}
 use Rattle.range_state.specs.declared.context_test.ContextTest.{ContextTest}
 use Rattle.range_state.specs.declared.context_test.ContextTest.TheVariants.{Fresh, Read}
 use Rattle.range_state.specs.ContextTests.{unread_fault, fails, context_fault, put_by}
@@ -84,6 +86,18 @@ put_by_fault Fresh s seat at key context kind value =
 pub put_refused : (test : ContextTest) (s : State) (seat at : ℕ) (key : List ℕ) (context : Pairs) (kind : Kind) (value : List ℕ) (e : Refusal) → made_fault test s at key context kind value ≡ Some e
     → put_by test s seat at key context kind value ≡ refuses e
 put_refused test s seat at key context kind value e some = rw (put_by_fault, some) refl
+
+-- a call whose memory may run out at any time does what one does whose memory runs out last
+pub or_memory : {T S : Type 0} (r : Result T Refusal) (s t : S) (o p : Outcome T S) → p ≡ o → Does r s t o → DoesOrNoMemory r s t p
+or_memory (Ok x) s t o p is does = is ∙ does
+or_memory (Err e) s t o p is does = (does.0, elim does.1 [ inl memory ↦ inl memory.0 | inr fault ↦ inr (is ∙ fault) ])
+
+-- a put whose version fits is admitted
+pub put_admits : (test : ContextTest) (s t : State) (seat at : ℕ) (key : List ℕ) (context : Pairs) (kind : Kind) (value : List ℕ) (v : Version) (r : Result Entry Refusal) → made_fault test s at key context kind value ≡ None
+    → v ≡ put_version at context kind value → Does r s t (admit s (entry_of s seat Client key v)) → DoesOrNoMemory r s t (put_by test s seat at key context kind value)
+put_admits test s t seat at key context kind value v r none is does =
+    or_memory r s t (admit s (entry_of s seat Client key v)) (put_by test s seat at key context kind value)
+    (put_by_fault test s seat at key context kind value ∙ ap (λ (o : Option Refusal). o >> admit s (put_entry s seat at key context kind value)) none ∙ ap (λ (w : Version). admit s (entry_of s seat Client key w)) (sym is)) does
 
 -- a version that is known is not one too many
 known_fits : (s : State) (key : List ℕ) (v : Version) → knows s key v ≡ true → offer_fault v (held s.entries key) ≡ None

@@ -1,9 +1,8 @@
 -- What a put, an accept and a load give, and what a put that checks its client's reading replaces.
-use Rattle.std.proofs.Common.{◌≡◌, ◌⊎◌, map, ℕ, ◌+◌, ◌<◌, ◌≤◌, Bool, true, false, cond, not, List, [], ◌∷◌, ◌++◌, length, Option, Some, None, Contains, get_or, refl, sym, ap, subst, ◌∙◌, ◌||◌, ◌&&◌, inl, inr, arith}
+use Rattle.std.proofs.Common.{◌≡◌, ◌⊎◌, map, ℕ, ◌+◌, ◌<◌, ◌≤◌, Bool, true, false, cond, not, List, [], ◌∷◌, Option, Some, None, Contains, get_or, refl, sym, ap, subst, ◌∙◌, ◌||◌, ◌&&◌, inl, inr, arith}
 use Rattle.std.specs.Prelude.{All, nat_eq, nat_lt}
 use Rattle.std.specs.List.{list_any, filter, AllByRecursion}
-use Rattle.std.specs.Cmp.Lexicographic.{pointwise}
-use Rattle.std.proofs.lemmas.Bool.{cases_Bool, cases_lt, lt-ltb, le-ltb, or_left, or_right, eqb-true}
+use Rattle.std.proofs.lemmas.Bool.{cases_Bool, cases_lt, lt-ltb, le-ltb, or_right, eqb-true}
 use Rattle.std.proofs.lemmas.List.Elements.{All-from_recursion, recursion_from_All, Contains-get_or, filter_passes}
 use Rattle.std.proofs.lemmas.List.Folds.{list_any-from_Any}
 use Rattle.std.proofs.lemmas.Slice.Eq.{bytes_eq-Decides}

@@ -1,13 +1,13 @@
 -- What becomes of a range when rows of any leaves are loaded.
 use Rattle.std.proofs.Common.{◌≡◌, ◌⊎◌, ℕ, ◌+◌, ◌-◌, ◌<◌, ◌≤◌, Bool, true, false, cond, Option, Some, None, List, [], ◌∷◌, ◌++◌, length, get_or, take, drop, set, refl, sym, ap, subst, ◌∙◌, inl, inr, arith, append_assoc, append-nil}
-use Rattle.std.specs.Prelude.{IsTrue, Result, Ok, Err, nat_eq, nat_le, nat_lt}
+use Rattle.std.specs.Prelude.{IsTrue, Ok, nat_le}
 use Rattle.std.specs.List.{AllByRecursion}
 use Rattle.std.proofs.lemmas.Bool.{eqb-true, and_parts, le-leb, lt-ltb, le-ltb, cases_lt}
 use Rattle.std.proofs.lemmas.Bool.Decides.{nat_tests}
 use Rattle.std.proofs.lemmas.List.{length-append, take_more}
 use Rattle.std.proofs.Math.Seq.{drop-append_seam}
 use Rattle.vclock.specs.Answer.{first_fault}
-use Rattle.vclock.specs.Outcome.{Outcome, gives, refuses, is_given, Does, DoesOrNoMemory, ◌>>◌}
+use Rattle.vclock.specs.Outcome.{Outcome, gives, refuses, is_given, ◌>>◌}
 use Rattle.vclock.specs.declared.format.Format.{Format}
 use Rattle.vclock.specs.declared.format.Format.TheVariants.{One, Two}
 use Rattle.vclock.specs.declared.refusal.Refusal.{Refusal}
@@ -24,7 +24,7 @@ use Rattle.range_journal.specs.Log.{Log}
 use Rattle.range_journal.proofs.JournalLaws.{reserve_err}
 use Rattle.key_ring.specs.Places.{range_at}
 use Rattle.row_bytes.specs.declared.row.Row.{Row}
-use Rattle.row_bytes.specs.Rows.{IsRow, IsVersion, AreRows}
+use Rattle.row_bytes.specs.Rows.{IsRow, IsVersion}
 use Rattle.row_bytes.proofs.LimitLaws.{no_fault_else}
 use Rattle.hash_tree.specs.Leaves.{Bucket}
 use Rattle.tree_nodes.specs.Nodes.{dirtied}
@@ -252,8 +252,3 @@ spread_fault s seat rows e fault = by_causes (astray_fault s.config rows) (crowd
 -- a text of a format that is not newer loads the rows that it spells
 pub format_rows : (s : State) (seat : ℕ) (format : Format) (text : List ℕ) (rows : List Row) → newer_fault s.config.format format ≡ None → rows_in format text ≡ Ok rows → load_format s seat format text ≡ load_rows s seat rows
 format_rows s seat format text rows older found = rw (older, found) refl
-
--- a call whose memory may run out at any time does what one does whose memory runs out last
-pub or_memory : {T S : Type 0} (r : Result T Refusal) (s t : S) (o p : Outcome T S) → p ≡ o → Does r s t o → DoesOrNoMemory r s t p
-or_memory (Ok x) s t o p is does = is ∙ does
-or_memory (Err e) s t o p is does = (does.0, elim does.1 [ inl memory ↦ inl memory.0 | inr fault ↦ inr (is ∙ fault) ])

@@ -1,6 +1,6 @@
 -- What a step keeps, and why it is refused.
 use Rattle.std.proofs.Common.{◌≡◌, ◌≢◌, ℕ, zero, suc, ◌<◌, ◌≤◌, ◌%◌, ◌^◌, Bool, true, false, cond, set, List, [], ◌∷◌, ◌++◌, length, get_or, take, refl, ap, sym, subst, ◌∙◌, arith, inl, inr, Option, Some, None, Decides, length-set, replicate}
-use Rattle.std.specs.Prelude.{nat_eq, map, IsTrue}
+use Rattle.std.specs.Prelude.{nat_eq, IsTrue}
 use Rattle.std.specs.Cmp.Lexicographic.{pointwise}
 use Rattle.std.proofs.lemmas.Bool.{cases_eq, cases_Bool, cases_lt, lt-ltb, or_parts, both_ways, eqb-true}
 use Rattle.std.proofs.lemmas.Bool.Decides.{nat_tests}
@@ -8,7 +8,7 @@ use Rattle.std.proofs.lemmas.Slice.Eq.{bytes_eq-Decides}
 use Rattle.std.proofs.lemmas.List.{take_all, take-append-le, length-append, get_or-set_same, get_or-set_other, get_or_default, get_or-replicate, length-replicate}
 use Rattle.std.specs.List.{AllByRecursion, list_any}
 use Rattle.vclock.specs.Answer.{first_fault}
-use Rattle.vclock.specs.Clock.{at_most, Pairs, Rises, IsClock}
+use Rattle.vclock.specs.Clock.{at_most, Rises, IsClock}
 use Rattle.vclock.specs.Bytes.{key_fault}
 use Rattle.vclock.proofs.ClockLaws.{at_most_itself}
 use Rattle.vclock.specs.declared.format.Format.{Format}

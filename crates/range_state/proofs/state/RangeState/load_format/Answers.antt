@@ -8,7 +8,8 @@ use Rattle.range_state.specs.Loads.{rows_in}
 use Rattle.range_state.specs.Sessions.{offers_of}
 use Rattle.range_state.specs.State.{State}
 use Rattle.range_state.proofs.LoadLaws.{offers_few}
-use Rattle.range_state.proofs.SpreadLaws.{format_rows, spread_fault, or_memory}
+use Rattle.range_state.proofs.FittingLaws.{or_memory}
+use Rattle.range_state.proofs.SpreadLaws.{format_rows, spread_fault}
 use Rattle.range_state.proofs.state.RangeState.load_format.Goals as goal
 
 pub spread-requires-clause-few : goal.spread-requires-clause-few
