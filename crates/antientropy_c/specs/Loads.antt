@@ -1,9 +1,18 @@
 -- Loads from C.
-use Rattle.std.specs.Prelude.{◌≡◌, Result, Ok, Err}
+use Rattle.std.specs.Prelude.{◌≡◌, ℕ, List, Option, Some, None, Result, Ok, Err}
+use Rattle.vclock.specs.Outcome.{Outcome, refuses}
+use Rattle.vclock.specs.declared.format.Format.{Format}
 use Rattle.vclock.specs.declared.refusal.Refusal.{Refusal}
-use Rattle.vclock.specs.declared.refusal.Refusal.TheVariants.{RowBroken}
+use Rattle.vclock.specs.declared.refusal.Refusal.TheVariants.{BadRing, RowBroken}
+use Rattle.range_state.specs.FormatLoads.{load_format}
+use Rattle.range_state.specs.State.{State}
 use Rattle.range_state.specs.declared.state.loading.Loaded.{Loaded}
 use Rattle.antientropy_c.specs.declared.loads.LoadReceipt.{LoadReceipt}
+
+-- the rows of a text are loaded by seat 0, if a format has the number
+abbrev pub load_numbered : State → Option Format → List ℕ → Outcome Loaded State
+load_numbered s None text = refuses BadRing
+load_numbered s (Some format) text = load_format s 0 format text
 
 -- the caller gets the counts of a load, or the offset of a broken field; any other refusal changes nothing
 abbrev pub TellsLoaded : Result Loaded Refusal → LoadReceipt → LoadReceipt → Type 0

@@ -8,7 +8,10 @@ use Rattle.version_set.specs.declared.kind.Kind.{Kind}
 use Rattle.version_set.specs.declared.kind.Kind.TheVariants.{Live, Tombstone}
 use Rattle.range_journal.specs.declared.journal.Entry.{Entry}
 use Rattle.range_journal.specs.declared.journal.Source.TheVariants.{Copy}
-use Rattle.range_state.specs.State.{State, put, accept}
+use Rattle.range_state.specs.ContextTests.{put_by}
+use Rattle.range_state.specs.State.{State, accept}
+use Rattle.range_state.specs.declared.context_test.ContextTest.{ContextTest}
+use Rattle.range_state.specs.declared.context_test.ContextTest.TheVariants.{Fresh, Read}
 use Rattle.range_state.specs.declared.event.Accepted.{Accepted}
 use Rattle.range_state.specs.declared.event.Accepted.TheVariants.{Taken, Known}
 use Rattle.antientropy_c.specs.declared.puts.PutReceipt.{PutReceipt}
@@ -25,13 +28,20 @@ kind_fault kind = if nat_le kind 1 then None else Some BadValue
 abbrev pub kind_numbered : ℕ → Kind
 kind_numbered kind = if kind == 0 then Live else Tombstone
 
--- a put by seat 0
-abbrev pub put_at : State → ℕ → List ℕ → Pairs → ℕ → List ℕ → Outcome Entry State
-put_at s node key context kind value = do
+-- a put by seat 0, by a test of its context
+abbrev pub put_at_by : ContextTest → State → ℕ → List ℕ → Pairs → ℕ → List ℕ → Outcome Entry State
+put_at_by test s node key context kind value = do
   node_fault node
   pairs_fault context
   kind_fault kind
-  put s 0 node key (clock_of context) (kind_numbered kind) value
+  put_by test s 0 node key (clock_of context) (kind_numbered kind) value
+
+-- a put, and one that checks what its client has read
+abbrev pub put_at : State → ℕ → List ℕ → Pairs → ℕ → List ℕ → Outcome Entry State
+put_at s node key context kind value = put_at_by Fresh s node key context kind value
+
+abbrev pub put_read_at : State → ℕ → List ℕ → Pairs → ℕ → List ℕ → Outcome Entry State
+put_read_at s node key context kind value = put_at_by Read s node key context kind value
 
 -- the caller gets the receipt of its entry, unless the put was refused
 abbrev pub TellsPut : ℕ → Result Entry Refusal → PutReceipt → PutReceipt → Type 0

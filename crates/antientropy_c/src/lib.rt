@@ -4,6 +4,7 @@
 
 pub mod asks;
 pub mod clocks;
+pub mod counters;
 pub mod counts;
 pub mod entries;
 pub mod hint_calls;

@@ -2,6 +2,7 @@
 ghost use Rattle.std.specs.Prelude.{◌≡◌, Result};
 ghost use Rattle.std.specs.List.{flat_map};
 ghost use Rattle.vclock.specs.Answer.{Answers};
+ghost use Rattle.vclock.specs.Format.{format_of};
 ghost use Rattle.vclock.specs.Outcome.{DoesOrNoMemory};
 ghost use Rattle.vclock.specs.declared.refusal.Refusal.{Refusal};
 ghost use Rattle.row_bytes.specs.Rows.{row_text};
@@ -12,7 +13,7 @@ ghost use Rattle.range_state.specs.Loads.{load_text};
 ghost use Rattle.range_state.specs.declared.state.loading.Loaded.{Loaded};
 ghost use Rattle.antientropy_c.specs.Calls.{Calls};
 ghost use Rattle.antientropy_c.specs.Hands.{HandsNothing, HandsOutRight};
-ghost use Rattle.antientropy_c.specs.Loads.{TellsLoaded};
+ghost use Rattle.antientropy_c.specs.Loads.{load_numbered, TellsLoaded};
 ghost use Rattle.antientropy_c.specs.Numbers.{Returns};
 ghost use Rattle.antientropy_c.specs.Offers.{ShowsRows};
 
@@ -22,10 +23,10 @@ use crate::publication::Publication;
 use crate::replica::Replica;
 use hash_tree::Text;
 use key_ring::leaf_count;
-use range_state::Loaded;
+use range_state::{Loaded, RangeState};
 use snapshot::Snapshot;
 use std::alloc::Global;
-use vclock::Refusal;
+use vclock::{Format, Refusal};
 
 /// The result of a load.
 #[repr(C)]
@@ -98,6 +99,49 @@ pub extern "C" fn antientropy_load(
     replica.hold(state);
     tell_loaded(&told, loaded);
     code(&told)
+}
+
+/// Loads rows of a format, of any leaves, from their texts, as
+/// [`RangeState::load_format`](range_state::RangeState::load_format) does at seat 0.
+///
+/// Refused, in order: EMPTY, BadRing (the format is neither 1 nor 2); then as `load_format` is: OtherFormat, RowBroken,
+/// OtherRange, Crowded, JournalFull, NoMemory. On error the replica is unchanged. After RowBroken the offset is stored;
+/// after any other refusal the result is unchanged. NoMemory may replace any cause but EMPTY.
+#[unsafe(no_mangle)]
+#[tactic(auto, using(crate::proofs::CallLaws::empty, crate::proofs::CallLaws::held, crate::proofs::CallLaws::returns))]
+pub extern "C" fn antientropy_load_format(
+    alloc: Global,
+    replica: &mut Replica,
+    format: u64,
+    rows: &[u8],
+    loaded: &mut LoadReceipt,
+) -> u32
+    ensures { Calls result replica.old replica.new (loaded.new ≡ loaded.old)
+        (λ s t. Returns result (λ (r : Result Loaded Refusal).
+        DoesOrNoMemory r s t (load_numbered s (format_of format) rows.now) × TellsLoaded r loaded.old loaded.new)) }
+{
+    let Some(mut state) = replica.take(alloc) else {
+        return EMPTY;
+    };
+    let told = load_format(alloc, &mut state, format, rows);
+    replica.hold(state);
+    tell_loaded(&told, loaded);
+    code(&told)
+}
+
+/// Loads rows of the format of a number.
+fn load_format(
+    alloc: Global,
+    state: &mut RangeState,
+    format: u64,
+    rows: &[u8],
+) -> Result<Loaded, Refusal>
+    ensures { DoesOrNoMemory result state.old state.new (load_numbered state.old (format_of format) rows.now) }
+{
+    let Some(format) = Format::of_number(format) else {
+        return Err(Refusal::BadRing);
+    };
+    state.load_format(alloc, 0, format, rows)
 }
 
 /// Stores the counts of a load, or the offset of a broken field.

@@ -8,13 +8,13 @@ ghost use Rattle.antientropy_c.specs.Numbers.{Returns};
 ghost use Rattle.antientropy_c.specs.Calls.{Calls};
 ghost use Rattle.antientropy_c.specs.Pairs.{clock_pairs};
 ghost use Rattle.range_state.specs.declared.event.Accepted.{Accepted};
-ghost use Rattle.antientropy_c.specs.Puts.{node_fault, kind_fault, kind_numbered, put_at, accept_at, TellsPut, TellsAccepted};
+ghost use Rattle.antientropy_c.specs.Puts.{node_fault, kind_fault, kind_numbered, put_at_by, put_at, put_read_at, accept_at, TellsPut, TellsAccepted};
 
 use crate::numbers::{EMPTY, code};
 use crate::pair::{Pair, clock_of};
 use crate::replica::Replica;
 use range_journal::Source;
-use range_state::{Accepted, RangeState, Receipt};
+use range_state::{Accepted, ContextTest, RangeState, Receipt};
 use std::alloc::Global;
 use vclock::limits::NODE_MAX;
 use vclock::{Bytes, Refusal};
@@ -55,30 +55,69 @@ pub extern "C" fn antientropy_put(
     let Some(mut state) = replica.take(alloc) else {
         return EMPTY;
     };
-    let told = put(alloc, &mut state, node, key, context, kind, value);
+    let test = ContextTest::Fresh;
+    let told = put(alloc, &mut state, test, node, key, context, kind, value);
     replica.hold(state);
     tell_put(&told, node, receipt);
     code(&told)
 }
 
-/// Puts a value into a replica, as [`antientropy_put`] does.
+/// Puts a value, or a tombstone, for a key at a node, as [`antientropy_put`] does, if its client has read all that the
+/// node put: so it replaces only versions that the context has seen.
+///
+/// Refused, in order: EMPTY; BadClock (the node is 0 or over 65,535, or the context isn't a clock), ClockFull (the
+/// context has over 32 pairs), BadValue (the kind is neither 0 nor 1); then as [`RangeState::put_read`] is. On error the
+/// replica and the receipt are unchanged. NoMemory may replace any cause but EMPTY.
+#[unsafe(no_mangle)]
+#[tactic(auto, using(crate::proofs::CallLaws::empty, crate::proofs::CallLaws::held, crate::proofs::CallLaws::returns))]
+pub extern "C" fn antientropy_put_read(
+    alloc: Global,
+    replica: &mut Replica,
+    node: u64,
+    key: &[u8],
+    context: &[Pair],
+    kind: u8,
+    value: &[u8],
+    receipt: &mut PutReceipt,
+) -> u32
+    ensures { Calls result replica.old replica.new (receipt.new ≡ receipt.old)
+        (λ s t. Returns result (λ (r : Result Entry Refusal).
+        DoesOrNoMemory r s t (put_read_at s node key.now (clock_pairs context.now) kind value.now)
+        × TellsPut node r receipt.old receipt.new)) }
+{
+    let Some(mut state) = replica.take(alloc) else {
+        return EMPTY;
+    };
+    let test = ContextTest::Read;
+    let told = put(alloc, &mut state, test, node, key, context, kind, value);
+    replica.hold(state);
+    tell_put(&told, node, receipt);
+    code(&told)
+}
+
+/// Puts a value into a replica, by a test of its context.
 fn put(
     alloc: Global,
     state: &mut RangeState,
+    test: ContextTest,
     node: u64,
     key: &[u8],
     context: &[Pair],
     kind: u8,
     value: &[u8],
 ) -> Result<Receipt, Refusal>
-    ensures does { DoesOrNoMemory result state.old state.new (put_at state.old node key.now (clock_pairs context.now) kind value.now) }
+    ensures does { DoesOrNoMemory result state.old state.new (put_at_by test state.old node key.now
+        (clock_pairs context.now) kind value.now) }
     ensures node { OnOk result (node ≤ 65535) }
 {
     let node = node_of(node)?;
     let context = clock_of(alloc, context)?;
     let kind = kind_of(kind)?;
     let value = Bytes::copy_of(alloc, value)?;
-    state.put(alloc, 0, node, key, &context, kind, value)
+    match test {
+        ContextTest::Fresh => state.put(alloc, 0, node, key, &context, kind, value),
+        ContextTest::Read => state.put_read(alloc, 0, node, key, &context, kind, value),
+    }
 }
 
 /// Returns the node of a number. Refused: BadClock (it is 0 or over 65,535).

@@ -123,7 +123,7 @@ renewed_receipts s seat limit p is =
     (All-weaker IsCovered (λ (e : Entry). covered e.version (held (renewed_by s seat limit).entries e.key) ≡ true) (λ e h. renewed_covers s seat limit e.version e.key (covered-held e.version s.entries e.key ∙ h)) (of_seat p.seat s.entries) each)
 
 -- a reading of all entries
-whole : (entries : List Entry) (key : List ℕ) → Reading
+abbrev whole : List Entry → List ℕ → Reading
 whole entries key = record { front = length entries; key = key; versions = held entries key }
 
 pub renewed_readings : (s : State) (seat limit : ℕ) (p : PassView) → IsSettled s.entries p

@@ -1,0 +1,52 @@
+//! The greatest counters of nodes.
+ghost use Rattle.std.specs.Prelude.{◌≡◌, ℕ, Result, take};
+ghost use Rattle.vclock.specs.Answer.{AnswersAtOnce};
+ghost use Rattle.vclock.specs.declared.refusal.Refusal.{Refusal};
+ghost use Rattle.range_journal.specs.Counters.{top_counter};
+ghost use Rattle.antientropy_c.specs.Calls.{Calls};
+ghost use Rattle.antientropy_c.specs.Numbers.{Returns};
+ghost use Rattle.antientropy_c.specs.Puts.{node_fault};
+ghost use Rattle.antientropy_c.specs.Sessions.{TellsNumber};
+
+use crate::numbers::{EMPTY, code};
+use crate::puts::node_of;
+use crate::replica::Replica;
+use crate::sessions::tell_number;
+use range_state::RangeState;
+use std::alloc::Global;
+use vclock::Refusal;
+
+/// Stores the greatest counter of a node in the clocks of the versions that the first `entries` entries of the journal
+/// accepted for a key: of all entries if there are fewer, and 0 if no clock has the node. Reads each of these entries.
+/// Refused, in order: EMPTY, BadClock (the node is 0 or over 65,535).
+#[unsafe(no_mangle)]
+#[tactic(auto, using(crate::proofs::CallLaws::empty, crate::proofs::CallLaws::held, crate::proofs::CallLaws::returns))]
+pub extern "C" fn antientropy_top_counter(
+    alloc: Global,
+    replica: &mut Replica,
+    node: u64,
+    key: &[u8],
+    entries: u64,
+    counter: &mut u64,
+) -> u32
+    ensures { Calls result replica.old replica.new (counter.new ≡ counter.old)
+        (λ s t. (t ≡ s) × Returns result (λ (r : Result ℕ Refusal).
+        AnswersAtOnce r (node_fault node) (λ n. n ≡ top_counter (take entries s.entries) key.now node)
+        × TellsNumber r counter.old counter.new)) }
+{
+    let Some(state) = replica.take(alloc) else {
+        return EMPTY;
+    };
+    let told = top_counter(&state, node, key, entries);
+    replica.hold(state);
+    tell_number(&told, counter);
+    code(&told)
+}
+
+/// Returns the greatest counter of a node for a key, over the first entries. Refused: BadClock.
+fn top_counter(state: &RangeState, node: u64, key: &[u8], entries: u64) -> Result<u64, Refusal>
+    ensures { AnswersAtOnce result (node_fault node) (λ n. n ≡ top_counter (take entries state.now.entries) key.now node) }
+{
+    let node = node_of(node)?;
+    Ok(state.journal().top_counter(node, key, entries))
+}
