@@ -3,12 +3,14 @@
 #![tactic(auto)]
 
 pub mod asks;
+pub mod carrier;
 pub mod clocks;
 pub mod counts;
 pub mod entries;
 pub mod hint_calls;
 pub mod hints;
 pub mod keys;
+pub mod laws;
 pub mod library;
 pub mod lifecycle;
 pub mod loads;
