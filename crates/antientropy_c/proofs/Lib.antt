@@ -1,5 +1,7 @@
 pub mod CallLaws
 pub mod MakeLaws
+pub mod HintCallLaws
+pub mod HintNumberLaws
 pub mod HintsWord
 pub mod PlaceWord
 pub mod PublicationWord

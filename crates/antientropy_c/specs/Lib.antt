@@ -19,6 +19,8 @@ pub mod Library
 pub mod OfferParts
 pub mod Readings
 pub mod Spots
+pub mod Carried
+pub mod HintSteps
 pub mod Handoff
 pub mod HintHandles
 pub mod SlotCalls

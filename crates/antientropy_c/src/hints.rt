@@ -1,4 +1,4 @@
-//! The handle of hints.
+//! The handle of a store of hints.
 ghost use Rattle.std.specs.Prelude.{◌≡◌, true, false, MatchOption};
 ghost use Rattle.std.specs.Prelude.{List};
 ghost use Rattle.hint_store.specs.declared.hint.Kept.{Kept};
@@ -11,7 +11,7 @@ use std::marker::Model;
 use std::mem::replace;
 use std::ptr::null_mut;
 
-/// The hints of a carrier on the heap, or nothing: then all its bytes are zero, and the ghost hints are arbitrary.
+/// A store of hints on the heap, or nothing: then all its bytes are zero, and the ghost hints are arbitrary.
 #[repr(C)]
 #[derive(Drop)]
 pub struct Hints {

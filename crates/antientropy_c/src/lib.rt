@@ -3,6 +3,7 @@
 #![tactic(auto)]
 
 pub mod asks;
+pub mod carrier;
 pub mod clocks;
 pub mod counters;
 pub mod counts;
@@ -10,6 +11,7 @@ pub mod entries;
 pub mod hint_calls;
 pub mod hints;
 pub mod keys;
+pub mod laws;
 pub mod library;
 pub mod lifecycle;
 pub mod loads;
