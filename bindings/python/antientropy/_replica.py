@@ -71,7 +71,7 @@ class Replica(Handle):
     # ---- versions
 
     def put(self, node: int, key: bytes, value: Optional[bytes], context: ClockLike = ()) -> Receipt:
-        """Puts a value, or a tombstone for None, at a node, after a read: the context is the clock of all that was read.
+        """Puts a value, or a tombstone for None, at a node, after a read, whose clocks are merged in the context.
 
         The new version replaces every held version whose clock is at most its clock. The client has read each of these:
         StaleContext means that a held version has a greater counter of the node than the context, so another client has
