@@ -565,8 +565,8 @@ uint32_t antientropy_hint_clock(struct antientropy_hints *hints, uint64_t id, st
  * its disk. Refused, in order: EMPTY, UNKNOWN_HINT (no pending hint has this number). */
 uint32_t antientropy_hint_confirm(struct antientropy_hints *hints, uint64_t id, bool known);
 
-/* Drops the delivered hints. The pending ones get new numbers, above every number that was used, in order: log these.
- * Refused, in order: EMPTY, HINTS_FULL (a number would be over 2^64 - 1), NO_MEMORY. */
+/* Drops the delivered hints. The pending ones get new numbers: those after the last one that was used, in order. A host
+ * that logs hints logs these. Refused, in order: EMPTY, HINTS_FULL (a number would be over 2^64 - 1), NO_MEMORY. */
 uint32_t antientropy_hints_renew(struct antientropy_hints *hints);
 
 /* Returns the counts of hints. Refused: EMPTY. */
