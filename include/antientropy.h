@@ -33,9 +33,9 @@
  *   its snapshots.
  * - No call from a signal handler, or from the forked child of a process with threads.
  * - malloc, realloc and free are of one allocator, which aligns blocks to 16 bytes.
- * - A put that follows a read is antientropy_put_read, which replaces no version of its node that the client never
- *   read. Before antientropy_put, which doesn't check it, no held version of the key has a greater counter of the node
- *   than the context. See docs/EMBEDDING_C.md, "A replica".
+ * - A put that follows a read is antientropy_put_read, which replaces only versions that its client has read. Before
+ *   antientropy_put, no held version of the key has a greater counter of the node than the context. Otherwise the put
+ *   may replace a version that its client never read. See docs/EMBEDDING_C.md, "A replica".
  * - Counters don't go back: a replica that lost entries returns under a node number that was never used (versions that
  *   no partner holds are lost then), or with every version that it ever acknowledged, showed to a reader or handed to a
  *   partner (antientropy_accept takes them in). Otherwise a put can reuse a clock that another replica holds, and is
