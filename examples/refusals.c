@@ -426,7 +426,6 @@ static void hints(void)
         OK(antientropy_hint_keep(&full, 2, KEY, 4, many, 1, 0, VALUE, 4, &id));
     SEE(hint_keep, HINTS_FULL, antientropy_hint_keep(&full, 2, KEY, 4, many, 1, 0, VALUE, 4, &id));
     SEE(hint_next, EMPTY, antientropy_hint_next(&empty, 2, 0, &id));
-    SEE(hint_next, BAD_CLOCK, antientropy_hint_next(&full, ANTIENTROPY_NODE_MAX + 1, 0, &id));
     SEE(hint_next, NO_VERSION, antientropy_hint_next(&full, 3, 0, &id));
     SEE(hint_owner, EMPTY, antientropy_hint_owner(&empty, 1, &owner));
     SEE(hint_owner, NO_VERSION, antientropy_hint_owner(&full, 0, &owner));

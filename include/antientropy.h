@@ -534,14 +534,14 @@ void antientropy_hints_free(struct antientropy_hints *hints);
  * hint is of no range: the owner checks the key and the format when it accepts the version.
  * Refused, in order: EMPTY; BAD_CLOCK (the owner is 0 or over 65,535, or the pairs aren't a clock), CLOCK_FULL,
  * BAD_VALUE (unknown kind); BAD_KEY, BAD_VALUE (too long for format 2, or a tombstone that has a value), HINTS_FULL
- * (10,000 are pending, or the number would be over 2^64 - 1), NO_MEMORY, which may be returned instead of any but
- * EMPTY. */
+ * (10,000 are pending, 2^32 - 1 were kept since the last renewal, or the number would be over 2^64 - 1), NO_MEMORY,
+ * which may be returned instead of any but EMPTY. */
 uint32_t antientropy_hint_keep(struct antientropy_hints *hints, uint64_t owner, const uint8_t *key, size_t key_len,
                                const struct antientropy_pair *clock, size_t clock_len, uint8_t kind,
                                const uint8_t *value, size_t value_len, uint64_t *id);
 
 /* Returns the pending hint of an owner with the least number over `after`: 0 gives the first.
- * Refused, in order: EMPTY, BAD_CLOCK (the owner is 0 or over 65,535), NO_VERSION (there is none). */
+ * Refused, in order: EMPTY, NO_VERSION (there is none). */
 uint32_t antientropy_hint_next(struct antientropy_hints *hints, uint64_t owner, uint64_t after, uint64_t *id);
 
 /* Returns the owner of a hint, pending or delivered. Refused, in order: EMPTY, NO_VERSION (no such hint). */

@@ -1408,8 +1408,7 @@ public:
         return detail::result(number, id);
     }
 
-    /// Returns the number of the owner's first pending hint over `after`, or none. Refused: BadClock (the owner is 0 or
-    /// over 65,535).
+    /// Returns the number of the owner's first pending hint over `after`, or none.
     Result<std::optional<std::uint64_t>> next(std::uint64_t owner, std::uint64_t after = 0) {
         return detail::hint_after(at(), owner, after);
     }

@@ -73,8 +73,7 @@ func (h *Hints) Keep(owner uint16, key []byte, version Version) (number uint64, 
 	return uint64(id), err
 }
 
-// NextPending returns the owner's pending hint with the least number over `after`: 0 gives the first. Refused as
-// [ErrBadClock] if the owner is 0.
+// NextPending returns the owner's pending hint with the least number over `after`: 0 gives the first.
 func (h *Hints) NextPending(owner uint16, after uint64) (hint Hint, found bool, err error) {
 	h.lock.Lock()
 	defer h.lock.Unlock()

@@ -100,8 +100,6 @@ func TestNumbersOfHints(t *testing.T) {
 	hint, found, err := hints.Hint(payment)
 	equal(t, []any{string(hint.Key), found, err}, []any{"payment", true, nil})
 	equal(t, must(hints.Count()), antientropy.HintCounts{Pending: 2})
-	_, _, err = hints.NextPending(0, 0)
-	refused(t, err, antientropy.ErrBadClock)
 
 	restored := must(antientropy.RestoreHints(math.MaxUint64))
 	equal(t, must(restored.Keep(2, []byte("cart"), live(1, 1, ""))), uint64(math.MaxUint64))

@@ -42,9 +42,7 @@ close(Hints) ->
 keep(Hints, Owner, Key, Version) ->
     antientropy_nif:hint_keep(Hints, Owner, Key, Version).
 
-%% @doc Returns the number of the owner's first pending hint over `After': 0 gives the first.
-%%
-%% Refused: `bad_clock' (the owner is 0 or over 65,535), `no_version' (there is none).
+%% @doc Returns the number of the owner's first pending hint over `After': 0 gives the first. Refused: `no_version'.
 -spec next(hints(), Owner :: non_neg_integer(), After :: non_neg_integer()) ->
     {ok, Number :: pos_integer()} | antientropy:refused().
 next(Hints, Owner, After) ->

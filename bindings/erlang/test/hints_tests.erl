@@ -111,7 +111,7 @@ refusals(Hints) ->
             {bad_clock, keep, [0, <<"k">>, live(#{1 => 1}, <<>>)]},
             {bad_clock, keep, [65_537, <<"k">>, live(#{1 => 1}, <<>>)]},
             {bad_clock, keep, [2, <<"k">>, live(#{0 => 1}, <<>>)]},
-            {bad_clock, next, [65_537, 0]},
+            {no_version, next, [65_538, 0]},
             {clock_full, keep, [2, <<"k">>, live(Long, <<>>)]},
             {bad_key, keep, [2, <<>>, live(#{1 => 1}, <<>>)]},
             {bad_value, keep, [2, <<"k">>, live(#{1 => 1}, binary:copy(<<0>>, 65_537))]},

@@ -45,10 +45,7 @@ class Hints(Handle):
         return self._get_words(1, "hint_keep", *args)[0]
 
     def next(self, owner: int, after: int = 0) -> Optional[int]:
-        """Returns the number of the owner's first pending hint over `after`, or None if there is none.
-
-        Raises BadClock if the owner is 0 or over 65,535.
-        """
+        """Returns the number of the owner's first pending hint over `after`, or None if there is none."""
         try:
             return self._get_words(1, "hint_next", fits(owner, 64), fits(after, 64))[0]
         except class_of("NoVersion"):

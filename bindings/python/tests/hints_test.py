@@ -31,7 +31,7 @@ class HintsTest(unittest.TestCase):
         self.assertEqual(self.hints.hint(2), Hint(2, 2, b"list", {1: 2, 3: 1}, None))
         self.assertEqual(self.hints.hint(2).version, Version({1: 2, 3: 1}, None))
         self.assertEqual([self.hints.next(2), self.hints.next(2, 1), self.hints.next(2, 2)], [1, 2, None])
-        self.assertIsNone(self.hints.next(9))
+        self.assertEqual([self.hints.next(owner) for owner in (0, 9, 65538)], [None] * 3)
         self.assertEqual([hint.number for hint in self.hints.pending(3)], [3])
 
     def test_deliver_and_renew(self):
@@ -71,7 +71,6 @@ class HintsTest(unittest.TestCase):
     def test_refusals(self):
         for owner in (0, 65536, 65537, 1 << 32):
             self.refused("BadClock", self.hints.keep, owner, b"k", {1: 1}, b"")
-        self.refused("BadClock", self.hints.next, 65537)
         self.refused("BadClock", self.hints.keep, 2, b"k", {0: 1}, b"")
         self.refused("ClockFull", self.hints.keep, 2, b"k", {node: 1 for node in range(1, 34)}, b"")
         self.refused("BadKey", self.hints.keep, 2, b"", {1: 1}, b"")

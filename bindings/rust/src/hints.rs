@@ -78,8 +78,7 @@ impl Hints {
         })
     }
 
-    /// Returns the owner's pending hint with the least number over `after`: 0 gives the first. Refused as `BadClock` if
-    /// the owner is 0.
+    /// Returns the owner's pending hint with the least number over `after`: 0 gives the first.
     pub fn next_pending(&mut self, owner: u16, after: u64) -> Result<Option<Hint>, Refusal> {
         let number: Option<u64> = found(written(|id| {
             // SAFETY: as in `sys`.

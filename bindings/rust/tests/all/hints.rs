@@ -67,7 +67,6 @@ fn refused() {
     assert_eq!(hints.keep(0, b"cart", &version), Err(Refusal::BadClock));
     assert_eq!(hints.keep(2, b"", &version), Err(Refusal::BadKey));
     assert_eq!(hints.keep(2, b"cart", &live([(1, 1)], &[0; 65_537])), Err(Refusal::BadValue));
-    assert_eq!(hints.next_pending(0, 0), Err(Refusal::BadClock));
     assert_eq!(hints.confirm(1, true), Err(Refusal::UnknownHint));
     assert_eq!(hints.confirm((1 << 32) + 1, true), Err(Refusal::UnknownHint));
     assert_eq!(hints.count(), Ok(HintCounts { pending: 0, delivered: 0 }));
