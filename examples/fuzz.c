@@ -133,15 +133,17 @@ static void bring_answer(const uint8_t *bytes, size_t len)
         fail("take", got);
 }
 
-/* Passes rows to an empty replica. They may be good ones: then it is replaced by a new one. */
-static void bring_rows(const uint8_t *bytes, size_t len)
+/* Loads rows of a format into an empty replica, by the call for one leaf if the format is 0. They may be good ones:
+ * then the replica is replaced by a new one. */
+static void load(uint64_t format, const uint8_t *bytes, size_t len)
 {
     static struct antientropy_replica empty;
     struct antientropy_loaded loaded = {0};
     struct antientropy_counts counts;
     if (!empty.held)
         must("new", antientropy_new(&empty, 2, 0, 0, 1000));
-    uint32_t got = antientropy_load(&empty, bytes, len, &loaded);
+    uint32_t got = format == 0 ? antientropy_load(&empty, bytes, len, &loaded)
+                               : antientropy_load_format(&empty, format, bytes, len, &loaded);
     must("count", antientropy_count(&empty, &counts));
     if (got != ANTIENTROPY_OK && got != ANTIENTROPY_ROW_BROKEN && got != ANTIENTROPY_OTHER_RANGE)
         fail("load", got);
@@ -149,6 +151,13 @@ static void bring_rows(const uint8_t *bytes, size_t len)
         fail("what was loaded", got);
     if (counts.entries > 0 || bytes == rows)
         antientropy_free(&empty);
+}
+
+/* Passes rows to the calls that load them, in both formats. */
+static void bring_rows(const uint8_t *bytes, size_t len)
+{
+    for (uint64_t format = 0; format <= 2; format++)
+        load(format, bytes, len);
 }
 
 /* Passes bytes to each call that reads a message. */
