@@ -38,17 +38,17 @@ static void make_room(uint64_t len)
     }
 }
 
-static void put(struct antientropy *replica, uint16_t node, const char *key, const char *value,
+static void put(struct antientropy_replica *replica, uint64_t node, const char *key, const char *value,
                 const struct antientropy_pair *context, size_t context_len)
 {
     struct antientropy_receipt receipt;
-    uint32_t got = antientropy_put(replica, node, (const uint8_t *)key, strlen(key), context, context_len,
-                                   ANTIENTROPY_LIVE, (const uint8_t *)value, strlen(value), &receipt);
+    uint32_t got = antientropy_put_read(replica, node, (const uint8_t *)key, strlen(key), context, context_len,
+                                        ANTIENTROPY_LIVE, (const uint8_t *)value, strlen(value), &receipt);
     want("put", got, ANTIENTROPY_OK);
 }
 
 /* The versions of a key. */
-static unsigned long long versions(struct antientropy *replica, const char *key)
+static unsigned long long versions(struct antientropy_replica *replica, const char *key)
 {
     uint64_t count;
     want("versions", antientropy_versions(replica, (const uint8_t *)key, strlen(key), &count), ANTIENTROPY_OK);
@@ -56,7 +56,7 @@ static unsigned long long versions(struct antientropy *replica, const char *key)
 }
 
 /* The message of the offer of a replica's rows now, under a number. */
-static uint64_t offer_now(struct antientropy *replica, struct antientropy_snapshot *snapshot, uint32_t number)
+static uint64_t offer_now(struct antientropy_replica *replica, struct antientropy_snapshot *snapshot, uint32_t number)
 {
     uint64_t len;
     want("rehash", antientropy_rehash(replica), ANTIENTROPY_OK);
@@ -66,7 +66,7 @@ static uint64_t offer_now(struct antientropy *replica, struct antientropy_snapsh
 }
 
 /* Returns the root of a replica's rows now. */
-static void root_of(struct antientropy *replica, uint8_t *root)
+static void root_of(struct antientropy_replica *replica, uint8_t *root)
 {
     struct antientropy_snapshot snapshot = {0};
     uint64_t len;
@@ -77,7 +77,7 @@ static void root_of(struct antientropy *replica, uint8_t *root)
 }
 
 /* Returns true if two replicas have equal roots. */
-static bool equal_roots(struct antientropy *a, struct antientropy *b)
+static bool equal_roots(struct antientropy_replica *a, struct antientropy_replica *b)
 {
     uint8_t first[ANTIENTROPY_ROOT_LEN], second[ANTIENTROPY_ROOT_LEN];
     root_of(a, first);
@@ -107,7 +107,7 @@ static uint64_t serve(struct antientropy_snapshot *offered, uint64_t ask_len)
 
 /* Syncs a replica from a partner, and prints the numbers of asks and of new versions. The second answer is forged, and
  * is refused. A leaf with a crowded key is left, and the nodes after it are asked. */
-static void sync(struct antientropy *replica, struct antientropy *partner)
+static void sync(struct antientropy_replica *replica, struct antientropy_replica *partner)
 {
     struct antientropy_snapshot offered = {0};
     struct antientropy_offer_parts parts;
@@ -146,7 +146,7 @@ static void sync(struct antientropy *replica, struct antientropy *partner)
 }
 
 /* Prints the entries of a replica's journal from a number on: what calls since then have brought. */
-static void follow(struct antientropy *replica, uint64_t from)
+static void follow(struct antientropy_replica *replica, uint64_t from)
 {
     static const char *const sources[] = {"a put", "a copy", "a hint", "a partner"};
     struct antientropy_counts counts;
@@ -163,11 +163,11 @@ static void follow(struct antientropy *replica, uint64_t from)
 }
 
 /* Prints the keys of a replica, leaf by leaf. */
-static void list(struct antientropy *replica)
+static void list(struct antientropy_replica *replica)
 {
     uint8_t key[ANTIENTROPY_KEY_MAX];
     printf("keys:");
-    for (uint16_t leaf = 0; leaf < ANTIENTROPY_LEAVES_2; leaf++) {
+    for (uint64_t leaf = 0; leaf < ANTIENTROPY_LEAVES_2; leaf++) {
         uint64_t len = 0;
         while (antientropy_key_after(replica, leaf, key, len, text, sizeof text, &len) == ANTIENTROPY_OK) {
             memcpy(key, text, len);
@@ -178,7 +178,7 @@ static void list(struct antientropy *replica)
 }
 
 /* Reads the versions of a key, and puts one value in place of all of them. */
-static void merge(struct antientropy *replica, uint16_t node, const char *key, const char *value)
+static void merge(struct antientropy_replica *replica, uint64_t node, const char *key, const char *value)
 {
     struct antientropy_pair context[ANTIENTROPY_CLOCK_MAX], clock[ANTIENTROPY_CLOCK_MAX], merged[ANTIENTROPY_CLOCK_MAX];
     struct antientropy_reading reading = {.versions = 1};
@@ -200,7 +200,7 @@ static void merge(struct antientropy *replica, uint16_t node, const char *key, c
 }
 
 /* Brings a replica a hint that was kept for it while it was away, twice, and compares its clock with another one. */
-static void deliver(struct antientropy *replica)
+static void deliver(struct antientropy_replica *replica)
 {
     const struct antientropy_pair clock[] = {{3, 1}}, other[] = {{1, 1}};
     uint64_t taken, order;
@@ -214,11 +214,11 @@ static void deliver(struct antientropy *replica)
 }
 
 /* Makes a new replica that begins with the versions that an old one holds, in place of that one. */
-static void renew(struct antientropy *replica)
+static void renew(struct antientropy_replica *replica)
 {
-    struct antientropy old = *replica;
+    struct antientropy_replica old = *replica;
     struct antientropy_counts counts;
-    *replica = (struct antientropy){0};
+    *replica = (struct antientropy_replica){0};
     want("renew", antientropy_renew(&old, replica, 0), ANTIENTROPY_BAD_RING);
     want("renew", antientropy_renew(&old, replica, 1), ANTIENTROPY_JOURNAL_FULL);
     want("renew", antientropy_renew(&old, replica, 1000), ANTIENTROPY_OK);
@@ -233,7 +233,7 @@ static void renew(struct antientropy *replica)
 
 int main(void)
 {
-    struct antientropy a = {0}, b = {0};
+    struct antientropy_replica a = {0}, b = {0};
     struct antientropy_pair seen[] = {{1, 1}};
     uint64_t need;
     make_room(64);

@@ -43,7 +43,7 @@ static size_t key_of(unsigned n, uint8_t *key)
     return (size_t)snprintf((char *)key, 16, "key %u", n);
 }
 
-static void fill(struct antientropy *replica, uint16_t node, unsigned step)
+static void fill(struct antientropy_replica *replica, uint64_t node, unsigned step)
 {
     struct antientropy_pair none[1] = {{0, 0}};
     struct antientropy_receipt receipt;
@@ -53,7 +53,7 @@ static void fill(struct antientropy *replica, uint16_t node, unsigned step)
     must("rehash", antientropy_rehash(replica));
 }
 
-static void remember(struct antientropy *replica, struct antientropy_counts *counts)
+static void remember(struct antientropy_replica *replica, struct antientropy_counts *counts)
 {
     uint8_t key[16];
     must("count", antientropy_count(replica, counts));
@@ -62,7 +62,7 @@ static void remember(struct antientropy *replica, struct antientropy_counts *cou
 }
 
 /* Ends the program unless the replica is unchanged. */
-static void compare(struct antientropy *replica, const struct antientropy_counts *counts)
+static void compare(struct antientropy_replica *replica, const struct antientropy_counts *counts)
 {
     struct antientropy_counts now;
     uint8_t key[16];
@@ -78,7 +78,7 @@ static void compare(struct antientropy *replica, const struct antientropy_counts
 }
 
 /* A replica with 64 open sessions, the maximum; a partner's snapshot; a message of each kind; the rows of a leaf. */
-static struct antientropy replica, partner;
+static struct antientropy_replica replica, partner;
 static struct antientropy_snapshot offered;
 static uint8_t offer[64], ask[64], answer[ROOM], rows[ROOM];
 static uint64_t offer_len, ask_len, answer_len, rows_len;
@@ -96,7 +96,7 @@ static void prepare(void)
         must("open", antientropy_open(&replica, 2, offer, offer_len, &session));
     must("ask", antientropy_ask(&replica, session, NUMBER, ask, sizeof ask, &ask_len));
     must("serve", antientropy_serve(&offered, NUMBER, ask, ask_len, answer, sizeof answer, &answer_len));
-    for (uint16_t leaf = 0; rows_len < 60; leaf++)
+    for (uint64_t leaf = 0; rows_len < 60; leaf++)
         must("rows", antientropy_rows(&offered, leaf, rows, sizeof rows, &rows_len));
 }
 
@@ -133,15 +133,17 @@ static void bring_answer(const uint8_t *bytes, size_t len)
         fail("take", got);
 }
 
-/* Passes rows to an empty replica. They may be good ones: then it is replaced by a new one. */
-static void bring_rows(const uint8_t *bytes, size_t len)
+/* Loads rows of a format into an empty replica, by the call for one leaf if the format is 0. They may be good ones:
+ * then the replica is replaced by a new one. */
+static void load(uint64_t format, const uint8_t *bytes, size_t len)
 {
-    static struct antientropy empty;
+    static struct antientropy_replica empty;
     struct antientropy_loaded loaded = {0};
     struct antientropy_counts counts;
     if (!empty.held)
         must("new", antientropy_new(&empty, 2, 0, 0, 1000));
-    uint32_t got = antientropy_load(&empty, bytes, len, &loaded);
+    uint32_t got = format == 0 ? antientropy_load(&empty, bytes, len, &loaded)
+                               : antientropy_load_format(&empty, format, bytes, len, &loaded);
     must("count", antientropy_count(&empty, &counts));
     if (got != ANTIENTROPY_OK && got != ANTIENTROPY_ROW_BROKEN && got != ANTIENTROPY_OTHER_RANGE)
         fail("load", got);
@@ -149,6 +151,13 @@ static void bring_rows(const uint8_t *bytes, size_t len)
         fail("what was loaded", got);
     if (counts.entries > 0 || bytes == rows)
         antientropy_free(&empty);
+}
+
+/* Passes rows to the calls that load them, in both formats. */
+static void bring_rows(const uint8_t *bytes, size_t len)
+{
+    for (uint64_t format = 0; format <= 2; format++)
+        load(format, bytes, len);
 }
 
 /* Passes bytes to each call that reads a message. */

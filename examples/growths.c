@@ -32,7 +32,7 @@ static char seen[CALLS][NAME];
 static int seen_count;
 static uint8_t log_bytes[LOG], first_log[LOG], out[ROOM], text[ROOM];
 static size_t log_len, first_len;
-static struct antientropy a, b;
+static struct antientropy_replica a, b;
 static struct antientropy_hints hints;
 static struct counts {
     struct antientropy_counts of[2];
@@ -101,13 +101,17 @@ static int refused(const char *name, uint32_t number)
     return 1;
 }
 
-/* Puts a value for a key, with a context of the pairs. */
-static void put(struct antientropy *replica, uint16_t node, int key, const struct antientropy_pair *context, size_t len)
+/* Puts a value for a key, with a context of the pairs, and another one as after a read of them. */
+static void put(struct antientropy_replica *replica, uint64_t node, int key, const struct antientropy_pair *context,
+                size_t len)
 {
-    struct antientropy_receipt receipt;
+    struct antientropy_receipt receipt = {0};
     uint8_t name[2] = {'k', (uint8_t)key};
     DO("antientropy_put", antientropy_put(replica, node, name, 2, context, len, ANTIENTROPY_LIVE,
                                           (const uint8_t *)"a value of more than 14 bytes", 29, &receipt));
+    add(&receipt, sizeof receipt);
+    DO("antientropy_put_read", antientropy_put_read(replica, node + 6, name, 2, context, len, ANTIENTROPY_LIVE,
+                                                    (const uint8_t *)"a value of more than 14 bytes", 29, &receipt));
     add(&receipt, sizeof receipt);
 }
 
@@ -138,7 +142,7 @@ static void sync(void)
         DO("antientropy_take", antientropy_take(&b, session, OFFER, out, need, &taken));
         add(&taken, sizeof taken);
     }
-    for (uint16_t leaf = 0; leaf < ANTIENTROPY_LEAVES_1; leaf++) {
+    for (uint64_t leaf = 0; leaf < ANTIENTROPY_LEAVES_1; leaf++) {
         DO("antientropy_rows", antientropy_rows(&snapshot, leaf, out, ROOM, &need));
         add(out, need);
     }
@@ -148,8 +152,11 @@ static void sync(void)
 /* Keeps hints, renews them, and makes slots. */
 static void keep_hints(const struct antientropy_pair *clock, size_t len)
 {
+    struct antientropy_hints restored = {0};
     struct antientropy_slots slots = {0};
     uint64_t id;
+    DO("antientropy_hints_restore", antientropy_hints_restore(&restored, 7));
+    antientropy_hints_free(&restored);
     DO("antientropy_hints_new", antientropy_hints_new(&hints));
     for (int n = 0; n < KEYS; n++)
         DO("antientropy_hint_keep",
@@ -166,7 +173,7 @@ static void run(void)
 {
     struct antientropy_pair six[6] = {{1, 1}, {2, 1}, {3, 1}, {4, 1}, {5, 1}, {6, 1}}, merged[ANTIENTROPY_CLOCK_MAX];
     struct antientropy_loaded loaded;
-    struct antientropy renewed = {0};
+    struct antientropy_replica renewed = {0};
     uint8_t key[2] = {'k', 0};
     uint64_t taken, order;
     log_len = 0;
@@ -190,6 +197,8 @@ static void run(void)
         add(&loaded, 2 * sizeof loaded.taken);
     }
     DO("antientropy_migrate", antientropy_migrate(&a));
+    DO("antientropy_load_format", antientropy_load_format(&a, 1, text, need, &loaded));
+    add(&loaded, 2 * sizeof loaded.taken);
     keep_hints(six, 6);
     count(&before);
     add(&before, sizeof before);

@@ -5,6 +5,9 @@
 #include <stdlib.h>
 #include <string.h>
 
+/* A number whose lowest 32 bits are 0. */
+#define FAR (UINT64_C(1) << 32)
+
 enum { PAIRS = ANTIENTROPY_CLOCK_MAX, MANY = ANTIENTROPY_VERSIONS_MAX };
 
 static uint8_t bytes[ANTIENTROPY_ROW_MAX + 1], value[ANTIENTROPY_VALUE_MAX_2 + 1];
@@ -20,8 +23,8 @@ static void is(const char *what, int holds)
 }
 
 /* Accepts a version of a key of `key_len` bytes with a value of `value_len` bytes. */
-static uint32_t accept(struct antientropy *replica, size_t key_len, const struct antientropy_pair *clock, size_t pairs,
-                       size_t value_len)
+static uint32_t accept(struct antientropy_replica *replica, size_t key_len, const struct antientropy_pair *clock,
+                       size_t pairs, size_t value_len)
 {
     return antientropy_accept(replica, value, key_len, clock, pairs, ANTIENTROPY_LIVE, value, value_len, &taken);
 }
@@ -30,10 +33,10 @@ static uint32_t accept(struct antientropy *replica, size_t key_len, const struct
 static void formats(void)
 {
     static const size_t values[] = {ANTIENTROPY_VALUE_MAX_1, ANTIENTROPY_VALUE_MAX_2};
-    static const uint16_t leaves[] = {ANTIENTROPY_LEAVES_1, ANTIENTROPY_LEAVES_2};
+    static const uint64_t leaves[] = {ANTIENTROPY_LEAVES_1, ANTIENTROPY_LEAVES_2};
     static const uint64_t nodes[] = {ANTIENTROPY_NODES_1, ANTIENTROPY_NODES_2};
     for (int n = 0; n < 2; n++) {
-        struct antientropy replica = {0};
+        struct antientropy_replica replica = {0};
         struct antientropy_pair pair = {ANTIENTROPY_NODE_MAX, 1}, over = {ANTIENTROPY_NODE_MAX + 1, 1};
         struct antientropy_counts counts;
         is("new", antientropy_new(&replica, n + 1, 0, 0, ANTIENTROPY_ENTRIES_MAX) == ANTIENTROPY_OK);
@@ -55,7 +58,7 @@ static void formats(void)
 /* The greatest row: a key of 255 bytes with 64 versions, each with a clock of 32 pairs and the longest value. */
 static void greatest_row(void)
 {
-    struct antientropy replica = {0};
+    struct antientropy_replica replica = {0};
     struct antientropy_pair clock[PAIRS + 1];
     is("new", antientropy_new(&replica, 2, 0, 0, 1000) == ANTIENTROPY_OK);
     for (unsigned n = 0; n < MANY; n++) {
@@ -74,7 +77,7 @@ static void greatest_row(void)
 /* The lengths of messages, and the numbers of sessions. */
 static void sessions(void)
 {
-    struct antientropy replica = {0}, other = {0};
+    struct antientropy_replica replica = {0}, other = {0};
     struct antientropy_snapshot snapshot = {0};
     struct antientropy_pair pair = {1, 1};
     uint8_t offer[ANTIENTROPY_OFFER_LEN];
@@ -106,6 +109,71 @@ static void sessions(void)
     antientropy_free(&other);
 }
 
+/* Numbers that a narrower type would cut to small ones: nodes, partners and leaves. */
+static void replica_numbers(void)
+{
+    static const uint64_t nodes[] = {ANTIENTROPY_NODE_MAX + 1, ANTIENTROPY_NODE_MAX + 2, FAR + 1};
+    static const uint64_t leaves[] = {ANTIENTROPY_NODE_MAX + 1, FAR, FAR + 1};
+    struct antientropy_replica replica = {0};
+    struct antientropy_snapshot snapshot = {0};
+    struct antientropy_receipt receipt;
+    struct antientropy_pair none = {1, 1};
+    uint8_t offer[ANTIENTROPY_OFFER_LEN], key[ANTIENTROPY_KEY_MAX];
+    uint64_t counter, session;
+    is("new", antientropy_new(&replica, 2, 0, 0, 1000) == ANTIENTROPY_OK);
+    is("rehash", antientropy_rehash(&replica) == ANTIENTROPY_OK);
+    is("snapshot", antientropy_snapshot(&replica, &snapshot) == ANTIENTROPY_OK);
+    is("offer", antientropy_offer(&snapshot, 1, offer, sizeof offer, &len) == ANTIENTROPY_OK);
+    for (int n = 0; n < 3; n++) {
+        is("put over NODE_MAX", antientropy_put(&replica, nodes[n], value, 1, &none, 0, ANTIENTROPY_LIVE, value, 1,
+                                                &receipt) == ANTIENTROPY_BAD_CLOCK);
+        is("put_read over NODE_MAX", antientropy_put_read(&replica, nodes[n], value, 1, &none, 0, ANTIENTROPY_LIVE,
+                                                          value, 1, &receipt) == ANTIENTROPY_BAD_CLOCK);
+        is("top_counter over NODE_MAX",
+           antientropy_top_counter(&replica, nodes[n], value, 1, 1, &counter) == ANTIENTROPY_BAD_CLOCK);
+        is("open over NODE_MAX",
+           antientropy_open(&replica, nodes[n], offer, sizeof offer, &session) == ANTIENTROPY_BAD_CLOCK);
+        is("key_after beyond the leaves",
+           antientropy_key_after(&replica, leaves[n], value, 0, key, sizeof key, &len) == ANTIENTROPY_BAD_MESSAGE);
+        is("rows beyond the leaves",
+           antientropy_rows(&snapshot, leaves[n], bytes, sizeof bytes, &len) == ANTIENTROPY_BAD_MESSAGE);
+    }
+    is("open at NODE_MAX",
+       antientropy_open(&replica, ANTIENTROPY_NODE_MAX, offer, sizeof offer, &session) == ANTIENTROPY_OK);
+    is("put at NODE_MAX", antientropy_put(&replica, ANTIENTROPY_NODE_MAX, value, 1, &none, 0, ANTIENTROPY_LIVE, value,
+                                          1, &receipt) == ANTIENTROPY_OK);
+    antientropy_snapshot_free(&snapshot);
+    antientropy_free(&replica);
+}
+
+/* The same of owners and of hints: the hint that a narrower type would name is there. */
+static void hint_numbers(void)
+{
+    static const uint64_t owners[] = {ANTIENTROPY_NODE_MAX + 1, ANTIENTROPY_NODE_MAX + 2, FAR + 1};
+    struct antientropy_hints hints = {0};
+    struct antientropy_pair pair = {1, 1};
+    uint64_t id, owner;
+    uint8_t kind;
+    is("hints_new", antientropy_hints_new(&hints) == ANTIENTROPY_OK);
+    is("hint_keep", antientropy_hint_keep(&hints, 1, value, 1, &pair, 1, ANTIENTROPY_LIVE, value, 1, &id)
+                        == ANTIENTROPY_OK && id == 1);
+    for (int n = 0; n < 3; n++) {
+        is("hint_keep over NODE_MAX", antientropy_hint_keep(&hints, owners[n], value, 1, &pair, 1, ANTIENTROPY_LIVE,
+                                                            value, 1, &id) == ANTIENTROPY_BAD_CLOCK);
+        is("hint_next over NODE_MAX", antientropy_hint_next(&hints, owners[n], 0, &id) == ANTIENTROPY_NO_VERSION);
+    }
+    is("hint_owner", antientropy_hint_owner(&hints, FAR + 1, &owner) == ANTIENTROPY_NO_VERSION);
+    is("hint_key", antientropy_hint_key(&hints, FAR + 1, bytes, sizeof bytes, &len) == ANTIENTROPY_NO_VERSION);
+    is("hint_value",
+       antientropy_hint_value(&hints, FAR + 1, &kind, bytes, sizeof bytes, &len) == ANTIENTROPY_NO_VERSION);
+    is("hint_clock", antientropy_hint_clock(&hints, FAR + 1, &pair, 1, &len) == ANTIENTROPY_NO_VERSION);
+    is("hint_confirm", antientropy_hint_confirm(&hints, FAR + 1, false) == ANTIENTROPY_UNKNOWN_HINT);
+    is("hint_next after all", antientropy_hint_next(&hints, 1, FAR, &id) == ANTIENTROPY_NO_VERSION);
+    is("hint_owner of hint 1", antientropy_hint_owner(&hints, 1, &owner) == ANTIENTROPY_OK && owner == 1);
+    is("hint_confirm of hint 1", antientropy_hint_confirm(&hints, 1, false) == ANTIENTROPY_OK);
+    antientropy_hints_free(&hints);
+}
+
 /* The version and the names. */
 static void names(void)
 {
@@ -127,6 +195,8 @@ int main(void)
     formats();
     greatest_row();
     sessions();
+    replica_numbers();
+    hint_numbers();
     names();
     printf("the header's limits are the library's\n");
     return 0;

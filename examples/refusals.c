@@ -1,6 +1,6 @@
 /* Each number that a call of the header can return for a refusal, but NO_MEMORY: for that there is growths.c. It prints
  * a line for each, such as "antientropy_put BAD_KEY", and check_c compares these with the header's lists. It ends with
- * status 1 if a call returns another number than the one wanted. */
+ * status 1 if a call returns another number than the one wanted, or if a call of an empty handle writes something. */
 #include "antientropy.h"
 
 #include <stdio.h>
@@ -9,7 +9,8 @@
 
 enum { OFFER = 7, OTHER_OFFER = 8, PAIRS = ANTIENTROPY_CLOCK_MAX + 1, ANSWER_HEAD = 16, ROOM = 1 << 16 };
 
-#define SEE(name, number, got) see("antientropy_" #name, #number, got, ANTIENTROPY_##number)
+#define SEE(name, number, got) SEE_OF("antientropy_" #name, number, got)
+#define SEE_OF(call, number, got) see(call, #number, got, ANTIENTROPY_##number)
 #define OK(got) ok(#got, got)
 
 /* SHA-256 of the text "abc" (FIPS 180-4). */
@@ -20,7 +21,7 @@ static const uint8_t ABC_DIGEST[32] = {0xba, 0x78, 0x16, 0xbf, 0x8f, 0x01, 0xcf,
 static const uint8_t KEY[] = "cart", VALUE[] = "milk";
 static uint8_t LONG[ANTIENTROPY_VALUE_MAX_2 + 1], out[ROOM];
 static struct antientropy_pair many[PAIRS], pairs[ANTIENTROPY_CLOCK_MAX];
-static struct antientropy none, made;
+static struct antientropy_replica none, made;
 static struct antientropy_snapshot nothing;
 static uint64_t need;
 
@@ -43,8 +44,17 @@ static void ok(const char *call, uint32_t got)
     }
 }
 
+/* Ends the program if something isn't so. */
+static void is(const char *what, bool holds)
+{
+    if (!holds) {
+        printf("it isn't so that %s\n", what);
+        exit(1);
+    }
+}
+
 /* Accepts versions of a key, each with a clock of its own node. */
-static void accept(struct antientropy *replica, unsigned first, unsigned count)
+static void accept(struct antientropy_replica *replica, unsigned first, unsigned count)
 {
     for (unsigned n = 0; n < count; n++) {
         struct antientropy_pair pair = {first + n, 1};
@@ -66,7 +76,7 @@ static uint8_t key_of_range_1(void)
 
 static void makes(void)
 {
-    struct antientropy into = {0}, full = {0};
+    struct antientropy_replica into = {0}, full = {0};
     struct antientropy_counts counts;
     OK(antientropy_new(&made, 2, 0, 0, 1000));
     OK(antientropy_new(&full, 2, 0, 0, 1000));
@@ -88,37 +98,87 @@ static void makes(void)
     SEE(rehash_some, EMPTY, antientropy_rehash_some(&none, 1, &need));
 }
 
-static uint32_t put(struct antientropy *replica, uint16_t node, const uint8_t *key, size_t key_len, size_t context_len,
-                    uint8_t kind, size_t value_len)
+/* One of the two puts, and its name. */
+typedef uint32_t put_call(struct antientropy_replica *replica, uint64_t node, const uint8_t *key, size_t key_len,
+                          const struct antientropy_pair *context, size_t context_len, uint8_t kind,
+                          const uint8_t *value, size_t value_len, struct antientropy_receipt *receipt);
+static put_call *put_with;
+
+static uint32_t put(struct antientropy_replica *replica, uint64_t node, const uint8_t *key, size_t key_len,
+                    size_t context_len, uint8_t kind, size_t value_len)
 {
     struct antientropy_receipt receipt;
-    return antientropy_put(replica, node, key, key_len, many, context_len, kind, LONG, value_len, &receipt);
+    return put_with(replica, node, key, key_len, many, context_len, kind, LONG, value_len, &receipt);
+}
+
+static void puts_by(const char *name, put_call *call)
+{
+    struct antientropy_replica half = {0}, full = {0};
+    struct antientropy_pair top = {1, UINT64_MAX};
+    struct antientropy_receipt receipt;
+    uint8_t other = key_of_range_1();
+    put_with = call;
+    OK(antientropy_new(&half, 1, 1, 0, 1));
+    OK(antientropy_new(&full, 2, 0, 0, ANTIENTROPY_VERSIONS_MAX + 1));
+    accept(&full, 1, ANTIENTROPY_VERSIONS_MAX);
+    SEE_OF(name, EMPTY, put(&none, 0, KEY, 4, 0, ANTIENTROPY_LIVE, 1));
+    SEE_OF(name, BAD_CLOCK, put(&made, 0, KEY, 4, 0, ANTIENTROPY_LIVE, 1));
+    SEE_OF(name, BAD_CLOCK, put(&made, ANTIENTROPY_NODE_MAX + 1, KEY, 0, PAIRS, ANTIENTROPY_LIVE, 1));
+    SEE_OF(name, CLOCK_FULL, put(&made, 1, KEY, 4, PAIRS, ANTIENTROPY_LIVE, 1));
+    SEE_OF(name, BAD_VALUE, put(&made, 1, KEY, 4, 0, 2, 1));
+    SEE_OF(name, BAD_KEY, put(&made, 1, KEY, 0, 0, ANTIENTROPY_LIVE, 1));
+    SEE_OF(name, BAD_VALUE, put(&made, 1, KEY, 4, 0, ANTIENTROPY_LIVE, ANTIENTROPY_VALUE_MAX_2 + 1));
+    SEE_OF(name, BAD_VALUE, put(&made, 1, KEY, 4, 0, ANTIENTROPY_TOMBSTONE, 1));
+    SEE_OF(name, OTHER_RANGE, put(&half, 1, &other, 1, 0, ANTIENTROPY_LIVE, 1));
+    SEE_OF(name, CLOCK_FULL, put(&made, PAIRS, KEY, 4, ANTIENTROPY_CLOCK_MAX, ANTIENTROPY_LIVE, 1));
+    SEE_OF(name, COUNTER_FULL, call(&made, 1, KEY, 4, &top, 1, ANTIENTROPY_LIVE, VALUE, 4, &receipt));
+    SEE_OF(name, STALE_CONTEXT, put(&made, 1, KEY, 4, 0, ANTIENTROPY_LIVE, 1));
+    SEE_OF(name, CROWDED, put(&full, 1000, KEY, 4, 0, ANTIENTROPY_LIVE, 1));
+    OK(put(&full, 1000, LONG, 1, 0, ANTIENTROPY_LIVE, 1));
+    SEE_OF(name, JOURNAL_FULL, put(&full, 1001, LONG, 1, 0, ANTIENTROPY_LIVE, 1));
+    antientropy_free(&half);
+    antientropy_free(&full);
+}
+
+/* Of two clients that read the same versions, the second one to put replaces what the first has put by the put that
+ * doesn't check, and is refused by the other one. */
+static void two_clients(void)
+{
+    static const struct antientropy_pair seen[] = {{1, 1}, {2, 1}}, counters[] = {{1, 2}, {2, 1}};
+    struct antientropy_replica replica = {0};
+    struct antientropy_receipt receipt;
+    uint64_t count, counter;
+    OK(antientropy_new(&replica, 2, 0, 0, 1000));
+    accept(&replica, 1, 2);
+    OK(antientropy_put_read(&replica, 1, KEY, 4, seen, 1, ANTIENTROPY_LIVE, VALUE, 4, &receipt));
+    SEE(put_read, STALE_CONTEXT,
+        antientropy_put_read(&replica, 1, KEY, 4, seen, 2, ANTIENTROPY_LIVE, VALUE, 3, &receipt));
+    OK(antientropy_versions(&replica, KEY, 4, &count));
+    is("both versions are held", count == 2);
+    for (int n = 0; n < 2; n++) {
+        OK(antientropy_top_counter(&replica, counters[n].node, KEY, 4, UINT64_MAX, &counter));
+        is("the greatest counter", counter == counters[n].counter);
+    }
+    OK(antientropy_top_counter(&replica, 1, KEY, 4, 2, &counter));
+    is("the greatest counter of two entries", counter == 1);
+    OK(antientropy_put(&replica, 1, KEY, 4, seen, 2, ANTIENTROPY_LIVE, VALUE, 3, &receipt));
+    OK(antientropy_versions(&replica, KEY, 4, &count));
+    is("one version is held", count == 1);
+    antientropy_free(&replica);
 }
 
 static void puts_and_accepts(void)
 {
-    struct antientropy half = {0}, full = {0};
-    struct antientropy_pair top = {1, UINT64_MAX}, twice[2] = {{1, 1}, {1, 2}}, far = {1000, 1};
+    struct antientropy_replica half = {0}, full = {0};
+    struct antientropy_pair twice[2] = {{1, 1}, {1, 2}}, far = {1000, 1};
     uint8_t other = key_of_range_1();
     uint64_t taken;
+    puts_by("antientropy_put", antientropy_put);
+    puts_by("antientropy_put_read", antientropy_put_read);
+    two_clients();
     OK(antientropy_new(&half, 1, 1, 0, 1));
-    OK(antientropy_new(&full, 2, 0, 0, ANTIENTROPY_VERSIONS_MAX + 1));
+    OK(antientropy_new(&full, 2, 0, 0, ANTIENTROPY_VERSIONS_MAX));
     accept(&full, 1, ANTIENTROPY_VERSIONS_MAX);
-    SEE(put, EMPTY, put(&none, 1, KEY, 4, 0, ANTIENTROPY_LIVE, 1));
-    SEE(put, BAD_CLOCK, put(&made, 0, KEY, 4, 0, ANTIENTROPY_LIVE, 1));
-    SEE(put, CLOCK_FULL, put(&made, 1, KEY, 4, PAIRS, ANTIENTROPY_LIVE, 1));
-    SEE(put, BAD_VALUE, put(&made, 1, KEY, 4, 0, 2, 1));
-    SEE(put, BAD_KEY, put(&made, 1, KEY, 0, 0, ANTIENTROPY_LIVE, 1));
-    SEE(put, BAD_VALUE, put(&made, 1, KEY, 4, 0, ANTIENTROPY_LIVE, ANTIENTROPY_VALUE_MAX_2 + 1));
-    SEE(put, BAD_VALUE, put(&made, 1, KEY, 4, 0, ANTIENTROPY_TOMBSTONE, 1));
-    SEE(put, OTHER_RANGE, put(&half, 1, &other, 1, 0, ANTIENTROPY_LIVE, 1));
-    SEE(put, CLOCK_FULL, put(&made, PAIRS, KEY, 4, ANTIENTROPY_CLOCK_MAX, ANTIENTROPY_LIVE, 1));
-    struct antientropy_receipt receipt;
-    SEE(put, COUNTER_FULL, antientropy_put(&made, 1, KEY, 4, &top, 1, ANTIENTROPY_LIVE, VALUE, 4, &receipt));
-    SEE(put, STALE_CONTEXT, put(&made, 1, KEY, 4, 0, ANTIENTROPY_LIVE, 1));
-    SEE(put, CROWDED, put(&full, 1000, KEY, 4, 0, ANTIENTROPY_LIVE, 1));
-    OK(put(&full, 1000, LONG, 1, 0, ANTIENTROPY_LIVE, 1));
-    SEE(put, JOURNAL_FULL, put(&full, 1001, LONG, 1, 0, ANTIENTROPY_LIVE, 1));
     SEE(accept, EMPTY, antientropy_accept(&none, KEY, 4, many, 1, 0, VALUE, 4, &taken));
     SEE(accept, BAD_CLOCK, antientropy_accept(&made, KEY, 4, twice, 2, 0, VALUE, 4, &taken));
     SEE(accept, CLOCK_FULL, antientropy_accept(&made, KEY, 4, many, PAIRS, 0, VALUE, 4, &taken));
@@ -152,10 +212,10 @@ static void reads(void)
     SEE(read, SMALL, antientropy_read(&made, KEY, 4, 0, &reading, pairs, 32, out, 3));
     struct antientropy_spot spot;
     OK(antientropy_place(2, 0, KEY, 4, &spot));
-    SEE(key_after, EMPTY, antientropy_key_after(&none, (uint16_t)spot.leaf, KEY, 0, out, ROOM, &need));
+    SEE(key_after, EMPTY, antientropy_key_after(&none, spot.leaf, KEY, 0, out, ROOM, &need));
     SEE(key_after, BAD_MESSAGE, antientropy_key_after(&made, ANTIENTROPY_LEAVES_2, KEY, 0, out, ROOM, &need));
-    SEE(key_after, NO_VERSION, antientropy_key_after(&made, (uint16_t)spot.leaf, KEY, 4, out, ROOM, &need));
-    SEE(key_after, SMALL, antientropy_key_after(&made, (uint16_t)spot.leaf, KEY, 0, out, 3, &need));
+    SEE(key_after, NO_VERSION, antientropy_key_after(&made, spot.leaf, KEY, 4, out, ROOM, &need));
+    SEE(key_after, SMALL, antientropy_key_after(&made, spot.leaf, KEY, 0, out, 3, &need));
     SEE(entry_key, EMPTY, antientropy_entry_key(&none, 0, out, ROOM, &need));
     SEE(entry_key, NO_VERSION, antientropy_entry_key(&made, 2, out, ROOM, &need));
     SEE(entry_key, SMALL, antientropy_entry_key(&made, 0, out, 3, &need));
@@ -167,6 +227,9 @@ static void reads(void)
     SEE(entry_clock, SMALL, antientropy_entry_clock(&made, 0, pairs, 0, &need));
     SEE(entry_source, EMPTY, antientropy_entry_source(&none, 0, &source));
     SEE(entry_source, NO_VERSION, antientropy_entry_source(&made, 2, &source));
+    SEE(top_counter, EMPTY, antientropy_top_counter(&none, 0, KEY, 4, 2, &source));
+    SEE(top_counter, BAD_CLOCK, antientropy_top_counter(&made, 0, KEY, 4, 2, &source));
+    SEE(top_counter, BAD_CLOCK, antientropy_top_counter(&made, ANTIENTROPY_NODE_MAX + 1, KEY, 4, 2, &source));
 }
 
 static void clocks(void)
@@ -187,7 +250,7 @@ static void clocks(void)
 }
 
 /* The message that offers a replica's rows now. */
-static void offer_now(struct antientropy *replica, struct antientropy_snapshot *snapshot, uint8_t *offer)
+static void offer_now(struct antientropy_replica *replica, struct antientropy_snapshot *snapshot, uint8_t *offer)
 {
     OK(antientropy_rehash(replica));
     OK(antientropy_snapshot(replica, snapshot));
@@ -199,7 +262,7 @@ static void snapshots_and_loads(void)
     struct antientropy_snapshot snapshot = {0};
     struct antientropy_offer_parts parts;
     struct antientropy_loaded loaded;
-    struct antientropy half = {0}, full = {0}, small = {0};
+    struct antientropy_replica half = {0}, full = {0}, small = {0}, one = {0};
     uint8_t offer[ANTIENTROPY_OFFER_LEN], ask[ANTIENTROPY_ASK_LEN] = {2, 0, 0, 0, OFFER, 0, 0, 0}, row[ROOM];
     uint64_t row_len;
     SEE(snapshot, DIRTY, antientropy_snapshot(&made, &snapshot));
@@ -219,7 +282,7 @@ static void snapshots_and_loads(void)
     SEE(rows, BAD_MESSAGE, antientropy_rows(&snapshot, ANTIENTROPY_LEAVES_2, out, ROOM, &need));
     struct antientropy_spot spot;
     OK(antientropy_place(2, 0, KEY, 4, &spot));
-    SEE(rows, SMALL, antientropy_rows(&snapshot, (uint16_t)spot.leaf, out, 1, &need));
+    SEE(rows, SMALL, antientropy_rows(&snapshot, spot.leaf, out, 1, &need));
     antientropy_snapshot_free(&snapshot);
 
     OK(antientropy_get(&made, KEY, 4, row, ROOM, &row_len));
@@ -237,6 +300,17 @@ static void snapshots_and_loads(void)
     SEE(load, OTHER_RANGE, antientropy_load(&half, row, row_len, &loaded));
     SEE(load, CROWDED, antientropy_load(&full, row, row_len, &loaded));
     SEE(load, JOURNAL_FULL, antientropy_load(&small, row, row_len, &loaded));
+    OK(antientropy_new(&one, 1, 0, 0, 1000));
+    SEE(load_format, EMPTY, antientropy_load_format(&none, 3, row, row_len, &loaded));
+    SEE(load_format, BAD_RING, antientropy_load_format(&one, 0, row, row_len, &loaded));
+    SEE(load_format, BAD_RING, antientropy_load_format(&one, 3, row, row_len, &loaded));
+    SEE(load_format, OTHER_FORMAT, antientropy_load_format(&one, 2, row, row_len - 1, &loaded));
+    SEE(load_format, ROW_BROKEN, antientropy_load_format(&made, 1, row, row_len, &loaded));
+    SEE(load_format, ROW_BROKEN, antientropy_load_format(&made, 2, row, row_len - 1, &loaded));
+    SEE(load_format, OTHER_RANGE, antientropy_load_format(&half, 2, row, row_len, &loaded));
+    SEE(load_format, CROWDED, antientropy_load_format(&full, 2, row, row_len, &loaded));
+    SEE(load_format, JOURNAL_FULL, antientropy_load_format(&small, 2, row, row_len, &loaded));
+    antientropy_free(&one);
     antientropy_free(&half);
     antientropy_free(&full);
     antientropy_free(&small);
@@ -253,7 +327,7 @@ static size_t root_answer(uint8_t *answer, const char *text)
 }
 
 /* Takes answers from a snapshot until one is refused, and returns the refusal. */
-static uint32_t take_all(struct antientropy *replica, uint64_t session, struct antientropy_snapshot *snapshot)
+static uint32_t take_all(struct antientropy_replica *replica, uint64_t session, struct antientropy_snapshot *snapshot)
 {
     struct antientropy_taken taken;
     uint8_t ask[ANTIENTROPY_ASK_LEN];
@@ -269,7 +343,7 @@ static uint32_t take_all(struct antientropy *replica, uint64_t session, struct a
 
 static void sessions(void)
 {
-    struct antientropy replica = {0}, one = {0}, half = {0}, full = {0}, small = {0};
+    struct antientropy_replica replica = {0}, one = {0}, half = {0}, full = {0}, small = {0};
     struct antientropy_snapshot snapshot = {0};
     struct antientropy_taken taken;
     uint8_t offer[ANTIENTROPY_OFFER_LEN], forged[ANTIENTROPY_OFFER_LEN], answer[ROOM];
@@ -280,6 +354,7 @@ static void sessions(void)
     OK(antientropy_new(&one, 1, 0, 0, 1000));
     OK(antientropy_new(&half, 2, 1, 1, 1000));
     SEE(open, EMPTY, antientropy_open(&none, 2, offer, sizeof offer, &session));
+    SEE(open, BAD_CLOCK, antientropy_open(&replica, ANTIENTROPY_NODE_MAX + 1, offer, sizeof offer - 1, &session));
     SEE(open, BAD_MESSAGE, antientropy_open(&replica, 2, offer, sizeof offer - 1, &session));
     SEE(open, OTHER_FORMAT, antientropy_open(&one, 2, offer, sizeof offer, &session));
     SEE(open, OTHER_RANGE, antientropy_open(&half, 2, offer, sizeof offer, &session));
@@ -337,8 +412,12 @@ static void hints(void)
     uint8_t kind;
     OK(antientropy_hints_new(&full));
     SEE(hints_new, HELD, antientropy_hints_new(&full));
+    SEE(hints_restore, HELD, antientropy_hints_restore(&full, 0));
+    SEE(hints_restore, UNKNOWN_HINT, antientropy_hints_restore(&empty, 0));
     SEE(hint_keep, EMPTY, antientropy_hint_keep(&empty, 2, KEY, 4, many, 1, 0, VALUE, 4, &id));
     SEE(hint_keep, BAD_CLOCK, antientropy_hint_keep(&full, 0, KEY, 4, many, 1, 0, VALUE, 4, &id));
+    SEE(hint_keep, BAD_CLOCK,
+        antientropy_hint_keep(&full, ANTIENTROPY_NODE_MAX + 1, KEY, 4, many, PAIRS, 0, VALUE, 4, &id));
     SEE(hint_keep, CLOCK_FULL, antientropy_hint_keep(&full, 2, KEY, 4, many, PAIRS, 0, VALUE, 4, &id));
     SEE(hint_keep, BAD_VALUE, antientropy_hint_keep(&full, 2, KEY, 4, many, 1, 2, VALUE, 4, &id));
     SEE(hint_keep, BAD_KEY, antientropy_hint_keep(&full, 2, KEY, 0, many, 1, 0, VALUE, 4, &id));
@@ -365,6 +444,56 @@ static void hints(void)
     SEE(hints_renew, EMPTY, antientropy_hints_renew(&empty));
     SEE(hints_count, EMPTY, antientropy_hints_count(&empty, &counts));
     antientropy_hints_free(&full);
+}
+
+/* Keeps a hint of a key for owner 2, and returns its number. */
+static uint64_t keep(struct antientropy_hints *hints, const char *key)
+{
+    uint64_t id;
+    OK(antientropy_hint_keep(hints, 2, (const uint8_t *)key, strlen(key), many, 1, 0, VALUE, 4, &id));
+    return id;
+}
+
+/* Ends the program unless a number is that of the hint of a key. */
+static void is_hint(struct antientropy_hints *hints, uint64_t id, const char *key)
+{
+    OK(antientropy_hint_key(hints, id, out, ROOM, &need));
+    is(key, need == strlen(key) && memcmp(out, key, need) == 0);
+}
+
+/* A number that was used never names another hint: neither after a renewal, nor in a store that goes on after a
+ * restart. */
+static void hint_numbers(void)
+{
+    struct antientropy_hints hints = {0};
+    struct antientropy_hint_counts counts;
+    uint64_t id;
+    OK(antientropy_hints_new(&hints));
+    is("cart is 1", keep(&hints, "cart") == 1);
+    is("order is 2", keep(&hints, "order") == 2);
+    OK(antientropy_hint_confirm(&hints, 1, false));
+    OK(antientropy_hints_renew(&hints));
+    OK(antientropy_hint_next(&hints, 2, 0, &id));
+    is("order has a new number", id > 2);
+    is_hint(&hints, id, "order");
+    is("payment is above it", keep(&hints, "payment") > id);
+    SEE(hint_key, NO_VERSION, antientropy_hint_key(&hints, 2, out, ROOM, &need));
+    SEE(hint_confirm, UNKNOWN_HINT, antientropy_hint_confirm(&hints, 2, false));
+    OK(antientropy_hint_next(&hints, 2, id, &id));
+    is_hint(&hints, id, "payment");
+    OK(antientropy_hints_count(&hints, &counts));
+    is("both are pending", counts.pending == 2 && counts.delivered == 0);
+    antientropy_hints_free(&hints);
+
+    OK(antientropy_hints_restore(&hints, UINT64_MAX - 1));
+    is("cart is the number before the last", keep(&hints, "cart") == UINT64_MAX - 1);
+    OK(antientropy_hint_confirm(&hints, UINT64_MAX - 1, true));
+    OK(antientropy_hints_renew(&hints));
+    is("order is the last number", keep(&hints, "order") == UINT64_MAX);
+    SEE(hint_keep, HINTS_FULL, antientropy_hint_keep(&hints, 2, KEY, 4, many, 1, 0, VALUE, 4, &id));
+    SEE(hints_renew, HINTS_FULL, antientropy_hints_renew(&hints));
+    is_hint(&hints, UINT64_MAX, "order");
+    antientropy_hints_free(&hints);
 }
 
 static void slots(void)
@@ -395,6 +524,128 @@ static void slots(void)
     antientropy_slots_free(&full);
 }
 
+/* What calls write, filled with a byte that none of them writes. */
+static struct results {
+    uint8_t bytes[256], kind;
+    uint64_t number;
+    struct antientropy_pair pairs[ANTIENTROPY_CLOCK_MAX];
+    struct antientropy_receipt receipt;
+    struct antientropy_reading reading;
+    struct antientropy_taken taken;
+    struct antientropy_loaded loaded;
+    struct antientropy_counts counts;
+    struct antientropy_hint_counts hint_counts;
+    struct antientropy_slot_counts slot_counts;
+    struct antientropy_percentile percentile;
+} results;
+
+#define EMPTY(got) is(#got " is EMPTY", (got) == ANTIENTROPY_EMPTY)
+
+static void empty_replicas(struct results *at)
+{
+    static struct antientropy_replica empty;
+    EMPTY(antientropy_count(&empty, &at->counts));
+    EMPTY(antientropy_put(&empty, 1, KEY, 4, many, 1, 0, VALUE, 4, &at->receipt));
+    EMPTY(antientropy_put_read(&empty, 1, KEY, 4, many, 1, 0, VALUE, 4, &at->receipt));
+    EMPTY(antientropy_accept(&empty, KEY, 4, many, 1, 0, VALUE, 4, &at->number));
+    EMPTY(antientropy_get(&empty, KEY, 4, at->bytes, sizeof at->bytes, &at->number));
+    EMPTY(antientropy_versions(&empty, KEY, 4, &at->number));
+    EMPTY(antientropy_value(&empty, KEY, 4, 0, &at->kind, at->bytes, sizeof at->bytes, &at->number));
+    EMPTY(antientropy_clock(&empty, KEY, 4, 0, at->pairs, ANTIENTROPY_CLOCK_MAX, &at->number));
+    EMPTY(antientropy_read(&empty, KEY, 4, 0, &at->reading, at->pairs, ANTIENTROPY_CLOCK_MAX, at->bytes,
+                           sizeof at->bytes));
+    EMPTY(antientropy_key_after(&empty, 0, KEY, 0, at->bytes, sizeof at->bytes, &at->number));
+    EMPTY(antientropy_entry_key(&empty, 0, at->bytes, sizeof at->bytes, &at->number));
+    EMPTY(antientropy_entry_value(&empty, 0, &at->kind, at->bytes, sizeof at->bytes, &at->number));
+    EMPTY(antientropy_entry_clock(&empty, 0, at->pairs, ANTIENTROPY_CLOCK_MAX, &at->number));
+    EMPTY(antientropy_entry_source(&empty, 0, &at->number));
+    EMPTY(antientropy_top_counter(&empty, 1, KEY, 4, 1, &at->number));
+    EMPTY(antientropy_rehash(&empty));
+    EMPTY(antientropy_rehash_some(&empty, 1, &at->number));
+    EMPTY(antientropy_migrate(&empty));
+    EMPTY(antientropy_load(&empty, VALUE, 4, &at->loaded));
+    EMPTY(antientropy_load_format(&empty, 2, VALUE, 4, &at->loaded));
+    EMPTY(antientropy_open(&empty, 1, VALUE, 4, &at->number));
+    EMPTY(antientropy_outstanding(&empty, 0, &at->number));
+    EMPTY(antientropy_ask_at(&empty, 0, 0, OFFER, at->bytes, sizeof at->bytes, &at->number));
+    EMPTY(antientropy_ask(&empty, 0, OFFER, at->bytes, sizeof at->bytes, &at->number));
+    EMPTY(antientropy_take(&empty, 0, OFFER, VALUE, 4, &at->taken));
+    EMPTY(antientropy_cancel(&empty, 0));
+    EMPTY(antientropy_session(&empty, 0, &at->number));
+    is("the replica is empty", !empty.held);
+}
+
+static void empty_others(struct results *at)
+{
+    static struct antientropy_snapshot snapshot;
+    static struct antientropy_hints hints;
+    static struct antientropy_slots slots;
+    EMPTY(antientropy_root(&snapshot, at->bytes, sizeof at->bytes, &at->number));
+    EMPTY(antientropy_offer(&snapshot, OFFER, at->bytes, sizeof at->bytes, &at->number));
+    EMPTY(antientropy_serve(&snapshot, OFFER, VALUE, 4, at->bytes, sizeof at->bytes, &at->number));
+    EMPTY(antientropy_rows(&snapshot, 0, at->bytes, sizeof at->bytes, &at->number));
+    EMPTY(antientropy_hint_keep(&hints, 2, KEY, 4, many, 1, 0, VALUE, 4, &at->number));
+    EMPTY(antientropy_hint_next(&hints, 2, 0, &at->number));
+    EMPTY(antientropy_hint_owner(&hints, 1, &at->number));
+    EMPTY(antientropy_hint_key(&hints, 1, at->bytes, sizeof at->bytes, &at->number));
+    EMPTY(antientropy_hint_value(&hints, 1, &at->kind, at->bytes, sizeof at->bytes, &at->number));
+    EMPTY(antientropy_hint_clock(&hints, 1, at->pairs, ANTIENTROPY_CLOCK_MAX, &at->number));
+    EMPTY(antientropy_hint_confirm(&hints, 1, false));
+    EMPTY(antientropy_hints_renew(&hints));
+    EMPTY(antientropy_hints_count(&hints, &at->hint_counts));
+    EMPTY(antientropy_slot_lend(&slots));
+    EMPTY(antientropy_slot_give_back(&slots));
+    EMPTY(antientropy_slots_sample(&slots, 1, 1));
+    EMPTY(antientropy_slots_adjust(&slots, 1, &at->percentile));
+    EMPTY(antientropy_slots_set_target(&slots, 1));
+    EMPTY(antientropy_slots_count(&slots, &at->slot_counts));
+    is("the snapshot, the hints and the slots are empty", !snapshot.held && !hints.held && !slots.held);
+}
+
+/* Reads the root of a snapshot. */
+static void root_of(struct antientropy_snapshot *snapshot, uint8_t *root)
+{
+    OK(antientropy_root(snapshot, root, ANTIENTROPY_ROOT_LEN, &need));
+}
+
+/* A call of an empty handle writes nothing, and leaves the handle alone that it would fill, even if that one holds
+ * something. */
+static void empty_handles(void)
+{
+    struct antientropy_replica empty = {0}, full = {0}, before;
+    struct antientropy_snapshot snapshot = {0}, now = {0}, kept;
+    struct antientropy_counts counts;
+    static struct results blank;
+    uint8_t root[ANTIENTROPY_ROOT_LEN], after[ANTIENTROPY_ROOT_LEN];
+    memset(&results, 0xa5, sizeof results);
+    memset(&blank, 0xa5, sizeof blank);
+    empty_replicas(&results);
+    empty_others(&results);
+    is("calls of empty handles write nothing", memcmp(&results, &blank, sizeof results) == 0);
+
+    OK(antientropy_new(&full, 2, 0, 0, 1000));
+    accept(&full, 1, 2);
+    OK(antientropy_rehash(&full));
+    OK(antientropy_snapshot(&full, &snapshot));
+    root_of(&snapshot, root);
+    before = full;
+    kept = snapshot;
+    EMPTY(antientropy_renew(&empty, &full, 1000));
+    EMPTY(antientropy_snapshot(&empty, &snapshot));
+    is("the handles are unchanged", full.held && full.at == before.at && snapshot.held && snapshot.at == kept.at
+                                        && !empty.held);
+    OK(antientropy_count(&full, &counts));
+    is("the replica is unchanged", counts.entries == 2 && counts.dirty == 0);
+    root_of(&snapshot, after);
+    is("the snapshot is unchanged", memcmp(root, after, sizeof root) == 0);
+    OK(antientropy_snapshot(&full, &now));
+    root_of(&now, after);
+    is("the rows are unchanged", memcmp(root, after, sizeof root) == 0);
+    antientropy_snapshot_free(&now);
+    antientropy_snapshot_free(&snapshot);
+    antientropy_free(&full);
+}
+
 int main(void)
 {
     for (unsigned n = 0; n < PAIRS; n++)
@@ -407,7 +658,9 @@ int main(void)
     snapshots_and_loads();
     sessions();
     hints();
+    hint_numbers();
     slots();
+    empty_handles();
     antientropy_free(&made);
     return 0;
 }

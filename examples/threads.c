@@ -12,7 +12,7 @@
 enum { WRITERS = 4, KEYS = 500, SYNCS = 10, ROOM = 1 << 16, PORTION = 64 };
 
 /* The replica of node 1, which all threads use. */
-static struct antientropy shared;
+static struct antientropy_replica shared;
 static pthread_mutex_t lock = PTHREAD_MUTEX_INITIALIZER;
 
 /* Ends the program unless a call returned the number that is wanted. */
@@ -38,7 +38,7 @@ static void put(const char *key)
                                     sizeof value);
     if (got != ANTIENTROPY_NO_VERSION)
         want("read", got, ANTIENTROPY_OK);
-    got = antientropy_put(&shared, 1, bytes, len, context, reading.pairs, ANTIENTROPY_LIVE, bytes, len, &receipt);
+    got = antientropy_put_read(&shared, 1, bytes, len, context, reading.pairs, ANTIENTROPY_LIVE, bytes, len, &receipt);
     pthread_mutex_unlock(&lock);
     want("put", got, ANTIENTROPY_OK);
 }
@@ -76,7 +76,7 @@ static void publish(struct antientropy_snapshot *snapshot)
 }
 
 /* Takes what a snapshot has into another replica, and frees the snapshot. */
-static void sync_from(struct antientropy_snapshot *snapshot, struct antientropy *replica, uint32_t number)
+static void sync_from(struct antientropy_snapshot *snapshot, struct antientropy_replica *replica, uint32_t number)
 {
     static _Thread_local uint8_t text[ROOM];
     uint8_t offer[ANTIENTROPY_OFFER_LEN], ask[ANTIENTROPY_ASK_LEN];
@@ -107,7 +107,7 @@ static void *sync_often(void *replica)
 }
 
 /* The root of a replica's rows now. */
-static void root_of(struct antientropy *replica, uint8_t *root)
+static void root_of(struct antientropy_replica *replica, uint8_t *root)
 {
     struct antientropy_snapshot snapshot = {0};
     uint64_t len;
@@ -121,7 +121,7 @@ int main(void)
 {
     static char names[WRITERS][2] = {"a", "b", "c", "d"};
     uint8_t here[ANTIENTROPY_ROOT_LEN], there[ANTIENTROPY_ROOT_LEN];
-    struct antientropy other = {0};
+    struct antientropy_replica other = {0};
     struct antientropy_snapshot last = {0};
     struct antientropy_counts counts;
     pthread_t threads[WRITERS + 1];

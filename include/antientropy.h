@@ -10,7 +10,8 @@
  * Each call but the two that free returns 0, or the number of the first cause in its list for which it was refused. A
  * refused call changes nothing, with two exceptions: an antientropy_rehash that runs out of memory may have made some
  * nodes clean, and an antientropy_take that returns ANTIENTROPY_NOT_CANONICAL has failed its session. Unless a call
- * says otherwise, it writes through its result pointers only if it returns 0.
+ * says otherwise, it writes through its result pointers only if it returns 0. A call of an empty handle (EMPTY) writes
+ * nothing, and changes no other handle.
  *
  * RESULTS OF VARIABLE LENGTH
  *
@@ -23,16 +24,18 @@
  * - Each pointer is valid, aligned and not NULL, even if its length is 0. Memory for out, need and the like is the
  *   caller's, and doesn't overlap the other arguments of the call; no call gets one handle twice. The library keeps no
  *   pointer that it is passed.
- * - A handle (struct antientropy, antientropy_snapshot, antientropy_hints, antientropy_slots) is initialised with
- *   `= {0}`, and its fields are left alone. It may be moved in memory between calls; of copies only one is used. All
- *   bytes zero means that it holds nothing.
- * - One call at a time on a handle. A handle may go to another thread if the program orders that: by a lock, by a
- *   thread's start or join, or by a sequentially consistent atomic. Different handles may be used at once, even a
- *   replica and its snapshots.
+ * - A handle (struct antientropy_replica, antientropy_snapshot, antientropy_hints, antientropy_slots) is initialised
+ *   with `= {0}`, and its fields are left alone. It may be moved in memory between calls; of copies only one is used.
+ *   All bytes zero means that it holds nothing.
+ * - ONE CALL AT A TIME ON A HANDLE, READS TOO. A reader-writer lock isn't enough: two concurrent reads can leave the
+ *   replica empty for good. A handle may go to another thread if the program orders that: by a lock, by a thread's
+ *   start or join, or by a sequentially consistent atomic. Different handles may be used at once, even a replica and
+ *   its snapshots.
  * - No call from a signal handler, or from the forked child of a process with threads.
  * - malloc, realloc and free are of one allocator, which aligns blocks to 16 bytes.
- * - Before a put, no held version of the key has a greater counter of the node than the context. Otherwise the put may
- *   replace a version that its client never read. See docs/EMBEDDING_C.md, "A replica".
+ * - A put that follows a read is antientropy_put_read, which replaces only versions that its client has read. Before
+ *   antientropy_put, no held version of the key has a greater counter of the node than the context. Otherwise the put
+ *   may replace a version that its client never read. See docs/EMBEDDING_C.md, "A replica".
  * - Counters don't go back: a replica that lost entries returns under a node number that was never used (versions that
  *   no partner holds are lost then), or with every version that it ever acknowledged, showed to a reader or handed to a
  *   partner (antientropy_accept takes them in). Otherwise a put can reuse a clock that another replica holds, and is
@@ -54,8 +57,8 @@ extern "C" {
 #endif
 
 /* The version of this header. A struct that gets a field, or a call that gets another argument, is a new soname. */
-#define ANTIENTROPY_VERSION_MAJOR 0
-#define ANTIENTROPY_VERSION_MINOR 1
+#define ANTIENTROPY_VERSION_MAJOR 1
+#define ANTIENTROPY_VERSION_MINOR 0
 #define ANTIENTROPY_VERSION_PATCH 0
 #define ANTIENTROPY_VERSION \
     (10000 * ANTIENTROPY_VERSION_MAJOR + 100 * ANTIENTROPY_VERSION_MINOR + ANTIENTROPY_VERSION_PATCH)
@@ -87,12 +90,12 @@ extern "C" {
  * no call here returns are left out. */
 enum {
     ANTIENTROPY_OK = 0,
-    ANTIENTROPY_BAD_CLOCK = 1,        /* a pair has node 0, a node over 65,535 or counter 0, or a node is there twice */
+    ANTIENTROPY_BAD_CLOCK = 1,        /* a node is 0, over 65,535 or there twice, or a counter is 0 */
     ANTIENTROPY_CLOCK_FULL = 2,       /* the clock would have more than 32 pairs */
     ANTIENTROPY_COUNTER_FULL = 3,     /* the counter to raise is 2^64 - 1 */
     ANTIENTROPY_BAD_KEY = 4,          /* the key has no byte, or over 255 */
     ANTIENTROPY_BAD_VALUE = 5,        /* too long; a tombstone with a value, or in format 1; or an unknown kind */
-    ANTIENTROPY_STALE_CONTEXT = 6,    /* a held version has seen all of the new version's clock */
+    ANTIENTROPY_STALE_CONTEXT = 6,    /* a held version has seen all of the new clock; of put_read, more of the node */
     ANTIENTROPY_CROWDED = 7,          /* the key would have over 64 versions */
     ANTIENTROPY_JOURNAL_FULL = 8,     /* the journal has no room for the entries */
     ANTIENTROPY_OTHER_RANGE = 9,      /* a key or an offer is of another range, or the rows are of two leaves */
@@ -101,14 +104,14 @@ enum {
     ANTIENTROPY_NOT_ASKED = 13,       /* the node isn't outstanding */
     ANTIENTROPY_WRONG_DIGEST = 14,    /* the text's digest isn't the expected one */
     ANTIENTROPY_NOT_CANONICAL = 15,   /* the digest is right, but the text isn't a node's: the session has failed */
-    ANTIENTROPY_OTHER_FORMAT = 16,    /* the offer is of another format */
+    ANTIENTROPY_OTHER_FORMAT = 16,    /* the offer or the rows are of another format */
     ANTIENTROPY_SESSIONS_FULL = 17,   /* 64 sessions are open, or there are 1,024 */
     ANTIENTROPY_NO_SLOT = 18,         /* no slot is free, or none is lent */
     ANTIENTROPY_CLOCK_BACK = 19,      /* the moment is before the greatest accepted one */
-    ANTIENTROPY_UNKNOWN_HINT = 20,    /* no pending hint has this number */
+    ANTIENTROPY_UNKNOWN_HINT = 20,    /* no pending hint has this number, or no hint can have it */
     ANTIENTROPY_HINTS_FULL = 21,      /* 10,000 hints are pending, or the last number was used */
     ANTIENTROPY_GONE = 22,            /* the ask is for another offer */
-    ANTIENTROPY_BAD_RING = 27,        /* the numbers of a range or of slots are outside the limits */
+    ANTIENTROPY_BAD_RING = 27,        /* a format, or the numbers of a range or of slots, are outside the limits */
     ANTIENTROPY_ROW_BROKEN = 30,      /* the bytes aren't texts of rows */
     ANTIENTROPY_BAD_MESSAGE = 31,     /* not a message, not the expected kind, or a node that isn't in the tree */
     ANTIENTROPY_NO_MEMORY = 32,       /* malloc or realloc failed */
@@ -137,11 +140,14 @@ enum {
     ANTIENTROPY_CANCELLED = 3  /* it was ended before it was finished */
 };
 
-/* A handle of a replica of a range. It may hold nothing. */
-struct antientropy {
+/* A handle of a replica of a range. It may hold nothing. (In C its name before version 1.0.0 still works.) */
+struct antientropy_replica {
     void *at;
     bool held;
 };
+#ifndef __cplusplus
+#define antientropy antientropy_replica
+#endif
 
 /* A handle of a snapshot of a replica's rows. It may hold nothing. (C++ names it antientropy_offered, since there is a
  * function antientropy_snapshot.) */
@@ -155,6 +161,7 @@ typedef struct antientropy_snapshot antientropy_offered;
 struct antientropy_hints {
     void *at;
     bool held;
+    uint64_t before; /* the number before the first of the store's */
 };
 
 /* A handle of slots for background work. It may hold nothing. */
@@ -218,6 +225,8 @@ struct antientropy_counts {
     uint64_t dirty;         /* nodes of the tree that have no digest */
     uint64_t sessions;      /* sessions, ever: at 1,024 no other can be opened */
     uint64_t open_sessions; /* open sessions: at 64 no other can be opened until one has ended */
+    uint64_t first;         /* 0; reserved for journals that are trimmed */
+    uint64_t front;         /* 0; reserved for journals that are trimmed */
 };
 
 /* Counts of hints. */
@@ -259,39 +268,53 @@ uint32_t antientropy_place(uint64_t format, uint64_t bits, const uint8_t *key, s
 /* Makes a replica of range number `range`, from 0, of a ring of 2^bits ranges (bits 0 to 8), in format 1 (256 leaves,
  * no tombstones) or 2 (4,096 leaves), with a journal of at most `limit` entries, 1 to 1,000,000.
  * Refused, in order: HELD (the handle holds one already), BAD_RING (a number is outside its limits), NO_MEMORY. */
-uint32_t antientropy_new(struct antientropy *replica, uint64_t format, uint64_t bits, uint64_t range, uint64_t limit);
+uint32_t antientropy_new(struct antientropy_replica *replica, uint64_t format, uint64_t bits, uint64_t range,
+                         uint64_t limit);
 
 /* Frees the replica that a handle holds, if it holds one. */
-void antientropy_free(struct antientropy *replica);
+void antientropy_free(struct antientropy_replica *replica);
 
 /* Makes a new replica in the empty handle `into`, which begins with the versions that `from` holds: one entry for each,
  * with the same rows and digests, no sessions, and a journal of at most `limit` entries, 1 to 1,000,000. `from` is left
  * unchanged: free it, and go on with the new one under the same node number.
  * Refused, in order: EMPTY (`from`), HELD (`into` holds one already), BAD_RING (the limit), JOURNAL_FULL (more versions
  * are held than the limit), NO_MEMORY. */
-uint32_t antientropy_renew(struct antientropy *from, struct antientropy *into, uint64_t limit);
+uint32_t antientropy_renew(struct antientropy_replica *from, struct antientropy_replica *into, uint64_t limit);
 
 /* Converts a replica of format 1 to format 2. All nodes become dirty, and open sessions are cancelled. A replica of
  * format 2 is left unchanged. Refused, in order: EMPTY, NO_MEMORY. */
-uint32_t antientropy_migrate(struct antientropy *replica);
+uint32_t antientropy_migrate(struct antientropy_replica *replica);
 
 /* Returns the counts of a replica. Refused: EMPTY. */
-uint32_t antientropy_count(struct antientropy *replica, struct antientropy_counts *counts);
+uint32_t antientropy_count(struct antientropy_replica *replica, struct antientropy_counts *counts);
 
 /* ---- versions */
 
-/* Only put and accept check the range of a key. The reads find no version of a key of another range. Of the reads only
- * antientropy_get checks the length of a key. */
+/* Only the puts and accept check the range of a key. The reads find no version of a key of another range. Of the
+ * reads only antientropy_get checks the length of a key. */
 
-/* Puts a value (LIVE) or a tombstone (TOMBSTONE, with no value) for a key at a node, 1 to 65,535. The context is the
- * clock of all that the client has read, its pairs in any order; the new version's clock is the context with the node's
- * counter raised by one. The new version replaces every held version whose clock is at most its clock, even one that
- * the client hasn't read.
- * Refused, in order: EMPTY; BAD_CLOCK (the node is 0, or the context isn't a clock), CLOCK_FULL (the context has over
- * 32 pairs), BAD_VALUE (unknown kind); BAD_KEY, BAD_VALUE (too long for the format, or a tombstone that has a value or
- * is in format 1), OTHER_RANGE, CLOCK_FULL and COUNTER_FULL (the context can't be raised), STALE_CONTEXT, CROWDED,
- * JOURNAL_FULL, NO_MEMORY. NO_MEMORY may be returned instead of any but EMPTY. */
-uint32_t antientropy_put(struct antientropy *replica, uint16_t node, const uint8_t *key, size_t key_len,
+/* Puts a value (LIVE) or a tombstone (TOMBSTONE, with no value) for a key at a node, 1 to 65,535, after a read: of the
+ * two puts it is the one to use. The context is the clock of all that the client has read, its pairs in any order; the
+ * new version's clock is the context with the node's counter raised by one. The new version replaces every held version
+ * whose clock is at most its clock, and each of these the client has read: a put is refused as STALE_CONTEXT if a held
+ * version has a greater counter of the node than the context. Another client has put at this node in between then: read
+ * again.
+ * Refused, in order: EMPTY; BAD_CLOCK (the node is 0 or over 65,535, or the context isn't a clock), CLOCK_FULL (the
+ * context has over 32 pairs), BAD_VALUE (unknown kind); BAD_KEY, BAD_VALUE (too long for the format, or a tombstone
+ * that has a value or is in format 1), OTHER_RANGE, CLOCK_FULL and COUNTER_FULL (the context can't be raised),
+ * STALE_CONTEXT, CROWDED, JOURNAL_FULL, NO_MEMORY. NO_MEMORY may be returned instead of any but EMPTY. */
+uint32_t antientropy_put_read(struct antientropy_replica *replica, uint64_t node, const uint8_t *key, size_t key_len,
+                              const struct antientropy_pair *context, size_t context_len, uint8_t kind,
+                              const uint8_t *value, size_t value_len, struct antientropy_receipt *receipt);
+
+/* Puts as antientropy_put_read does, without its check, which is the caller's then: the new version replaces even a
+ * held version that the client hasn't read, if its clock is at most the new one. It is refused as STALE_CONTEXT only if
+ * a held version has seen all of the new version's clock.
+ * Refused, in order: EMPTY; BAD_CLOCK (the node is 0 or over 65,535, or the context isn't a clock), CLOCK_FULL (the
+ * context has over 32 pairs), BAD_VALUE (unknown kind); BAD_KEY, BAD_VALUE (too long for the format, or a tombstone
+ * that has a value or is in format 1), OTHER_RANGE, CLOCK_FULL and COUNTER_FULL (the context can't be raised),
+ * STALE_CONTEXT, CROWDED, JOURNAL_FULL, NO_MEMORY. NO_MEMORY may be returned instead of any but EMPTY. */
+uint32_t antientropy_put(struct antientropy_replica *replica, uint64_t node, const uint8_t *key, size_t key_len,
                          const struct antientropy_pair *context, size_t context_len, uint8_t kind,
                          const uint8_t *value, size_t value_len, struct antientropy_receipt *receipt);
 
@@ -299,33 +322,33 @@ uint32_t antientropy_put(struct antientropy *replica, uint16_t node, const uint8
  * was known. Refused, in order: EMPTY; BAD_CLOCK (the pairs aren't a clock), CLOCK_FULL, BAD_VALUE (unknown kind);
  * BAD_KEY, BAD_VALUE, OTHER_RANGE; then, if it is new, CROWDED, JOURNAL_FULL; NO_MEMORY, which may be returned instead
  * of any but EMPTY. */
-uint32_t antientropy_accept(struct antientropy *replica, const uint8_t *key, size_t key_len,
+uint32_t antientropy_accept(struct antientropy_replica *replica, const uint8_t *key, size_t key_len,
                             const struct antientropy_pair *clock, size_t clock_len, uint8_t kind, const uint8_t *value,
                             size_t value_len, uint64_t *taken);
 
 /* Returns the text of the row of a key (docs/FORMATS.md): the key with all versions held for it. If none is held,
  * `need` is 0. Refused, in order: EMPTY, BAD_KEY, NO_MEMORY, SMALL. */
-uint32_t antientropy_get(struct antientropy *replica, const uint8_t *key, size_t key_len, uint8_t *out, size_t out_len,
-                         uint64_t *need);
+uint32_t antientropy_get(struct antientropy_replica *replica, const uint8_t *key, size_t key_len, uint8_t *out,
+                         size_t out_len, uint64_t *need);
 
 /* Returns the number of versions held for a key. Several are concurrent. Refused: EMPTY. */
-uint32_t antientropy_versions(struct antientropy *replica, const uint8_t *key, size_t key_len, uint64_t *count);
+uint32_t antientropy_versions(struct antientropy_replica *replica, const uint8_t *key, size_t key_len, uint64_t *count);
 
 /* Returns the value and the kind of one of the versions held for a key, by its index from 0.
  * Refused, in order: EMPTY, NO_VERSION, SMALL (`kind` is written anyway). */
-uint32_t antientropy_value(struct antientropy *replica, const uint8_t *key, size_t key_len, uint64_t index,
+uint32_t antientropy_value(struct antientropy_replica *replica, const uint8_t *key, size_t key_len, uint64_t index,
                            uint8_t *kind, uint8_t *out, size_t out_len, uint64_t *need);
 
 /* Returns the clock of one of the versions held for a key, by its index from 0: at most 32 pairs, by rising node.
  * `out_len` and `need` count pairs. Refused, in order: EMPTY, NO_VERSION, SMALL. */
-uint32_t antientropy_clock(struct antientropy *replica, const uint8_t *key, size_t key_len, uint64_t index,
+uint32_t antientropy_clock(struct antientropy_replica *replica, const uint8_t *key, size_t key_len, uint64_t index,
                            struct antientropy_pair *out, size_t out_len, uint64_t *need);
 
 /* Returns one of the versions held for a key, by its index from 0, in one call: its clock in `pairs`, its value in
  * `value`, and in `reading` its kind, the sizes of both, and the number of versions held.
  * Refused, in order: EMPTY, NO_VERSION, SMALL (of the clock and the value at least one doesn't fit: `reading` is
  * written anyway, and so is the one that fits). */
-uint32_t antientropy_read(struct antientropy *replica, const uint8_t *key, size_t key_len, uint64_t index,
+uint32_t antientropy_read(struct antientropy_replica *replica, const uint8_t *key, size_t key_len, uint64_t index,
                           struct antientropy_reading *reading, struct antientropy_pair *pairs, size_t pairs_len,
                           uint8_t *value, size_t value_len);
 
@@ -333,7 +356,7 @@ uint32_t antientropy_read(struct antientropy *replica, const uint8_t *key, size_
  * listed leaf by leaf. Leaves are counted from 0 to 255, in format 2 to 4,095. Keys that are put meanwhile are listed
  * if they lie ahead. Refused, in order: EMPTY, BAD_MESSAGE (the tree has no such leaf), NO_VERSION (no key follows),
  * SMALL. */
-uint32_t antientropy_key_after(struct antientropy *replica, uint16_t leaf, const uint8_t *key, size_t key_len,
+uint32_t antientropy_key_after(struct antientropy_replica *replica, uint64_t leaf, const uint8_t *key, size_t key_len,
                                uint8_t *out, size_t out_len, uint64_t *need);
 
 /* Orders of two clocks. */
@@ -360,41 +383,51 @@ uint32_t antientropy_merge(const struct antientropy_pair *first, size_t first_le
 /* ---- the journal */
 
 /* Every accepted version is an entry, numbered from 0 in the order of acceptance. The new entries of a call are those
- * from the count of entries before it to the count after it: what a put, an accept, a load or a take brought. */
+ * from the count of entries before it to the count after it: what a put, an accept, a load or a take brought. After a
+ * renewal the entries are those of the versions that are held, leaf by leaf, each with the source COPY: the order of
+ * acceptance and the sources before it are forgotten. Entries that a load brings are in the order of its rows, as COPY
+ * too. */
 
 /* Returns the key of an entry. Refused, in order: EMPTY, NO_VERSION (no such entry), SMALL. */
-uint32_t antientropy_entry_key(struct antientropy *replica, uint64_t number, uint8_t *out, size_t out_len,
+uint32_t antientropy_entry_key(struct antientropy_replica *replica, uint64_t number, uint8_t *out, size_t out_len,
                                uint64_t *need);
 
 /* Returns the value and the kind of an entry's version.
  * Refused, in order: EMPTY, NO_VERSION (no such entry), SMALL (`kind` is written anyway). */
-uint32_t antientropy_entry_value(struct antientropy *replica, uint64_t number, uint8_t *kind, uint8_t *out,
+uint32_t antientropy_entry_value(struct antientropy_replica *replica, uint64_t number, uint8_t *kind, uint8_t *out,
                                  size_t out_len, uint64_t *need);
 
 /* Returns the clock of an entry's version: at most 32 pairs, by rising node. `out_len` and `need` count pairs.
  * Refused, in order: EMPTY, NO_VERSION (no such entry), SMALL. */
-uint32_t antientropy_entry_clock(struct antientropy *replica, uint64_t number, struct antientropy_pair *out,
+uint32_t antientropy_entry_clock(struct antientropy_replica *replica, uint64_t number, struct antientropy_pair *out,
                                  size_t out_len, uint64_t *need);
 
 /* Returns the source of an entry's version: PUT, COPY, HINT or PARTNER. Refused, in order: EMPTY, NO_VERSION (no such
  * entry). */
-uint32_t antientropy_entry_source(struct antientropy *replica, uint64_t number, uint64_t *source);
+uint32_t antientropy_entry_source(struct antientropy_replica *replica, uint64_t number, uint64_t *source);
+
+/* Returns the greatest counter of a node in the clocks of the versions of a key that the first `entries` entries of the
+ * journal accepted (all, if there are fewer): 0 if there is none. By it a host sees whether a partner holds a version
+ * with a counter of the host's node number that the host has lost.
+ * Refused, in order: EMPTY, BAD_CLOCK (the node is 0 or over 65,535). */
+uint32_t antientropy_top_counter(struct antientropy_replica *replica, uint64_t node, const uint8_t *key, size_t key_len,
+                                 uint64_t entries, uint64_t *counter);
 
 /* ---- the tree */
 
 /* Hashes all nodes that have no digest. Refused, in order: EMPTY, NO_MEMORY. */
-uint32_t antientropy_rehash(struct antientropy *replica);
+uint32_t antientropy_rehash(struct antientropy_replica *replica);
 
 /* Hashes at most `most` of the nodes that have no digest though all their children have one, and returns the number of
  * nodes that have none then. A program that repeats it until that is 0 can make other calls between; with `most` 0 no
  * node is hashed. Refused, in order: EMPTY, NO_MEMORY. */
-uint32_t antientropy_rehash_some(struct antientropy *replica, uint64_t most, uint64_t *left);
+uint32_t antientropy_rehash_some(struct antientropy_replica *replica, uint64_t most, uint64_t *left);
 
 /* ---- offers */
 
 /* Makes a snapshot of the rows now. It shares them with the replica, which copies those that it changes later.
  * Refused, in order: EMPTY (the replica), HELD (the snapshot holds one already), DIRTY, NO_MEMORY. */
-uint32_t antientropy_snapshot(struct antientropy *replica, struct antientropy_snapshot *snapshot);
+uint32_t antientropy_snapshot(struct antientropy_replica *replica, struct antientropy_snapshot *snapshot);
 
 /* Frees the snapshot that a handle holds, if it holds one. */
 void antientropy_snapshot_free(struct antientropy_snapshot *snapshot);
@@ -421,39 +454,48 @@ uint32_t antientropy_serve(struct antientropy_snapshot *snapshot, uint32_t numbe
 
 /* Returns the texts of the rows of a leaf, 0 to 255, or to 4,095 in format 2: the bytes to save, and to load again.
  * Refused, in order: EMPTY, BAD_MESSAGE (the tree has no such leaf), NO_MEMORY, SMALL. */
-uint32_t antientropy_rows(struct antientropy_snapshot *snapshot, uint16_t leaf, uint8_t *out, size_t out_len,
+uint32_t antientropy_rows(struct antientropy_snapshot *snapshot, uint64_t leaf, uint8_t *out, size_t out_len,
                           uint64_t *need);
 
 /* Loads rows of one leaf, in ascending order of key, as antientropy_rows or antientropy_get returns them: accepts all
  * of their versions as copies, or none. Refused, in order: EMPTY, ROW_BROKEN, OTHER_RANGE (also for rows of two
  * leaves), CROWDED, JOURNAL_FULL, NO_MEMORY, which may be returned instead of any but EMPTY. */
-uint32_t antientropy_load(struct antientropy *replica, const uint8_t *rows, size_t rows_len,
+uint32_t antientropy_load(struct antientropy_replica *replica, const uint8_t *rows, size_t rows_len,
                           struct antientropy_loaded *loaded);
+
+/* Loads rows of a named format and of any leaves of the range, in ascending order of key, as copies, whole or not at
+ * all. So rows that were saved before a migration can be loaded after it, and rows of many keys in one call.
+ * Refused, in order: EMPTY, BAD_RING (the format is neither 1 nor 2), OTHER_FORMAT (rows of format 2, replica of
+ * format 1), ROW_BROKEN, OTHER_RANGE (a key of another range), CROWDED, JOURNAL_FULL, NO_MEMORY, which may be returned
+ * instead of any but EMPTY, BAD_RING and OTHER_FORMAT. */
+uint32_t antientropy_load_format(struct antientropy_replica *replica, uint64_t format, const uint8_t *rows,
+                                 size_t rows_len, struct antientropy_loaded *loaded);
 
 /* ---- sessions */
 
-/* Opens a session with a partner's offer, and returns its number, from 0. The partner's number is kept in the session's
- * record; it isn't checked, and no call returns it. A session is never freed before its replica, so compare roots
- * first (antientropy_root, antientropy_read_offer). Refused, in order: EMPTY, BAD_MESSAGE, OTHER_FORMAT, OTHER_RANGE,
+/* Opens a session with a partner's offer, and returns its number, from 0. The partner's number, at most 65,535, is kept
+ * in the session's record, and no call returns it. A session is never freed before its replica, so compare first
+ * (antientropy_read_offer, antientropy_root): an offer of the replica's format, range and root needs no session.
+ * Refused, in order: EMPTY, BAD_CLOCK (the partner is over 65,535), BAD_MESSAGE, OTHER_FORMAT, OTHER_RANGE,
  * SESSIONS_FULL, DIRTY, NO_MEMORY. NO_MEMORY may be returned instead of BAD_MESSAGE. */
-uint32_t antientropy_open(struct antientropy *replica, uint16_t partner, const uint8_t *offer, size_t offer_len,
+uint32_t antientropy_open(struct antientropy_replica *replica, uint64_t partner, const uint8_t *offer, size_t offer_len,
                           uint64_t *session);
 
 /* Returns the number of nodes that a session has outstanding: 0 if it has ended.
  * Refused, in order: EMPTY, UNKNOWN_SESSION. */
-uint32_t antientropy_outstanding(struct antientropy *replica, uint64_t session, uint64_t *count);
+uint32_t antientropy_outstanding(struct antientropy_replica *replica, uint64_t session, uint64_t *count);
 
 /* Returns the ask for one of the outstanding nodes of a session, by its place from 0. `number` is the number in the
  * partner's offer. If there are no more, `need` is 0. Several asks may be on their way at once: answers are taken in
  * any order. Each answer that is taken changes the places. Refused, in order: EMPTY, UNKNOWN_SESSION, NO_MEMORY,
  * SMALL. */
-uint32_t antientropy_ask_at(struct antientropy *replica, uint64_t session, uint64_t place, uint32_t number,
+uint32_t antientropy_ask_at(struct antientropy_replica *replica, uint64_t session, uint64_t place, uint32_t number,
                             uint8_t *out, size_t out_len, uint64_t *need);
 
 /* Returns the ask for the first outstanding node of a session, as antientropy_ask_at does for place 0.
  * Refused, in order: EMPTY, UNKNOWN_SESSION, NO_MEMORY, SMALL. */
-uint32_t antientropy_ask(struct antientropy *replica, uint64_t session, uint32_t number, uint8_t *out, size_t out_len,
-                         uint64_t *need);
+uint32_t antientropy_ask(struct antientropy_replica *replica, uint64_t session, uint32_t number, uint8_t *out,
+                         size_t out_len, uint64_t *need);
 
 /* Takes a partner's answer to an ask for the offer of that number. The partner isn't trusted.
  * Refused, in order: EMPTY, BAD_MESSAGE (not an answer, or of another offer), UNKNOWN_SESSION, NOT_ASKED, WRONG_DIGEST,
@@ -461,59 +503,70 @@ uint32_t antientropy_ask(struct antientropy *replica, uint64_t session, uint32_t
  * but EMPTY. After BAD_MESSAGE, NOT_ASKED and WRONG_DIGEST ask again, with a bound on the number of bad answers. After
  * CROWDED, JOURNAL_FULL and NO_MEMORY the session stays open, and antientropy_ask names the same node: cancel the
  * session, or ask for another node by antientropy_ask_at. NOT_ASKED means that the node isn't outstanding. */
-uint32_t antientropy_take(struct antientropy *replica, uint64_t session, uint32_t number, const uint8_t *answer,
+uint32_t antientropy_take(struct antientropy_replica *replica, uint64_t session, uint32_t number, const uint8_t *answer,
                           size_t answer_len, struct antientropy_taken *taken);
 
 /* Cancels a session if it is open; otherwise leaves it unchanged. Refused, in order: EMPTY, UNKNOWN_SESSION. */
-uint32_t antientropy_cancel(struct antientropy *replica, uint64_t session);
+uint32_t antientropy_cancel(struct antientropy_replica *replica, uint64_t session);
 
 /* Returns the state of a session. Refused, in order: EMPTY, UNKNOWN_SESSION. */
-uint32_t antientropy_session(struct antientropy *replica, uint64_t session, uint64_t *state);
+uint32_t antientropy_session(struct antientropy_replica *replica, uint64_t session, uint64_t *state);
 
 /* ---- hints: versions that a node carries for replicas that are down */
 
-/* Makes an empty store of hints. Refused, in order: HELD (the handle holds one already), NO_MEMORY. */
+/* No number ever names two hints. A number that was used names its hint or, after a renewal, none: then it is refused
+ * as NO_VERSION or UNKNOWN_HINT, and the hint, which has a new number, is sent once more and is known to its owner. */
+
+/* Makes an empty store of hints. The first hint gets the number 1.
+ * Refused, in order: HELD (the handle holds one already), NO_MEMORY. */
 uint32_t antientropy_hints_new(struct antientropy_hints *hints);
+
+/* Makes an empty store of hints, after a restart. The first hint gets the number `first`, which must be above all
+ * numbers in the host's log: the hints that are kept again get new numbers, which are logged, and no old number names
+ * another hint.
+ * Refused, in order: HELD (the handle holds one already), UNKNOWN_HINT (`first` is 0), NO_MEMORY. */
+uint32_t antientropy_hints_restore(struct antientropy_hints *hints, uint64_t first);
 
 /* Frees the hints of a handle, if any. */
 void antientropy_hints_free(struct antientropy_hints *hints);
 
-/* Keeps a version for its owner, a node that is down, and returns the number of the hint, from 1. A hint is of no
- * range: the owner checks the key and the format when it accepts the version.
- * Refused, in order: EMPTY; BAD_CLOCK (the owner is 0, or the pairs aren't a clock), CLOCK_FULL, BAD_VALUE (unknown
- * kind); BAD_KEY, BAD_VALUE (too long for format 2, or a tombstone that has a value), HINTS_FULL, NO_MEMORY, which may
- * be returned instead of any but EMPTY. */
-uint32_t antientropy_hint_keep(struct antientropy_hints *hints, uint16_t owner, const uint8_t *key, size_t key_len,
+/* Keeps a version for its owner, a node that is down, and returns the number of the hint: one more than the last. A
+ * hint is of no range: the owner checks the key and the format when it accepts the version.
+ * Refused, in order: EMPTY; BAD_CLOCK (the owner is 0 or over 65,535, or the pairs aren't a clock), CLOCK_FULL,
+ * BAD_VALUE (unknown kind); BAD_KEY, BAD_VALUE (too long for format 2, or a tombstone that has a value), HINTS_FULL
+ * (10,000 are pending, 2^32 - 1 were kept since the last renewal, or the number would be over 2^64 - 1), NO_MEMORY,
+ * which may be returned instead of any but EMPTY. */
+uint32_t antientropy_hint_keep(struct antientropy_hints *hints, uint64_t owner, const uint8_t *key, size_t key_len,
                                const struct antientropy_pair *clock, size_t clock_len, uint8_t kind,
                                const uint8_t *value, size_t value_len, uint64_t *id);
 
 /* Returns the pending hint of an owner with the least number over `after`: 0 gives the first.
  * Refused, in order: EMPTY, NO_VERSION (there is none). */
-uint32_t antientropy_hint_next(struct antientropy_hints *hints, uint16_t owner, uint32_t after, uint64_t *id);
+uint32_t antientropy_hint_next(struct antientropy_hints *hints, uint64_t owner, uint64_t after, uint64_t *id);
 
 /* Returns the owner of a hint, pending or delivered. Refused, in order: EMPTY, NO_VERSION (no such hint). */
-uint32_t antientropy_hint_owner(struct antientropy_hints *hints, uint32_t id, uint64_t *owner);
+uint32_t antientropy_hint_owner(struct antientropy_hints *hints, uint64_t id, uint64_t *owner);
 
 /* Returns the key of a hint. Refused, in order: EMPTY, NO_VERSION (no such hint), SMALL. */
-uint32_t antientropy_hint_key(struct antientropy_hints *hints, uint32_t id, uint8_t *out, size_t out_len,
+uint32_t antientropy_hint_key(struct antientropy_hints *hints, uint64_t id, uint8_t *out, size_t out_len,
                               uint64_t *need);
 
 /* Returns the value and the kind of a hint's version.
  * Refused, in order: EMPTY, NO_VERSION (no such hint), SMALL (`kind` is written anyway). */
-uint32_t antientropy_hint_value(struct antientropy_hints *hints, uint32_t id, uint8_t *kind, uint8_t *out,
+uint32_t antientropy_hint_value(struct antientropy_hints *hints, uint64_t id, uint8_t *kind, uint8_t *out,
                                 size_t out_len, uint64_t *need);
 
 /* Returns the clock of a hint's version: at most 32 pairs, by rising node. `out_len` and `need` count pairs.
  * Refused, in order: EMPTY, NO_VERSION (no such hint), SMALL. */
-uint32_t antientropy_hint_clock(struct antientropy_hints *hints, uint32_t id, struct antientropy_pair *out,
+uint32_t antientropy_hint_clock(struct antientropy_hints *hints, uint64_t id, struct antientropy_pair *out,
                                 size_t out_len, uint64_t *need);
 
 /* Ends the wait of a pending hint, which its owner has accepted, or knew. Call it after the owner has the version on
- * its disk. Refused, in order: EMPTY, UNKNOWN_HINT. */
-uint32_t antientropy_hint_confirm(struct antientropy_hints *hints, uint32_t id, bool known);
+ * its disk. Refused, in order: EMPTY, UNKNOWN_HINT (no pending hint has this number). */
+uint32_t antientropy_hint_confirm(struct antientropy_hints *hints, uint64_t id, bool known);
 
-/* Drops the delivered hints, and numbers the pending ones anew from 1, in order. Refused, in order: EMPTY,
- * NO_MEMORY. */
+/* Drops the delivered hints. The pending ones get new numbers: those after the last one that was used, in order. A host
+ * that logs hints logs these. Refused, in order: EMPTY, HINTS_FULL (a number would be over 2^64 - 1), NO_MEMORY. */
 uint32_t antientropy_hints_renew(struct antientropy_hints *hints);
 
 /* Returns the counts of hints. Refused: EMPTY. */

@@ -12,17 +12,19 @@
 /// OBJECTS. All classes with a handle are moved, not copied. A call of an object that was closed or moved from is
 /// refused as Empty: no doc comment repeats it. The same holds for NoMemory, which may come instead of other causes.
 ///
-/// NUMBERS have the types of C, so a number that a type can't hold is cut before the call: -Wconversion warns of that.
-/// Text and bytes go in as std::string_view, and come out as std::string.
+/// NUMBERS of nodes, owners, partners, leaves and hints have 64 bits, and are refused over their limit. Those of offers
+/// and of slots have 32 bits: -Wconversion warns if one is cut before the call. Text and bytes go in as
+/// std::string_view, and come out as std::string.
 ///
-/// THREADS. No class takes a lock: one call at a time on an object. Even a call that reads counts, so it isn't const. A
-/// `Session` and a `Sequence` of a replica count as the replica, a `Loan` as its slots. A replica and its snapshots are
-/// apart, and may be used at once. Call nothing in a signal handler, or in the forked child of a process with threads.
+/// THREADS. No class takes a lock: **one call at a time on an object, reads too**, so none of them is const. A
+/// reader-writer lock isn't enough: two concurrent reads can leave a replica empty for good. A `Session` and a
+/// `Sequence` of a replica count as the replica, a `Loan` as its slots. A replica and its snapshots are apart, and may
+/// be used at once. Call nothing in a signal handler, or in the forked child of a process with threads.
 #ifndef ANTIENTROPY_HPP
 #define ANTIENTROPY_HPP
 
 #ifdef ANTIENTROPY_H
-#error "include antientropy.hpp without antientropy.h: its struct antientropy has the name of the namespace"
+#error "include antientropy.hpp without antientropy.h, whose names it has in antientropy::c"
 #endif
 
 #include <stdbool.h>
@@ -48,7 +50,7 @@
 
 namespace antientropy {
 
-/// The names of the C header. They are in a namespace, since C has a struct antientropy.
+/// The names of the C header.
 namespace c {
 #include "antientropy.h"
 }
@@ -271,9 +273,9 @@ struct Entry {
     Source source;
 };
 
-/// A version that is kept for its owner, a node that is down. Numbers begin at 1.
+/// A version that is kept for its owner, a node that is down. No number ever names two hints.
 struct Hint {
-    std::uint32_t number;
+    std::uint64_t number;
     std::uint64_t owner;
     std::string key;
     Version version;
@@ -285,7 +287,8 @@ using Receipt = c::antientropy_receipt;
 /// The `range` and the `leaf` of a key.
 using Spot = c::antientropy_spot;
 
-/// Counts of a replica: `entries`, their `limit`, `dirty` nodes, `sessions` ever, and `open_sessions`.
+/// Counts of a replica: `entries`, their `limit`, `dirty` nodes, `sessions` ever, and `open_sessions`. `first` and
+/// `front` are 0.
 using Counts = c::antientropy_counts;
 
 /// Counts of hints: `pending` and `delivered`.
@@ -394,7 +397,7 @@ private:
 
 namespace detail {
 
-using ReplicaHandle = c::antientropy;
+using ReplicaHandle = c::antientropy_replica;
 
 /// A pointer that is never NULL, as C asks.
 inline const std::uint8_t *data(std::string_view bytes) {
@@ -554,7 +557,7 @@ inline Result<std::optional<Version>> read_version(ReplicaHandle *replica, std::
     return or_none(read_version(replica, key, index, held));
 }
 
-inline Result<std::optional<std::string>> key_after(ReplicaHandle *replica, std::uint16_t leaf, std::string_view key) {
+inline Result<std::optional<std::string>> key_after(ReplicaHandle *replica, std::uint64_t leaf, std::string_view key) {
     return or_none(bytes(
         [&](auto... out) { return c::antientropy_key_after(replica, leaf, data(key), key.size(), out...); }));
 }
@@ -577,7 +580,7 @@ public:
 
 private:
     Shared<ReplicaHandle> replica_;
-    std::uint16_t leaf_ = 0;
+    std::uint64_t leaf_ = 0;
     std::string key_;
 };
 
@@ -592,14 +595,14 @@ inline Result<Entry> entry(ReplicaHandle *replica, std::uint64_t number) {
     return result(refused, Entry{number, std::move(*key), std::move(*held), static_cast<Source>(source)});
 }
 
-inline Result<std::optional<std::uint32_t>> hint_after(c::antientropy_hints *hints, std::uint16_t owner,
-                                                       std::uint32_t after) {
+inline Result<std::optional<std::uint64_t>> hint_after(c::antientropy_hints *hints, std::uint64_t owner,
+                                                       std::uint64_t after) {
     std::uint64_t id = 0;
     const auto number = c::antientropy_hint_next(hints, owner, after, &id);
-    return or_none(result(number, static_cast<std::uint32_t>(id)));
+    return or_none(result(number, id));
 }
 
-inline Result<Hint> hint(c::antientropy_hints *hints, std::uint32_t id) {
+inline Result<Hint> hint(c::antientropy_hints *hints, std::uint64_t id) {
     std::uint64_t owner = 0;
     const auto number = c::antientropy_hint_owner(hints, id, &owner);
     if (number != c::ANTIENTROPY_OK) return static_cast<Refusal>(number);
@@ -612,8 +615,8 @@ inline Result<Hint> hint(c::antientropy_hints *hints, std::uint32_t id) {
 }
 
 /// The pending hint after another one.
-inline Result<std::optional<Hint>> pending_after(c::antientropy_hints *hints, std::uint16_t owner,
-                                                 std::uint32_t after) {
+inline Result<std::optional<Hint>> pending_after(c::antientropy_hints *hints, std::uint64_t owner,
+                                                 std::uint64_t after) {
     const auto id = hint_after(hints, owner, after);
     if (!id) return id.refusal();
     if (!*id) return std::optional<Hint>();
@@ -769,7 +772,7 @@ public:
     }
 
     /// Returns the texts of the rows of a leaf, from 0. Refused: BadMessage (the tree has no such leaf).
-    Result<std::string> rows(std::uint16_t leaf) {
+    Result<std::string> rows(std::uint64_t leaf) {
         return detail::bytes([&](auto... out) { return c::antientropy_rows(at(), leaf, out...); });
     }
 
@@ -780,7 +783,7 @@ public:
         if (!digest) return FileError{Fault::Refused, digest.refusal()};
         file << detail::to_bytes(detail::Head{format_, bits_, range_, std::move(*digest)});
         for (unsigned leaf = 0; leaf < detail::leaves_of(format_) && file; leaf++) {
-            const auto texts = rows(static_cast<std::uint16_t>(leaf));
+            const auto texts = rows(leaf);
             if (!texts) return FileError{Fault::Refused, texts.refusal()};
             file << detail::to_bytes(texts->size(), 8) << *texts;
         }
@@ -1076,25 +1079,29 @@ public:
 
     // ---- versions
 
-    /// Puts a value, or a tombstone for std::nullopt, for a key at a node, 1 to 65,535. The context is the clock of all
-    /// that the client has read. The new version replaces every held version whose clock is at most its clock, even one
-    /// that the client hasn't read.
-    /// Refused, in order: BadClock (the node is 0, or the context isn't a clock), ClockFull (the context), BadKey,
-    /// BadValue (too long, or a tombstone in format 1), OtherRange, ClockFull and CounterFull (the context can't be
-    /// raised), StaleContext, Crowded, JournalFull.
-    Result<Receipt> put(std::uint16_t node, std::string_view key, std::optional<std::string_view> value,
+    /// Puts a value, or a tombstone for std::nullopt, for a key at a node, 1 to 65,535: the put after a read. The
+    /// context is the clock of all that the client has read. The new version replaces every held version whose clock is
+    /// at most its clock. The client has read each of these: StaleContext means that a held version has a greater
+    /// counter of the node than the context, so another client has put in between; read again.
+    /// Refused, in order: BadClock (the node is 0 or over 65,535, or the context isn't a clock), ClockFull (the
+    /// context), BadKey, BadValue (too long, or a tombstone in format 1), OtherRange, ClockFull and CounterFull (the
+    /// context can't be raised), StaleContext, Crowded, JournalFull.
+    Result<Receipt> put(std::uint64_t node, std::string_view key, std::optional<std::string_view> value,
                         const Clock &context = {}) {
-        const std::uint8_t kind = value ? c::ANTIENTROPY_LIVE : c::ANTIENTROPY_TOMBSTONE;
-        const std::string_view bytes = value.value_or(std::string_view());
-        Receipt receipt = {};
-        const auto number =
-            c::antientropy_put(at(), node, detail::data(key), key.size(), detail::data(context), context.size(), kind,
-                               detail::data(bytes), bytes.size(), &receipt);
-        return detail::result(number, receipt);
+        return put_by([&](auto... in) { return c::antientropy_put_read(at(), node, in...); }, key, value, context);
+    }
+
+    /// Puts as `put` does, for a caller that has made its check itself: the new version replaces even a held version
+    /// that the client hasn't read. Refused as `put`, but as StaleContext only if a held version has seen all of the
+    /// new version's clock.
+    Result<Receipt> put_unread(std::uint64_t node, std::string_view key, std::optional<std::string_view> value,
+                               const Clock &context = {}) {
+        return put_by([&](auto... in) { return c::antientropy_put(at(), node, in...); }, key, value, context);
     }
 
     /// No value: write std::nullopt for a tombstone.
-    Result<Receipt> put(std::uint16_t, std::string_view, std::nullptr_t, const Clock & = {}) = delete;
+    Result<Receipt> put(std::uint64_t, std::string_view, std::nullptr_t, const Clock & = {}) = delete;
+    Result<Receipt> put_unread(std::uint64_t, std::string_view, std::nullptr_t, const Clock & = {}) = delete;
 
     /// Accepts a version of another replica, as a copy.
     /// Refused, in order: BadClock, ClockFull, BadValue (unknown kind), BadKey, BadValue, OtherRange; then, if it is
@@ -1165,7 +1172,7 @@ public:
     Sequence<std::string> keys() { return Sequence<std::string>(detail::Keys(handle_.share())); }
 
     /// Goes through the keys of a leaf, from 0, in ascending order. Refused: BadMessage (the tree has no such leaf).
-    Sequence<std::string> keys_of(std::uint16_t leaf) {
+    Sequence<std::string> keys_of(std::uint64_t leaf) {
         const auto next = [replica = handle_.share(), leaf, key = std::string()]() mutable {
             auto found = detail::key_after(replica.get(), leaf, key);
             if (found && *found) key = **found;
@@ -1176,18 +1183,32 @@ public:
 
     /// Returns the least key of a leaf above a key, or the first one for a key of no bytes; none if no key follows.
     /// Refused: BadMessage (the tree has no such leaf).
-    Result<std::optional<std::string>> key_after(std::uint16_t leaf, std::string_view key) {
+    Result<std::optional<std::string>> key_after(std::uint64_t leaf, std::string_view key) {
         return detail::key_after(at(), leaf, key);
     }
 
     // ---- the journal
 
-    /// Goes through the entries of the journal, from a number on. Entries are never changed.
-    Sequence<Entry> entries(std::uint64_t start = 0) {
+    /// Goes through the entries of the journal, from a number on. Entries are never changed. Refused: NoVersion (the
+    /// number is over that of entries, so it is one of a journal before a renewal). That finds only some old numbers,
+    /// since a renewal numbers the entries anew: begin at its count of entries.
+    Result<Sequence<Entry>> entries(std::uint64_t start = 0) {
+        const auto counts = count();
+        if (!counts) return counts.refusal();
+        if (start > counts->entries) return Refusal::NoVersion;
         const auto next = [replica = handle_.share(), number = start]() mutable {
             return detail::or_none(detail::entry(replica.get(), number++));
         };
         return Sequence<Entry>(next);
+    }
+
+    /// Returns the greatest counter of a node in the clocks of a key's versions among the first `entries` entries of
+    /// the journal, or 0. Refused: BadClock (the node is 0 or over 65,535).
+    Result<std::uint64_t> top_counter(std::uint64_t node, std::string_view key, std::uint64_t entries = UINT64_MAX) {
+        std::uint64_t counter = 0;
+        const auto number =
+            c::antientropy_top_counter(at(), node, detail::data(key), key.size(), entries, &counter);
+        return detail::result(number, counter);
     }
 
     /// Returns an entry of the journal, by its number from 0, or none.
@@ -1232,10 +1253,15 @@ public:
     /// RowBroken `broken` gets the offset in bytes of the broken field.
     /// Refused, in order: RowBroken, OtherRange (also for rows of two leaves), Crowded, JournalFull.
     Result<Loaded> load_rows(std::string_view rows, std::uint64_t *broken = nullptr) {
-        c::antientropy_loaded loaded = {};
-        const auto number = c::antientropy_load(at(), detail::data(rows), rows.size(), &loaded);
-        if (number == c::ANTIENTROPY_ROW_BROKEN && broken) *broken = loaded.offset;
-        return detail::result(number, Loaded{loaded.taken, loaded.known});
+        return load_by([&](auto... in) { return c::antientropy_load(at(), in...); }, rows, broken);
+    }
+
+    /// Accepts all versions in rows of a format and of any leaves, in ascending order of key, as copies, or none: a
+    /// replica of format 2 loads rows of format 1 too. At RowBroken `broken` gets the offset of the broken field.
+    /// Refused, in order: BadRing (the format is neither 1 nor 2), OtherFormat (rows of format 2, replica of format 1),
+    /// RowBroken, OtherRange, Crowded, JournalFull.
+    Result<Loaded> load_format(std::uint64_t format, std::string_view rows, std::uint64_t *broken = nullptr) {
+        return load_by([&](auto... in) { return c::antientropy_load_format(at(), format, in...); }, rows, broken);
     }
 
     /// Writes a checkpoint of the rows now (docs/FORMATS.md), and returns the number of entries that are in it: a log
@@ -1249,9 +1275,10 @@ public:
     // ---- sessions
 
     /// Opens a session with a partner's offer, after a rehash unless `rehash` is false. The partner's number is
-    /// recorded, and not checked. A session's record is never freed before its replica, so compare roots first.
-    /// Refused, in order: BadMessage, OtherFormat, OtherRange, SessionsFull, Dirty (`rehash` is false).
-    Result<Session> open(std::uint16_t partner, std::string_view offer, bool rehash = true) {
+    /// recorded. A session's record is never freed before its replica, so compare roots first.
+    /// Refused, in order: BadMessage, BadClock (the partner is over 65,535), OtherFormat, OtherRange, SessionsFull,
+    /// Dirty (`rehash` is false).
+    Result<Session> open(std::uint64_t partner, std::string_view offer, bool rehash = true) {
         const auto hashed = rehash ? this->rehash() : Result<void>();
         if (!hashed) return hashed.refusal();
         const auto parts = read_offer(offer);
@@ -1262,18 +1289,19 @@ public:
         return Session(handle_.share(), session, static_cast<std::uint32_t>(parts->number));
     }
 
-    /// Takes the versions of a partner's offer that this replica lacks. If the roots are equal it asks nothing.
+    /// Takes the versions of a partner's offer that this replica lacks. If the roots are equal it opens no session.
     /// `reach` gets at most `in_flight` asks at once, and at least one. After more than `most_bad` bad or missing
     /// answers the sync ends unfinished. A leaf with a crowded key is left. At a refusal the versions taken before it
     /// stay.
-    /// Refused, in order: BadMessage, OtherFormat, OtherRange, SessionsFull; later NotCanonical or JournalFull.
-    Result<Synced> sync(std::uint16_t partner, std::string_view offer, const Reach &reach, std::size_t in_flight = 256,
+    /// Refused, in order: BadMessage, BadClock (the partner is over 65,535), OtherFormat, OtherRange, SessionsFull;
+    /// later NotCanonical or JournalFull.
+    Result<Synced> sync(std::uint64_t partner, std::string_view offer, const Reach &reach, std::size_t in_flight = 256,
                         std::uint64_t most_bad = 8) {
         const auto here = root();
         if (!here) return here.refusal();
         const auto there = read_offer(offer);
         if (!there) return there.refusal();
-        if (*here == there->root) return Synced{};
+        if (there->format == format_ && there->range == range_ && there->root == *here) return Synced{};
         auto session = open(partner, offer);
         if (!session) return session.refusal();
         return detail::Run(std::move(*session), reach, in_flight, most_bad).finish();
@@ -1286,6 +1314,25 @@ private:
     detail::ReplicaHandle *at() { return handle_.get(); }
 
     static FileError refused(Refusal refusal) { return {Fault::Refused, refusal}; }
+
+    template <class Call>
+    static Result<Receipt> put_by(Call call, std::string_view key, std::optional<std::string_view> value,
+                                  const Clock &context) {
+        const std::uint8_t kind = value ? c::ANTIENTROPY_LIVE : c::ANTIENTROPY_TOMBSTONE;
+        const std::string_view bytes = value.value_or(std::string_view());
+        Receipt receipt = {};
+        const auto number = call(detail::data(key), key.size(), detail::data(context), context.size(), kind,
+                                 detail::data(bytes), bytes.size(), &receipt);
+        return detail::result(number, receipt);
+    }
+
+    template <class Call>
+    static Result<Loaded> load_by(Call call, std::string_view rows, std::uint64_t *broken) {
+        c::antientropy_loaded loaded = {};
+        const auto number = call(detail::data(rows), rows.size(), &loaded);
+        if (number == c::ANTIENTROPY_ROW_BROKEN && broken) *broken = loaded.offset;
+        return detail::result(number, Loaded{loaded.taken, loaded.known});
+    }
 
     /// Makes a replica for a checkpoint: BadRing is damage, unless the limit is the cause.
     static FileResult<Replica> make_for(const detail::Head &head, std::uint64_t limit) {
@@ -1329,40 +1376,50 @@ private:
 /// Versions that a node carries for replicas that are down. A hint is of no range.
 class Hints {
 public:
-    /// Makes an empty store of hints.
+    /// Makes an empty store of hints. The first hint gets the number 1.
     static Result<Hints> make() {
         Hints made;
         const auto number = c::antientropy_hints_new(made.at());
         return detail::result(number, std::move(made));
     }
 
+    /// Makes an empty store of hints, after a restart. The first hint gets the number `first`, which must be above all
+    /// numbers in the program's log: hints that are kept again get new numbers, which are logged, and no old number
+    /// names another hint. Refused: UnknownHint (`first` is 0).
+    static Result<Hints> restore(std::uint64_t first) {
+        Hints made;
+        const auto number = c::antientropy_hints_restore(made.at(), first);
+        return detail::result(number, std::move(made));
+    }
+
     /// Frees the memory now.
     void close() noexcept { handle_.close(); }
 
-    /// Keeps a version for its owner, and returns the number of the hint, from 1. The owner checks the key's range and
-    /// the format when it accepts the version.
-    /// Refused, in order: BadClock (also if the owner is 0), ClockFull, BadValue (unknown kind), BadKey, BadValue,
-    /// HintsFull.
-    Result<std::uint32_t> keep(std::uint16_t owner, std::string_view key, const Version &version) {
+    /// Keeps a version for its owner, and returns the number of the hint: one more than the last. The owner checks the
+    /// key's range and the format when it accepts the version.
+    /// Refused, in order: BadClock (also if the owner is 0 or over 65,535), ClockFull, BadValue (unknown kind), BadKey,
+    /// BadValue, HintsFull.
+    Result<std::uint64_t> keep(std::uint64_t owner, std::string_view key, const Version &version) {
         std::uint64_t id = 0;
         const auto number =
             c::antientropy_hint_keep(at(), owner, detail::data(key), key.size(), detail::data(version.clock),
                                      version.clock.size(), static_cast<std::uint8_t>(version.kind),
                                      detail::data(version.value), version.value.size(), &id);
-        return detail::result(number, static_cast<std::uint32_t>(id));
+        return detail::result(number, id);
     }
 
     /// Returns the number of the owner's first pending hint over `after`, or none.
-    Result<std::optional<std::uint32_t>> next(std::uint16_t owner, std::uint32_t after = 0) {
+    Result<std::optional<std::uint64_t>> next(std::uint64_t owner, std::uint64_t after = 0) {
         return detail::hint_after(at(), owner, after);
     }
 
     /// Returns a hint, pending or delivered, or none.
-    Result<std::optional<Hint>> hint(std::uint32_t number) { return detail::or_none(detail::hint(at(), number)); }
+    Result<std::optional<Hint>> hint(std::uint64_t number) { return detail::or_none(detail::hint(at(), number)); }
 
-    /// Goes through the pending hints of an owner in order. Confirm them on the way, but don't renew.
-    Sequence<Hint> pending(std::uint16_t owner) {
-        const auto next = [hints = handle_.share(), owner, after = std::uint32_t(0)]() mutable {
+    /// Goes through the pending hints of an owner in order. Confirm them on the way. A renewal on the way gives those
+    /// that are pending new numbers, so they are met once more.
+    Sequence<Hint> pending(std::uint64_t owner) {
+        const auto next = [hints = handle_.share(), owner, after = std::uint64_t(0)]() mutable {
             auto found = detail::pending_after(hints.get(), owner, after);
             if (found && *found) after = (*found)->number;
             return found;
@@ -1372,11 +1429,12 @@ public:
 
     /// Ends the wait of a pending hint, after its owner has the version on its disk. `accepted` is what the owner's
     /// `Replica::accept` returned. Refused: UnknownHint.
-    Result<void> confirm(std::uint32_t number, Accepted accepted = Accepted::New) {
+    Result<void> confirm(std::uint64_t number, Accepted accepted = Accepted::New) {
         return detail::done(c::antientropy_hint_confirm(at(), number, accepted == Accepted::Known));
     }
 
-    /// Drops the delivered hints, and numbers the pending ones anew from 1, in order.
+    /// Drops the delivered hints. The pending ones get new numbers, above every number that was used, in order: an old
+    /// number names no hint then. Refused: HintsFull (a number would be over 2^64 - 1).
     Result<void> renew() { return detail::done(c::antientropy_hints_renew(at())); }
 
     /// Returns the counts of pending and of delivered hints.

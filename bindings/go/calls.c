@@ -1,13 +1,24 @@
 #include "calls.h"
 
-struct antientropy_go_receipt antientropy_go_put(antientropy_go_handle *replica, uint16_t node, const uint8_t *key,
+struct antientropy_go_receipt antientropy_go_put_read(antientropy_go_handle *replica, uint64_t node,
+                                                      const uint8_t *key, size_t key_len,
+                                                      const struct antientropy_pair *context, size_t context_len,
+                                                      uint8_t kind, const uint8_t *value, size_t value_len)
+{
+    struct antientropy_go_receipt result = {0};
+    result.number = antientropy_put_read((struct antientropy_replica *)replica, node, key, key_len, context,
+                                         context_len, kind, value, value_len, &result.receipt);
+    return result;
+}
+
+struct antientropy_go_receipt antientropy_go_put(antientropy_go_handle *replica, uint64_t node, const uint8_t *key,
                                                  size_t key_len, const struct antientropy_pair *context,
                                                  size_t context_len, uint8_t kind, const uint8_t *value,
                                                  size_t value_len)
 {
     struct antientropy_go_receipt result = {0};
-    result.number = antientropy_put((struct antientropy *)replica, node, key, key_len, context, context_len, kind,
-                                    value, value_len, &result.receipt);
+    result.number = antientropy_put((struct antientropy_replica *)replica, node, key, key_len, context, context_len,
+                                    kind, value, value_len, &result.receipt);
     return result;
 }
 
@@ -42,8 +53,8 @@ uint32_t antientropy_go_read(antientropy_go_handle *replica, const uint8_t *key,
         struct antientropy_go_record *record = fits ? (struct antientropy_go_record *)(out + used) : &spare;
         uint8_t *bytes = fits ? bytes_of(record) : out;
         size_t len = fits ? out_len - used - sizeof spare : 0;
-        uint32_t got = antientropy_read((struct antientropy *)replica, key, key_len, index, &reading, record->clock,
-                                        ANTIENTROPY_CLOCK_MAX, bytes, len);
+        uint32_t got = antientropy_read((struct antientropy_replica *)replica, key, key_len, index, &reading,
+                                        record->clock, ANTIENTROPY_CLOCK_MAX, bytes, len);
         if (got == ANTIENTROPY_NO_VERSION)
             break;
         if (got != ANTIENTROPY_OK && got != ANTIENTROPY_SMALL)
@@ -60,7 +71,7 @@ uint32_t antientropy_go_read(antientropy_go_handle *replica, const uint8_t *key,
     return fit(used, out_len, need);
 }
 
-uint32_t antientropy_go_entry(struct antientropy *replica, uint64_t number, uint8_t *out, size_t out_len,
+uint32_t antientropy_go_entry(struct antientropy_replica *replica, uint64_t number, uint8_t *out, size_t out_len,
                               uint64_t *need)
 {
     struct antientropy_go_record *record = (struct antientropy_go_record *)out;
@@ -83,7 +94,7 @@ uint32_t antientropy_go_entry(struct antientropy *replica, uint64_t number, uint
     return fit(size_of(record), out_len, need);
 }
 
-uint32_t antientropy_go_hint(struct antientropy_hints *hints, uint32_t id, uint8_t *out, size_t out_len,
+uint32_t antientropy_go_hint(struct antientropy_hints *hints, uint64_t id, uint8_t *out, size_t out_len,
                              uint64_t *need)
 {
     struct antientropy_go_record *record = (struct antientropy_go_record *)out;
@@ -105,17 +116,17 @@ uint32_t antientropy_go_hint(struct antientropy_hints *hints, uint32_t id, uint8
     return fit(size_of(record), out_len, need);
 }
 
-uint32_t antientropy_go_hint_next(struct antientropy_hints *hints, uint16_t owner, uint32_t after, uint8_t *out,
+uint32_t antientropy_go_hint_next(struct antientropy_hints *hints, uint64_t owner, uint64_t after, uint8_t *out,
                                   size_t out_len, uint64_t *need)
 {
     uint64_t id;
     uint32_t got = antientropy_hint_next(hints, owner, after, &id);
     if (got != ANTIENTROPY_OK)
         return got;
-    return antientropy_go_hint(hints, (uint32_t)id, out, out_len, need);
+    return antientropy_go_hint(hints, id, out, out_len, need);
 }
 
-uint32_t antientropy_go_asks(struct antientropy *replica, uint64_t session, uint32_t number, uint8_t *out,
+uint32_t antientropy_go_asks(struct antientropy_replica *replica, uint64_t session, uint32_t number, uint8_t *out,
                              size_t out_len, uint64_t *need)
 {
     uint64_t count, len;

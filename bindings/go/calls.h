@@ -11,12 +11,18 @@ typedef uint8_t antientropy_go_handle;
 
 /* The result of a put. Go would allocate memory for a receipt that is written through a pointer. */
 struct antientropy_go_receipt {
-    uint32_t number; /* the number that antientropy_put returned */
+    uint32_t number; /* the number that the put returned */
     struct antientropy_receipt receipt;
 };
 
-/* Puts a version. */
-struct antientropy_go_receipt antientropy_go_put(antientropy_go_handle *replica, uint16_t node, const uint8_t *key,
+/* Puts a version by antientropy_put_read. */
+struct antientropy_go_receipt antientropy_go_put_read(antientropy_go_handle *replica, uint64_t node,
+                                                      const uint8_t *key, size_t key_len,
+                                                      const struct antientropy_pair *context, size_t context_len,
+                                                      uint8_t kind, const uint8_t *value, size_t value_len);
+
+/* Puts a version by antientropy_put. */
+struct antientropy_go_receipt antientropy_go_put(antientropy_go_handle *replica, uint64_t node, const uint8_t *key,
                                                  size_t key_len, const struct antientropy_pair *context,
                                                  size_t context_len, uint8_t kind, const uint8_t *value,
                                                  size_t value_len);
@@ -40,19 +46,19 @@ uint32_t antientropy_go_read(antientropy_go_handle *replica, const uint8_t *key,
                              uint64_t most, uint8_t *out, size_t out_len, uint64_t *need);
 
 /* Writes the record of an entry. */
-uint32_t antientropy_go_entry(struct antientropy *replica, uint64_t number, uint8_t *out, size_t out_len,
+uint32_t antientropy_go_entry(struct antientropy_replica *replica, uint64_t number, uint8_t *out, size_t out_len,
                               uint64_t *need);
 
 /* Writes the record of a hint. */
-uint32_t antientropy_go_hint(struct antientropy_hints *hints, uint32_t id, uint8_t *out, size_t out_len,
+uint32_t antientropy_go_hint(struct antientropy_hints *hints, uint64_t id, uint8_t *out, size_t out_len,
                              uint64_t *need);
 
 /* Writes the record of the owner's pending hint with the least number over `after`. */
-uint32_t antientropy_go_hint_next(struct antientropy_hints *hints, uint16_t owner, uint32_t after, uint8_t *out,
+uint32_t antientropy_go_hint_next(struct antientropy_hints *hints, uint64_t owner, uint64_t after, uint8_t *out,
                                   size_t out_len, uint64_t *need);
 
 /* Writes the asks for all outstanding nodes of a session, one after another. */
-uint32_t antientropy_go_asks(struct antientropy *replica, uint64_t session, uint32_t number, uint8_t *out,
+uint32_t antientropy_go_asks(struct antientropy_replica *replica, uint64_t session, uint32_t number, uint8_t *out,
                              size_t out_len, uint64_t *need);
 
 #endif

@@ -8,8 +8,8 @@ import (
 	"sync"
 )
 
-// Hints are the versions that a node carries for replicas that are down. A hint is of no range. Goroutines may share
-// them. A copy must not be used.
+// Hints are the versions that a node carries for replicas that are down. A hint is of no range, and its number never
+// names another one. Goroutines may share hints. A copy must not be used.
 type Hints struct {
 	lock   sync.Mutex
 	handle C.struct_antientropy_hints
@@ -18,7 +18,7 @@ type Hints struct {
 
 // A Hint is a version that is kept for its owner, a node that is down.
 type Hint struct {
-	Number  uint32 // number of the hint, from 1
+	Number  uint64 // number of the hint, which no other one has or had
 	Owner   uint16 // node for which the version is kept
 	Key     []byte // key of the version
 	Version Version
@@ -30,10 +30,22 @@ type HintCounts struct {
 	Delivered uint64 // hints that were delivered: they are kept until a renewal
 }
 
-// NewHints makes an empty store of hints.
+// NewHints makes an empty store of hints. The first hint gets the number 1.
 func NewHints() (*Hints, error) {
 	h := new(Hints)
 	if err := check(C.antientropy_hints_new(&h.handle)); err != nil {
+		return nil, err
+	}
+	runtime.SetFinalizer(h, (*Hints).Close)
+	return h, nil
+}
+
+// RestoreHints makes an empty store of hints, after a restart. The first hint gets the number first, which must be
+// above all numbers in the program's log: hints that are kept again get new numbers, which are logged, and no old
+// number names another hint. Refused as [ErrUnknownHint] if first is 0.
+func RestoreHints(first uint64) (*Hints, error) {
+	h := new(Hints)
+	if err := check(C.antientropy_hints_restore(&h.handle, C.uint64_t(first))); err != nil {
 		return nil, err
 	}
 	runtime.SetFinalizer(h, (*Hints).Close)
@@ -48,31 +60,32 @@ func (h *Hints) Close() error {
 	return nil
 }
 
-// Keep keeps a version for its owner. It returns the number of the hint, from 1.
+// Keep keeps a version for its owner. It returns the number of the hint: one more than the last.
 //
 // Refused as [ErrBadClock] (also if the owner is 0), [ErrClockFull], [ErrBadKey], [ErrBadValue] or [ErrHintsFull].
-func (h *Hints) Keep(owner uint16, key []byte, version Version) (number uint32, err error) {
+func (h *Hints) Keep(owner uint16, key []byte, version Version) (number uint64, err error) {
 	var id C.uint64_t
 	clock, value := version.Clock, version.Value
 	h.lock.Lock()
 	defer h.lock.Unlock()
-	err = check(C.antientropy_hint_keep(&h.handle, C.uint16_t(owner), bytesAt(key), C.size_t(len(key)), pairsAt(clock),
+	err = check(C.antientropy_hint_keep(&h.handle, C.uint64_t(owner), bytesAt(key), C.size_t(len(key)), pairsAt(clock),
 		C.size_t(len(clock)), C.uint8_t(version.Kind), bytesAt(value), C.size_t(len(value)), &id))
-	return uint32(id), err
+	return uint64(id), err
 }
 
 // NextPending returns the owner's pending hint with the least number over `after`: 0 gives the first.
-func (h *Hints) NextPending(owner uint16, after uint32) (hint Hint, found bool, err error) {
+func (h *Hints) NextPending(owner uint16, after uint64) (hint Hint, found bool, err error) {
 	h.lock.Lock()
 	defer h.lock.Unlock()
 	return h.read(func(out *C.uint8_t, outLen C.size_t) C.uint32_t {
-		return C.antientropy_go_hint_next(&h.handle, C.uint16_t(owner), C.uint32_t(after), out, outLen, &h.room.need)
+		return C.antientropy_go_hint_next(&h.handle, C.uint64_t(owner), C.uint64_t(after), out, outLen, &h.room.need)
 	})
 }
 
-// Pending returns a scanner of the pending hints of an owner, in order. Confirm them on the way, but don't renew.
+// Pending returns a scanner of the pending hints of an owner, in order. Confirm them on the way. A renewal on the way
+// gives those that are pending new numbers, so they are scanned once more.
 func (h *Hints) Pending(owner uint16) *Scanner[Hint] {
-	var after uint32
+	var after uint64
 	return scan(func() (Hint, bool, error) {
 		hint, found, err := h.NextPending(owner, after)
 		after = hint.Number
@@ -81,11 +94,11 @@ func (h *Hints) Pending(owner uint16) *Scanner[Hint] {
 }
 
 // Hint returns a hint, pending or delivered.
-func (h *Hints) Hint(number uint32) (hint Hint, found bool, err error) {
+func (h *Hints) Hint(number uint64) (hint Hint, found bool, err error) {
 	h.lock.Lock()
 	defer h.lock.Unlock()
 	return h.read(func(out *C.uint8_t, outLen C.size_t) C.uint32_t {
-		return C.antientropy_go_hint(&h.handle, C.uint32_t(number), out, outLen, &h.room.need)
+		return C.antientropy_go_hint(&h.handle, C.uint64_t(number), out, outLen, &h.room.need)
 	})
 }
 
@@ -97,7 +110,7 @@ func (h *Hints) read(call func(out *C.uint8_t, outLen C.size_t) C.uint32_t) (hin
 	}
 	read, _ := firstRecord(bytes)
 	return Hint{
-		Number:  uint32(read.head.number),
+		Number:  uint64(read.head.number),
 		Owner:   uint16(read.head.origin),
 		Key:     clone(read.key),
 		Version: read.version(),
@@ -106,13 +119,14 @@ func (h *Hints) read(call func(out *C.uint8_t, outLen C.size_t) C.uint32_t) (hin
 
 // Confirm ends the wait of a pending hint, after its owner has the version on its disk. Known is true if the owner knew
 // the version. Refused as [ErrUnknownHint].
-func (h *Hints) Confirm(number uint32, known bool) error {
+func (h *Hints) Confirm(number uint64, known bool) error {
 	h.lock.Lock()
 	defer h.lock.Unlock()
-	return check(C.antientropy_hint_confirm(&h.handle, C.uint32_t(number), C.bool(known)))
+	return check(C.antientropy_hint_confirm(&h.handle, C.uint64_t(number), C.bool(known)))
 }
 
-// Renew drops the delivered hints, and numbers the pending ones anew from 1, in order.
+// Renew drops the delivered hints. The pending ones get new numbers, above every number that was used, in order: an old
+// number names no hint then. Refused as [ErrHintsFull] if a number would be over 2^64 - 1.
 func (h *Hints) Renew() error {
 	h.lock.Lock()
 	defer h.lock.Unlock()

@@ -1,6 +1,7 @@
 package antientropy_test
 
 import (
+	"math"
 	"strings"
 	"testing"
 
@@ -11,9 +12,9 @@ func TestKeptAndConfirmed(t *testing.T) {
 	hints, key := must(antientropy.NewHints()), []byte("cart")
 	tea := live(1, 1, "tea")
 	tombstone := antientropy.Version{Clock: clock(3, 1, 1, 2), Kind: antientropy.Tombstone}
-	equal(t, must(hints.Keep(2, key, tea)), uint32(1))
-	equal(t, must(hints.Keep(3, key, tea)), uint32(2))
-	equal(t, must(hints.Keep(2, []byte("list"), tombstone)), uint32(3))
+	equal(t, must(hints.Keep(2, key, tea)), uint64(1))
+	equal(t, must(hints.Keep(3, key, tea)), uint64(2))
+	equal(t, must(hints.Keep(2, []byte("list"), tombstone)), uint64(3))
 	kept := antientropy.Version{Clock: clock(1, 2, 3, 1), Value: []byte{}, Kind: antientropy.Tombstone}
 	first := antientropy.Hint{Number: 1, Owner: 2, Key: key, Version: tea}
 	third := antientropy.Hint{Number: 3, Owner: 2, Key: []byte("list"), Version: kept}
@@ -28,7 +29,7 @@ func TestKeptAndConfirmed(t *testing.T) {
 	equal(t, []any{hint, found, err}, []any{first, true, nil})
 	check(hints.Renew())
 	equal(t, must(hints.Count()), antientropy.HintCounts{Pending: 2, Delivered: 0})
-	third.Number = 2
+	third.Number = 5
 	equal(t, must(hints.Pending(2).All()), []antientropy.Hint{third})
 }
 
@@ -51,7 +52,7 @@ func TestDelivered(t *testing.T) {
 
 func TestNoHints(t *testing.T) {
 	hints := must(antientropy.NewHints())
-	for _, number := range []uint32{0, 1} {
+	for _, number := range []uint64{0, 1, 1<<32 + 1} {
 		_, found, err := hints.Hint(number)
 		equal(t, []any{found, err}, []any{false, nil})
 	}
@@ -83,6 +84,30 @@ func TestRefusedHints(t *testing.T) {
 	must(hints.Keep(2, []byte("cart"), live(1, 1, "")))
 	check(hints.Confirm(1, true))
 	refused(t, hints.Confirm(1, true), antientropy.ErrUnknownHint)
+}
+
+// A number of before a renewal names no other hint, and neither do those of a log after a restart.
+func TestNumbersOfHints(t *testing.T) {
+	hints := must(antientropy.NewHints())
+	must(hints.Keep(2, []byte("cart"), live(1, 1, "")))
+	must(hints.Keep(2, []byte("order"), live(1, 1, "")))
+	check(hints.Confirm(1, false))
+	check(hints.Renew())
+	payment := must(hints.Keep(2, []byte("payment"), live(1, 1, "")))
+	refused(t, hints.Confirm(2, false), antientropy.ErrUnknownHint)
+	_, found, err := hints.Hint(2)
+	equal(t, []any{found, err}, []any{false, nil})
+	hint, found, err := hints.Hint(payment)
+	equal(t, []any{string(hint.Key), found, err}, []any{"payment", true, nil})
+	equal(t, must(hints.Count()), antientropy.HintCounts{Pending: 2})
+
+	restored := must(antientropy.RestoreHints(math.MaxUint64))
+	equal(t, must(restored.Keep(2, []byte("cart"), live(1, 1, ""))), uint64(math.MaxUint64))
+	_, err = restored.Keep(2, []byte("order"), live(1, 1, ""))
+	refused(t, err, antientropy.ErrHintsFull)
+	refused(t, restored.Renew(), antientropy.ErrHintsFull)
+	_, err = antientropy.RestoreHints(0)
+	refused(t, err, antientropy.ErrUnknownHint)
 }
 
 func TestHintsFull(t *testing.T) {

@@ -43,10 +43,32 @@ func (r *Replica) Entry(number uint64) (entry Entry, found bool, err error) {
 }
 
 // Entries returns a scanner of the journal's entries, from a number on. Entries are never changed.
+//
+// Its error is [ErrNoVersion] if the number is over that of entries: then it is one of a journal before a renewal. That
+// finds only some old numbers, since a renewal numbers the entries anew: begin at its count of entries.
 func (r *Replica) Entries(start uint64) *Scanner[Entry] {
 	number := start
 	return scan(func() (Entry, bool, error) {
-		number++
-		return r.Entry(number - 1)
+		entry, found, err := r.Entry(number)
+		if found || err != nil {
+			number++
+			return entry, found, err
+		}
+		counts, err := r.Count()
+		if err == nil && number > counts.Entries {
+			err = ErrNoVersion
+		}
+		return Entry{}, false, err
 	})
+}
+
+// TopCounter returns the greatest counter of a node in the clocks of a key's versions, or 0. It is that of the first
+// `entries` entries of the journal (all, if there are fewer). Refused as [ErrBadClock] if the node is 0.
+func (r *Replica) TopCounter(node uint16, key []byte, entries uint64) (uint64, error) {
+	var counter C.uint64_t
+	r.lock.Lock()
+	defer r.lock.Unlock()
+	err := check(C.antientropy_top_counter(&r.handle, C.uint64_t(node), bytesAt(key), C.size_t(len(key)),
+		C.uint64_t(entries), &counter))
+	return uint64(counter), err
 }

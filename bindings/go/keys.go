@@ -10,7 +10,7 @@ func (r *Replica) KeyAfter(leaf uint16, key []byte) (next []byte, found bool, er
 	r.lock.Lock()
 	defer r.lock.Unlock()
 	return r.room.copyIfFound(func(out *C.uint8_t, outLen C.size_t) C.uint32_t {
-		return C.antientropy_key_after(&r.handle, C.uint16_t(leaf), bytesAt(key), C.size_t(len(key)), out, outLen,
+		return C.antientropy_key_after(&r.handle, C.uint64_t(leaf), bytesAt(key), C.size_t(len(key)), out, outLen,
 			&r.room.need)
 	})
 }

@@ -20,7 +20,7 @@ type Config struct {
 // A Replica is a replica of one range of a ring. Goroutines may share it. A copy must not be used.
 type Replica struct {
 	lock   sync.Mutex
-	handle C.struct_antientropy
+	handle C.struct_antientropy_replica
 	config Config
 	room   room
 }
@@ -32,6 +32,8 @@ type Counts struct {
 	Dirty        uint64 // nodes of the tree that have no digest
 	Sessions     uint64 // sessions, ever: at 1,024 no other can be opened
 	OpenSessions uint64 // open sessions: at 64 no other can be opened until one has ended
+	First        uint64 // 0; reserved for journals that are trimmed
+	Front        uint64 // 0; reserved for journals that are trimmed
 }
 
 // A Receipt is the result of a put.
@@ -117,14 +119,19 @@ func (r *Replica) count() (Counts, error) {
 		Dirty:        uint64(counts.dirty),
 		Sessions:     uint64(counts.sessions),
 		OpenSessions: uint64(counts.open_sessions),
+		First:        uint64(counts.first),
+		Front:        uint64(counts.front),
 	}, err
 }
 
-// Put puts a value for a key at a node. The context is the merged clock of all versions that the client has read.
+// Put puts a value for a key at a node, after a read: the context is the merged clock of all versions that were read.
 //
-// The new version replaces each held version whose clock is at most its clock. Refused as [ErrBadClock],
-// [ErrClockFull], [ErrBadKey], [ErrBadValue], [ErrOtherRange], [ErrCounterFull], [ErrStaleContext], [ErrCrowded] or
-// [ErrJournalFull].
+// The new version replaces each held version whose clock is at most its clock. The client has read each of these:
+// [ErrStaleContext] means that a held version has a greater counter of the node than the context, so another client has
+// put in between. Read again then.
+//
+// Refused as [ErrBadClock], [ErrClockFull], [ErrBadKey], [ErrBadValue], [ErrOtherRange], [ErrCounterFull],
+// [ErrStaleContext], [ErrCrowded] or [ErrJournalFull].
 func (r *Replica) Put(node uint16, key, value []byte, context Clock) (Receipt, error) {
 	return r.put(node, key, context, Live, value)
 }
@@ -138,8 +145,34 @@ func (r *Replica) PutTombstone(node uint16, key []byte, context Clock) (Receipt,
 func (r *Replica) put(node uint16, key []byte, context Clock, kind Kind, value []byte) (Receipt, error) {
 	r.lock.Lock()
 	defer r.lock.Unlock()
-	got := C.antientropy_go_put(r.memory(), C.uint16_t(node), bytesAt(key), C.size_t(len(key)), pairsAt(context),
+	got := C.antientropy_go_put_read(r.memory(), C.uint64_t(node), bytesAt(key), C.size_t(len(key)), pairsAt(context),
 		C.size_t(len(context)), C.uint8_t(kind), bytesAt(value), C.size_t(len(value)))
+	return receiptOf(got)
+}
+
+// PutUnread puts as [Replica.Put], for a caller that has made its check itself: the new version replaces even a held
+// version that the client hasn't read. Refused as [Replica.Put], but as [ErrStaleContext] only if a held version has
+// seen all of the new version's clock.
+func (r *Replica) PutUnread(node uint16, key, value []byte, context Clock) (Receipt, error) {
+	return r.putUnread(node, key, context, Live, value)
+}
+
+// PutTombstoneUnread puts a tombstone as [Replica.PutUnread] puts a value. Refused as [Replica.PutUnread], and as
+// [ErrBadValue] in format 1.
+func (r *Replica) PutTombstoneUnread(node uint16, key []byte, context Clock) (Receipt, error) {
+	return r.putUnread(node, key, context, Tombstone, nil)
+}
+
+func (r *Replica) putUnread(node uint16, key []byte, context Clock, kind Kind, value []byte) (Receipt, error) {
+	r.lock.Lock()
+	defer r.lock.Unlock()
+	got := C.antientropy_go_put(r.memory(), C.uint64_t(node), bytesAt(key), C.size_t(len(key)), pairsAt(context),
+		C.size_t(len(context)), C.uint8_t(kind), bytesAt(value), C.size_t(len(value)))
+	return receiptOf(got)
+}
+
+// receiptOf returns the result of a put.
+func receiptOf(got C.struct_antientropy_go_receipt) (Receipt, error) {
 	return Receipt{Number: uint64(got.receipt.number), Counter: uint64(got.receipt.counter)}, check(got.number)
 }
 

@@ -1,6 +1,7 @@
 package antientropy_test
 
 import (
+	"fmt"
 	"math"
 	"sort"
 	"strings"
@@ -128,6 +129,41 @@ func TestKeysAndEntries(t *testing.T) {
 	last := must(r.Entries(299).All())
 	want := antientropy.Entry{Number: 299, Key: []byte("key 299"), Version: live(1, 1, "value")}
 	equal(t, last, []antientropy.Entry{want})
+}
+
+// A number of a journal before a renewal is refused if the new one has fewer entries.
+func TestEntriesFromBeforeARenewal(t *testing.T) {
+	r := newReplica()
+	for n := uint64(1); n <= 200; n++ {
+		context := clock(1, n-1)
+		if n == 1 {
+			context = nil
+		}
+		must(r.Put(1, []byte("cart"), []byte("milk"), context))
+	}
+	equal(t, len(must(r.Entries(200).All())), 0)
+	renewed := must(r.Renew(1000))
+	put(renewed, "gift", "wrapped")
+	_, err := renewed.Entries(200).All()
+	refused(t, err, antientropy.ErrNoVersion)
+	equal(t, string(must(renewed.Entries(1).All())[0].Key), "gift")
+}
+
+// Of two clients that read the same versions, the second to put is refused, or replaces what the first has put.
+func TestTwoClients(t *testing.T) {
+	r, key, both := newReplica(), []byte("cart"), clock(1, 1, 2, 1)
+	put(r, "cart", "milk")
+	must(r.Accept(key, live(2, 1, "eggs")))
+	must(r.Put(1, key, []byte("bread"), clock(1, 1)))
+	unchanged(t, r, antientropy.ErrStaleContext, func() error { _, err := r.Put(1, key, []byte("tea"), both); return err })
+	unchanged(t, r, antientropy.ErrStaleContext, func() error { _, err := r.PutTombstone(1, key, both); return err })
+	equal(t, []uint64{must(r.TopCounter(1, key, math.MaxUint64)), must(r.TopCounter(1, key, 2))}, []uint64{2, 1})
+	_, err := r.TopCounter(0, key, 1)
+	refused(t, err, antientropy.ErrBadClock)
+	must(r.PutUnread(1, key, []byte("tea"), both))
+	equal(t, must(r.Get(key)), []antientropy.Version{{Clock: clock(1, 2, 2, 1), Value: []byte("tea")}})
+	must(r.PutTombstoneUnread(1, key, clock(1, 2, 2, 1)))
+	equal(t, must(r.Get(key))[0].Kind, antientropy.Tombstone)
 }
 
 // Who changes a key that was scanned doesn't change the scan.
@@ -264,6 +300,29 @@ func TestRowsAreLoaded(t *testing.T) {
 	equal(t, must(to.Entries(0).All())[0].Source, antientropy.SourceCopy)
 	_, _, err = from.Row(nil)
 	refused(t, err, antientropy.ErrBadKey)
+}
+
+func TestRowsOfBeforeAMigration(t *testing.T) {
+	config := antientropy.Config{Format: 1, Limit: 100}
+	r, again, to := must(antientropy.NewReplica(config)), must(antientropy.NewReplica(config)), newReplica()
+	var rows []byte
+	for n := 0; n < 10; n++ {
+		key := fmt.Sprint("key ", n)
+		put(r, key, "value")
+		row, _, err := r.Row([]byte(key))
+		check(err)
+		rows = append(rows, row...)
+	}
+	equal(t, must(to.LoadFormat(1, rows)), antientropy.Loaded{Taken: 10})
+	equal(t, must(again.LoadFormat(1, rows)), antientropy.Loaded{Taken: 10})
+	equal(t, must(again.Root()), must(r.Root()))
+	check(r.Migrate())
+	equal(t, must(to.Root()), must(r.Root()))
+	unchanged(t, to, antientropy.ErrBadRing, func() error { _, err := to.LoadFormat(3, rows); return err })
+	unchanged(t, again, antientropy.ErrOtherFormat, func() error { _, err := again.LoadFormat(2, rows); return err })
+	_, err := to.LoadFormat(1, rows[:len(rows)-1])
+	broken, ok := err.(*antientropy.RowError)
+	equal(t, ok && broken.Offset > 0, true)
 }
 
 func TestBrokenRows(t *testing.T) {

@@ -34,7 +34,25 @@ func (r *Replica) LoadRows(rows []byte) (Loaded, error) {
 	var loaded C.struct_antientropy_loaded
 	r.lock.Lock()
 	defer r.lock.Unlock()
-	err := check(C.antientropy_load(&r.handle, bytesAt(rows), C.size_t(len(rows)), &loaded))
+	return loadedOf(C.antientropy_load(&r.handle, bytesAt(rows), C.size_t(len(rows)), &loaded), &loaded)
+}
+
+// LoadFormat accepts all versions in rows of a format and of any leaves, in ascending order of key, as copies, or none.
+// A replica of format 2 loads rows of format 1 too.
+//
+// Refused as [ErrBadRing] (the format is neither 1 nor 2) and [ErrOtherFormat] (rows of format 2, replica of format 1),
+// as [ErrRowBroken] by a [RowError], and as [ErrOtherRange], [ErrCrowded] or [ErrJournalFull].
+func (r *Replica) LoadFormat(format uint8, rows []byte) (Loaded, error) {
+	var loaded C.struct_antientropy_loaded
+	r.lock.Lock()
+	defer r.lock.Unlock()
+	number := C.antientropy_load_format(&r.handle, C.uint64_t(format), bytesAt(rows), C.size_t(len(rows)), &loaded)
+	return loadedOf(number, &loaded)
+}
+
+// loadedOf returns the result of a call that loads rows.
+func loadedOf(number C.uint32_t, loaded *C.struct_antientropy_loaded) (Loaded, error) {
+	err := check(number)
 	if err == ErrRowBroken {
 		err = &RowError{Offset: uint64(loaded.offset)}
 	}

@@ -62,7 +62,7 @@ func (r *Replica) open(partner uint16, offer []byte) (*Session, error) {
 		return nil, err
 	}
 	var number C.uint64_t
-	err = check(C.antientropy_open(&r.handle, C.uint16_t(partner), bytesAt(offer), C.size_t(len(offer)), &number))
+	err = check(C.antientropy_open(&r.handle, C.uint64_t(partner), bytesAt(offer), C.size_t(len(offer)), &number))
 	if err != nil {
 		return nil, err
 	}

@@ -101,6 +101,6 @@ func (s *Snapshot) Rows(leaf uint16) ([]byte, error) {
 	s.lock.Lock()
 	defer s.lock.Unlock()
 	return s.room.copy(func(out *C.uint8_t, outLen C.size_t) C.uint32_t {
-		return C.antientropy_rows(&s.handle, C.uint16_t(leaf), out, outLen, &s.room.need)
+		return C.antientropy_rows(&s.handle, C.uint64_t(leaf), out, outLen, &s.room.need)
 	})
 }

@@ -33,7 +33,7 @@ func (s Synced) Finished() bool {
 }
 
 // Sync takes the versions of a partner's offer that this replica lacks, within the default bounds. If the roots are
-// equal it asks nothing.
+// equal it opens no session.
 //
 // A leaf with a crowded key is left. Refused as [Replica.Open], and as [ErrNotCanonical] or [ErrJournalFull]. After a
 // refusal, or an error of reach, the versions that were taken stay: the result has their number.
@@ -51,7 +51,7 @@ func (r *Replica) SyncWithin(bounds Bounds, partner uint16, offer []byte, reach 
 	if err != nil {
 		return Synced{}, err
 	}
-	if root == parts.Root {
+	if config := r.Config(); parts.Format == config.Format && parts.Range == config.Range && parts.Root == root {
 		return Synced{State: StateFinished}, nil
 	}
 	session, err := r.Open(partner, offer)

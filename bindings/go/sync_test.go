@@ -57,6 +57,20 @@ func TestNoAsksInFlightCountAsOne(t *testing.T) {
 	equal(t, []any{synced.Finished(), len(l.rounds)}, []any{true, synced.Asks})
 }
 
+// The roots of empty replicas are equal, whatever their format and range.
+func TestEmptyRanges(t *testing.T) {
+	empty := func(format uint8, number uint16) *antientropy.Replica {
+		return must(antientropy.NewReplica(antientropy.Config{Format: format, Bits: 1, Range: number, Limit: 1}))
+	}
+	partner, same := empty(2, 0), empty(2, 0)
+	_, err := syncFrom(empty(1, 0), partner)
+	refused(t, err, antientropy.ErrOtherFormat)
+	_, err = syncFrom(empty(2, 1), partner)
+	refused(t, err, antientropy.ErrOtherRange)
+	equal(t, must(syncFrom(same, partner)).Finished(), true)
+	equal(t, must(same.Count()).Sessions, uint64(0))
+}
+
 func TestBothWays(t *testing.T) {
 	a, b := filled(300), newReplica()
 	must(b.Put(2, []byte("other"), nil, nil))

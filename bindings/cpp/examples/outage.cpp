@@ -9,7 +9,7 @@ using namespace antientropy;
 
 namespace {
 
-constexpr std::uint16_t A = 1, B = 2;
+constexpr std::uint64_t A = 1, B = 2;
 
 // The value of a call that can't be refused here.
 template <class T>
@@ -20,7 +20,7 @@ T sure(Result<T> result) {
 }
 
 // Takes what the partner has. Here its snapshot is called directly; elsewhere the messages go over a network.
-Synced sync(Replica &replica, Replica &partner, std::uint16_t node) {
+Synced sync(Replica &replica, Replica &partner, std::uint64_t node) {
     Snapshot snapshot = sure(partner.snapshot());
     const auto reach = [&](const std::vector<std::string> &asks) {
         std::vector<std::optional<std::string>> answers;

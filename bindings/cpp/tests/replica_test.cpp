@@ -96,6 +96,9 @@ void nothing_is_there() {
 void refused_puts() {
     Replica replica = sure(Replica::make(1, 0, 0, 100));
     REFUSED(BadClock, replica.put(0, "key", "value"));
+    REFUSED(BadClock, replica.put(65'537, "key", "value"));
+    REFUSED(BadClock, replica.put_unread(65'537, "key", "value"));
+    REFUSED(BadClock, replica.top_counter(65'537, "key"));
     REFUSED(BadClock, replica.put(1, "key", "value", {{1, 0}}));
     REFUSED(CounterFull, replica.put(1, "key", "value", {{1, UINT64_MAX}}));
     REFUSED(BadKey, replica.put(1, "", "value"));
@@ -130,11 +133,12 @@ void keys() {
     auto met = all(replica.keys());
     std::sort(met.begin(), met.end());
     CHECK(met == std::vector<std::string>{"a", "b", "c"});
-    const auto leaf = static_cast<std::uint16_t>(sure(place(2, 0, "b")).leaf);
+    const auto leaf = sure(place(2, 0, "b")).leaf;
     CHECK(all(replica.keys_of(leaf)) == std::vector<std::string>{"b"});
     CHECK(sure(replica.key_after(leaf, "")) == "b");
     CHECK(!sure(replica.key_after(leaf, "b")));
     REFUSED(BadMessage, replica.key_after(4096, ""));
+    REFUSED(BadMessage, replica.key_after(65'536, ""));
     REFUSED(BadMessage, ended(replica.keys_of(4096)));
 }
 
@@ -142,12 +146,41 @@ void journal() {
     Replica replica = sure(Replica::make());
     sure(replica.put(1, "a", "1"));
     sure(replica.accept("b", {{{2, 5}}, Kind::Tombstone, ""}));
-    const auto entries = all(replica.entries());
+    const auto entries = all(sure(replica.entries()));
     CHECK(entries.size() == 2 && entries[0].source == Source::Put && entries[1].source == Source::Copy);
     CHECK(entries[1].number == 1 && entries[1].key == "b");
     CHECK(entries[1].version == Version{{{2, 5}}, Kind::Tombstone, ""});
-    CHECK(all(replica.entries(1)).size() == 1);
+    CHECK(all(sure(replica.entries(1))).size() == 1);
+    CHECK(all(sure(replica.entries(2))).empty());
+    REFUSED(NoVersion, replica.entries(3));
     CHECK(sure(replica.entry(0))->key == "a");
+    CHECK(sure(replica.top_counter(2, "b")) == 5 && sure(replica.top_counter(2, "b", 1)) == 0);
+}
+
+/// A number of a journal before a renewal.
+void old_position() {
+    Replica replica = sure(Replica::make());
+    for (int n = 0; n < 200; n++) {
+        const Clock context = n == 0 ? Clock() : Clock{{1, static_cast<std::uint64_t>(n)}};
+        sure(replica.put(1, "cart", "milk", context));
+    }
+    Replica renewed = sure(replica.renew());
+    sure(renewed.put(1, "gift", "wrapped"));
+    REFUSED(NoVersion, renewed.entries(200));
+    CHECK(all(sure(renewed.entries(1))).size() == 1);
+}
+
+/// Of two clients that read the same versions, the second to put is refused, or replaces what the first has put.
+void two_clients() {
+    Replica replica = sure(Replica::make());
+    const Clock both = {{1, 1}, {2, 1}};
+    sure(replica.put(1, "cart", "milk"));
+    sure(replica.accept("cart", {{{2, 1}}, Kind::Live, "eggs"}));
+    sure(replica.put(1, "cart", "bread", {{1, 1}}));
+    REFUSED(StaleContext, replica.put(1, "cart", "tea", both));
+    CHECK(sure(replica.count_versions("cart")) == 2 && sure(replica.top_counter(1, "cart")) == 2);
+    sure(replica.put_unread(1, "cart", "tea", both));
+    CHECK(sure(replica.get("cart")) == std::vector<Version>{{{{1, 2}, {2, 1}}, Kind::Live, "tea"}});
 }
 
 void rows() {
@@ -161,6 +194,22 @@ void rows() {
     REFUSED(RowBroken, into.load_rows(row.substr(0, row.size() - 1), &broken));
     CHECK(broken > 0);
     REFUSED(RowBroken, into.load_rows("x"));
+}
+
+void rows_of_a_format() {
+    Replica replica = sure(Replica::make(1)), first = sure(Replica::make(1)), into = sure(Replica::make());
+    for (const char *key : {"a", "b", "c"}) sure(replica.put(1, key, key));
+    std::string rows;
+    for (const char *key : {"a", "b", "c"}) rows += sure(replica.row(key));
+    CHECK(sure(into.load_format(1, rows)).taken == 3 && sure(first.load_format(1, rows)).taken == 3);
+    CHECK(sure(first.root()) == sure(replica.root()));
+    sure(replica.migrate());
+    CHECK(sure(into.root()) == sure(replica.root()));
+    REFUSED(BadRing, into.load_format(3, rows));
+    REFUSED(OtherFormat, first.load_format(2, sure(into.row("a"))));
+    std::uint64_t broken = 0;
+    REFUSED(RowBroken, into.load_format(1, rows.substr(0, rows.size() - 1), &broken));
+    CHECK(broken > 0);
 }
 
 void ranges() {
@@ -246,10 +295,11 @@ void closed() {
     Replica replica = sure(Replica::make());
     sure(replica.put(1, "cart", "milk"));
     Snapshot snapshot = sure(replica.snapshot());
-    auto entries = replica.entries();
+    auto entries = sure(replica.entries());
     replica.close();
     replica.close();
     REFUSED(Empty, ended(std::move(entries)));
+    REFUSED(Empty, replica.entries());
     REFUSED(Empty, replica.count());
     REFUSED(Empty, replica.renew());
     REFUSED(Empty, replica.root());
@@ -324,7 +374,7 @@ void hints() {
     CHECK(sure(hints.keep(2, "gift", gone)) == 3);
     CHECK(sure(hints.next(2)) == 1u);
     CHECK(sure(hints.next(2, 1)) == 3u);
-    CHECK(!sure(hints.next(2, 3)));
+    CHECK(!sure(hints.next(2, 3)) && !sure(hints.next(65'538)));
     const auto hint = sure(hints.hint(3));
     CHECK(hint->number == 3 && hint->owner == 2 && hint->key == "gift" && hint->version == gone);
     CHECK(!sure(hints.hint(4)));
@@ -332,15 +382,34 @@ void hints() {
     CHECK(all(hints.pending(2)).empty() && all(hints.pending(3)).size() == 1);
     CHECK(sure(hints.count()).pending == 1 && sure(hints.count()).delivered == 2);
     sure(hints.renew());
-    CHECK(sure(hints.count()).delivered == 0 && sure(hints.next(3)) == 1u);
+    CHECK(sure(hints.count()).delivered == 0 && sure(hints.next(3)) == 4u);
+}
+
+/// The number of a hint before a renewal names no other hint, and neither do those of a log after a restart.
+void numbers_of_hints() {
+    Hints hints = sure(Hints::make());
+    const Version tea{{{1, 2}}, Kind::Live, "tea"};
+    for (const char *key : {"cart", "order"}) sure(hints.keep(2, key, tea));
+    sure(hints.confirm(1));
+    sure(hints.renew());
+    sure(hints.keep(2, "payment", tea));
+    REFUSED(UnknownHint, hints.confirm(2));
+    CHECK(!sure(hints.hint(2)) && sure(hints.count()).pending == 2);
+    Hints restored = sure(Hints::restore(UINT64_MAX));
+    CHECK(sure(restored.keep(2, "cart", tea)) == UINT64_MAX);
+    REFUSED(HintsFull, restored.keep(2, "order", tea));
+    REFUSED(HintsFull, restored.renew());
+    REFUSED(UnknownHint, Hints::restore(0));
 }
 
 void refused_hints() {
     Hints hints = sure(Hints::make());
     REFUSED(BadClock, hints.keep(0, "cart", {}));
+    REFUSED(BadClock, hints.keep(65'537, "cart", {}));
     REFUSED(BadKey, hints.keep(2, "", {{{1, 1}}, Kind::Live, ""}));
     REFUSED(BadValue, hints.keep(2, "cart", {{{1, 1}}, Kind::Tombstone, "value"}));
     REFUSED(UnknownHint, hints.confirm(1));
+    REFUSED(UnknownHint, hints.confirm((std::uint64_t(1) << 32) + 1));
     Hints moved = std::move(hints);
     REFUSED(Empty, hints.count());
     REFUSED(Empty, ended(hints.pending(2)));
@@ -397,7 +466,10 @@ int main() {
                 {"large values", large_values},
                 {"keys", keys},
                 {"journal", journal},
+                {"old position", old_position},
+                {"two clients", two_clients},
                 {"rows", rows},
+                {"rows of a format", rows_of_a_format},
                 {"ranges", ranges},
                 {"rehash by steps", rehash_by_steps},
                 {"renewal and migration", renewal_and_migration},
@@ -407,6 +479,7 @@ int main() {
                 {"checkpoint of the page", checkpoint_of_the_page},
                 {"damaged checkpoints", damaged_checkpoints},
                 {"hints", hints},
+                {"numbers of hints", numbers_of_hints},
                 {"refused hints", refused_hints},
                 {"slots", slots},
                 {"refused slots", refused_slots}});

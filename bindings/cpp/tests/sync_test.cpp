@@ -42,7 +42,8 @@ void snapshots() {
     REFUSED(Gone, snapshot.serve(2, ask_of(0)));
     REFUSED(BadMessage, snapshot.serve(1, ""));
     REFUSED(BadMessage, snapshot.rows(4096));
-    const auto leaf = static_cast<std::uint16_t>(sure(place(2, 0, "key 3")).leaf);
+    REFUSED(BadMessage, snapshot.rows(65'536));
+    const auto leaf = sure(place(2, 0, "key 3")).leaf;
     CHECK(sure(snapshot.rows(leaf)).find(sure(replica.row("key 3"))) != std::string::npos);
     sure(replica.put(1, "later", ""));
     REFUSED(Dirty, replica.snapshot(false));
@@ -93,12 +94,23 @@ void refused_offers() {
     REFUSED(BadMessage, other.sync(1, "", nullptr));
     REFUSED(OtherFormat, first.open(1, offer));
     REFUSED(OtherRange, other.sync(1, offer, nullptr));
+    REFUSED(BadClock, first.open(65'536, offer));
     Replica full = sure(Replica::make());
     std::vector<Session> sessions;
     while (sessions.size() < ANTIENTROPY_OPEN_SESSIONS_MAX) sessions.push_back(sure(full.open(1, offer)));
     REFUSED(SessionsFull, full.open(1, offer));
     sessions.pop_back();
     CHECK(full.open(1, offer));
+}
+
+/// The roots of empty replicas are equal, whatever their format and range.
+void empty_ranges() {
+    Replica replica = sure(Replica::make(2, 1, 0)), first = sure(Replica::make(1, 1, 0)),
+            other = sure(Replica::make(2, 1, 1)), same = sure(Replica::make(2, 1, 0));
+    const std::string offer = sure(sure(replica.snapshot()).offer(1));
+    REFUSED(OtherFormat, first.sync(1, offer, nullptr));
+    REFUSED(OtherRange, other.sync(1, offer, nullptr));
+    CHECK(sure(same.sync(1, offer, nullptr)).finished() && sure(same.count()).sessions == 0);
 }
 
 void moved_sessions() {
@@ -246,6 +258,7 @@ int main() {
                 {"session", session},
                 {"bad answers", bad_answers},
                 {"refused offers", refused_offers},
+                {"empty ranges", empty_ranges},
                 {"moved sessions", moved_sessions},
                 {"whole sync", whole_sync},
                 {"one ask at once", one_ask_at_once},

@@ -22,7 +22,9 @@
     X(rehash, 1, LONG)                                                                                                 \
     X(rehash_some, 2, LONG)                                                                                            \
     X(load_rows, 2, SHORT)                                                                                             \
+    X(load_format, 3, SHORT)                                                                                           \
     X(put, 5, SHORT)                                                                                                   \
+    X(put_unread, 5, SHORT)                                                                                            \
     X(accept, 3, SHORT)                                                                                                \
     X(get, 2, SHORT)                                                                                                   \
     X(read, 3, SHORT)                                                                                                  \
@@ -32,6 +34,7 @@
     X(row, 2, SHORT)                                                                                                   \
     X(key_after, 3, SHORT)                                                                                             \
     X(entry, 2, SHORT)                                                                                                 \
+    X(top_counter, 4, LONG)                                                                                            \
     X(snapshot, 2, LONG)                                                                                               \
     X(snapshot_close, 1, LONG)                                                                                         \
     X(snapshot_info, 1, SHORT)                                                                                         \
@@ -48,6 +51,7 @@
     X(take, 4, SHORT)                                                                                                  \
     X(cancel, 2, SHORT)                                                                                                \
     X(hints_new, 0, SHORT)                                                                                             \
+    X(hints_restore, 1, SHORT)                                                                                         \
     X(hints_close, 1, LONG)                                                                                            \
     X(hint_keep, 4, SHORT)                                                                                             \
     X(hint_next, 3, SHORT)                                                                                             \

@@ -23,7 +23,7 @@ struct range {
 struct resource {
     ErlNifMutex *lock;
     union {
-        struct antientropy replica;
+        struct antientropy_replica replica;
         struct antientropy_snapshot snapshot;
         struct antientropy_hints hints;
         struct antientropy_slots slots;

@@ -11,6 +11,18 @@ FUNCTION(hints_new)
     return handle_result(env, made, antientropy_hints_new(&made->hints));
 }
 
+/* hints_restore(First) -> {ok, Hints} */
+FUNCTION(hints_restore)
+{
+    uint64_t first;
+    if (!get_u64(env, argv[0], &first))
+        return enif_make_badarg(env);
+    struct resource *made = make_resource(HINTS);
+    if (made == NULL)
+        return refused(env, ANTIENTROPY_NO_MEMORY);
+    return handle_result(env, made, antientropy_hints_restore(&made->hints, first));
+}
+
 /* hints_close(Hints) -> ok */
 CALL(HINTS, hints_close)
 {
@@ -21,11 +33,10 @@ CALL(HINTS, hints_close)
 /* hint_keep(Hints, Owner, Key, Version) -> {ok, Number} */
 CALL(HINTS, hint_keep)
 {
-    uint16_t owner;
+    uint64_t owner, id;
     ErlNifBinary key;
     struct version version;
-    uint64_t id;
-    if (!get_u16(env, argv[1], &owner) || !enif_inspect_binary(env, argv[2], &key))
+    if (!get_u64(env, argv[1], &owner) || !enif_inspect_binary(env, argv[2], &key))
         return enif_make_badarg(env);
     uint32_t number = get_version(env, argv[3], &version);
     if (number != ANTIENTROPY_OK)
@@ -39,10 +50,8 @@ CALL(HINTS, hint_keep)
 /* hint_next(Hints, Owner, After) -> {ok, Number} */
 CALL(HINTS, hint_next)
 {
-    uint16_t owner;
-    uint32_t after;
-    uint64_t id;
-    if (!get_u16(env, argv[1], &owner) || !get_u32(env, argv[2], &after))
+    uint64_t owner, after, id;
+    if (!get_u64(env, argv[1], &owner) || !get_u64(env, argv[2], &after))
         return enif_make_badarg(env);
     uint32_t number = antientropy_hint_next(&at->hints, owner, after, &id);
     return number == ANTIENTROPY_OK ? ok(env, enif_make_uint64(env, id)) : refused(env, number);
@@ -51,12 +60,11 @@ CALL(HINTS, hint_next)
 /* hint(Hints, Number) -> {ok, Hint} */
 CALL(HINTS, hint)
 {
-    uint32_t id;
-    uint64_t owner, key_len, clock_len;
+    uint64_t id, owner, key_len, clock_len;
     uint8_t key[ANTIENTROPY_KEY_MAX], kind;
     struct antientropy_pair pairs[ANTIENTROPY_CLOCK_MAX];
     struct room room;
-    if (!get_u32(env, argv[1], &id))
+    if (!get_u64(env, argv[1], &id))
         return enif_make_badarg(env);
     uint32_t number = antientropy_hint_owner(&at->hints, id, &owner);
     if (number == ANTIENTROPY_OK)
@@ -72,7 +80,7 @@ CALL(HINTS, hint)
     if (number != ANTIENTROPY_OK)
         return room_result(env, &room, number);
     const ERL_NIF_TERM keys[] = {atoms.number, atoms.owner, atoms.key, atoms.clock, atoms.value};
-    const ERL_NIF_TERM values[] = {enif_make_uint(env, id), enif_make_uint64(env, owner),
+    const ERL_NIF_TERM values[] = {enif_make_uint64(env, id), enif_make_uint64(env, owner),
                                    make_bytes(env, key, key_len), make_clock(env, pairs, clock_len),
                                    room_value(env, &room, kind)};
     return ok(env, make_map(env, 5, keys, values));
@@ -81,9 +89,9 @@ CALL(HINTS, hint)
 /* hint_confirm(Hints, Number, new | known) -> ok */
 CALL(HINTS, hint_confirm)
 {
-    uint32_t id;
+    uint64_t id;
     bool known = enif_is_identical(argv[2], atoms.known);
-    if (!get_u32(env, argv[1], &id) || (!known && !enif_is_identical(argv[2], atoms.new)))
+    if (!get_u64(env, argv[1], &id) || (!known && !enif_is_identical(argv[2], atoms.new)))
         return enif_make_badarg(env);
     return done(env, antientropy_hint_confirm(&at->hints, id, known));
 }

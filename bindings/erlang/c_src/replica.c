@@ -67,11 +67,13 @@ CALL(REPLICA, count)
     uint32_t number = antientropy_count(&at->replica, &counts);
     if (number != ANTIENTROPY_OK)
         return refused(env, number);
-    const ERL_NIF_TERM keys[] = {atoms.entries, atoms.limit, atoms.dirty, atoms.sessions, atoms.open_sessions};
+    const ERL_NIF_TERM keys[] = {atoms.entries,       atoms.limit, atoms.dirty, atoms.sessions,
+                                 atoms.open_sessions, atoms.first, atoms.front};
     const ERL_NIF_TERM values[] = {enif_make_uint64(env, counts.entries), enif_make_uint64(env, counts.limit),
                                    enif_make_uint64(env, counts.dirty), enif_make_uint64(env, counts.sessions),
-                                   enif_make_uint64(env, counts.open_sessions)};
-    return ok(env, make_map(env, 5, keys, values));
+                                   enif_make_uint64(env, counts.open_sessions), enif_make_uint64(env, counts.first),
+                                   enif_make_uint64(env, counts.front)};
+    return ok(env, make_map(env, 7, keys, values));
 }
 
 /* rehash(Replica) -> ok */
@@ -90,6 +92,20 @@ CALL(REPLICA, rehash_some)
     return number == ANTIENTROPY_OK ? ok(env, enif_make_uint64(env, left)) : refused(env, number);
 }
 
+/* Returns {ok, Loaded} or a refusal, with the offset of a broken row. */
+static ERL_NIF_TERM loaded_result(ErlNifEnv *env, uint32_t number, const struct antientropy_loaded *loaded)
+{
+    if (number == ANTIENTROPY_ROW_BROKEN) {
+        ERL_NIF_TERM broken = enif_make_tuple2(env, name_of(number), enif_make_uint64(env, loaded->offset));
+        return enif_make_tuple2(env, atoms.error, broken);
+    }
+    if (number != ANTIENTROPY_OK)
+        return refused(env, number);
+    const ERL_NIF_TERM keys[] = {atoms.new, atoms.known};
+    const ERL_NIF_TERM values[] = {enif_make_uint64(env, loaded->taken), enif_make_uint64(env, loaded->known)};
+    return ok(env, make_map(env, 2, keys, values));
+}
+
 /* load_rows(Replica, Rows) -> {ok, Loaded} | {error, {row_broken, Offset}} */
 CALL(REPLICA, load_rows)
 {
@@ -99,14 +115,18 @@ CALL(REPLICA, load_rows)
         return enif_make_badarg(env);
     if (rows.size > FEW_BYTES && on_normal_scheduler())
         return ELSEWHERE;
-    uint32_t number = antientropy_load(&at->replica, rows.data, rows.size, &loaded);
-    if (number == ANTIENTROPY_ROW_BROKEN) {
-        ERL_NIF_TERM broken = enif_make_tuple2(env, name_of(number), enif_make_uint64(env, loaded.offset));
-        return enif_make_tuple2(env, atoms.error, broken);
-    }
-    if (number != ANTIENTROPY_OK)
-        return refused(env, number);
-    const ERL_NIF_TERM keys[] = {atoms.new, atoms.known};
-    const ERL_NIF_TERM values[] = {enif_make_uint64(env, loaded.taken), enif_make_uint64(env, loaded.known)};
-    return ok(env, make_map(env, 2, keys, values));
+    return loaded_result(env, antientropy_load(&at->replica, rows.data, rows.size, &loaded), &loaded);
+}
+
+/* load_format(Replica, Format, Rows) -> {ok, Loaded} | {error, {row_broken, Offset}} */
+CALL(REPLICA, load_format)
+{
+    uint64_t format;
+    ErlNifBinary rows;
+    struct antientropy_loaded loaded;
+    if (!get_u64(env, argv[1], &format) || !get_bytes(env, argv[2], &rows))
+        return enif_make_badarg(env);
+    if (rows.size > FEW_BYTES && on_normal_scheduler())
+        return ELSEWHERE;
+    return loaded_result(env, antientropy_load_format(&at->replica, format, rows.data, rows.size, &loaded), &loaded);
 }

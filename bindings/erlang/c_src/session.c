@@ -8,11 +8,10 @@ enum { FEW_ASKS = 256 };
 /* open(Replica, Partner, Offer, Rehash) -> {ok, Session} */
 CALL(REPLICA, open)
 {
-    uint16_t partner;
+    uint64_t partner, session;
     ErlNifBinary offer;
     bool rehash;
-    uint64_t session;
-    if (!get_u16(env, argv[1], &partner) || !get_bytes(env, argv[2], &offer) || !get_bool(argv[3], &rehash))
+    if (!get_u64(env, argv[1], &partner) || !get_bytes(env, argv[2], &offer) || !get_bool(argv[3], &rehash))
         return enif_make_badarg(env);
     uint32_t number = rehash ? antientropy_rehash(&at->replica) : ANTIENTROPY_OK;
     if (number == ANTIENTROPY_OK)

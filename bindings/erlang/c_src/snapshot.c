@@ -97,10 +97,10 @@ CALL(SNAPSHOT, serve)
 /* rows(Snapshot, Leaf) -> {ok, Rows} */
 CALL(SNAPSHOT, rows)
 {
-    uint16_t leaf;
+    uint64_t leaf;
     struct room room;
     uint32_t number;
-    if (!get_u16(env, argv[1], &leaf))
+    if (!get_u64(env, argv[1], &leaf))
         return enif_make_badarg(env);
     open_room(&room);
     do {

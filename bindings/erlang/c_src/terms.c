@@ -91,15 +91,6 @@ ERL_NIF_TERM make_version(ErlNifEnv *env, ERL_NIF_TERM clock, ERL_NIF_TERM value
 
 /* ---- arguments */
 
-bool get_u16(ErlNifEnv *env, ERL_NIF_TERM term, uint16_t *number)
-{
-    unsigned got;
-    if (!enif_get_uint(env, term, &got) || got > UINT16_MAX)
-        return false;
-    *number = (uint16_t)got;
-    return true;
-}
-
 bool get_u32(ErlNifEnv *env, ERL_NIF_TERM term, uint32_t *number)
 {
     unsigned got;

@@ -27,8 +27,10 @@
     X(error, "error")                                                                                                  \
     X(failed, "failed")                                                                                                \
     X(finished, "finished")                                                                                            \
+    X(first, "first")                                                                                                  \
     X(format, "format")                                                                                                \
     X(free, "free")                                                                                                    \
+    X(front, "front")                                                                                                  \
     X(hint, "hint")                                                                                                    \
     X(key, "key")                                                                                                      \
     X(known, "known")                                                                                                  \
@@ -123,7 +125,6 @@ ERL_NIF_TERM make_version(ErlNifEnv *env, ERL_NIF_TERM clock, ERL_NIF_TERM value
 
 /* ---- arguments: each function returns false if the term isn't of the type */
 
-bool get_u16(ErlNifEnv *env, ERL_NIF_TERM term, uint16_t *number);
 bool get_u32(ErlNifEnv *env, ERL_NIF_TERM term, uint32_t *number);
 bool get_u64(ErlNifEnv *env, ERL_NIF_TERM term, uint64_t *number);
 bool get_bool(ERL_NIF_TERM term, bool *flag);

@@ -5,27 +5,43 @@
 /* Versions that are read in far less than a millisecond, even with the longest values. */
 enum { FEW_VERSIONS = 4 };
 
-/* put(Replica, Node, Key, Value, Context) -> {ok, Receipt} */
-CALL(REPLICA, put)
+/* Puts a version: after a read by the put that checks, or by the other one. */
+static ERL_NIF_TERM put_by(ErlNifEnv *env, struct resource *at, const ERL_NIF_TERM argv[], bool after_read)
 {
-    uint16_t node;
+    uint64_t node;
     ErlNifBinary key;
     struct value value;
     struct clock context;
     struct antientropy_receipt receipt;
-    if (!get_u16(env, argv[1], &node) || !enif_inspect_binary(env, argv[2], &key) || !get_value(env, argv[3], &value))
+    if (!get_u64(env, argv[1], &node) || !enif_inspect_binary(env, argv[2], &key) || !get_value(env, argv[3], &value))
         return enif_make_badarg(env);
     uint32_t number = get_clock(env, argv[4], &context);
     if (number != ANTIENTROPY_OK)
         return refused(env, number);
-    number = antientropy_put(&at->replica, node, key.data, key.size, context.pairs, context.len, value.kind,
-                             value.bytes.data, value.bytes.size, &receipt);
+    if (after_read)
+        number = antientropy_put_read(&at->replica, node, key.data, key.size, context.pairs, context.len, value.kind,
+                                      value.bytes.data, value.bytes.size, &receipt);
+    else
+        number = antientropy_put(&at->replica, node, key.data, key.size, context.pairs, context.len, value.kind,
+                                 value.bytes.data, value.bytes.size, &receipt);
     drop_clock(&context);
     if (number != ANTIENTROPY_OK)
         return refused(env, number);
     const ERL_NIF_TERM keys[] = {atoms.number, atoms.counter};
     const ERL_NIF_TERM values[] = {enif_make_uint64(env, receipt.number), enif_make_uint64(env, receipt.counter)};
     return ok(env, make_map(env, 2, keys, values));
+}
+
+/* put(Replica, Node, Key, Value, Context) -> {ok, Receipt} */
+CALL(REPLICA, put)
+{
+    return put_by(env, at, argv, true);
+}
+
+/* put_unread(Replica, Node, Key, Value, Context) -> {ok, Receipt} */
+CALL(REPLICA, put_unread)
+{
+    return put_by(env, at, argv, false);
 }
 
 /* accept(Replica, Key, Version) -> {ok, new | known} */
@@ -166,11 +182,10 @@ CALL(REPLICA, row)
 /* key_after(Replica, Leaf, Key) -> {ok, Key} */
 CALL(REPLICA, key_after)
 {
-    uint16_t leaf;
+    uint64_t leaf, len;
     ErlNifBinary key;
     uint8_t next[ANTIENTROPY_KEY_MAX];
-    uint64_t len;
-    if (!get_u16(env, argv[1], &leaf) || !enif_inspect_binary(env, argv[2], &key))
+    if (!get_u64(env, argv[1], &leaf) || !enif_inspect_binary(env, argv[2], &key))
         return enif_make_badarg(env);
     uint32_t number = antientropy_key_after(&at->replica, leaf, key.data, key.size, next, sizeof next, &len);
     return number == ANTIENTROPY_OK ? ok(env, make_bytes(env, next, len)) : refused(env, number);
@@ -214,4 +229,15 @@ CALL(REPLICA, entry)
                                    make_clock(env, pairs, clock_len), room_value(env, &room, kind),
                                    source_atom(source)};
     return ok(env, make_map(env, 5, keys, values));
+}
+
+/* top_counter(Replica, Node, Key, Entries) -> {ok, Counter} */
+CALL(REPLICA, top_counter)
+{
+    uint64_t node, entries, counter;
+    ErlNifBinary key;
+    if (!get_u64(env, argv[1], &node) || !enif_inspect_binary(env, argv[2], &key) || !get_u64(env, argv[3], &entries))
+        return enif_make_badarg(env);
+    uint32_t number = antientropy_top_counter(&at->replica, node, key.data, key.size, entries, &counter);
+    return number == ANTIENTROPY_OK ? ok(env, enif_make_uint64(env, counter)) : refused(env, number);
 }

@@ -5,16 +5,16 @@
 %%
 %% A call returns `{error, Name}' if it is refused: Name is the library's name of the cause, and docs/FORMATS.md says
 %% what to do. A refused call changes nothing, except as `antientropy.h' says. An argument of a wrong type raises
-%% `badarg', and so does a number that C's type can't hold.
+%% `badarg', and so does a number of over 64 bits (of an offer and of slots: over 32 bits).
 %%
 %% Processes may share a handle, which has a lock. It is of its node: send messages to other nodes, not handles.
 -module(antientropy).
 
 -export([version/0, name/1, place/3, compare/2, merge/1, read_offer/1]).
 -export([new/0, new/1, close/1, renew/1, renew/2, migrate/1, info/1, count/1]).
--export([put/4, put/5, accept/3, get/2, read/3, count_versions/2, value/3, clock/3, row/2]).
--export([key_after/3, keys/1, keys/2, fold_keys/3, entry/2, entries/2, fold_entries/4]).
--export([rehash/1, rehash_some/2, root/1, snapshot/1, snapshot/2, load_rows/2, save/2, load/1, load/2]).
+-export([put/4, put/5, put_unread/5, accept/3, get/2, read/3, count_versions/2, value/3, clock/3, row/2]).
+-export([key_after/3, keys/1, keys/2, fold_keys/3, entry/2, entries/2, fold_entries/4, top_counter/3, top_counter/4]).
+-export([rehash/1, rehash_some/2, root/1, snapshot/1, snapshot/2, load_rows/2, load_format/3, save/2, load/1, load/2]).
 -export([open/3, open/4, sync/4, sync/5]).
 
 -export_type([replica/0, options/0, clock/0, clock_like/0, value/0, value_like/0, version/0, version_like/0]).
@@ -22,6 +22,8 @@
 
 -define(OPTIONS, #{format => 2, bits => 0, range => 0, limit => 1000000}).
 -define(LIMIT, 1000000).
+%% No journal has more entries.
+-define(ALL, 16#ffffffffffffffff).
 
 -type replica() :: reference().
 %% A replica. The garbage collector frees one that is dropped; close a large one.
@@ -142,14 +144,16 @@ migrate(Replica) ->
 info(Replica) ->
     antientropy_nif:info(Replica).
 
-%% @doc Returns the counts of entries, dirty nodes and sessions.
+%% @doc Returns the counts of entries, dirty nodes and sessions. `first' and `front' are 0.
 -spec count(replica()) -> {ok, Counts} | refused() when
     Counts :: #{
         entries := non_neg_integer(),
         limit := pos_integer(),
         dirty := non_neg_integer(),
         sessions := non_neg_integer(),
-        open_sessions := non_neg_integer()
+        open_sessions := non_neg_integer(),
+        first := non_neg_integer(),
+        front := non_neg_integer()
     }.
 count(Replica) ->
     antientropy_nif:count(Replica).
@@ -162,10 +166,12 @@ count(Replica) ->
 put(Replica, Node, Key, Value) ->
     antientropy_nif:put(Replica, Node, Key, Value, #{}).
 
-%% @doc Puts a value, or a tombstone, at a node. The context is the clock of all that the client has read.
+%% @doc Puts a value, or a tombstone, at a node, after a read: the context is the clock of all that was read.
 %%
-%% The new version replaces every held version whose clock is at most its clock. The receipt has the number of its
-%% entry, and the node's counter in its clock: `Context#{Node => Counter}'. Refused: `bad_clock', `clock_full',
+%% The new version replaces every held version whose clock is at most its clock. The client has read each of these:
+%% `stale_context' means that a held version has a greater counter of the node than the context, so another client has
+%% put in between. Read again then. The receipt has the number of the new version's entry, and the node's counter in its
+%% clock: `Context#{Node => Counter}'. Refused: `bad_clock' (also if the node is 0 or over 65,535), `clock_full',
 %% `bad_key', `bad_value', `other_range', `counter_full', `stale_context', `crowded', `journal_full'.
 -spec put(replica(), Node, Key :: binary(), value_like(), Context) -> {ok, Receipt} | refused() when
     Node :: non_neg_integer(),
@@ -173,6 +179,17 @@ put(Replica, Node, Key, Value) ->
     Receipt :: #{number := non_neg_integer(), counter := pos_integer()}.
 put(Replica, Node, Key, Value, Context) ->
     antientropy_nif:put(Replica, Node, Key, Value, Context).
+
+%% @doc Puts as {@link put/5} does, for a caller that has made its check itself.
+%%
+%% The new version replaces even a held version that the client hasn't read. Refused: what {@link put/5} refuses, but as
+%% `stale_context' only if a held version has seen all of the new version's clock.
+-spec put_unread(replica(), Node, Key :: binary(), value_like(), Context) -> {ok, Receipt} | refused() when
+    Node :: non_neg_integer(),
+    Context :: clock_like(),
+    Receipt :: #{number := non_neg_integer(), counter := pos_integer()}.
+put_unread(Replica, Node, Key, Value, Context) ->
+    antientropy_nif:put_unread(Replica, Node, Key, Value, Context).
 
 %% @doc Accepts a version of another replica, as a copy. Returns `known' if the replica had it.
 %%
@@ -253,19 +270,43 @@ fold_leaf(Fun, Acc, Replica, Leaf, After) ->
 entry(Replica, Number) ->
     antientropy_nif:entry(Replica, Number).
 
-%% @doc Returns the entries of the journal, from a number on.
+%% @doc Returns the entries of the journal, from a number on. Refused: what {@link fold_entries/4} refuses.
 -spec entries(replica(), From :: non_neg_integer()) -> {ok, [entry()]} | refused().
 entries(Replica, From) ->
     reversed(fold_entries(fun prepend/2, [], Replica, From)).
 
 %% @doc Folds over the entries of the journal, from a number on. Entries are never changed.
+%%
+%% Refused: `no_version' (the number is over that of entries, so it is one of a journal before a renewal). That finds
+%% only some old numbers, since a renewal numbers the entries anew: begin at its count of entries.
 -spec fold_entries(fun((entry(), Acc) -> Acc), Acc, replica(), From :: non_neg_integer()) -> {ok, Acc} | refused().
 fold_entries(Fun, Acc, Replica, From) ->
+    case count(Replica) of
+        {ok, #{entries := Entries}} when is_integer(From), From > Entries -> {error, no_version};
+        {ok, _} -> fold_entries_on(Fun, Acc, Replica, From);
+        Refused -> Refused
+    end.
+
+fold_entries_on(Fun, Acc, Replica, From) ->
     case entry(Replica, From) of
-        {ok, Entry} -> fold_entries(Fun, Fun(Entry, Acc), Replica, From + 1);
+        {ok, Entry} -> fold_entries_on(Fun, Fun(Entry, Acc), Replica, From + 1);
         {error, no_version} -> {ok, Acc};
         Refused -> Refused
     end.
+
+%% @doc Returns the greatest counter of a node in the clocks of the versions of a key, of all entries: see {@link
+%% top_counter/4}.
+-spec top_counter(replica(), Node :: non_neg_integer(), Key :: binary()) -> {ok, non_neg_integer()} | refused().
+top_counter(Replica, Node, Key) ->
+    top_counter(Replica, Node, Key, ?ALL).
+
+%% @doc Returns the greatest counter of a node in the clocks of the versions of a key, of the first entries, or 0.
+%%
+%% Refused: `bad_clock' (the node is 0 or over 65,535).
+-spec top_counter(replica(), Node :: non_neg_integer(), Key :: binary(), Entries :: non_neg_integer()) ->
+    {ok, non_neg_integer()} | refused().
+top_counter(Replica, Node, Key, Entries) ->
+    antientropy_nif:top_counter(Replica, Node, Key, Entries).
 
 prepend(Item, Items) -> [Item | Items].
 
@@ -317,6 +358,17 @@ snapshot(Replica, Options) ->
 load_rows(Replica, Rows) ->
     antientropy_nif:load_rows(Replica, Rows).
 
+%% @doc Accepts all versions in rows of a format and of any leaves, in ascending order of key, as copies, or none.
+%%
+%% A replica of format 2 loads rows of format 1 too. Refused: `bad_ring' (the format is neither 1 nor 2), `other_format'
+%% (rows of format 2, replica of format 1), `{row_broken, Offset}', `other_range', `crowded', `journal_full'.
+-spec load_format(replica(), Format :: non_neg_integer(), Rows :: iodata()) ->
+    {ok, Loaded} | refused() | {error, {row_broken, Offset}} when
+    Loaded :: #{new := non_neg_integer(), known := non_neg_integer()},
+    Offset :: non_neg_integer().
+load_format(Replica, Format, Rows) ->
+    antientropy_nif:load_format(Replica, Format, Rows).
+
 %% @doc Writes a checkpoint of the rows now (docs/FORMATS.md), and returns the number of entries that it covers.
 %%
 %% Other processes may put meanwhile. The file is open for writing in mode `binary'; the caller brings it to its disk.
@@ -359,8 +411,8 @@ load(File, Limit) ->
 
 %% @doc Rehashes, and opens a session with a partner's offer: see {@link antientropy_session}.
 %%
-%% A session is never freed before its replica, so compare roots first. Refused: `bad_message', `other_format',
-%% `other_range', `sessions_full'.
+%% A session is never freed before its replica, so compare roots first. Refused: `bad_clock' (the partner is over
+%% 65,535), `bad_message', `other_format', `other_range', `sessions_full'.
 -spec open(replica(), Partner :: non_neg_integer(), Offer :: iodata()) ->
     {ok, antientropy_session:session()} | refused().
 open(Replica, Partner, Offer) ->
@@ -379,7 +431,7 @@ open(Replica, Partner, Offer, Options) ->
 sync(Replica, Partner, Offer, Reach) ->
     sync(Replica, Partner, Offer, Reach, #{}).
 
-%% @doc Takes the versions of a partner's offer that a replica lacks. If the roots are equal it asks nothing.
+%% @doc Takes the versions of a partner's offer that a replica lacks. If the roots are equal it opens no session.
 %%
 %% `Reach' sends at most `in_flight' asks to the partner, and returns the answers in their order. After more than
 %% `most_bad' bad or missing answers the sync ends unfinished. A leaf with a crowded key is left. Refused: what {@link

@@ -1,7 +1,9 @@
-%% @doc Hints: versions that a node carries for replicas that are down. A hint is of no range.
+%% @doc Hints: versions that a node carries for replicas that are down.
+%%
+%% A hint is of no range, and its number never names another one.
 -module(antientropy_hints).
 
--export([new/0, close/1, keep/4, next/3, hint/2, pending/2, fold/4, confirm/3, renew/1, count/1]).
+-export([new/0, restore/1, close/1, keep/4, next/3, hint/2, pending/2, fold/4, confirm/3, renew/1, count/1]).
 
 -export_type([hints/0, hint/0]).
 
@@ -14,19 +16,27 @@
     value := antientropy:value()
 }.
 
-%% @doc Makes an empty store of hints.
+%% @doc Makes an empty store of hints. The first hint gets the number 1.
 -spec new() -> {ok, hints()} | antientropy:refused().
 new() ->
     antientropy_nif:hints_new().
+
+%% @doc Makes an empty store of hints, after a restart. The first hint gets the number `First'.
+%%
+%% It must be above all numbers in the program's log: hints that are kept again get new numbers, which are logged, and
+%% no old number names another hint. Refused: `unknown_hint' (it is 0).
+-spec restore(First :: non_neg_integer()) -> {ok, hints()} | antientropy:refused().
+restore(First) ->
+    antientropy_nif:hints_restore(First).
 
 %% @doc Frees the memory. Later calls are refused as `empty'.
 -spec close(hints()) -> ok.
 close(Hints) ->
     antientropy_nif:hints_close(Hints).
 
-%% @doc Keeps a version for its owner, a node that is down. Returns the number of the hint, from 1.
+%% @doc Keeps a version for its owner, a node that is down. Returns the number of the hint: one more than the last.
 %%
-%% Refused: `bad_clock' (also if the owner is 0), `clock_full', `bad_key', `bad_value', `hints_full'.
+%% Refused: `bad_clock' (also if the owner is 0 or over 65,535), `clock_full', `bad_key', `bad_value', `hints_full'.
 -spec keep(hints(), Owner :: non_neg_integer(), Key :: binary(), antientropy:version_like()) ->
     {ok, Number :: pos_integer()} | antientropy:refused().
 keep(Hints, Owner, Key, Version) ->
@@ -51,7 +61,9 @@ pending(Hints, Owner) ->
         Refused -> Refused
     end.
 
-%% @doc Folds over the pending hints of an owner in order. Confirm them on the way, but don't renew.
+%% @doc Folds over the pending hints of an owner in order. Confirm them on the way.
+%%
+%% A renewal on the way gives those that are pending new numbers, so the fold meets them once more.
 -spec fold(fun((hint(), Acc) -> Acc), Acc, hints(), Owner :: non_neg_integer()) -> {ok, Acc} | antientropy:refused().
 fold(Fun, Acc, Hints, Owner) ->
     fold_after(Fun, Acc, Hints, Owner, 0).
@@ -76,7 +88,9 @@ fold_after(Fun, Acc, Hints, Owner, After) ->
 confirm(Hints, Number, Outcome) ->
     antientropy_nif:hint_confirm(Hints, Number, Outcome).
 
-%% @doc Drops the delivered hints, and numbers the pending ones anew from 1, in order.
+%% @doc Drops the delivered hints. The pending ones get new numbers, above every number that was used, in order.
+%%
+%% An old number names no hint then. Refused: `hints_full' (a number would be over 2^64 - 1).
 -spec renew(hints()) -> ok | antientropy:refused().
 renew(Hints) ->
     antientropy_nif:hints_renew(Hints).

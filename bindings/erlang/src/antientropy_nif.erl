@@ -5,12 +5,12 @@
 
 -export([
     version/0, name/1, place/3, compare/2, merge/2, read_offer/1, new/4, close/1, renew/2, migrate/1, info/1,
-    count/1, rehash/1, rehash_some/2, load_rows/2, put/5, accept/3, get/2, read/3, count_versions/2, value/3,
-    clock/3, row/2, key_after/3, entry/2, snapshot/2, snapshot_close/1, snapshot_info/1, root/1, offer/2,
-    serve/3, rows/2, open/4, session/2, outstanding/2, ask/3, ask_at/4, asks/3, take/4, cancel/2,
-    hints_new/0, hints_close/1, hint_keep/4, hint_next/3, hint/2, hint_confirm/3, hints_renew/1,
-    hints_count/1, slots_new/3, slots_close/1, slot_lend/1, slot_give_back/1, slots_sample/3, slots_adjust/2,
-    slots_set_target/2, slots_count/1
+    count/1, rehash/1, rehash_some/2, load_rows/2, load_format/3, put/5, put_unread/5, accept/3, get/2, read/3,
+    count_versions/2, value/3, clock/3, row/2, key_after/3, entry/2, top_counter/4, snapshot/2, snapshot_close/1,
+    snapshot_info/1, root/1, offer/2, serve/3, rows/2, open/4, session/2, outstanding/2, ask/3, ask_at/4, asks/3,
+    take/4, cancel/2, hints_new/0, hints_restore/1, hints_close/1, hint_keep/4, hint_next/3, hint/2, hint_confirm/3,
+    hints_renew/1, hints_count/1, slots_new/3, slots_close/1, slot_lend/1, slot_give_back/1, slots_sample/3,
+    slots_adjust/2, slots_set_target/2, slots_count/1
 ]).
 
 -define(NOT_LOADED, erlang:nif_error(not_loaded)).
@@ -36,7 +36,9 @@ count(_Replica) -> ?NOT_LOADED.
 rehash(_Replica) -> ?NOT_LOADED.
 rehash_some(_Replica, _Most) -> ?NOT_LOADED.
 load_rows(_Replica, _Rows) -> ?NOT_LOADED.
+load_format(_Replica, _Format, _Rows) -> ?NOT_LOADED.
 put(_Replica, _Node, _Key, _Value, _Context) -> ?NOT_LOADED.
+put_unread(_Replica, _Node, _Key, _Value, _Context) -> ?NOT_LOADED.
 accept(_Replica, _Key, _Version) -> ?NOT_LOADED.
 get(_Replica, _Key) -> ?NOT_LOADED.
 read(_Replica, _Key, _Index) -> ?NOT_LOADED.
@@ -46,6 +48,7 @@ clock(_Replica, _Key, _Index) -> ?NOT_LOADED.
 row(_Replica, _Key) -> ?NOT_LOADED.
 key_after(_Replica, _Leaf, _Key) -> ?NOT_LOADED.
 entry(_Replica, _Number) -> ?NOT_LOADED.
+top_counter(_Replica, _Node, _Key, _Entries) -> ?NOT_LOADED.
 snapshot(_Replica, _Rehash) -> ?NOT_LOADED.
 snapshot_close(_Snapshot) -> ?NOT_LOADED.
 snapshot_info(_Snapshot) -> ?NOT_LOADED.
@@ -62,6 +65,7 @@ asks(_Replica, _Session, _Number) -> ?NOT_LOADED.
 take(_Replica, _Session, _Number, _Answer) -> ?NOT_LOADED.
 cancel(_Replica, _Session) -> ?NOT_LOADED.
 hints_new() -> ?NOT_LOADED.
+hints_restore(_First) -> ?NOT_LOADED.
 hints_close(_Hints) -> ?NOT_LOADED.
 hint_keep(_Hints, _Owner, _Key, _Version) -> ?NOT_LOADED.
 hint_next(_Hints, _Owner, _After) -> ?NOT_LOADED.

@@ -41,7 +41,7 @@
 sync(Replica, Partner, Offer, Reach, #{in_flight := InFlight, most_bad := MostBad}) when
     is_function(Reach, 1), is_integer(InFlight), InFlight > 0, is_integer(MostBad), MostBad >= 0
 ->
-    case has_root_of(Replica, Offer) of
+    case is_equal(Replica, Offer) of
         {ok, true} ->
             {ok, #{accepted => 0, known => 0, asks => 0, bad => 0, crowded => [], state => finished}};
         {ok, false} ->
@@ -54,12 +54,17 @@ sync(Replica, Partner, Offer, Reach, #{in_flight := InFlight, most_bad := MostBa
 sync(_, _, _, _, _) ->
     error(badarg).
 
-%% Compares the root of a replica with that of an offer.
-has_root_of(Replica, Offer) ->
-    case {antientropy:root(Replica), antientropy:read_offer(Offer)} of
-        {{ok, Root}, {ok, #{root := Offered}}} -> {ok, Root =:= Offered};
-        {{ok, _}, Refused} -> Refused;
-        {Refused, _} -> Refused
+%% Compares the format, the range and the root of a replica with those of an offer.
+is_equal(Replica, Offer) ->
+    case {antientropy:root(Replica), antientropy:info(Replica), antientropy:read_offer(Offer)} of
+        {{ok, Root}, {ok, #{format := Format, range := Range}}, {ok, Parts}} ->
+            {ok, maps:remove(number, Parts) =:= #{format => Format, range => Range, root => Root}};
+        {{ok, _}, {ok, _}, Refused} ->
+            Refused;
+        {{ok, _}, Refused, _} ->
+            Refused;
+        {Refused, _, _} ->
+            Refused
     end.
 
 %% Runs a function with a session, and cancels the session if it is still open.

@@ -77,8 +77,8 @@ save_and_load({Replica, Saved}) ->
     {ok, Loaded} = load(Saved),
     ?assertEqual(antientropy:root(Replica), antientropy:root(Loaded)),
     ?assertEqual(antientropy:get(Replica, <<"cart">>), antientropy:get(Loaded, <<"cart">>)),
-    Counts = #{entries => 3, limit => 1_000_000, dirty => 0, sessions => 0, open_sessions => 0},
-    ?assertEqual({ok, Counts}, antientropy:count(Loaded)),
+    {ok, Counts} = antientropy:count(Loaded),
+    ?assertMatch(#{entries := 3, limit := 1_000_000, dirty := 0, sessions := 0, open_sessions := 0}, Counts),
     {ok, Small} = load(Saved, 7),
     ?assertMatch({ok, #{limit := 7}}, antientropy:count(Small)).
 

@@ -13,6 +13,7 @@ hints_test_() ->
             fun read/1,
             fun large_values/1,
             fun deliver_and_renew/1,
+            fun no_number_names_two_hints/1,
             fun confirm_one/1,
             fun refusals/1,
             fun wrong_types/1,
@@ -67,8 +68,28 @@ deliver_and_renew(Hints) ->
     ?assertMatch({ok, #{key := <<"cart">>}}, antientropy_hints:hint(Hints, 1)),
     ok = antientropy_hints:renew(Hints),
     ?assertEqual({ok, #{pending => 1, delivered => 0}}, antientropy_hints:count(Hints)),
-    Left = hint(1, 3, <<"cart">>, #{1 => 1}, <<"milk">>),
+    Left = hint(4, 3, <<"cart">>, #{1 => 1}, <<"milk">>),
     ?assertEqual({ok, [Left]}, antientropy_hints:pending(Hints, 3)).
+
+no_number_names_two_hints(Hints) ->
+    ok = antientropy_hints:confirm(Hints, 1, new),
+    ok = antientropy_hints:renew(Hints),
+    {ok, Payment} = antientropy_hints:keep(Hints, 2, <<"payment">>, live(#{1 => 1}, <<>>)),
+    ?assertEqual({error, unknown_hint}, antientropy_hints:confirm(Hints, 2, new)),
+    ?assertEqual({error, no_version}, antientropy_hints:hint(Hints, 2)),
+    ?assertMatch({ok, #{key := <<"payment">>}}, antientropy_hints:hint(Hints, Payment)),
+    ?assertMatch({ok, [#{key := <<"list">>}, #{key := <<"payment">>}]}, antientropy_hints:pending(Hints, 2)).
+
+restore_test() ->
+    Last = 1 bsl 64 - 1,
+    {ok, Hints} = antientropy_hints:restore(Last),
+    Keep = fun() -> antientropy_hints:keep(Hints, 2, <<"cart">>, live(#{1 => 1}, <<"milk">>)) end,
+    ?assertEqual({ok, Last}, Keep()),
+    ?assertEqual({error, hints_full}, Keep()),
+    ?assertEqual({error, hints_full}, antientropy_hints:renew(Hints)),
+    ?assertMatch({ok, #{number := Last}}, antientropy_hints:hint(Hints, Last)),
+    ?assertEqual({error, unknown_hint}, antientropy_hints:restore(0)),
+    support:badarg(fun() -> antientropy_hints:restore(-1) end).
 
 %% The hint of the number is confirmed, and no other.
 confirm_one(Hints) ->
@@ -88,12 +109,16 @@ refusals(Hints) ->
         ?assertEqual({error, Name}, apply(antientropy_hints, Function, [Hints | Args]))
      || {Name, Function, Args} <- [
             {bad_clock, keep, [0, <<"k">>, live(#{1 => 1}, <<>>)]},
+            {bad_clock, keep, [65_537, <<"k">>, live(#{1 => 1}, <<>>)]},
             {bad_clock, keep, [2, <<"k">>, live(#{0 => 1}, <<>>)]},
+            {no_version, next, [65_538, 0]},
             {clock_full, keep, [2, <<"k">>, live(Long, <<>>)]},
             {bad_key, keep, [2, <<>>, live(#{1 => 1}, <<>>)]},
             {bad_value, keep, [2, <<"k">>, live(#{1 => 1}, binary:copy(<<0>>, 65_537))]},
             {no_version, hint, [4]},
+            {no_version, hint, [1 bsl 32 + 2]},
             {unknown_hint, confirm, [4, new]},
+            {unknown_hint, confirm, [1 bsl 32 + 2, new]},
             {unknown_hint, confirm, [1, new]}
         ]
     ],
@@ -103,12 +128,12 @@ wrong_types(Hints) ->
     [
         support:badarg(fun() -> apply(antientropy_hints, Function, [Hints | Args]) end)
      || {Function, Args} <- [
-            {keep, [65_536, <<"k">>, live(#{}, <<>>)]},
+            {keep, [-1, <<"k">>, live(#{}, <<>>)]},
             {keep, [2, "k", live(#{}, <<>>)]},
             {keep, [2, <<"k">>, #{}]},
-            {next, [65_536, 0]},
-            {next, [2, 1 bsl 32]},
-            {hint, [1 bsl 32]},
+            {next, [1 bsl 64, 0]},
+            {next, [2, 1 bsl 64]},
+            {hint, [1 bsl 64]},
             {confirm, [-1, new]},
             {confirm, [1, true]}
         ]

@@ -42,6 +42,14 @@ refused(Name, Replica, Function, Args) ->
 
 bad_clock(Replica) ->
     refused(bad_clock, Replica, put, [Replica, 0, <<"k">>, <<>>]),
+    [
+        begin
+            refused(bad_clock, Replica, put, [Replica, Node, <<"other">>, <<>>]),
+            refused(bad_clock, Replica, put_unread, [Replica, Node, <<"other">>, <<>>, #{}]),
+            refused(bad_clock, Replica, top_counter, [Replica, Node, <<"k">>])
+        end
+     || Node <- [0, 65_536, 65_537, 1 bsl 32]
+    ],
     refused(bad_clock, Replica, put, [Replica, 1, <<"k">>, <<>>, [{1, 1}, {1, 2}]]),
     refused(bad_clock, Replica, accept, [Replica, <<"k">>, live(#{65_536 => 1}, <<>>)]),
     refused(bad_clock, Replica, compare, [#{1 => 0}, #{}]),
@@ -113,16 +121,19 @@ bad_ring(Replica) ->
         ]
     ],
     refused(bad_ring, Replica, place, [3, 0, <<"k">>]),
-    refused(bad_ring, Replica, renew, [Replica, 0]).
+    refused(bad_ring, Replica, renew, [Replica, 0]),
+    refused(bad_ring, Replica, load_format, [Replica, 3, <<>>]).
 
 row_broken(Replica) ->
     {ok, Row} = antientropy:row(Replica, <<"k">>),
-    refused({row_broken, byte_size(Row)}, Replica, load_rows, [Replica, [Row, 0]]).
+    refused({row_broken, byte_size(Row)}, Replica, load_rows, [Replica, [Row, 0]]),
+    refused({row_broken, byte_size(Row)}, Replica, load_format, [Replica, 2, [Row, 0]]).
 
 bad_message(Replica) ->
     refused(bad_message, Replica, read_offer, [<<>>]),
-    refused(bad_message, Replica, keys, [Replica, 4096]),
+    [refused(bad_message, Replica, keys, [Replica, Leaf]) || Leaf <- [4096, 65_536, 1 bsl 32]],
     ok = antientropy:rehash(Replica),
+    refused(bad_clock, Replica, open, [Replica, 65_537, <<>>]),
     refused(bad_message, Replica, open, [Replica, 2, <<>>]),
     refused(bad_message, Replica, sync, [Replica, 2, <<>>, fun(_) -> [] end]).
 
@@ -131,6 +142,7 @@ no_version(Replica) ->
     refused(no_version, Replica, value, [Replica, <<"k">>, 1]),
     refused(no_version, Replica, clock, [Replica, <<"k">>, 1]),
     refused(no_version, Replica, entry, [Replica, 1]),
+    refused(no_version, Replica, entries, [Replica, 2]),
     {ok, #{leaf := Leaf}} = antientropy:place(2, 0, <<"k">>),
     refused(no_version, Replica, key_after, [Replica, Leaf, <<"k">>]).
 
@@ -141,6 +153,8 @@ empty(Replica) ->
         ?assertEqual({error, empty}, apply(antientropy, Function, [Replica | Args]))
      || {Function, Args} <- [
             {put, [1, <<"k">>, <<>>]},
+            {put_unread, [1, <<"k">>, <<>>, #{}]},
+            {top_counter, [1, <<"k">>]},
             {accept, [<<"k">>, live(#{1 => 1}, <<>>)]},
             {get, [<<"k">>]},
             {read, [<<"k">>, 0]},
@@ -163,6 +177,7 @@ empty(Replica) ->
             {renew, []},
             {migrate, []},
             {load_rows, [<<>>]},
+            {load_format, [2, <<>>]},
             {save, [standard_io]},
             {open, [1, <<>>]},
             {sync, [1, <<>>, fun(_) -> [] end]}
@@ -198,6 +213,7 @@ wrong_types(Replica) ->
             {snapshot, [Replica, #{rehash => none}]},
             {snapshot, [Replica, [rehash]]},
             {sync, [Replica, 1, <<>>, none]},
+            {entries, [Replica, none]},
             {load_rows, [Replica, none]}
         ]
     ],
@@ -215,14 +231,14 @@ numbers_that_c_cannot_hold(Replica) ->
     [
         badarg(fun() -> apply(antientropy, Function, Args) end)
      || {Function, Args} <- [
-            {put, [Replica, 65_536, <<"k">>, <<>>]},
+            {put, [Replica, 1 bsl 64, <<"k">>, <<>>]},
             {put, [Replica, -1, <<"k">>, <<>>]},
             {put, [Replica, 1, <<"k">>, <<>>, #{1 => 1 bsl 64}]},
             {put, [Replica, 1, <<"k">>, <<>>, #{-1 => 1}]},
             {read, [Replica, <<"k">>, -1]},
             {entry, [Replica, 1 bsl 64]},
-            {keys, [Replica, 65_536]},
-            {open, [Replica, 65_536, <<>>]},
+            {keys, [Replica, 1 bsl 64]},
+            {open, [Replica, -1, <<>>]},
             {new, [#{limit => 1 bsl 64}]},
             {new, [#{bits => -1}]},
             {name, [1 bsl 32]}

@@ -121,7 +121,28 @@ entries_test() ->
     ?assertEqual({ok, [Second]}, antientropy:entries(Replica, 1)),
     ?assertEqual({ok, []}, antientropy:entries(Replica, 2)),
     ?assertEqual({ok, Second}, antientropy:entry(Replica, 1)),
-    ?assertEqual({ok, 1}, antientropy:fold_entries(fun(#{number := Last}, _) -> Last end, none, Replica, 0)).
+    ?assertEqual({ok, 1}, antientropy:fold_entries(fun(#{number := Last}, _) -> Last end, none, Replica, 0)),
+    ?assertEqual({ok, 3}, antientropy:top_counter(Replica, 2, <<"b">>)),
+    ?assertEqual({ok, 0}, antientropy:top_counter(Replica, 2, <<"b">>, 1)).
+
+entries_from_before_a_renewal_test() ->
+    Replica = replica(),
+    Contexts = [#{} | [#{1 => Counter} || Counter <- lists:seq(1, 199)]],
+    [{ok, _} = antientropy:put(Replica, 1, <<"cart">>, <<"milk">>, Context) || Context <- Contexts],
+    {ok, Renewed} = antientropy:renew(Replica),
+    {ok, _} = antientropy:put(Renewed, 1, <<"gift">>, <<"wrapped">>),
+    ?assertEqual({error, no_version}, antientropy:entries(Renewed, 200)),
+    ?assertMatch({ok, [#{key := <<"gift">>}]}, antientropy:entries(Renewed, 1)).
+
+two_clients_test() ->
+    Replica = replica(),
+    Both = #{1 => 1, 2 => 1},
+    {ok, _} = antientropy:put(Replica, 1, <<"cart">>, <<"milk">>),
+    {ok, new} = antientropy:accept(Replica, <<"cart">>, live(#{2 => 1}, <<"eggs">>)),
+    {ok, _} = antientropy:put(Replica, 1, <<"cart">>, <<"bread">>, #{1 => 1}),
+    support:refused(stale_context, Replica, fun() -> antientropy:put(Replica, 1, <<"cart">>, <<"tea">>, Both) end),
+    {ok, _} = antientropy:put_unread(Replica, 1, <<"cart">>, <<"tea">>, Both),
+    ?assertEqual({ok, [live(#{1 => 2, 2 => 1}, <<"tea">>)]}, antientropy:get(Replica, <<"cart">>)).
 
 an_entry_is_a_version_test() ->
     Replica = replica(),
@@ -134,7 +155,7 @@ an_entry_is_a_version_test() ->
 counts_and_rehash_test() ->
     Replica = replica(#{limit => 1000}),
     ok = antientropy:rehash(Replica),
-    Clean = #{entries => 0, limit => 1000, dirty => 0, sessions => 0, open_sessions => 0},
+    Clean = #{entries => 0, limit => 1000, dirty => 0, sessions => 0, open_sessions => 0, first => 0, front => 0},
     ?assertEqual({ok, Clean}, antientropy:count(Replica)),
     {ok, _} = antientropy:put(Replica, 1, <<"a">>, <<"x">>),
     ?assertEqual({ok, Clean#{entries := 1, dirty := 4}}, antientropy:count(Replica)).
@@ -174,6 +195,18 @@ migrate_test() ->
     ?assertMatch({ok, #{format := 2}}, antientropy:info(Replica)),
     {ok, <<Start:4/binary, _/binary>>} = antientropy:root(Replica),
     ?assertEqual(<<"22ba8eee">>, support:hex(Start)).
+
+rows_of_before_a_migration_test() ->
+    [First, Again] = [replica(#{format => 1}) || _ <- [first, again]],
+    fill(First, 50),
+    {ok, Keys} = antientropy:keys(First),
+    Rows = [Row || Key <- lists:sort(Keys), {ok, Row} <- [antientropy:row(First, Key)]],
+    Second = replica(),
+    [?assertEqual({ok, #{new => 50, known => 0}}, antientropy:load_format(To, 1, Rows)) || To <- [Second, Again]],
+    ?assertEqual(antientropy:root(First), antientropy:root(Again)),
+    support:refused(other_format, Again, fun() -> antientropy:load_format(Again, 2, Rows) end),
+    ok = antientropy:migrate(First),
+    ?assertEqual(antientropy:root(First), antientropy:root(Second)).
 
 options_test() ->
     Replica = replica(#{format => 1, bits => 4, range => 9}),

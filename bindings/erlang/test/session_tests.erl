@@ -110,7 +110,10 @@ gone_and_bad_message(#pair{a = A, b = B, snapshot = Snapshot} = Pair) ->
     Short = binary:part(Ask, 0, byte_size(Ask) - 1),
     support:refused(gone, A, fun() -> antientropy_snapshot:serve(Snapshot, 8, Ask) end),
     support:refused(bad_message, A, fun() -> antientropy_snapshot:serve(Snapshot, 7, Short) end),
-    support:refused(bad_message, A, fun() -> antientropy_snapshot:rows(Snapshot, 4096) end),
+    [
+        support:refused(bad_message, A, fun() -> antientropy_snapshot:rows(Snapshot, Leaf) end)
+     || Leaf <- [4096, 65_536, 1 bsl 32]
+    ],
     support:refused(bad_message, B, fun() -> antientropy_session:take(Session, <<>>) end).
 
 not_asked_and_wrong_digest(#pair{b = B} = Pair) ->
@@ -209,6 +212,6 @@ wrong_types(#pair{b = B, snapshot = Snapshot} = Pair) ->
             fun() -> antientropy_session:ask_at(Session, -1) end,
             fun() -> antientropy_snapshot:offer(Snapshot, 1 bsl 32) end,
             fun() -> antientropy_snapshot:serve(Snapshot, 7, none) end,
-            fun() -> antientropy_snapshot:rows(Snapshot, 65_536) end
+            fun() -> antientropy_snapshot:rows(Snapshot, -1) end
         ]
     ].

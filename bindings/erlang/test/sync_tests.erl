@@ -12,6 +12,7 @@ syncs_test_() ->
      || Test <- [
             fun in_flight/1,
             fun equal_roots/1,
+            fun empty_ranges/1,
             fun answers_in_another_order/1,
             fun some_bad_answers/1,
             fun a_link_that_lies/1,
@@ -60,6 +61,15 @@ equal_roots({_, B} = Pair) ->
     Nothing = #{accepted => 0, known => 0, asks => 0, bad => 0, crowded => [], state => finished},
     ?assertEqual({{ok, Nothing}, []}, sync(Pair)),
     ?assertMatch({ok, #{sessions := 1, open_sessions := 0}}, antientropy:count(B)).
+
+%% The roots of empty replicas are equal, whatever their format and range.
+empty_ranges(_) ->
+    Empty = fun(Format, Range) -> replica(#{format => Format, bits => 1, range => Range}) end,
+    [Partner, Same, First, Other] = [Empty(2, 0), Empty(2, 0), Empty(1, 0), Empty(2, 1)],
+    ?assertEqual({{error, other_format}, []}, sync({Partner, First})),
+    ?assertEqual({{error, other_range}, []}, sync({Partner, Other})),
+    ?assertMatch({{ok, #{state := finished}}, []}, sync({Partner, Same})),
+    ?assertMatch({ok, #{sessions := 0}}, antientropy:count(Same)).
 
 answers_in_another_order(Pair) ->
     ?assertMatch({{ok, #{state := finished}}, _}, sync(Pair, fun lists:reverse/1)).

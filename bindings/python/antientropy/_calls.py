@@ -5,7 +5,7 @@ A struct that a call writes is an array of 64-bit words here, whose names are th
 
 from __future__ import annotations
 
-from ctypes import Structure, c_bool, c_char_p, c_size_t, c_uint8, c_uint16, c_uint32, c_uint64, c_void_p
+from ctypes import Structure, c_bool, c_char_p, c_size_t, c_uint8, c_uint32, c_uint64, c_void_p
 from typing import Any, Dict, Tuple
 
 PREFIX = "antientropy_"
@@ -18,9 +18,9 @@ ROOT_LEN = 32
 
 
 class HandleStruct(Structure):
-    """A handle: all four structs of the header have these fields."""
+    """A handle: hints have all of these fields, the other three structs of the header the first two."""
 
-    _fields_ = [("at", c_void_p), ("held", c_bool)]
+    _fields_ = [("at", c_void_p), ("held", c_bool), ("before", c_uint64)]
 
 
 _HANDLE = (c_void_p,)
@@ -42,20 +42,22 @@ CALLS: Dict[str, Tuple[Any, Tuple[Any, ...]]] = {
     "renew": (c_uint32, (*_HANDLE, *_HANDLE, c_uint64)),
     "migrate": (c_uint32, _HANDLE),
     "count": (c_uint32, (*_HANDLE, *_STRUCT)),
-    "put": (c_uint32, (*_HANDLE, c_uint16, *_BYTES, *_VERSION, *_STRUCT)),
+    "put_read": (c_uint32, (*_HANDLE, c_uint64, *_BYTES, *_VERSION, *_STRUCT)),
+    "put": (c_uint32, (*_HANDLE, c_uint64, *_BYTES, *_VERSION, *_STRUCT)),
     "accept": (c_uint32, (*_HANDLE, *_BYTES, *_VERSION, *_NUMBER)),
     "get": (c_uint32, (*_HANDLE, *_BYTES, *_OUT)),
     "versions": (c_uint32, (*_HANDLE, *_BYTES, *_NUMBER)),
     "value": (c_uint32, (*_HANDLE, *_BYTES, c_uint64, *_KIND_OUT)),
     "clock": (c_uint32, (*_HANDLE, *_BYTES, c_uint64, *_OUT)),
     "read": (c_uint32, (*_HANDLE, *_BYTES, c_uint64, *_STRUCT, *_PAIRS, c_void_p, c_size_t)),
-    "key_after": (c_uint32, (*_HANDLE, c_uint16, *_BYTES, *_OUT)),
+    "key_after": (c_uint32, (*_HANDLE, c_uint64, *_BYTES, *_OUT)),
     "compare": (c_uint32, (*_PAIRS, *_PAIRS, *_NUMBER)),
     "merge": (c_uint32, (*_PAIRS, *_PAIRS, *_OUT)),
     "entry_key": (c_uint32, (*_HANDLE, c_uint64, *_OUT)),
     "entry_value": (c_uint32, (*_HANDLE, c_uint64, *_KIND_OUT)),
     "entry_clock": (c_uint32, (*_HANDLE, c_uint64, *_OUT)),
     "entry_source": (c_uint32, (*_HANDLE, c_uint64, *_NUMBER)),
+    "top_counter": (c_uint32, (*_HANDLE, c_uint64, *_BYTES, c_uint64, *_NUMBER)),
     "rehash": (c_uint32, _HANDLE),
     "rehash_some": (c_uint32, (*_HANDLE, c_uint64, *_NUMBER)),
     "snapshot": (c_uint32, (*_HANDLE, *_HANDLE)),
@@ -64,9 +66,10 @@ CALLS: Dict[str, Tuple[Any, Tuple[Any, ...]]] = {
     "offer": (c_uint32, (*_HANDLE, c_uint32, *_OUT)),
     "read_offer": (c_uint32, (*_BYTES, *_STRUCT)),
     "serve": (c_uint32, (*_HANDLE, c_uint32, *_BYTES, *_OUT)),
-    "rows": (c_uint32, (*_HANDLE, c_uint16, *_OUT)),
+    "rows": (c_uint32, (*_HANDLE, c_uint64, *_OUT)),
     "load": (c_uint32, (*_HANDLE, *_BYTES, *_STRUCT)),
-    "open": (c_uint32, (*_HANDLE, c_uint16, *_BYTES, *_NUMBER)),
+    "load_format": (c_uint32, (*_HANDLE, c_uint64, *_BYTES, *_STRUCT)),
+    "open": (c_uint32, (*_HANDLE, c_uint64, *_BYTES, *_NUMBER)),
     "outstanding": (c_uint32, (*_HANDLE, c_uint64, *_NUMBER)),
     "ask_at": (c_uint32, (*_HANDLE, c_uint64, c_uint64, c_uint32, *_OUT)),
     "ask": (c_uint32, (*_HANDLE, c_uint64, c_uint32, *_OUT)),
@@ -74,14 +77,15 @@ CALLS: Dict[str, Tuple[Any, Tuple[Any, ...]]] = {
     "cancel": (c_uint32, (*_HANDLE, c_uint64)),
     "session": (c_uint32, (*_HANDLE, c_uint64, *_NUMBER)),
     "hints_new": (c_uint32, _HANDLE),
+    "hints_restore": (c_uint32, (*_HANDLE, c_uint64)),
     "hints_free": (None, _HANDLE),
-    "hint_keep": (c_uint32, (*_HANDLE, c_uint16, *_BYTES, *_VERSION, *_NUMBER)),
-    "hint_next": (c_uint32, (*_HANDLE, c_uint16, c_uint32, *_NUMBER)),
-    "hint_owner": (c_uint32, (*_HANDLE, c_uint32, *_NUMBER)),
-    "hint_key": (c_uint32, (*_HANDLE, c_uint32, *_OUT)),
-    "hint_value": (c_uint32, (*_HANDLE, c_uint32, *_KIND_OUT)),
-    "hint_clock": (c_uint32, (*_HANDLE, c_uint32, *_OUT)),
-    "hint_confirm": (c_uint32, (*_HANDLE, c_uint32, c_bool)),
+    "hint_keep": (c_uint32, (*_HANDLE, c_uint64, *_BYTES, *_VERSION, *_NUMBER)),
+    "hint_next": (c_uint32, (*_HANDLE, c_uint64, c_uint64, *_NUMBER)),
+    "hint_owner": (c_uint32, (*_HANDLE, c_uint64, *_NUMBER)),
+    "hint_key": (c_uint32, (*_HANDLE, c_uint64, *_OUT)),
+    "hint_value": (c_uint32, (*_HANDLE, c_uint64, *_KIND_OUT)),
+    "hint_clock": (c_uint32, (*_HANDLE, c_uint64, *_OUT)),
+    "hint_confirm": (c_uint32, (*_HANDLE, c_uint64, c_bool)),
     "hints_renew": (c_uint32, _HANDLE),
     "hints_count": (c_uint32, (*_HANDLE, *_STRUCT)),
     "slots_new": (c_uint32, (*_HANDLE, c_uint32, c_uint32, c_uint32)),

@@ -12,7 +12,10 @@ from ._values import ClockLike, Hint, HintCounts
 
 
 class Hints(Handle):
-    """The hints that a node carries. A hint is of no range. Several threads may use hints."""
+    """The hints that a node carries. A hint is of no range, and its number never names another one.
+
+    Several threads may use hints.
+    """
 
     _free = "hints_free"
 
@@ -20,25 +23,37 @@ class Hints(Handle):
         super().__init__(current())
         self._call("hints_new")
 
-    def keep(self, owner: int, key: bytes, clock: ClockLike, value: Optional[bytes]) -> int:
-        """Keeps a version, or a tombstone for None, for its owner. Returns the number of the hint, from 1.
+    @classmethod
+    def restore(cls, first: int) -> Hints:
+        """Makes an empty store, after a restart. The first hint gets the number `first`.
 
-        Raises BadClock (also if the owner is 0), ClockFull, BadKey, BadValue or HintsFull.
+        It must be above all numbers in the program's log: hints that are kept again get new numbers, which are logged,
+        and no old number names another hint. Raises UnknownHint if `first` is 0.
+        """
+        restored = cls.__new__(cls)
+        Handle.__init__(restored, current())
+        restored._call("hints_restore", fits(first, 64))
+        return restored
+
+    def keep(self, owner: int, key: bytes, clock: ClockLike, value: Optional[bytes]) -> int:
+        """Keeps a version, or a tombstone for None, for its owner. Returns the hint's number: one more than the last.
+
+        Raises BadClock (also if the owner is 0 or over 65,535), ClockFull, BadKey, BadValue or HintsFull.
         """
         key, (kind, data) = to_bytes(key), to_kind(value)
-        args = (fits(owner, 16), key, len(key), *to_pairs(clock), kind, data, len(data))
+        args = (fits(owner, 64), key, len(key), *to_pairs(clock), kind, data, len(data))
         return self._get_words(1, "hint_keep", *args)[0]
 
     def next(self, owner: int, after: int = 0) -> Optional[int]:
         """Returns the number of the owner's first pending hint over `after`, or None if there is none."""
         try:
-            return self._get_words(1, "hint_next", fits(owner, 16), fits(after, 32))[0]
+            return self._get_words(1, "hint_next", fits(owner, 64), fits(after, 64))[0]
         except class_of("NoVersion"):
             return None
 
     def hint(self, number: int) -> Hint:
         """Returns a hint, pending or delivered. Raises NoVersion."""
-        fits(number, 32)
+        fits(number, 64)
         with self._lock:
             owner = self._words_held(1, "hint_owner", number)[0]
             key = self._bytes_held("hint_key", number)
@@ -47,7 +62,10 @@ class Hints(Handle):
         return Hint(number, owner, key, clock, value)
 
     def pending(self, owner: int) -> Iterator[Hint]:
-        """Yields the pending hints of an owner in order. Confirm them on the way, but don't renew."""
+        """Yields the pending hints of an owner in order. Confirm them on the way.
+
+        A renewal on the way gives those that are pending new numbers: they are yielded once more.
+        """
         number = self.next(owner)
         while number is not None:
             yield self.hint(number)
@@ -58,10 +76,13 @@ class Hints(Handle):
 
         `known` is True if the owner knew the version.
         """
-        self._call("hint_confirm", fits(number, 32), known)
+        self._call("hint_confirm", fits(number, 64), known)
 
     def renew(self) -> None:
-        """Drops the delivered hints, and numbers the pending ones anew from 1, in order."""
+        """Drops the delivered hints. The pending ones get new numbers, above every number that was used, in order.
+
+        An old number names no hint then. Raises HintsFull if a number would be over 2^64 - 1.
+        """
         self._call("hints_renew")
 
     def count(self) -> HintCounts:

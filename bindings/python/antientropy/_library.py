@@ -11,7 +11,7 @@ from typing import Any, Callable, Optional, Tuple, Type, Union
 from ._calls import CALLS, PREFIX
 from ._refused import Refused, class_of
 
-_MAJOR = 0
+_MAJOR = 1
 _SONAME = f"libantientropy.so.{_MAJOR}"
 _VARIABLE = "ANTIENTROPY_LIBRARY"
 _NAME_ROOM = 64

@@ -2,7 +2,7 @@
 
 from __future__ import annotations
 
-from ctypes import byref, c_size_t, c_uint8, c_uint16, c_uint64
+from ctypes import byref, c_size_t, c_uint8, c_uint64
 from struct import Struct
 from typing import TYPE_CHECKING, Dict, Iterable, List
 
@@ -30,8 +30,8 @@ def put_many(replica: Replica, node: int, items: Iterable[Put]) -> List[Receipt]
     What ctypes would make for each call is made once here, and plain bytes need no conversion: both take longer than
     the put itself. The lock is taken for each put, so that `items` may read the replica, and reads all earlier puts.
     """
-    put, at, lock = replica._library.prepared("put"), replica._at, replica._lock
-    at_node, lengths = c_uint16(fits(node, 16)), _Lengths()
+    put, at, lock = replica._library.prepared("put_read"), replica._at, replica._lock
+    at_node, lengths = c_uint64(fits(node, 64)), _Lengths()
     kinds = {kind: c_uint8(kind) for kind in map(int, Kind)}
     live, no_pairs, none = kinds[Kind.LIVE], to_pairs(())[0], lengths[0]
     words = (c_uint64 * len(Receipt._fields))()

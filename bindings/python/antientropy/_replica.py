@@ -18,6 +18,9 @@ from ._values import Clock, ClockLike, Counts, Entry, Loaded, Put, Receipt, Sour
 
 _LIMIT = 1_000_000
 
+#: No journal has more entries.
+_ALL = (1 << 64) - 1
+
 
 class Replica(Handle):
     """A replica of one range of a ring of 2^bits ranges, in format 1 or 2, with a journal of at most `limit` entries.
@@ -63,26 +66,41 @@ class Replica(Handle):
 
     def count(self) -> Counts:
         """Returns the counts of entries, dirty nodes and sessions."""
-        return Counts(*self._get_words(5, "count"))
+        return Counts(*self._get_words(7, "count"))
 
     # ---- versions
 
     def put(self, node: int, key: bytes, value: Optional[bytes], context: ClockLike = ()) -> Receipt:
-        """Puts a value, or a tombstone for None, at a node. The context is the clock of all that the client has read.
+        """Puts a value, or a tombstone for None, at a node, after a read, whose clocks are merged in the context.
 
-        The new version replaces every held version whose clock is at most its clock. Raises BadClock, ClockFull,
-        BadKey, BadValue, OtherRange, CounterFull, StaleContext, Crowded or JournalFull.
+        The new version replaces every held version whose clock is at most its clock. The client has read each of these:
+        StaleContext means that a held version has a greater counter of the node than the context, so another client has
+        put in between. Read again then.
+
+        Raises BadClock (also if the node is 0 or over 65,535), ClockFull, BadKey, BadValue, OtherRange, CounterFull,
+        StaleContext, Crowded or JournalFull.
         """
+        return self._put("put", self._library.put_read, node, key, value, context)
+
+    def put_unread(self, node: int, key: bytes, value: Optional[bytes], context: ClockLike = ()) -> Receipt:
+        """Puts as `put` does, for a caller that has made its check itself.
+
+        The new version replaces even a held version that the client hasn't read. Raises what `put` raises, but
+        StaleContext only if a held version has seen all of the new version's clock.
+        """
+        return self._put("put_unread", self._library.put, node, key, value, context)
+
+    def _put(
+        self, name: str, put: Callable[..., int], node: int, key: bytes, value: Optional[bytes], context: ClockLike
+    ) -> Receipt:
         key, (pairs, length), (kind, data) = to_bytes(key), to_pairs(context), to_kind(value)
-        fits(node, 16)
+        fits(node, 64)
         with self._lock:
             words = self._words
-            number = self._library.put(
-                self._at, node, key, len(key), pairs, length, kind, data, len(data), words
-            )
+            number = put(self._at, node, key, len(key), pairs, length, kind, data, len(data), words)
             if not number:
                 return Receipt(words[0], words[1])
-        raise self._library.refusal("put", number)
+        raise self._library.refusal(name, number)
 
     def put_many(self, node: int, items: Iterable[Put]) -> List[Receipt]:
         """Puts each item at a node, in turn, and returns the receipts. An item is a key, a value and maybe a context.
@@ -163,7 +181,7 @@ class Replica(Handle):
         key = b""
         while True:
             try:
-                key = self._get_bytes("key_after", fits(leaf, 16), key, len(key))
+                key = self._get_bytes("key_after", fits(leaf, 64), key, len(key))
             except class_of("NoVersion"):
                 return
             yield key
@@ -186,8 +204,16 @@ class Replica(Handle):
     # ---- the journal
 
     def entries(self, start: int = 0) -> Iterator[Entry]:
-        """Yields the entries of the journal, from a number on. Entries are never changed."""
-        number = start
+        """Yields the entries of the journal, from a number on. Entries are never changed.
+
+        Raises NoVersion if the number is over that of entries: then it is one of a journal before a renewal. That finds
+        only some old numbers, since a renewal numbers the entries anew: begin at its count of entries.
+        """
+        if start > self.count().entries:
+            raise self._library.refusal("entries", self._library.no_version)
+        return self._entries_from(start)
+
+    def _entries_from(self, number: int) -> Iterator[Entry]:
         while True:
             try:
                 entry = self.entry(number)
@@ -205,6 +231,15 @@ class Replica(Handle):
             clock = self._clock_held("entry_clock", number)
             source = self._words_held(1, "entry_source", number)[0]
         return Entry(number, key, clock, value, Source(source))
+
+    def top_counter(self, node: int, key: bytes, entries: Optional[int] = None) -> int:
+        """Returns the greatest counter of a node in the clocks of a key's versions, or 0.
+
+        It is that of the first `entries` entries of the journal, or of all. Raises BadClock if the node is 0 or over
+        65,535.
+        """
+        key, most = to_bytes(key), _ALL if entries is None else fits(entries, 64)
+        return self._get_words(1, "top_counter", fits(node, 64), key, len(key), most)[0]
 
     # ---- the tree, offers and checkpoints
 
@@ -233,10 +268,21 @@ class Replica(Handle):
 
         Raises RowBroken, whose `offset` is that of the broken field, OtherRange, Crowded or JournalFull.
         """
-        rows = to_bytes(rows)
+        return self._load_rows("load", to_bytes(rows))
+
+    def load_format(self, format: int, rows: bytes) -> Loaded:
+        """Accepts all versions in rows of a format and of any leaves, in ascending order of key, as copies, or none.
+
+        A replica of format 2 loads rows of format 1 too. Raises BadRing (the format is neither 1 nor 2), OtherFormat
+        (rows of format 2, replica of format 1), RowBroken, whose `offset` is that of the broken field, OtherRange,
+        Crowded or JournalFull.
+        """
+        return self._load_rows("load_format", to_bytes(rows), fits(format, 64))
+
+    def _load_rows(self, call: str, rows: bytes, *format: int) -> Loaded:
         with self._lock:
             try:
-                return Loaded(*self._words_held(2, "load", rows, len(rows)))
+                return Loaded(*self._words_held(2, call, *format, rows, len(rows)))
             except class_of("RowBroken") as refused:
                 refused.offset = self._words[2]
                 raise
@@ -263,7 +309,8 @@ class Replica(Handle):
     def open(self, partner: int, offer: bytes, rehash: bool = True) -> Session:
         """Opens a session with a partner's offer. It is never freed before its replica, so compare roots first.
 
-        Raises BadMessage, OtherFormat, OtherRange, SessionsFull, or Dirty if `rehash` is False.
+        Raises BadMessage, BadClock (the partner is over 65,535), OtherFormat, OtherRange, SessionsFull, or Dirty if
+        `rehash` is False.
         """
         return Session(self, partner, offer, rehash)
 
@@ -275,7 +322,7 @@ class Replica(Handle):
         in_flight: int = 256,
         most_bad: int = 8,
     ) -> Synced:
-        """Takes the versions of a partner's offer that this replica lacks. If the roots are equal it asks nothing.
+        """Takes the versions of a partner's offer that this replica lacks. If the roots are equal it opens no session.
 
         `reach` sends at most `in_flight` asks to the partner, and returns the answers in their order: None for one
         that is missing. After more than `most_bad` bad or missing answers the sync ends unfinished. A leaf with a

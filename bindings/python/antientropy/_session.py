@@ -23,7 +23,7 @@ class Session:
         self._replica = replica
         #: Number that the partner gave its offer.
         self.offer_number = read_offer(offer).number
-        fits(partner, 16)
+        fits(partner, 64)
         with replica._lock:
             if rehash:
                 replica._call_held("rehash")

@@ -51,7 +51,7 @@ class Snapshot(Handle):
 
     def rows(self, leaf: int) -> bytes:
         """Returns the texts of the rows of a leaf. Raises BadMessage if the tree has no such leaf."""
-        return self._get_bytes("rows", fits(leaf, 16))
+        return self._get_bytes("rows", fits(leaf, 64))
 
     def save(self, file: BinaryIO) -> None:
         """Writes a checkpoint of the rows (docs/FORMATS.md)."""

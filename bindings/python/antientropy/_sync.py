@@ -22,7 +22,8 @@ def sync(replica: Replica, partner: int, offer: bytes, reach: Reach, in_flight: 
     """Takes the versions of an offer that a replica lacks."""
     if in_flight < 1:
         raise ValueError("in_flight must be at least 1")
-    if replica.root() == read_offer(offer).root:
+    root, offered = replica.root(), read_offer(offer)
+    if (offered.format, offered.range, offered.root) == (replica.format, replica.range, root):
         return Synced(0, 0, 0, 0, [], State.FINISHED)
     with replica.open(partner, offer) as session:
         run = _Run(session, reach, most_bad)

@@ -134,13 +134,15 @@ class Loaded(NamedTuple):
 
 
 class Counts(NamedTuple):
-    """Counts of a replica."""
+    """Counts of a replica. `first` and `front` are 0: they are reserved for journals that are trimmed."""
 
     entries: int
     limit: int
     dirty: int
     sessions: int
     open_sessions: int
+    first: int
+    front: int
 
 
 class HintCounts(NamedTuple):

@@ -3,7 +3,7 @@
 import configparser
 import re
 import unittest
-from ctypes import c_bool, c_char_p, c_size_t, c_uint8, c_uint16, c_uint32, c_uint64, c_void_p
+from ctypes import c_bool, c_char_p, c_size_t, c_uint8, c_uint32, c_uint64, c_void_p
 from pathlib import Path
 
 import antientropy
@@ -12,8 +12,7 @@ from antientropy import _calls, _checkpoint, _values
 HEADER = Path(__file__).resolve().parents[3] / "include/antientropy.h"
 SETUP = Path(__file__).resolve().parents[1] / "setup.cfg"
 TEXT = re.sub(r"/\*.*?\*/", "", HEADER.read_text(encoding="utf-8"), flags=re.S)
-SCALARS = {"uint8_t": c_uint8, "uint16_t": c_uint16, "uint32_t": c_uint32, "uint64_t": c_uint64, "size_t": c_size_t,
-           "bool": c_bool}
+SCALARS = {"uint8_t": c_uint8, "uint32_t": c_uint32, "uint64_t": c_uint64, "size_t": c_size_t, "bool": c_bool}
 STRUCTS = {"receipt": _values.Receipt, "spot": _values.Spot, "offer_parts": _values.OfferParts, "taken": _values.Taken,
            "counts": _values.Counts, "hint_counts": _values.HintCounts, "slot_counts": _values.SlotCounts}
 
@@ -64,6 +63,10 @@ class HeaderTest(unittest.TestCase):
         self.assertEqual(fields("loaded"), ("taken", "known", "offset"))
         self.assertEqual(fields("percentile"), ("found", "micros"))
         self.assertEqual(fields("pair"), ("node", "counter"))
+        handle = tuple(name for name, _ in _calls.HandleStruct._fields_)
+        self.assertEqual(fields("hints"), handle)
+        for struct in ("replica", "snapshot", "slots"):
+            self.assertEqual(fields(struct), handle[:2])
 
     def test_enums(self):
         numbers = constants()

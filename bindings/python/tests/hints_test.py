@@ -31,7 +31,7 @@ class HintsTest(unittest.TestCase):
         self.assertEqual(self.hints.hint(2), Hint(2, 2, b"list", {1: 2, 3: 1}, None))
         self.assertEqual(self.hints.hint(2).version, Version({1: 2, 3: 1}, None))
         self.assertEqual([self.hints.next(2), self.hints.next(2, 1), self.hints.next(2, 2)], [1, 2, None])
-        self.assertIsNone(self.hints.next(9))
+        self.assertEqual([self.hints.next(owner) for owner in (0, 9, 65538)], [None] * 3)
         self.assertEqual([hint.number for hint in self.hints.pending(3)], [3])
 
     def test_deliver_and_renew(self):
@@ -45,23 +45,46 @@ class HintsTest(unittest.TestCase):
         self.assertEqual(self.hints.hint(1).key, b"cart")
         self.hints.renew()
         self.assertEqual(self.hints.count(), HintCounts(1, 0))
-        self.assertEqual(list(self.hints.pending(3)), [Hint(1, 3, b"cart", {1: 1}, b"milk")])
+        self.assertEqual(list(self.hints.pending(3)), [Hint(4, 3, b"cart", {1: 1}, b"milk")])
+
+    def test_no_number_names_two_hints(self):
+        self.hints.confirm(1)
+        self.hints.renew()
+        self.assertEqual([hint.key for hint in self.hints.pending(2)], [b"list"])
+        payment = self.hints.keep(2, b"payment", {1: 1}, b"")
+        self.refused("UnknownHint", self.hints.confirm, 2)
+        self.refused("NoVersion", self.hints.hint, 2)
+        self.assertEqual(self.hints.hint(payment).key, b"payment")
+        with Hints.restore(100) as restored:
+            self.assertEqual(restored.keep(2, b"cart", {1: 1}, b"milk"), 100)
+            self.assertEqual(restored.count(), HintCounts(1, 0))
+        with self.assertRaises(antientropy.UnknownHint):
+            Hints.restore(0)
+
+    def test_the_last_number(self):
+        with Hints.restore((1 << 64) - 1) as last:
+            self.assertEqual(last.keep(2, b"cart", {1: 1}, b"milk"), (1 << 64) - 1)
+            for call, *args in ((last.keep, 2, b"k", {1: 1}, b""), (last.renew,)):
+                with self.assertRaises(antientropy.HintsFull):
+                    call(*args)
 
     def test_refusals(self):
-        self.refused("BadClock", self.hints.keep, 0, b"k", {1: 1}, b"")
+        for owner in (0, 65536, 65537, 1 << 32):
+            self.refused("BadClock", self.hints.keep, owner, b"k", {1: 1}, b"")
         self.refused("BadClock", self.hints.keep, 2, b"k", {0: 1}, b"")
         self.refused("ClockFull", self.hints.keep, 2, b"k", {node: 1 for node in range(1, 34)}, b"")
         self.refused("BadKey", self.hints.keep, 2, b"", {1: 1}, b"")
         self.refused("BadValue", self.hints.keep, 2, b"k", {1: 1}, bytes(65537))
-        self.refused("NoVersion", self.hints.hint, 4)
-        self.refused("UnknownHint", self.hints.confirm, 4)
+        for number in (4, (1 << 32) + 1):
+            self.refused("NoVersion", self.hints.hint, number)
+            self.refused("UnknownHint", self.hints.confirm, number)
         self.hints.confirm(1)
         self.refused("UnknownHint", self.hints.confirm, 1)
 
     def test_numbers_that_c_cannot_hold(self):
         for call, *args in (
-            (self.hints.keep, 65536, b"k", {}, b""), (self.hints.next, 65536), (self.hints.next, 2, 1 << 32),
-            (self.hints.hint, 1 << 32), (self.hints.confirm, -1),
+            (self.hints.keep, -1, b"k", {}, b""), (self.hints.next, 1 << 64), (self.hints.next, 2, 1 << 64),
+            (self.hints.hint, 1 << 64), (self.hints.confirm, -1), (Hints.restore, 1 << 64),
         ):
             with self.subTest(args), self.assertRaises(OverflowError):
                 call(*args)

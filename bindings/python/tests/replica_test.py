@@ -94,7 +94,7 @@ class ReplicaTest(ReplicaCase):
         for n, (error, item) in enumerate(wrong):
             with self.subTest(item), self.assertRaises(error):
                 self.replica.put_many(1, [(b"before %d" % n, b""), item, (b"after", b"")])
-        for node in (-1, 65536):
+        for node in (-1, 1 << 64):
             with self.assertRaises(OverflowError):
                 self.replica.put_many(node, [(b"after", b"")])
         self.assertEqual(set(self.replica.keys()), {b"before %d" % n for n in range(len(wrong))})
@@ -128,10 +128,30 @@ class ReplicaTest(ReplicaCase):
         self.assertEqual(second.version, Version({2: 3}, None))
         self.assertEqual(list(self.replica.entries(1)), [second])
         self.assertEqual(list(self.replica.entries(2)), [])
+        self.assertEqual([self.replica.top_counter(2, b"b", *most) for most in ((), (2,), (1,))], [3, 3, 0])
+
+    def test_entries_from_before_a_renewal(self):
+        for n in range(200):
+            self.replica.put(1, b"cart", b"milk", {1: n} if n else {})
+        with self.replica.renew() as renewed:
+            renewed.put(1, b"gift", b"wrapped")
+            with self.assertRaises(antientropy.NoVersion) as caught:
+                renewed.entries(200)
+            self.assertEqual(caught.exception.call, "entries")
+            self.assertEqual([entry.key for entry in renewed.entries(1)], [b"gift"])
+
+    def test_two_clients(self):
+        self.replica.put(1, b"cart", b"milk")
+        self.replica.accept(b"cart", {2: 1}, b"eggs")
+        self.replica.put(1, b"cart", b"bread", {1: 1})
+        self.assert_refused("StaleContext", self.replica, self.replica.put, 1, b"cart", b"tea", {1: 1, 2: 1})
+        self.assertEqual(self.replica.top_counter(1, b"cart"), 2)
+        self.replica.put_unread(1, b"cart", b"tea", {1: 1, 2: 1})
+        self.assertEqual(self.replica.get(b"cart"), [Version({1: 2, 2: 1}, b"tea")])
 
     def test_counts_and_rehash(self):
         self.replica.rehash()
-        self.assertEqual(self.replica.count(), (0, 1000, 0, 0, 0))
+        self.assertEqual(self.replica.count(), (0, 1000, 0, 0, 0, 0, 0))
         self.replica.put(1, b"a", b"x")
         self.assertEqual(self.replica.count().dirty, 4)
 
@@ -166,6 +186,17 @@ class ReplicaTest(ReplicaCase):
             self.assertEqual(replica.format, 2)
             self.assertEqual(replica.root().hex()[:8], "22ba8eee")
 
+    def test_rows_of_before_a_migration(self):
+        with Replica(format=1) as first, Replica(format=1) as again:
+            first.put_many(1, ((b"key %d" % n, b"value") for n in range(50)))
+            rows = b"".join(map(first.row, sorted(first.keys())))
+            self.assertEqual(self.replica.load_format(1, rows), (50, 0))
+            self.assertEqual(again.load_format(1, rows), (50, 0))
+            self.assertEqual(again.root(), first.root())
+            self.assert_refused("OtherFormat", again, again.load_format, 2, rows)
+            first.migrate()
+            self.assertEqual(self.replica.root(), first.root())
+
     def test_bytes_like_arguments(self):
         self.replica.put(1, bytearray(b"a"), memoryview(b"x"))
         self.assertEqual(self.replica.get(memoryview(b"a")), [Version({1: 1}, b"x")])
@@ -179,7 +210,7 @@ class ReplicaTest(ReplicaCase):
         self.assertEqual(self.replica.count().entries, 0)
 
     def test_numbers_that_c_cannot_hold(self):
-        for args in ((65536, b"a", b""), (-1, b"a", b""), (1, b"a", b"", {1: 1 << 64}), (1, b"a", b"", {-1: 1})):
+        for args in ((1 << 64, b"a", b""), (-1, b"a", b""), (1, b"a", b"", {1: 1 << 64}), (1, b"a", b"", {-1: 1})):
             with self.subTest(args), self.assertRaises(OverflowError):
                 self.replica.put(*args)
         with self.assertRaises(OverflowError):
@@ -200,6 +231,11 @@ class RefusalTest(ReplicaCase):
         error = self.refused("BadClock", self.replica.put, 0, b"k", b"")
         self.assertEqual((error.number, error.name, error.call), (1, "BadClock", "put"))
         self.assertEqual(str(error), "put: BadClock (1)")
+        for node in (65536, 65537, 1 << 32):
+            self.refused("BadClock", self.replica.put, node, b"a", b"")
+            self.refused("BadClock", self.replica.put_unread, node, b"a", b"")
+            self.refused("BadClock", self.replica.put_many, node, [(b"a", b"")])
+            self.refused("BadClock", self.replica.top_counter, node, b"a")
         self.refused("BadClock", self.replica.put, 1, b"k", b"", [(1, 1), (1, 2)])
         self.refused("BadClock", self.replica.accept, b"k", {65536: 1}, b"")
         self.refused("BadClock", antientropy.compare, {1: 0}, {})
@@ -255,21 +291,26 @@ class RefusalTest(ReplicaCase):
             self.refused("BadRing", Replica, *args)
         self.refused("BadRing", antientropy.place, 3, 0, b"k")
         self.refused("BadRing", self.replica.renew, 0)
+        self.refused("BadRing", self.replica.load_format, 3, b"")
 
     def test_row_broken(self):
         error = self.refused("RowBroken", self.replica.load_rows, self.replica.row(b"k") + b"\x00")
+        self.assertEqual(error.offset, len(self.replica.row(b"k")))
+        error = self.refused("RowBroken", self.replica.load_format, 2, self.replica.row(b"k") + b"\x00")
         self.assertEqual(error.offset, len(self.replica.row(b"k")))
 
     def test_bad_message(self):
         self.refused("BadMessage", antientropy.read_offer, b"")
         self.refused("BadMessage", self.replica.open, 2, b"")
-        self.refused("BadMessage", list, self.replica.keys_of(4096))
+        for leaf in (4096, 65536, 1 << 32):
+            self.refused("BadMessage", list, self.replica.keys_of(leaf))
 
     def test_no_version(self):
         self.refused("NoVersion", self.replica.read, b"k", 1)
         self.refused("NoVersion", self.replica.value, b"k", 1)
         self.refused("NoVersion", self.replica.clock, b"k", 1)
         self.refused("NoVersion", self.replica.entry, 1)
+        self.refused("NoVersion", self.replica.entries, 2)
 
     def test_empty(self):
         self.replica.close()
@@ -279,7 +320,8 @@ class RefusalTest(ReplicaCase):
             (self.replica.accept, b"k", {1: 1}, b""), (self.replica.get, b"k"), (self.replica.row, b"k"),
             (self.replica.rehash,), (self.replica.rehash_some, 1), (self.replica.snapshot,),
             (self.replica.count,), (self.replica.migrate,), (self.replica.renew,),
-            (list, self.replica.keys()), (list, self.replica.entries()),
+            (list, self.replica.keys()), (self.replica.entries,), (self.replica.top_counter, 1, b"k"),
+            (self.replica.put_unread, 1, b"k", b""), (self.replica.load_format, 2, b""),
         ):
             with self.subTest(call), self.assertRaises(antientropy.Empty):
                 call(*args)

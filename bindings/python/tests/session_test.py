@@ -66,7 +66,8 @@ class SessionTest(ReplicaCase):
         self.assert_refused("Gone", self.a, self.snapshot.serve, 8, ask)
         self.assert_refused("BadMessage", self.a, self.snapshot.serve, 7, ask[:-1])
         self.assert_refused("BadMessage", self.b, session.take, b"")
-        self.assert_refused("BadMessage", self.a, self.snapshot.rows, 4096)
+        for leaf in (4096, 65536, 1 << 32):
+            self.assert_refused("BadMessage", self.a, self.snapshot.rows, leaf)
 
     def test_not_asked_and_wrong_digest(self):
         session = self.b.open(1, self.offer)
@@ -90,6 +91,11 @@ class SessionTest(ReplicaCase):
             other.rehash()
             self.assert_refused("OtherFormat", first, first.open, 1, self.offer)
             self.assert_refused("OtherRange", other, other.open, 1, self.offer)
+
+    def test_bad_partner(self):
+        self.b.rehash()
+        for partner in (65536, 65537):
+            self.assert_refused("BadClock", self.b, self.b.open, partner, self.offer)
 
     def test_sessions_full(self):
         sessions = [self.b.open(1, self.offer) for _ in range(64)]
@@ -145,6 +151,14 @@ class SyncTest(unittest.TestCase):
         self.assertEqual(self.sync(), (0, 0, 0, 0, [], State.FINISHED))
         self.assertEqual((self.rounds, self.b.count().sessions), ([], 1))
 
+    def test_equal_roots_of_empty_ranges(self):
+        with Replica(2, 1, 0) as empty, Replica(1, 1, 0) as first, Replica(2, 1, 1) as other, Replica(2, 1, 0) as same:
+            for replica, name in ((first, "OtherFormat"), (other, "OtherRange")):
+                with self.assertRaises(getattr(antientropy, name)):
+                    sync(replica, empty)
+            self.assertTrue(sync(same, empty).finished)
+            self.assertEqual(same.count().sessions, 0)
+
     def test_answers_in_another_order(self):
         self.assertTrue(self.sync(lambda answers: answers[::-1]).finished)
 
@@ -170,7 +184,7 @@ class SyncTest(unittest.TestCase):
 
         with self.assertRaises(ConnectionError):
             self.sync(fail)
-        self.assertEqual(self.b.count()[3:], (1, 0))
+        self.assertEqual(self.b.count()[3:5], (1, 0))
 
     def test_crowded_leaf_is_left(self):
         crowd(self.a, b"key", first=1)

@@ -30,7 +30,7 @@ unsafe impl Send for Owned {}
 impl Owned {
     /// Returns what a call makes in an empty handle. `free` is the call that frees it.
     pub(crate) fn make(free: Free, call: impl FnOnce(*mut sys::Handle) -> u32) -> Result<Owned, Refusal> {
-        let mut raw = sys::Handle { at: ptr::null_mut(), held: false };
+        let mut raw = sys::Handle { at: ptr::null_mut(), held: false, before: 0 };
         check(call(&mut raw))?;
         Ok(Owned { raw, free })
     }

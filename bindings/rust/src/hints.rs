@@ -7,7 +7,7 @@ use crate::refusal::{check, found, Refusal};
 use crate::sys;
 use crate::values::{Hint, HintCounts, Version};
 
-/// The hints that a node carries. A hint is of no range.
+/// The hints that a node carries. A hint is of no range, and its number never names another one.
 ///
 /// Confirm a hint after its owner has the version on its disk:
 ///
@@ -32,7 +32,7 @@ pub struct Hints {
 }
 
 impl Hints {
-    /// Makes an empty store of hints.
+    /// Makes an empty store of hints. The first hint gets the number 1.
     pub fn new() -> Result<Hints, Refusal> {
         let handle = Owned::make(sys::antientropy_hints_free, |raw| {
             // SAFETY: the handle is empty and a local one.
@@ -41,18 +41,30 @@ impl Hints {
         Ok(Hints { handle })
     }
 
-    /// Keeps a version for its owner. Returns the number of the hint, from 1.
+    /// Makes an empty store of hints, after a restart. The first hint gets the number `first`.
+    ///
+    /// It must be above all numbers in the program's log: hints that are kept again get new numbers, which are logged,
+    /// and no old number names another hint. Refused as `UnknownHint` if `first` is 0.
+    pub fn restore(first: u64) -> Result<Hints, Refusal> {
+        let handle = Owned::make(sys::antientropy_hints_free, |raw| {
+            // SAFETY: the handle is empty and a local one.
+            unsafe { sys::antientropy_hints_restore(raw, first) }
+        })?;
+        Ok(Hints { handle })
+    }
+
+    /// Keeps a version for its owner. Returns the number of the hint: one more than the last.
     ///
     /// Refused as `BadClock` (also if the owner is 0), `ClockFull`, `BadKey`, `BadValue` or `HintsFull`.
-    pub fn keep(&mut self, owner: u16, key: &[u8], version: &Version) -> Result<u32, Refusal> {
+    pub fn keep(&mut self, owner: u16, key: &[u8], version: &Version) -> Result<u64, Refusal> {
         let (kind, data) = (version.kind() as u8, version.value.as_deref().unwrap_or_default());
         let pairs = version.clock.pairs();
-        let number: u64 = written(|id| {
+        written(|id| {
             // SAFETY: as in `sys`.
             unsafe {
                 sys::antientropy_hint_keep(
                     self.handle.raw(),
-                    owner,
+                    owner.into(),
                     key.as_ptr(),
                     key.len(),
                     pairs.as_ptr(),
@@ -63,18 +75,17 @@ impl Hints {
                     id,
                 )
             }
-        })?;
-        Ok(number as u32)
+        })
     }
 
     /// Returns the owner's pending hint with the least number over `after`: 0 gives the first.
-    pub fn next_pending(&mut self, owner: u16, after: u32) -> Result<Option<Hint>, Refusal> {
+    pub fn next_pending(&mut self, owner: u16, after: u64) -> Result<Option<Hint>, Refusal> {
         let number: Option<u64> = found(written(|id| {
             // SAFETY: as in `sys`.
-            unsafe { sys::antientropy_hint_next(self.handle.raw(), owner, after, id) }
+            unsafe { sys::antientropy_hint_next(self.handle.raw(), owner.into(), after, id) }
         }))?;
         match number {
-            Some(number) => self.hint(number as u32),
+            Some(number) => self.hint(number),
             None => Ok(None),
         }
     }
@@ -90,19 +101,21 @@ impl Hints {
     }
 
     /// Returns a hint, pending or delivered.
-    pub fn hint(&mut self, number: u32) -> Result<Option<Hint>, Refusal> {
+    pub fn hint(&mut self, number: u64) -> Result<Option<Hint>, Refusal> {
         found(self.hint_parts(number))
     }
 
     /// Ends the wait of a pending hint, after its owner has the version on its disk. Refused as `UnknownHint`.
     ///
     /// `known` is true if the owner knew the version.
-    pub fn confirm(&mut self, number: u32, known: bool) -> Result<(), Refusal> {
+    pub fn confirm(&mut self, number: u64, known: bool) -> Result<(), Refusal> {
         // SAFETY: as in `sys`.
         check(unsafe { sys::antientropy_hint_confirm(self.handle.raw(), number, known) })
     }
 
-    /// Drops the delivered hints, and numbers the pending ones anew from 1, in order.
+    /// Drops the delivered hints. The pending ones get new numbers, above every number that was used, in order.
+    ///
+    /// An old number names no hint then. Refused as `HintsFull` if a number would be over 2^64 - 1.
     pub fn renew(&mut self) -> Result<(), Refusal> {
         // SAFETY: as in `sys`.
         check(unsafe { sys::antientropy_hints_renew(self.handle.raw()) })
@@ -116,7 +129,7 @@ impl Hints {
         })
     }
 
-    fn hint_parts(&mut self, number: u32) -> Result<Hint, Refusal> {
+    fn hint_parts(&mut self, number: u64) -> Result<Hint, Refusal> {
         let handle = self.handle.raw();
         // SAFETY: as in `sys`, for the four calls.
         let (owner, key, value, clock) = unsafe {

@@ -51,7 +51,7 @@ macro_rules! refusals {
 }
 
 refusals! {
-    /// A pair has node 0, a node over 65,535 or counter 0, or a node is there twice.
+    /// A node is 0, over 65,535 or there twice, or a counter is 0.
     BadClock = 1,
     /// The clock would have more than 32 pairs.
     ClockFull = 2,
@@ -61,7 +61,7 @@ refusals! {
     BadKey = 4,
     /// Too long; a tombstone with a value, or in format 1; or an unknown kind.
     BadValue = 5,
-    /// A held version has seen all of the new version's clock.
+    /// A held version has a greater counter of the node than the context, or has seen all of the new version's clock.
     StaleContext = 6,
     /// The key would have over 64 versions.
     Crowded = 7,
@@ -79,7 +79,7 @@ refusals! {
     WrongDigest = 14,
     /// The digest is right, but the text isn't a node's: the session has failed.
     NotCanonical = 15,
-    /// The offer is of another format.
+    /// The offer or the rows are of another format.
     OtherFormat = 16,
     /// 64 sessions are open, or there are 1,024.
     SessionsFull = 17,
@@ -87,13 +87,13 @@ refusals! {
     NoSlot = 18,
     /// The moment is before the greatest accepted one.
     ClockBack = 19,
-    /// No pending hint has this number.
+    /// No pending hint has this number, or no hint can have it.
     UnknownHint = 20,
     /// 10,000 hints are pending, or the last number was used.
     HintsFull = 21,
     /// The ask is for another offer.
     Gone = 22,
-    /// The numbers of a range or of slots are outside the limits.
+    /// A format, or the numbers of a range or of slots, are outside the limits.
     BadRing = 27,
     /// The bytes aren't texts of rows.
     RowBroken = 30,

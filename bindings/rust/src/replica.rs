@@ -14,6 +14,20 @@ use crate::sync::{self, Bounds, Synced};
 use crate::sys;
 use crate::values::{kind_of, Clock, Counts, Entry, Kind, Loaded, Pair, Receipt, Root, Source, Version};
 
+/// A call that puts a version.
+type PutCall = unsafe extern "C" fn(
+    *mut sys::Handle,
+    u64,
+    *const u8,
+    usize,
+    *const Pair,
+    usize,
+    u8,
+    *const u8,
+    usize,
+    *mut Receipt,
+) -> u32;
+
 /// The numbers of a replica.
 ///
 /// ```
@@ -120,18 +134,48 @@ impl Replica {
 
 /// Versions.
 impl Replica {
-    /// Puts a value, or a tombstone for `None`, at a node. The context is the clock of all that the client has read.
+    /// Puts a value, or a tombstone for `None`, at a node, after a read: the context is the clock of all that was read.
     ///
-    /// The new version replaces each held version whose clock is at most its clock. Refused as `BadClock`,
-    /// `ClockFull`, `BadKey`, `BadValue`, `OtherRange`, `CounterFull`, `StaleContext`, `Crowded` or `JournalFull`.
+    /// The new version replaces each held version whose clock is at most its clock. The client has read each of these:
+    /// `StaleContext` means that a held version has a greater counter of the node than the context, so another client
+    /// has put in between. Read again then.
+    ///
+    /// Refused as `BadClock`, `ClockFull`, `BadKey`, `BadValue`, `OtherRange`, `CounterFull`, `StaleContext`, `Crowded`
+    /// or `JournalFull`.
     pub fn put(&mut self, node: u16, key: &[u8], value: Option<&[u8]>, context: &Clock) -> Result<Receipt, Refusal> {
+        self.put_by(sys::antientropy_put_read, node, key, value, context)
+    }
+
+    /// Puts as [`put`](Replica::put) does, for a caller that has made its check itself.
+    ///
+    /// The new version replaces even a held version that the client hasn't read. Refused as `put`, but as
+    /// `StaleContext` only if a held version has seen all of the new version's clock.
+    pub fn put_unread(
+        &mut self,
+        node: u16,
+        key: &[u8],
+        value: Option<&[u8]>,
+        context: &Clock,
+    ) -> Result<Receipt, Refusal> {
+        self.put_by(sys::antientropy_put, node, key, value, context)
+    }
+
+    /// Makes one of the two calls that put.
+    fn put_by(
+        &mut self,
+        call: PutCall,
+        node: u16,
+        key: &[u8],
+        value: Option<&[u8]>,
+        context: &Clock,
+    ) -> Result<Receipt, Refusal> {
         let (kind, data, pairs) = (kind_of(value) as u8, value.unwrap_or_default(), context.pairs());
         written(|receipt| {
             // SAFETY: as in `sys`.
             unsafe {
-                sys::antientropy_put(
+                call(
                     self.handle.raw(),
-                    node,
+                    node.into(),
                     key.as_ptr(),
                     key.len(),
                     pairs.as_ptr(),
@@ -231,7 +275,9 @@ impl Replica {
     pub fn key_after(&mut self, leaf: u16, key: &[u8]) -> Result<Option<Vec<u8>>, Refusal> {
         let (handle, at, key_len) = (self.handle.raw(), key.as_ptr(), key.len());
         // SAFETY: as in `sys`.
-        found(unsafe { bytes(|out, len, need| sys::antientropy_key_after(handle, leaf, at, key_len, out, len, need)) })
+        found(unsafe {
+            bytes(|out, len, need| sys::antientropy_key_after(handle, leaf.into(), at, key_len, out, len, need))
+        })
     }
 
     /// Returns an iterator over the keys, leaf by leaf.
@@ -309,19 +355,46 @@ impl Replica {
 
     /// Returns an iterator over the entries of the journal, from a number on. Entries are never changed.
     ///
+    /// Refused as `NoVersion` if the number is over that of entries: then it is one of a journal before a renewal. That
+    /// finds only some old numbers, since a renewal numbers the entries anew: begin at its count of entries.
+    ///
     /// ```
     /// # use antientropy::{Clock, Config, Replica};
     /// # let mut replica = Replica::new(Config::default())?;
     /// replica.put(1, b"cart", Some(b"milk"), &Clock::new())?;
     /// let logged = replica.count()?.entries;
     /// replica.put(1, b"gift", Some(b"wrapped"), &Clock::new())?;
-    /// for entry in replica.entries(logged) {
+    /// for entry in replica.entries(logged)? {
     ///     assert_eq!(entry?.key, b"gift");
     /// }
     /// # Ok::<(), antientropy::Refusal>(())
     /// ```
-    pub fn entries(&mut self, start: u64) -> impl Iterator<Item = Result<Entry, Refusal>> + '_ {
-        (start..).map_while(move |number| self.entry(number).transpose())
+    pub fn entries(&mut self, start: u64) -> Result<impl Iterator<Item = Result<Entry, Refusal>> + '_, Refusal> {
+        if start > self.count()?.entries {
+            return Err(Refusal::NoVersion);
+        }
+        Ok((start..).map_while(move |number| self.entry(number).transpose()))
+    }
+
+    /// Returns the greatest counter of a node in the clocks of a key's versions, or 0.
+    ///
+    /// It is that of the first `entries` entries of the journal (all, if there are fewer).
+    ///
+    /// Refused as `BadClock` if the node is 0.
+    ///
+    /// ```
+    /// # use antientropy::{Clock, Config, Replica};
+    /// # let mut replica = Replica::new(Config::default())?;
+    /// replica.put(1, b"cart", Some(b"milk"), &Clock::new())?;
+    /// assert_eq!(replica.top_counter(1, b"cart", u64::MAX)?, 1);
+    /// # Ok::<(), antientropy::Refusal>(())
+    /// ```
+    pub fn top_counter(&mut self, node: u16, key: &[u8], entries: u64) -> Result<u64, Refusal> {
+        let (node, at, key_len) = (node.into(), key.as_ptr(), key.len());
+        written(|counter| {
+            // SAFETY: as in `sys`.
+            unsafe { sys::antientropy_top_counter(self.handle.raw(), node, at, key_len, entries, counter) }
+        })
     }
 
     fn entry_parts(&mut self, number: u64) -> Result<Entry, Refusal> {
@@ -392,12 +465,24 @@ impl Replica {
     /// [`Snapshot::rows`] and [`Replica::row`] return such rows. Refused as `RowBroken`, `OtherRange`, `Crowded` or
     /// `JournalFull`.
     pub fn load_rows(&mut self, rows: &[u8]) -> Result<Loaded, RowsRefused> {
-        let mut loaded = sys::Loaded::default();
-        // SAFETY: as in `sys`.
-        check(unsafe { sys::antientropy_load(self.handle.raw(), rows.as_ptr(), rows.len(), &mut loaded) }).map_err(
-            |refusal| RowsRefused { refusal, offset: (refusal == Refusal::RowBroken).then_some(loaded.offset) },
-        )?;
-        Ok(Loaded { taken: loaded.taken, known: loaded.known })
+        let handle = self.handle.raw();
+        loaded(|loaded| {
+            // SAFETY: as in `sys`.
+            unsafe { sys::antientropy_load(handle, rows.as_ptr(), rows.len(), loaded) }
+        })
+    }
+
+    /// Accepts all versions in rows of a format and of any leaves, in ascending order of key, as copies, or none. A
+    /// replica of format 2 loads rows of format 1 too.
+    ///
+    /// Refused as `BadRing` (the format is neither 1 nor 2), `OtherFormat` (rows of format 2, replica of format 1),
+    /// `RowBroken`, `OtherRange`, `Crowded` or `JournalFull`.
+    pub fn load_format(&mut self, format: u8, rows: &[u8]) -> Result<Loaded, RowsRefused> {
+        let handle = self.handle.raw();
+        loaded(|loaded| {
+            // SAFETY: as in `sys`.
+            unsafe { sys::antientropy_load_format(handle, format.into(), rows.as_ptr(), rows.len(), loaded) }
+        })
     }
 
     /// Writes a checkpoint of the rows now (`docs/FORMATS.md`). Returns the number of entries that it covers.
@@ -443,7 +528,7 @@ impl Replica {
         let parts = read_offer(offer)?;
         let number = written(|session| {
             // SAFETY: as in `sys`.
-            unsafe { sys::antientropy_open(self.handle.raw(), partner, offer.as_ptr(), offer.len(), session) }
+            unsafe { sys::antientropy_open(self.handle.raw(), partner.into(), offer.as_ptr(), offer.len(), session) }
         })?;
         Ok(SessionId { number, offer: parts.number })
     }
@@ -453,7 +538,7 @@ impl Replica {
         Session::of(&mut self.handle, id)
     }
 
-    /// Takes the versions of a partner's offer that this replica lacks. If the roots are equal it asks nothing.
+    /// Takes the versions of a partner's offer that this replica lacks. If the roots are equal it opens no session.
     ///
     /// `reach` sends asks to the partner, and returns the answers in their order: `None` for one that is missing.
     /// Answers that are missing at the end are left out: after a lost link it returns an empty list. The sync has the
@@ -485,6 +570,16 @@ impl Replica {
     {
         sync::sync(self, bounds, partner, offer, reach)
     }
+}
+
+/// Returns the result of a call that loads rows.
+fn loaded(call: impl FnOnce(&mut sys::Loaded) -> u32) -> Result<Loaded, RowsRefused> {
+    let mut loaded = sys::Loaded::default();
+    check(call(&mut loaded)).map_err(|refusal| RowsRefused {
+        refusal,
+        offset: (refusal == Refusal::RowBroken).then_some(loaded.offset),
+    })?;
+    Ok(Loaded { taken: loaded.taken, known: loaded.known })
 }
 
 /// The refusal of rows to load.

@@ -82,7 +82,7 @@ impl Snapshot {
     pub fn rows(&mut self, leaf: u16) -> Result<Vec<u8>, Refusal> {
         let handle = self.handle.raw();
         // SAFETY: as in `sys`.
-        unsafe { bytes(|out, len, need| sys::antientropy_rows(handle, leaf, out, len, need)) }
+        unsafe { bytes(|out, len, need| sys::antientropy_rows(handle, leaf.into(), out, len, need)) }
     }
 
     /// Writes a checkpoint of the rows (`docs/FORMATS.md`).

@@ -62,7 +62,8 @@ pub(crate) fn sync<R>(
 where
     R: FnMut(&[Vec<u8>]) -> Vec<Option<Vec<u8>>>,
 {
-    if replica.root()? == read_offer(offer)?.root {
+    let (root, offered) = (replica.root()?, read_offer(offer)?);
+    if (offered.format, offered.range, offered.root) == (replica.format(), replica.range(), root) {
         return Ok(Synced::nothing(State::Finished));
     }
     let id = replica.open(partner, offer)?;

@@ -10,11 +10,12 @@ use std::ffi::c_void;
 
 use crate::values::{Counts, HintCounts, Pair, Receipt, Root, SlotCounts};
 
-/// A handle. The four structs of handles in the header have these fields.
+/// A handle. Hints have all of these fields, the other three structs of handles in the header the first two.
 #[repr(C)]
 pub struct Handle {
     pub at: *mut c_void,
     pub held: bool,
+    pub before: u64,
 }
 
 #[repr(C)]
@@ -74,9 +75,21 @@ extern "C" {
     pub fn antientropy_renew(from: *mut Handle, into: *mut Handle, limit: u64) -> u32;
     pub fn antientropy_migrate(replica: *mut Handle) -> u32;
     pub fn antientropy_count(replica: *mut Handle, counts: *mut Counts) -> u32;
+    pub fn antientropy_put_read(
+        replica: *mut Handle,
+        node: u64,
+        key: *const u8,
+        key_len: usize,
+        context: *const Pair,
+        context_len: usize,
+        kind: u8,
+        value: *const u8,
+        value_len: usize,
+        receipt: *mut Receipt,
+    ) -> u32;
     pub fn antientropy_put(
         replica: *mut Handle,
-        node: u16,
+        node: u64,
         key: *const u8,
         key_len: usize,
         context: *const Pair,
@@ -138,7 +151,7 @@ extern "C" {
     ) -> u32;
     pub fn antientropy_key_after(
         replica: *mut Handle,
-        leaf: u16,
+        leaf: u64,
         key: *const u8,
         key_len: usize,
         out: *mut u8,
@@ -184,6 +197,14 @@ extern "C" {
         need: *mut u64,
     ) -> u32;
     pub fn antientropy_entry_source(replica: *mut Handle, number: u64, source: *mut u64) -> u32;
+    pub fn antientropy_top_counter(
+        replica: *mut Handle,
+        node: u64,
+        key: *const u8,
+        key_len: usize,
+        entries: u64,
+        counter: *mut u64,
+    ) -> u32;
     pub fn antientropy_rehash(replica: *mut Handle) -> u32;
     pub fn antientropy_rehash_some(replica: *mut Handle, most: u64, left: *mut u64) -> u32;
     pub fn antientropy_snapshot(replica: *mut Handle, snapshot: *mut Handle) -> u32;
@@ -200,11 +221,18 @@ extern "C" {
         out_len: usize,
         need: *mut u64,
     ) -> u32;
-    pub fn antientropy_rows(snapshot: *mut Handle, leaf: u16, out: *mut u8, out_len: usize, need: *mut u64) -> u32;
+    pub fn antientropy_rows(snapshot: *mut Handle, leaf: u64, out: *mut u8, out_len: usize, need: *mut u64) -> u32;
     pub fn antientropy_load(replica: *mut Handle, rows: *const u8, rows_len: usize, loaded: *mut Loaded) -> u32;
+    pub fn antientropy_load_format(
+        replica: *mut Handle,
+        format: u64,
+        rows: *const u8,
+        rows_len: usize,
+        loaded: *mut Loaded,
+    ) -> u32;
     pub fn antientropy_open(
         replica: *mut Handle,
-        partner: u16,
+        partner: u64,
         offer: *const u8,
         offer_len: usize,
         session: *mut u64,
@@ -238,10 +266,11 @@ extern "C" {
     pub fn antientropy_cancel(replica: *mut Handle, session: u64) -> u32;
     pub fn antientropy_session(replica: *mut Handle, session: u64, state: *mut u64) -> u32;
     pub fn antientropy_hints_new(hints: *mut Handle) -> u32;
+    pub fn antientropy_hints_restore(hints: *mut Handle, first: u64) -> u32;
     pub fn antientropy_hints_free(hints: *mut Handle);
     pub fn antientropy_hint_keep(
         hints: *mut Handle,
-        owner: u16,
+        owner: u64,
         key: *const u8,
         key_len: usize,
         clock: *const Pair,
@@ -251,19 +280,19 @@ extern "C" {
         value_len: usize,
         id: *mut u64,
     ) -> u32;
-    pub fn antientropy_hint_next(hints: *mut Handle, owner: u16, after: u32, id: *mut u64) -> u32;
-    pub fn antientropy_hint_owner(hints: *mut Handle, id: u32, owner: *mut u64) -> u32;
-    pub fn antientropy_hint_key(hints: *mut Handle, id: u32, out: *mut u8, out_len: usize, need: *mut u64) -> u32;
+    pub fn antientropy_hint_next(hints: *mut Handle, owner: u64, after: u64, id: *mut u64) -> u32;
+    pub fn antientropy_hint_owner(hints: *mut Handle, id: u64, owner: *mut u64) -> u32;
+    pub fn antientropy_hint_key(hints: *mut Handle, id: u64, out: *mut u8, out_len: usize, need: *mut u64) -> u32;
     pub fn antientropy_hint_value(
         hints: *mut Handle,
-        id: u32,
+        id: u64,
         kind: *mut u8,
         out: *mut u8,
         out_len: usize,
         need: *mut u64,
     ) -> u32;
-    pub fn antientropy_hint_clock(hints: *mut Handle, id: u32, out: *mut Pair, out_len: usize, need: *mut u64) -> u32;
-    pub fn antientropy_hint_confirm(hints: *mut Handle, id: u32, known: bool) -> u32;
+    pub fn antientropy_hint_clock(hints: *mut Handle, id: u64, out: *mut Pair, out_len: usize, need: *mut u64) -> u32;
+    pub fn antientropy_hint_confirm(hints: *mut Handle, id: u64, known: bool) -> u32;
     pub fn antientropy_hints_renew(hints: *mut Handle) -> u32;
     pub fn antientropy_hints_count(hints: *mut Handle, counts: *mut HintCounts) -> u32;
     pub fn antientropy_slots_new(slots: *mut Handle, floor: u32, ceiling: u32, threshold: u32) -> u32;

@@ -185,8 +185,8 @@ pub struct Entry {
 /// A version that is kept for its owner, a node that is down.
 #[derive(Clone, Debug, PartialEq, Eq, Hash)]
 pub struct Hint {
-    /// Number of the hint, from 1.
-    pub number: u32,
+    /// Number of the hint, which no other one has or had.
+    pub number: u64,
     /// Node for which the version is kept.
     pub owner: u16,
     /// Key of the version.
@@ -264,6 +264,10 @@ pub struct Counts {
     pub sessions: u64,
     /// Open sessions: at 64 no other can be opened until one has ended.
     pub open_sessions: u64,
+    /// 0; reserved for journals that are trimmed.
+    pub first: u64,
+    /// 0; reserved for journals that are trimmed.
+    pub front: u64,
 }
 
 /// Counts of hints.

@@ -52,17 +52,17 @@ begin_one(Owner, State) ->
 %% Hands on the hints of an owner after a number, some at a time, until none is left or the owner is down.
 hand_off(Owner, After) ->
     case cluster_hints:pending(Owner, After, ?MOST_AT_ONCE) of
-        {_, []} -> ok;
-        {Renewals, Hints} -> hand_off(Owner, Renewals, Hints)
+        [] -> ok;
+        Hints -> hand_off_some(Owner, Hints)
     end.
 
-hand_off(Owner, Renewals, Hints) ->
+hand_off_some(Owner, Hints) ->
     ok = cluster_slots:lend(),
     Delivered = deliver(Owner, Hints),
     ok = cluster_slots:give_back(),
     case Delivered of
         {ok, Outcomes} ->
-            ok = cluster_hints:confirm(Renewals, Outcomes),
+            ok = cluster_hints:confirm(Outcomes),
             #{number := Last} = lists:last(Hints),
             hand_off(Owner, Last);
         down ->

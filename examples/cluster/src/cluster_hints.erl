@@ -5,7 +5,7 @@
 -module(cluster_hints).
 -behaviour(gen_server).
 
--export([start_link/0, keep/3, confirm/2, pending/3, count/0]).
+-export([start_link/0, keep/3, confirm/1, pending/3, count/0]).
 -export([init/1, handle_call/3, handle_cast/2, handle_info/2]).
 
 -define(MOST_WAITING, 512).
@@ -14,9 +14,8 @@
 
 -define(NAME, "pending").
 
--export_type([renewals/0, outcome/0]).
+-export_type([outcome/0]).
 
--type renewals() :: non_neg_integer().
 -type outcome() :: {Number :: pos_integer(), new | known}.
 -type record() :: {keep, cluster_ring:place(), Key :: binary(), antientropy:version_like()} | {confirm, outcome()}.
 
@@ -27,8 +26,9 @@
     %% Records that aren't in the log, and answers that wait for them, both the last first.
     records = [] :: [record()],
     waiting = [] :: [{gen_server:from(), Answer :: term()}],
-    %% Renewals, each of which changes the numbers of the hints, and hints that were delivered before the last one.
-    renewals = 0 :: renewals(),
+    %% The number of the store's first hint, which was delivered or is pending, and hints that were delivered before the
+    %% last renewal.
+    first :: pos_integer(),
     delivered = 0 :: non_neg_integer()
 }).
 
@@ -45,14 +45,14 @@ keep(Owner, Key, Version) ->
 
 %% @doc Ends the wait of hints that {@link pending/3} returned, after their owner has them on its disk.
 %%
-%% After a renewal it does nothing: the hints have other numbers then, and are delivered again.
--spec confirm(renewals(), [outcome()]) -> ok.
-confirm(Renewals, Outcomes) ->
-    gen_server:call(?MODULE, {confirm, Renewals, Outcomes}, infinity).
+%% A number from before a renewal names no hint: the hint has another one then, and is delivered again.
+-spec confirm([outcome()]) -> ok.
+confirm(Outcomes) ->
+    gen_server:call(?MODULE, {confirm, Outcomes}, infinity).
 
 %% @doc Returns the first pending hints of an owner after a number, at most `Most'.
 -spec pending(Owner :: cluster_ring:place(), After :: non_neg_integer(), Most :: pos_integer()) ->
-    {renewals(), [antientropy_hints:hint()]}.
+    [antientropy_hints:hint()].
 pending(Owner, After, Most) ->
     gen_server:call(?MODULE, {pending, Owner, After, Most}, infinity).
 
@@ -65,11 +65,11 @@ count() ->
 init([]) ->
     Folder = filename:join(cluster_settings:folder(), "hints"),
     ok = cluster_disk:make_folder(Folder),
-    {ok, Hints} = antientropy_hints:new(),
-    {From, Pending} = read_pending(Folder),
+    {From, First, Pending} = read_pending(Folder),
+    {ok, Hints} = antientropy_hints:restore(First),
     ok = lists:foreach(fun(Record) -> apply_again(Record, Hints) end, Pending),
     {Log, Hints} = cluster_log:open(Folder, From, fun apply_again/2, Hints),
-    {ok, #state{folder = Folder, hints = Hints, log = Log}}.
+    {ok, #state{folder = Folder, hints = Hints, log = Log, first = First}}.
 
 %% @private
 handle_call(Request, From, State) ->
@@ -91,13 +91,11 @@ answer({keep, Owner, Key, Version}, #state{hints = Hints, records = Records} = S
         {ok, _} = Kept -> {Kept, State#state{records = [{keep, Owner, Key, Version} | Records]}};
         Refused -> {Refused, State}
     end;
-answer({confirm, Renewals, Outcomes}, #state{renewals = Renewals, hints = Hints, records = Records} = State) ->
+answer({confirm, Outcomes}, #state{hints = Hints, records = Records} = State) ->
     Confirmed = [{confirm, Outcome} || Outcome <- Outcomes, confirm_one(Hints, Outcome) =:= ok],
     {ok, State#state{records = lists:reverse(Confirmed, Records)}};
-answer({confirm, _, _}, State) ->
-    {ok, State};
-answer({pending, Owner, After, Most}, #state{hints = Hints, renewals = Renewals} = State) ->
-    {{Renewals, first_pending(Hints, Owner, After, Most)}, State};
+answer({pending, Owner, After, Most}, #state{hints = Hints} = State) ->
+    {first_pending(Hints, Owner, After, Most), State};
 answer(count, #state{hints = Hints, delivered = Before} = State) ->
     {ok, #{pending := Pending, delivered := Delivered}} = antientropy_hints:count(Hints),
     {#{pending => Pending, delivered => Before + Delivered}, State}.
@@ -134,7 +132,8 @@ answer_all(#state{waiting = Waiting} = State) ->
     [gen_server:reply(From, Answer) || {From, Answer} <- lists:reverse(Waiting)],
     State#state{waiting = []}.
 
-%% Repeats what a record says. Numbers of hints are counted up, so they are those of the first time.
+%% Repeats what a record says. Numbers of hints are counted up from the store's first, so they are those of the first
+%% time.
 apply_again({keep, Owner, Key, Version}, Hints) ->
     {ok, _} = antientropy_hints:keep(Hints, Owner, Key, Version),
     Hints;
@@ -151,19 +150,18 @@ renew_if_due(#state{hints = Hints} = State) ->
         false -> State
     end.
 
-%% Drops the delivered hints. A file gets the pending ones, with the number of the log's file that goes on after it.
-renew(Delivered, #state{folder = Folder, hints = Hints, log = Log, renewals = Renewals, delivered = Before} = State) ->
+%% Drops the delivered hints. A file gets the pending ones with the number of the first, which is the one after the last
+%% that was used, and the number of the log's file that goes on after it.
+renew(Delivered, #state{folder = Folder, hints = Hints, log = Log, first = Before} = State) ->
+    {ok, #{pending := Pending}} = antientropy_hints:count(Hints),
+    First = Before + Delivered + Pending,
     ok = antientropy_hints:renew(Hints),
     Begun = cluster_log:rotate(Log),
-    Saved = term_to_binary({cluster_log:number(Begun), all_pending(Hints)}),
+    Kept = [kept(antientropy_hints:hint(Hints, Number)) || Number <- lists:seq(First, First + Pending - 1)],
+    Saved = term_to_binary({cluster_log:number(Begun), First, Kept}),
     ok = cluster_disk:replace(filename:join(Folder, ?NAME), fun(Device) -> file:write(Device, Saved) end),
     ok = cluster_log:drop_older(Begun),
-    State#state{log = Begun, renewals = Renewals + 1, delivered = Before + Delivered}.
-
-%% Records that keep all pending hints, in the order of their numbers.
-all_pending(Hints) ->
-    {ok, #{pending := Count}} = antientropy_hints:count(Hints),
-    [kept(antientropy_hints:hint(Hints, Number)) || Number <- lists:seq(1, Count)].
+    State#state{log = Begun, first = First, delivered = State#state.delivered + Delivered}.
 
 kept({ok, #{owner := Owner, key := Key, clock := Clock, value := Value}}) ->
     {keep, Owner, Key, #{clock => Clock, value => Value}}.
@@ -171,5 +169,5 @@ kept({ok, #{owner := Owner, key := Key, clock := Clock, value := Value}}) ->
 read_pending(Folder) ->
     case file:read_file(filename:join(Folder, ?NAME)) of
         {ok, Saved} -> binary_to_term(Saved);
-        {error, enoent} -> {0, []}
+        {error, enoent} -> {0, 1, []}
     end.

@@ -55,9 +55,7 @@
 start_link(Range) ->
     {ok, _} = gen_server:start_link({local, name(Range)}, ?MODULE, Range, []).
 
-%% @doc Puts a version under this node's life, and returns it. Refused: what {@link antientropy:put/5} refuses, and
-%% `stale_context' also if a held version has a greater counter of this life than the context: its client hasn't read
-%% this node's last put, which the new version would replace.
+%% @doc Puts a version under this node's life, and returns it. Refused: what {@link antientropy:put/5} refuses.
 -spec put(cluster_ring:range(), Key :: binary(), antientropy:value(), antientropy:clock_like()) ->
     {ok, antientropy:version()} | antientropy:refused().
 put(Range, Key, Value, Context) ->
@@ -165,7 +163,7 @@ handle_info({'DOWN', _, process, Borrower, _}, State) ->
 %% ---- answers
 
 answer({put, Key, Value, Context}, _, #state{replica = Replica, life = Life} = State) ->
-    {put_fresh(Replica, Life, Key, Value, Context), State};
+    {put_version(Replica, Life, Key, Value, Context), State};
 answer({copies, Copies}, _, #state{replica = Replica} = State) ->
     {[antientropy:accept(Replica, Key, Version) || {Key, Version} <- Copies], State};
 answer({row, Key}, _, #state{replica = Replica} = State) ->
@@ -200,28 +198,18 @@ answer(dump, _, #state{replica = Replica} = State) ->
     {ok, Keys} = antientropy:keys(Replica),
     {{Root, [{Key, element(2, antientropy:get(Replica, Key))} || Key <- Keys]}, State}.
 
-%% Puts a version if its client has read this life's last put of the key.
-put_fresh(Replica, Life, Key, Value, Context) ->
-    case antientropy:merge([Context]) of
-        {ok, Clock} ->
-            case last_counter(Replica, Life, Key) > maps:get(Life, Clock, 0) of
-                true -> {error, stale_context};
-                false -> put_version(Replica, Life, Key, Value, Clock)
-            end;
-        Refused ->
-            Refused
-    end.
-
+%% Puts a version, whose context may be pairs, and returns it.
 put_version(Replica, Life, Key, Value, Context) ->
-    case antientropy:put(Replica, Life, Key, Value, Context) of
-        {ok, #{counter := Counter}} -> {ok, #{clock => Context#{Life => Counter}, value => Value}};
+    case antientropy:merge([Context]) of
+        {ok, Clock} -> put_under(Replica, Life, Key, Value, Clock);
         Refused -> Refused
     end.
 
-%% The greatest counter of a life in the clocks of a key.
-last_counter(Replica, Life, Key) ->
-    {ok, Versions} = antientropy:get(Replica, Key),
-    lists:max([0 | [maps:get(Life, Clock, 0) || #{clock := Clock} <- Versions]]).
+put_under(Replica, Life, Key, Value, Clock) ->
+    case antientropy:put(Replica, Life, Key, Value, Clock) of
+        {ok, #{counter := Counter}} -> {ok, #{clock => Clock#{Life => Counter}, value => Value}};
+        Refused -> Refused
+    end.
 
 %% Accepts rows, and returns the versions held then.
 read_with(Replica, Key, []) ->

@@ -10,29 +10,32 @@ restart_test_() ->
     room:test([], fun(_) ->
         start(),
         [{ok, _} = cluster_hints:keep(Owner, <<"key">>, ?VERSION) || Owner <- [2, 3, 2]],
-        {Renewals, [#{number := First}, #{number := Second}]} = cluster_hints:pending(2, 0, 10),
-        ok = cluster_hints:confirm(Renewals, [{First, new}]),
+        [#{number := First}, #{number := Second}] = cluster_hints:pending(2, 0, 10),
+        ok = cluster_hints:confirm([{First, new}]),
         restart(),
-        ?assertMatch({_, [#{number := Second, value := <<"value">>}]}, cluster_hints:pending(2, 0, 10)),
-        ?assertMatch({_, [_]}, cluster_hints:pending(3, 0, 10))
+        ?assertMatch([#{number := Second, value := <<"value">>}], cluster_hints:pending(2, 0, 10)),
+        ?assertMatch([_], cluster_hints:pending(3, 0, 10))
     end).
 
-%% A renewal gives hints new numbers. A confirmation by the old ones does nothing, and a restart has the new ones.
+%% A renewal gives hints new numbers, and no old one names another hint: a confirmation by it does nothing. A restart
+%% has the new ones, and goes on above them.
 renewal_test_() ->
     room:test([], fun(Folder) ->
         start(),
         [{ok, _} = Kept || Kept <- keep_all(1010)],
-        {Renewals, Hints} = cluster_hints:pending(2, 0, 1000),
-        ok = cluster_hints:confirm(Renewals, [{Number, new} || #{number := Number} <- Hints]),
+        Hints = cluster_hints:pending(2, 0, 1000),
+        ok = cluster_hints:confirm([{Number, new} || #{number := Number} <- Hints]),
         ?assertEqual(#{pending => 10, delivered => 1000}, cluster_hints:count()),
-        {ok, 11} = cluster_hints:keep(3, key(1), ?VERSION),
-        ok = cluster_hints:confirm(Renewals, [{1, new}]),
-        {Renewed, [#{number := 1} | _]} = Pending = cluster_hints:pending(2, 0, 20),
-        ok = cluster_hints:confirm(Renewed, [{2, known}]),
+        {ok, 1021} = cluster_hints:keep(3, key(1), ?VERSION),
+        ok = cluster_hints:confirm([{1, new}, {1001, new}]),
+        [#{number := 1011} | _] = Pending = cluster_hints:pending(2, 0, 20),
+        ?assertEqual(10, length(Pending)),
+        ok = cluster_hints:confirm([{1012, known}]),
         restart(),
-        {_, Left} = cluster_hints:pending(2, 0, 20),
-        ?assertEqual([Hint || #{number := Number} = Hint <- element(2, Pending), Number =/= 2], Left),
-        ?assertMatch({_, [#{number := 11}]}, cluster_hints:pending(3, 0, 20)),
+        Left = cluster_hints:pending(2, 0, 20),
+        ?assertEqual([Hint || #{number := Number} = Hint <- Pending, Number =/= 1012], Left),
+        ?assertMatch([#{number := 1021}], cluster_hints:pending(3, 0, 20)),
+        {ok, 1022} = cluster_hints:keep(3, key(1), ?VERSION),
         ?assertEqual(["2.log", "3.log", "pending"], lists:sort(filelib:wildcard("*", filename:join(Folder, "hints"))))
     end).
 

@@ -125,7 +125,7 @@ fn log_after_the_checkpoint() {
     let mut replica = shopping();
     let logged = replica.save(&mut Vec::new()).unwrap();
     replica.put(1, b"later", Some(b""), &Clock::new()).unwrap();
-    assert_eq!(replica.entries(logged).map(|entry| entry.unwrap().key).collect::<Vec<_>>(), [b"later"]);
+    assert_eq!(replica.entries(logged).unwrap().map(|entry| entry.unwrap().key).collect::<Vec<_>>(), [b"later"]);
 }
 
 #[test]

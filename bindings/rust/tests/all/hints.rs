@@ -21,7 +21,35 @@ fn kept_and_confirmed() {
     assert!(hints.hint(1).unwrap().is_some());
     hints.renew().unwrap();
     assert_eq!(hints.count(), Ok(HintCounts { pending: 2, delivered: 0 }));
-    assert_eq!(hints.next_pending(2, 0).unwrap().unwrap().number, 2);
+    assert_eq!(hints.pending(2).map(|hint| hint.unwrap().number).collect::<Vec<_>>(), [5]);
+    assert_eq!(hints.next_pending(3, 0).unwrap().unwrap().number, 4);
+}
+
+#[test]
+fn no_number_names_two_hints() {
+    let mut hints = Hints::new().unwrap();
+    let version = live([(1, 1)], b"tea");
+    for (key, number) in [(b"cart".as_slice(), 1), (b"order", 2)] {
+        assert_eq!(hints.keep(2, key, &version), Ok(number));
+    }
+    hints.confirm(1, false).unwrap();
+    hints.renew().unwrap();
+    let payment = hints.keep(2, b"payment", &version).unwrap();
+    assert_eq!(hints.confirm(2, false), Err(Refusal::UnknownHint));
+    assert_eq!(hints.hint(2), Ok(None));
+    assert_eq!(hints.hint(payment).unwrap().unwrap().key, b"payment");
+    assert_eq!(hints.count(), Ok(HintCounts { pending: 2, delivered: 0 }));
+}
+
+#[test]
+fn restored() {
+    let version = live([(1, 1)], b"tea");
+    let mut hints = Hints::restore(u64::MAX).unwrap();
+    assert_eq!(hints.keep(2, b"cart", &version), Ok(u64::MAX));
+    assert_eq!(hints.keep(2, b"order", &version), Err(Refusal::HintsFull));
+    assert_eq!(hints.renew(), Err(Refusal::HintsFull));
+    assert_eq!(hints.hint(u64::MAX).unwrap().unwrap().key, b"cart");
+    assert_eq!(Hints::restore(0).err(), Some(Refusal::UnknownHint));
 }
 
 #[test]
@@ -40,6 +68,7 @@ fn refused() {
     assert_eq!(hints.keep(2, b"", &version), Err(Refusal::BadKey));
     assert_eq!(hints.keep(2, b"cart", &live([(1, 1)], &[0; 65_537])), Err(Refusal::BadValue));
     assert_eq!(hints.confirm(1, true), Err(Refusal::UnknownHint));
+    assert_eq!(hints.confirm((1 << 32) + 1, true), Err(Refusal::UnknownHint));
     assert_eq!(hints.count(), Ok(HintCounts { pending: 0, delivered: 0 }));
 }
 

@@ -59,7 +59,7 @@ fn long_values() {
 fn keys_and_entries() {
     let mut replica = filled(300);
     let mut keys: Vec<_> = replica.keys().map(Result::unwrap).collect();
-    let mut put: Vec<_> = replica.entries(0).map(|entry| entry.unwrap().key).collect();
+    let mut put: Vec<_> = replica.entries(0).unwrap().map(|entry| entry.unwrap().key).collect();
     assert_eq!(keys.len(), 300);
     keys.sort();
     put.sort();
@@ -68,8 +68,38 @@ fn keys_and_entries() {
     let keys: Vec<_> = replica.keys_of(leaf).map(Result::unwrap).collect();
     assert!(keys.contains(&b"key 7".to_vec()));
     assert_eq!(replica.key_after(leaf, b"").unwrap().as_ref(), keys.first());
-    let last = replica.entries(299).next().unwrap().unwrap();
+    let last = replica.entries(299).unwrap().next().unwrap().unwrap();
     assert_eq!((last.number, last.source, last.version.kind()), (299, Source::Put, Kind::Live));
+}
+
+#[test]
+fn entries_from_before_a_renewal() {
+    let mut replica = replica();
+    let mut context = Clock::new();
+    for _ in 0..200 {
+        let receipt = replica.put(1, b"cart", Some(b"milk"), &context).unwrap();
+        context = Clock::from([(1, receipt.counter)]);
+    }
+    assert_eq!(replica.entries(200).unwrap().count(), 0);
+    let mut renewed = replica.renew(1000).unwrap();
+    renewed.put(1, b"gift", Some(b"wrapped"), &NONE).unwrap();
+    assert_eq!(renewed.entries(200).err(), Some(Refusal::NoVersion));
+    assert_eq!(renewed.entries(1).unwrap().map(|entry| entry.unwrap().key).collect::<Vec<_>>(), [b"gift"]);
+}
+
+#[test]
+fn two_clients() {
+    let mut replica = replica();
+    let both = Clock::from([(1, 1), (2, 1)]);
+    replica.put(1, b"cart", Some(b"milk"), &NONE).unwrap();
+    replica.accept(b"cart", &live([(2, 1)], b"eggs")).unwrap();
+    replica.put(1, b"cart", Some(b"bread"), &Clock::from([(1, 1)])).unwrap();
+    assert_refused(Refusal::StaleContext, &mut replica, |replica| replica.put(1, b"cart", Some(b"tea"), &both));
+    let tops = [u64::MAX, 3, 2].map(|entries| replica.top_counter(1, b"cart", entries).unwrap());
+    assert_eq!(tops, [2, 2, 1]);
+    assert_eq!(replica.top_counter(0, b"cart", 1), Err(Refusal::BadClock));
+    replica.put_unread(1, b"cart", Some(b"tea"), &both).unwrap();
+    assert_eq!(replica.get(b"cart").unwrap(), [live([(1, 2), (2, 1)], b"tea")]);
 }
 
 #[test]
@@ -85,7 +115,7 @@ fn counts_and_renewal() {
     let first = replica.put(1, b"cart", Some(b"milk"), &NONE).unwrap();
     replica.put(1, b"cart", Some(b"eggs"), &Clock::from([(1, first.counter)])).unwrap();
     replica.rehash().unwrap();
-    let counts = Counts { entries: 2, limit: 10, dirty: 0, sessions: 0, open_sessions: 0 };
+    let counts = Counts { entries: 2, limit: 10, ..Counts::default() };
     assert_eq!(replica.count(), Ok(counts));
     let mut renewed = replica.renew(5).unwrap();
     assert_eq!(renewed.count(), Ok(Counts { entries: 1, limit: 5, ..counts }));
@@ -183,6 +213,25 @@ fn rows_are_loaded() {
     assert_eq!(to.load_rows(&row).unwrap().taken, 1);
     assert_eq!(to.load_rows(&row).unwrap().known, 1);
     assert_eq!(to.entry(0).unwrap().unwrap().source, Source::Copy);
+}
+
+#[test]
+fn rows_of_before_a_migration() {
+    let first = || Replica::new(Config { format: 1, ..Config::default() }).unwrap();
+    let (mut from, mut again, mut to) = (first(), first(), replica());
+    let mut rows = Vec::new();
+    for key in [b"key 0", b"key 1", b"key 2"] {
+        from.put(1, key, Some(b"value"), &NONE).unwrap();
+        rows.append(&mut from.row(key).unwrap().unwrap());
+    }
+    assert_eq!(to.load_format(1, &rows).unwrap().taken, 3);
+    assert_eq!(again.load_format(1, &rows).unwrap().taken, 3);
+    assert_eq!(again.root(), from.root());
+    from.migrate().unwrap();
+    assert_eq!(to.root(), from.root());
+    assert_refused(Refusal::BadRing, &mut to, |to| Ok(to.load_format(3, &rows)?));
+    assert_refused(Refusal::OtherFormat, &mut again, |again| Ok(again.load_format(2, &rows)?));
+    assert!(to.load_format(1, &rows[..rows.len() - 1]).unwrap_err().offset.is_some());
 }
 
 #[test]

@@ -65,7 +65,7 @@ fn a_session() {
         accepted += session.take(&snapshot.serve(7, &ask).unwrap()).unwrap().accepted;
     }
     assert_eq!((accepted, session.state(), session.ask()), (50, Ok(State::Finished), Ok(None)));
-    assert!(replica.entries(0).all(|entry| entry.unwrap().source == Source::Partner));
+    assert!(replica.entries(0).unwrap().all(|entry| entry.unwrap().source == Source::Partner));
     assert_eq!(replica.root(), snapshot.root());
 }
 

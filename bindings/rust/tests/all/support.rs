@@ -48,7 +48,7 @@ type Held = (Counts, Vec<Entry>, Vec<Vec<u8>>);
 pub fn state(replica: &mut Replica) -> Held {
     let keys: Vec<_> = replica.keys().map(Result::unwrap).collect();
     let rows = keys.iter().map(|key| replica.row(key).unwrap().unwrap()).collect();
-    (replica.count().unwrap(), replica.entries(0).map(Result::unwrap).collect(), rows)
+    (replica.count().unwrap(), replica.entries(0).unwrap().map(Result::unwrap).collect(), rows)
 }
 
 /// A call is refused by a cause, and leaves the replica unchanged.

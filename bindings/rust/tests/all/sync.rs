@@ -2,7 +2,7 @@
 
 use std::panic::{catch_unwind, AssertUnwindSafe};
 
-use antientropy::{place, Bounds, Refusal, Replica, State, Synced};
+use antientropy::{place, Bounds, Config, Refusal, Replica, State, Synced};
 
 use crate::support::{crowd, filled, live, replica, serve, with_limit, NONE};
 
@@ -65,6 +65,17 @@ fn equal_roots() {
     let synced = synced.unwrap();
     assert_eq!((synced.finished(), synced.asks, rounds.len()), (true, 0, 0));
     assert_eq!(b.count().unwrap().sessions, 1);
+}
+
+#[test]
+fn equal_roots_of_empty_ranges() {
+    let empty = |format, range| Replica::new(Config { format, bits: 1, range, ..Config::default() }).unwrap();
+    let mut partner = empty(2, 0);
+    assert_eq!(sync(&mut empty(1, 0), &mut partner), Err(Refusal::OtherFormat));
+    assert_eq!(sync(&mut empty(2, 1), &mut partner), Err(Refusal::OtherRange));
+    let mut same = empty(2, 0);
+    assert!(sync(&mut same, &mut partner).unwrap().finished());
+    assert_eq!(same.count().unwrap().sessions, 0);
 }
 
 #[test]
