@@ -37,11 +37,15 @@ uint8_t *more(struct bytes *bytes, size_t len)
     return bytes->at + bytes->len;
 }
 
-void add_number(struct bytes *bytes, uint64_t number, int len)
+void write_number(uint8_t *at, uint64_t number, int len)
 {
-    uint8_t *at = more(bytes, (size_t)len);
     for (int n = 0; n < len; n++)
         at[n] = (uint8_t)(number >> (8 * (len - 1 - n)));
+}
+
+void add_number(struct bytes *bytes, uint64_t number, int len)
+{
+    write_number(more(bytes, (size_t)len), number, len);
     bytes->len += (size_t)len;
 }
 

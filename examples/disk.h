@@ -22,7 +22,10 @@ _Noreturn void fail(const char *what);
 /* Makes room for more bytes, and returns their place. */
 uint8_t *more(struct bytes *bytes, size_t len);
 
-/* Appends a number as that many bytes, the highest first. */
+/* Writes a number as that many bytes, the highest first. */
+void write_number(uint8_t *at, uint64_t number, int len);
+
+/* Appends a number as that many bytes. */
 void add_number(struct bytes *bytes, uint64_t number, int len);
 
 /* Reads a number of that many bytes. */

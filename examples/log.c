@@ -85,7 +85,7 @@ static void live(const char *folder, const char *next_folder)
 
     flip(folder, "log.2", 20);
     snapshot_of(&partner, &rows);
-    if (show_start(&store, &rows))
+    if (show_start(&store, &rows) || show_start(&store, &rows))
         exit(1);
     store_make(&next, 2);
     store_sync(&next.replica, &rows);

@@ -2,13 +2,13 @@
  *
  *     log_faults FOLDER
  *
- * It makes a small store in FOLDER. Then it flips each bit of its records and of its manifest and one bit in each byte
- * of its checkpoint, cuts each file at each byte, and removes each file, one at a time. After each the store is
- * started, alone and with a sync from a partner that has its versions, and takes a put of each key. The program counts
- * the starts after which the node goes on with all that it acknowledged, those after which it says that it can't, and
- * those after which it uses clocks a second time. The last may be only without the partner, and only if the end of the
- * last file is lost. It ends with status 1 if that isn't so, or if a call returns another number than the one
- * wanted. */
+ * It makes a small store in FOLDER. Then it flips each bit of its files (of the checkpoint one in each byte), cuts each
+ * file at each byte, and removes each file, one at a time. After each the store is started, alone and with a sync from
+ * a partner that has its versions, and takes a put of each key. The program counts the starts after which the node is
+ * whole: it goes on with all that it acknowledged. Others are refused: the node can't go on under its number. After a
+ * crash of the machine, a fault of the last file can make a start lose the end of its log and use clocks a second time,
+ * but only without the partner. The program ends with status 1 if that isn't so, or if a call returns another number
+ * than the one wanted. */
 #define _POSIX_C_SOURCE 200809L
 #include "log_store.h"
 
@@ -18,9 +18,10 @@
 #include <string.h>
 #include <unistd.h>
 
-enum { NODE = 1, LIMIT = 100, MOST_FILES = 4, MOST_ACKS = 8 };
+enum { NODE = 1, LIMIT = 100, MOST_FILES = 5, MOST_ACKS = 8 };
 
-/* The gate links it with --wrap=fsync: no machine is killed here, and syncs would make it slow. */
+/* The gate links it with --wrap=fsync, and gives it a folder in memory: no machine is killed here, and a disk would
+ * make it slow. */
 int __wrap_fsync(int file);
 int __wrap_fsync(int file)
 {
@@ -117,7 +118,7 @@ static unsigned put_again(struct store *store, const struct small *small)
         uint64_t counter = store_put(store, ack->key, ANTIENTROPY_LIVE, "again");
         if (counter <= ack->counter)
             lost += (unsigned)(ack->counter + 1 - counter);
-        else if (!held)
+        else if (counter == ack->counter + 1 && !held)
             stop("an acknowledged value is lost, but its clock isn't");
     }
     return lost;
@@ -160,11 +161,11 @@ static void try_fault(struct small *small, struct count *count, size_t changed, 
         stop("a clock is used twice, although a partner has it");
 }
 
-static void show(const char *what, const char *name, const struct count *count)
+/* Prints a line of the table of faults. */
+static void show(const char *what, const struct count *count)
 {
-    printf("%s %s: %u faults; alone %u keep all, %u are refused, %u lose the end; synced %u keep all, %u are refused\n",
-           what, name, count->faults, count->alone.all, count->alone.refused, count->alone.twice, count->synced.all,
-           count->synced.refused);
+    printf("%-36s %6u %12u %9u %14u %13u %9u\n", what, count->faults, count->alone.all, count->alone.refused,
+           count->alone.twice, count->synced.all, count->synced.refused);
 }
 
 /* Flips `bits` bits of each byte of a file, one at a time. */
@@ -204,16 +205,22 @@ static void keep_file(struct small *small, const char *name)
         fail(name);
 }
 
-enum { MANIFEST, CHECKPOINT, LOG_2, LOG_3 };
+enum { MANIFEST, SYNCED, CHECKPOINT, LOG_2, LOG_3 };
 
-/* Makes the small store: a checkpoint, a file of records of both formats, and a last file of two records. Returns the
- * length of the first of these, and writes the manifest before the last file and the last file with one more record. */
-static size_t make_small(struct small *small, struct bytes *old_manifest, struct bytes *longer)
+/* Other states of the files of the small store. */
+struct states {
+    struct bytes old_manifest; /* before the last file was begun */
+    struct bytes old_synced;   /* when the last file was begun: a crash of the machine can leave it */
+    struct bytes first;        /* the last file, with its first record alone */
+    struct bytes longer;       /* the last file, with one record more that wasn't acknowledged */
+};
+
+/* Makes the small store: a checkpoint, a file of records of both formats, and a last file of two records. */
+static void make_small(struct small *small, struct states *states)
 {
     struct store store = {.folder = small->folder, .node = NODE, .limit = LIMIT};
     struct antientropy_replica partner = {0};
     struct antientropy_snapshot rows = {0};
-    struct bytes first = {0};
     store_make(&store, 1);
     small_put(&store, small, "cart", "milk");
     small_put(&store, small, "order", "paid");
@@ -221,12 +228,14 @@ static size_t make_small(struct small *small, struct bytes *old_manifest, struct
     small_put(&store, small, "cart", "bread");
     store_migrate(&store);
     small_put(&store, small, "order", "sent");
-    read_file(small->folder, "manifest", old_manifest);
+    read_file(small->folder, "manifest", &states->old_manifest);
     store_begin_file(&store); /* and is killed before it has its checkpoint */
+    read_file(small->folder, "synced", &states->old_synced);
     small_put(&store, small, "cart", "eggs");
-    read_file(small->folder, "log.3", &first);
+    read_file(small->folder, "log.3", &states->first);
     small_put(&store, small, "list", "nuts");
     keep_file(small, "manifest");
+    keep_file(small, "synced");
     keep_file(small, "checkpoint.2");
     keep_file(small, "log.2");
     keep_file(small, "log.3");
@@ -237,57 +246,80 @@ static size_t make_small(struct small *small, struct bytes *old_manifest, struct
     antientropy_snapshot_free(&rows);
     antientropy_free(&partner);
     store_put(&store, "order", ANTIENTROPY_LIVE, "unsent");
-    read_file(small->folder, "log.3", longer);
+    read_file(small->folder, "log.3", &states->longer);
     store_close(&store);
-    free(first.at);
-    return first.len;
+}
+
+/* Flips each bit of the last file, and cuts it at each byte. If `some` is 1, a start that is alone may lose the last
+ * record by a flip, and those that are cut off by a cut; if it is 0, none. */
+static void try_last(struct small *small, const struct states *states, unsigned some)
+{
+    size_t first = states->first.len, len = small->file[LOG_3].bytes.len;
+    struct count count = flip_each(small, LOG_3, 8, some);
+    show("log.3: each bit flipped", &count);
+    count = cut_each(small, LOG_3, first, len, some);
+    show("log.3: cut in its last record", &count);
+    count = cut_each(small, LOG_3, 0, first, 2 * some);
+    show("log.3: cut before its last record", &count);
+}
+
+/* Flips bits of each byte of a file, and cuts it at each byte. No start may lose anything then. */
+static void try_file(struct small *small, size_t changed, unsigned bits)
+{
+    const struct file *file = &small->file[changed];
+    char what[64];
+    struct count count = flip_each(small, changed, bits, 0);
+    snprintf(what, sizeof what, "%s: %s", file->name, bits == 8 ? "each bit flipped" : "a bit of each byte");
+    show(what, &count);
+    count = cut_each(small, changed, 0, file->bytes.len, 0);
+    snprintf(what, sizeof what, "%s: cut at each byte", file->name);
+    show(what, &count);
+}
+
+/* Starts the small store after a kill at each byte of a record that isn't acknowledged. */
+static void try_kills(struct small *small, const struct bytes *longer)
+{
+    struct count count = {0};
+    for (size_t len = small->file[LOG_3].bytes.len; len <= longer->len; len++)
+        try_fault(small, &count, LOG_3, longer->at, len, 0);
+    show("killed at each byte of a record", &count);
+    if (count.alone.refused + count.synced.refused > 0)
+        stop("a torn tail was taken for damage");
 }
 
 /* Starts the small store after each kill and each fault. */
 static void try_faults(const char *folder)
 {
     struct small small = {.folder = folder};
-    struct bytes old_manifest = {0}, longer = {0};
-    struct count count = {0};
-    size_t first_len = make_small(&small, &old_manifest, &longer);
-    size_t len = small.file[LOG_3].bytes.len;
-    for (size_t killed = len; killed <= longer.len; killed++)
-        try_fault(&small, &count, LOG_3, longer.at, killed, 0);
-    show("a kill at each byte of a record of", "log.3", &count);
-    if (count.alone.refused + count.synced.refused > 0)
-        stop("a torn tail was taken for damage");
-
-    count = flip_each(&small, LOG_2, 8, 0);
-    show("each bit of", "log.2", &count);
-    count = flip_each(&small, LOG_3, 8, 1);
-    show("each bit of", "log.3", &count);
-    count = flip_each(&small, MANIFEST, 8, 0);
-    show("each bit of", "manifest", &count);
-    count = flip_each(&small, CHECKPOINT, 1, 0);
-    show("a bit of each byte of", "checkpoint.2", &count);
-    count = cut_each(&small, LOG_2, 0, small.file[LOG_2].bytes.len, 0);
-    show("cut at each byte,", "log.2", &count);
-    count = cut_each(&small, LOG_3, first_len, len, 1);
-    show("cut in its last record,", "log.3", &count);
-    count = cut_each(&small, LOG_3, 0, first_len, 2);
-    show("cut before it,", "log.3", &count);
-    count = cut_each(&small, MANIFEST, 0, small.file[MANIFEST].bytes.len, 0);
-    show("cut at each byte,", "manifest", &count);
-    count = cut_each(&small, CHECKPOINT, 0, small.file[CHECKPOINT].bytes.len, 0);
-    show("cut at each byte,", "checkpoint.2", &count);
-    count = (struct count){0};
+    struct states states = {0};
+    struct count removed = {0}, older = {0};
+    make_small(&small, &states);
+    printf("%-36s %6s %12s %9s %14s %13s %9s\n", "", "faults", "alone: whole", "refused", "loses its end",
+           "synced: whole", "refused");
+    try_kills(&small, &states.longer);
+    try_last(&small, &states, 0);
+    try_file(&small, LOG_2, 8);
+    try_file(&small, MANIFEST, 8);
+    try_file(&small, SYNCED, 8);
+    try_file(&small, CHECKPOINT, 1);
     for (size_t n = 0; n < small.files; n++)
-        try_fault(&small, &count, n, NULL, 0, 0);
-    show("each file", "is removed", &count);
-    count = (struct count){0};
-    try_fault(&small, &count, MANIFEST, old_manifest.at, old_manifest.len, 0);
-    show("an older", "manifest", &count);
+        try_fault(&small, &removed, n, NULL, 0, 0);
+    show("each file removed", &removed);
+    try_fault(&small, &older, MANIFEST, states.old_manifest.at, states.old_manifest.len, 0);
+    show("an older manifest", &older);
+
+    printf("after a crash of the machine, with an older synced place:\n");
+    memcpy(small.file[SYNCED].bytes.at, states.old_synced.at, states.old_synced.len);
+    try_kills(&small, &states.longer);
+    try_last(&small, &states, 1);
 
     antientropy_snapshot_free(&small.rows);
     for (size_t n = 0; n < small.files; n++)
         free(small.file[n].bytes.at);
-    free(old_manifest.at);
-    free(longer.at);
+    free(states.old_manifest.at);
+    free(states.old_synced.at);
+    free(states.first.at);
+    free(states.longer.at);
 }
 
 int main(int argc, char **argv)

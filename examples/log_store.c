@@ -14,8 +14,11 @@ enum { FORMAT_AT = 8, LEN_AT = 9, ROWS_AT = 13, SUM_LEN = 8 };
 /* The numbers of the partner, and of its offer. */
 enum { PARTNER = 2, OFFER = 1 };
 
-/* A manifest is its magic, five numbers of 8 bytes, the root, and a checksum. */
-enum { NUMBERS_AT = 8, ROOT_AT = 48, MANIFEST_SUM_AT = 80, MANIFEST_LEN = 88 };
+/* A manifest is its magic, six numbers of 8 bytes, the root, and a checksum. */
+enum { NUMBERS_AT = 8, ROOT_AT = 56, MANIFEST_SUM_AT = 88, MANIFEST_LEN = 96 };
+
+/* The file of the synced place has the place and a checksum. */
+enum { SYNCED_LEN = 16 };
 
 static const uint8_t MAGIC[8] = {'a', 'n', 't', 'i', 'l', 'o', 'g', 1};
 
@@ -50,6 +53,7 @@ static void write_manifest(const struct store *store)
     add_number(&file, manifest->first_place, 8);
     add_number(&file, manifest->last, 8);
     add_number(&file, manifest->last_place, 8);
+    add_number(&file, manifest->given_up, 8);
     memcpy(file.at + ROOT_AT, manifest->root, sizeof manifest->root);
     file.len = MANIFEST_SUM_AT;
     add_number(&file, checksum(file.at, MANIFEST_SUM_AT), SUM_LEN);
@@ -71,11 +75,36 @@ static const char *read_manifest(struct store *store)
         const uint8_t *at = file.at + NUMBERS_AT;
         *manifest = (struct manifest){.format = number_at(at, 8), .first = number_at(at + 8, 8),
                                       .first_place = number_at(at + 16, 8), .last = number_at(at + 24, 8),
-                                      .last_place = number_at(at + 32, 8)};
+                                      .last_place = number_at(at + 32, 8), .given_up = number_at(at + 40, 8)};
         memcpy(manifest->root, file.at + ROOT_AT, sizeof manifest->root);
+        if (manifest->given_up != 0)
+            wrong = "it was given up";
     }
     free(file.at);
     return wrong;
+}
+
+/* ---- the synced place */
+
+/* Notes that the log is synced up to the next place. This isn't synced itself: after a crash of the machine, the file
+ * may have an earlier place, but never a later one. */
+static void note_synced(struct store *store)
+{
+    uint8_t place[SYNCED_LEN];
+    write_number(place, store->place, 8);
+    write_number(place + 8, checksum(place, 8), SUM_LEN);
+    if (pwrite(store->synced, place, sizeof place, 0) != sizeof place)
+        fail("synced");
+}
+
+/* Returns the place up to which the log was synced at least. */
+static const char *read_synced(struct store *store, uint64_t *place)
+{
+    uint8_t at[SYNCED_LEN + 1];
+    if (pread(store->synced, at, sizeof at, 0) != SYNCED_LEN || checksum(at, 8) != number_at(at + 8, SUM_LEN))
+        return "the synced place is damaged";
+    *place = number_at(at, 8);
+    return NULL;
 }
 
 /* ---- records */
@@ -91,7 +120,7 @@ static size_t record_len(const uint8_t *at, size_t left)
     return len + SUM_LEN;
 }
 
-/* Returns true if a whole record begins at some byte. */
+/* Returns true if a whole record begins at some byte. A value that looks like one makes a false alarm. */
 static bool has_record(const uint8_t *at, size_t left)
 {
     for (; left > 0; at++, left--)
@@ -137,16 +166,14 @@ static void add_row(struct bytes *record, struct antientropy_replica *replica, c
 /* Makes the record of the rows of some keys. A key of several entries has one row. */
 static struct bytes make_record(struct store *store, const struct key *keys, size_t count)
 {
-    struct bytes record = {0}, len = {0};
+    struct bytes record = {0};
     add_number(&record, store->place, 8);
     add_number(&record, store->manifest.format, 1);
     add_number(&record, 0, 4);
     for (size_t n = 0; n < count; n++)
         if (n == 0 || compare_keys(&keys[n - 1], &keys[n]) != 0)
             add_row(&record, &store->replica, &keys[n]);
-    add_number(&len, record.len - ROWS_AT, 4);
-    memcpy(record.at + LEN_AT, len.at, 4);
-    free(len.at);
+    write_number(record.at + LEN_AT, record.len - ROWS_AT, 4);
     add_number(&record, checksum(record.at, record.len), SUM_LEN);
     return record;
 }
@@ -167,6 +194,7 @@ void store_log(struct store *store)
     free(keys);
     store->place++;
     store->logged = counts.entries;
+    note_synced(store);
 }
 
 /* Renews the replica. All its entries are logged, and so are those of the new journal: one for each version held. */
@@ -183,21 +211,24 @@ static void renew(struct store *store)
 
 /* ---- the start */
 
-/* Locks the folder: two processes of one number are as bad as counters that go back. */
-static void lock(struct store *store)
+/* Opens the file of the synced place and locks it, until it is closed: two processes of one number are as bad as
+ * counters that go back. Returns false if it isn't there. */
+static bool lock(struct store *store, int flags)
 {
-    store->lock = open_file(store->folder, "lock", O_RDWR | O_CREAT);
-    if (store->lock < 0 || lockf(store->lock, F_TLOCK, 0) != 0)
-        fail("lock");
+    store->synced = open_file(store->folder, "synced", flags);
+    if (store->synced >= 0 && lockf(store->synced, F_TLOCK, 0) != 0)
+        fail("another process has the store");
+    return store->synced >= 0;
 }
 
-/* Makes an empty log file. */
+/* Makes an empty log file, and syncs the file of the synced place with it. */
 static void make_log(struct store *store)
 {
     store->file = open_file(store->folder, name_of("log", store->manifest.last).text, O_RDWR | O_CREAT | O_APPEND);
     if (store->file < 0 || lseek(store->file, 0, SEEK_END) != 0)
         fail("a new log file");
     sync_file(store->file);
+    sync_file(store->synced);
     sync_folder(store->folder);
 }
 
@@ -214,12 +245,13 @@ static void new_replica(struct store *store)
 
 void store_make(struct store *store, uint64_t format)
 {
-    lock(store);
-    int there = open_file(store->folder, "manifest", O_RDONLY);
-    if (there >= 0)
-        fail("the folder has a store");
+    if (open_file(store->folder, "manifest", O_RDONLY) >= 0 || !lock(store, O_RDWR | O_CREAT)) {
+        printf("%s has a store\n", store->folder);
+        exit(1);
+    }
     store->manifest = (struct manifest){.format = format, .first = 1, .last = 1};
     store->place = store->logged = store->torn = 0;
+    note_synced(store);
     make_log(store);
     write_manifest(store);
     new_replica(store);
@@ -272,8 +304,8 @@ static void open_last(struct store *store, const char *name, size_t whole, size_
     sync_file(store->file);
 }
 
-/* Loads the records of a log file. */
-static const char *load_file(struct store *store, uint64_t number)
+/* Loads the records of a log file. All before the place `synced` must be there. */
+static const char *load_file(struct store *store, uint64_t number, uint64_t synced)
 {
     const bool last = number == store->manifest.last;
     const struct name name = name_of("log", number);
@@ -291,6 +323,8 @@ static const char *load_file(struct store *store, uint64_t number)
     }
     if (wrong == NULL && at < file.len && (!last || has_record(file.at + at + 1, file.len - at - 1)))
         wrong = "a record is damaged, and others were logged after it";
+    if (wrong == NULL && last && store->place < synced)
+        wrong = "the end of the log is damaged or lost";
     if (wrong == NULL && last)
         open_last(store, name.text, at, file.len);
     free(file.at);
@@ -306,28 +340,38 @@ static bool is_old(const struct store *store)
     return old;
 }
 
+/* Ends a start that found damage, and remembers it: a later start, without a partner say, may not see it. */
+static const char *give_up(struct store *store, const char *wrong)
+{
+    if (store->manifest.format != 0 && store->manifest.given_up == 0) {
+        store->manifest.given_up = 1;
+        write_manifest(store);
+    }
+    store_close(store);
+    return wrong;
+}
+
 /* Makes the replica that the folder has. */
-static const char *store_open(struct store *store)
+static const char *load_all(struct store *store)
 {
     struct antientropy_counts counts;
-    store->replica = (struct antientropy_replica){0};
-    store->file = -1;
-    store->torn = 0;
-    lock(store);
+    uint64_t synced = 0;
+    bool locked = lock(store, O_RDWR);
     const char *wrong = read_manifest(store);
+    if (wrong == NULL)
+        wrong = locked ? read_synced(store, &synced) : "the synced place is missing";
     if (wrong == NULL && is_old(store))
         wrong = "the manifest is older than the log";
     if (wrong == NULL)
         wrong = load_first(store);
     store->place = store->manifest.first_place;
     for (uint64_t file = store->manifest.first; wrong == NULL && file <= store->manifest.last; file++)
-        wrong = load_file(store, file);
-    if (wrong != NULL) {
-        store_close(store);
+        wrong = load_file(store, file, synced);
+    if (wrong != NULL)
         return wrong;
-    }
     want("count", antientropy_count(&store->replica, &counts), ANTIENTROPY_OK);
     store->logged = counts.entries;
+    note_synced(store);
     return NULL;
 }
 
@@ -355,10 +399,8 @@ static const char *log_synced(struct store *store)
     struct antientropy_counts counts;
     want("count", antientropy_count(&store->replica, &counts), ANTIENTROPY_OK);
     for (uint64_t entry = store->logged; entry < counts.entries; entry++)
-        if (is_lost(store, entry)) {
-            store_close(store);
+        if (is_lost(store, entry))
             return "a partner has a version of this node that the log lacks";
-        }
     store_log(store);
     return NULL;
 }
@@ -386,19 +428,23 @@ void store_sync(struct antientropy_replica *replica, struct antientropy_snapshot
 
 const char *store_start(struct store *store, struct antientropy_snapshot *partner)
 {
-    const char *wrong = store_open(store);
-    if (wrong != NULL)
-        return wrong;
-    if (partner != NULL)
+    store->replica = (struct antientropy_replica){0};
+    store->manifest = (struct manifest){0};
+    store->file = store->synced = -1;
+    const char *wrong = load_all(store);
+    if (wrong == NULL && partner != NULL)
         store_sync(&store->replica, partner);
-    return log_synced(store);
+    if (wrong == NULL)
+        wrong = log_synced(store);
+    return wrong == NULL ? NULL : give_up(store, wrong);
 }
 
 void store_close(struct store *store)
 {
     if (store->file >= 0)
         close(store->file);
-    close(store->lock);
+    if (store->synced >= 0)
+        close(store->synced);
     antientropy_free(&store->replica);
 }
 
@@ -448,6 +494,7 @@ void store_migrate(struct store *store)
 
 void store_begin_file(struct store *store)
 {
+    store_log(store);
     close(store->file);
     store->manifest.last++;
     store->manifest.last_place = store->place;

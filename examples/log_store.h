@@ -5,7 +5,7 @@
  *     manifest        what must be there: the first and the last log file, and the checkpoint with its root
  *     checkpoint.N    the rows at the moment at which the log file N began, unless N is 1
  *     log.N           the groups of rows that were logged since then
- *     lock            locked by the process that uses the folder
+ *     synced          the place up to which the log is synced, at least; locked by the process that has the store
  *
  * A record of a log file has the rows of a group: of the keys of all entries since the record before it. It has its
  * place in the log, which counts the records from the first file on, the format of the rows, the number of their bytes,
@@ -13,8 +13,9 @@
  *
  * So a crash leaves at most one record that isn't whole, at the end of the last file: a torn tail, which wasn't
  * acknowledged. Anything else that isn't as the manifest and the places say is damage, and then counters may have gone
- * back: the node returns under a number that was never used (docs/EMBEDDING_C.md, "Restarts"). Build a program with
- * log_store.c, checkpoint.c and disk.c. */
+ * back: the node returns under a number that was never used (docs/EMBEDDING_C.md, "Restarts"). After a crash of the
+ * machine, `synced` may be behind. Then damage at the end of the last file looks like a torn tail, and only a sync from
+ * a partner shows it. Build a program with log_store.c, checkpoint.c and disk.c. */
 #ifndef LOG_STORE_H
 #define LOG_STORE_H
 
@@ -22,10 +23,11 @@
 
 /* What must be there at a start. */
 struct manifest {
-    uint64_t format;                   /* format of the replica */
-    uint64_t first, first_place;       /* first log file, and the place of its first record: the checkpoint has those
-                                        * before it */
-    uint64_t last, last_place;         /* last log file, and the place of its first record */
+    uint64_t format;             /* format of the replica */
+    uint64_t first, first_place; /* first log file, and the place of its first record: the checkpoint has what was
+                                  * logged before it */
+    uint64_t last, last_place;   /* last log file, and the place of its first record */
+    uint64_t given_up;           /* 1 if a start has found damage: the node number isn't used again */
     uint8_t root[ANTIENTROPY_ROOT_LEN]; /* root of the checkpoint, if `first` isn't 1 */
 };
 
@@ -41,7 +43,8 @@ struct store {
     uint64_t place;  /* place of the next record */
     uint64_t logged; /* number of the first entry that isn't logged */
     uint64_t torn;   /* bytes that the start cut off */
-    int file, lock;  /* the last log file, and the locked one */
+    int file;        /* the last log file */
+    int synced;      /* the file of the synced place */
 };
 
 /* Makes a new store in a folder that has none: the first start of a node number. */
@@ -51,9 +54,8 @@ void store_make(struct store *store, uint64_t format);
 void store_sync(struct antientropy_replica *replica, struct antientropy_snapshot *partner);
 
 /* Starts the store of a folder, before the first put: makes its replica, syncs it from a partner if there is one (not
- * NULL), and looks for versions of this node that the log lacks. (A record that is damaged at the end looks like a torn
- * tail, but a partner may have it. A host syncs from each partner that it reaches.) Returns NULL, or what is damaged:
- * then the store isn't open, and its node number isn't used again. */
+ * NULL), and looks for versions of this node that the log lacks. A host syncs from each partner that it reaches.
+ * Returns NULL, or what is damaged: then the store isn't open, and its node number isn't used again. */
 const char *store_start(struct store *store, struct antientropy_snapshot *partner);
 
 /* Closes the store. */
