@@ -134,6 +134,10 @@ static unsigned judge(struct small *small, bool alone, struct tally *tally)
         return 0;
     }
     unsigned lost = put_again(&store, small);
+    uint64_t place = store.place;
+    store_close(&store);
+    if (store_start(&store, NULL) != NULL || store.place != place)
+        stop("a store that went on can't be started again");
     store_close(&store);
     if (lost > 0)
         tally->twice++;
@@ -211,9 +215,23 @@ enum { MANIFEST, SYNCED, CHECKPOINT, LOG_2, LOG_3 };
 struct states {
     struct bytes old_manifest; /* before the last file was begun */
     struct bytes old_synced;   /* when the last file was begun: a crash of the machine can leave it */
+    struct bytes no_rows;      /* a checkpoint of an empty replica */
     struct bytes first;        /* the last file, with its first record alone */
     struct bytes longer;       /* the last file, with one record more that wasn't acknowledged */
 };
+
+/* Makes the checkpoint of an empty replica of format 1. */
+static struct bytes checkpoint_of_none(void)
+{
+    struct antientropy_replica none = {0};
+    struct antientropy_snapshot rows = {0};
+    want("new", antientropy_new(&none, 1, 0, 0, LIMIT), ANTIENTROPY_OK);
+    snapshot_of(&none, &rows);
+    struct bytes file = make_checkpoint(&rows, (struct range){1, 0, 0});
+    antientropy_snapshot_free(&rows);
+    antientropy_free(&none);
+    return file;
+}
 
 /* Makes the small store: a checkpoint, a file of records of both formats, and a last file of two records. */
 static void make_small(struct small *small, struct states *states)
@@ -221,6 +239,7 @@ static void make_small(struct small *small, struct states *states)
     struct store store = {.folder = small->folder, .node = NODE, .limit = LIMIT};
     struct antientropy_replica partner = {0};
     struct antientropy_snapshot rows = {0};
+    states->no_rows = checkpoint_of_none();
     store_make(&store, 1);
     small_put(&store, small, "cart", "milk");
     small_put(&store, small, "order", "paid");
@@ -287,12 +306,25 @@ static void try_kills(struct small *small, const struct bytes *longer)
         stop("a torn tail was taken for damage");
 }
 
+/* Starts the small store without each of its files, with an older or another file, and without a record. */
+static void try_missing(struct small *small, const struct states *states)
+{
+    struct count removed = {0}, other = {0};
+    size_t first = states->first.len, len = small->file[LOG_3].bytes.len;
+    for (size_t n = 0; n < small->files; n++)
+        try_fault(small, &removed, n, NULL, 0, 0);
+    show("each file removed", &removed);
+    try_fault(small, &other, MANIFEST, states->old_manifest.at, states->old_manifest.len, 0);
+    try_fault(small, &other, CHECKPOINT, states->no_rows.at, states->no_rows.len, 0);
+    try_fault(small, &other, LOG_3, small->file[LOG_3].bytes.at + first, len - first, 0);
+    show("an older file, or a record removed", &other);
+}
+
 /* Starts the small store after each kill and each fault. */
 static void try_faults(const char *folder)
 {
     struct small small = {.folder = folder};
     struct states states = {0};
-    struct count removed = {0}, older = {0};
     make_small(&small, &states);
     printf("%-36s %6s %12s %9s %14s %13s %9s\n", "", "faults", "alone: whole", "refused", "loses its end",
            "synced: whole", "refused");
@@ -302,22 +334,20 @@ static void try_faults(const char *folder)
     try_file(&small, MANIFEST, 8);
     try_file(&small, SYNCED, 8);
     try_file(&small, CHECKPOINT, 1);
-    for (size_t n = 0; n < small.files; n++)
-        try_fault(&small, &removed, n, NULL, 0, 0);
-    show("each file removed", &removed);
-    try_fault(&small, &older, MANIFEST, states.old_manifest.at, states.old_manifest.len, 0);
-    show("an older manifest", &older);
+    try_missing(&small, &states);
 
     printf("after a crash of the machine, with an older synced place:\n");
     memcpy(small.file[SYNCED].bytes.at, states.old_synced.at, states.old_synced.len);
     try_kills(&small, &states.longer);
     try_last(&small, &states, 1);
+    try_missing(&small, &states);
 
     antientropy_snapshot_free(&small.rows);
     for (size_t n = 0; n < small.files; n++)
         free(small.file[n].bytes.at);
     free(states.old_manifest.at);
     free(states.old_synced.at);
+    free(states.no_rows.at);
     free(states.first.at);
     free(states.longer.at);
 }

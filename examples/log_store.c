@@ -14,8 +14,8 @@ enum { FORMAT_AT = 8, LEN_AT = 9, ROWS_AT = 13, SUM_LEN = 8 };
 /* The numbers of the partner, and of its offer. */
 enum { PARTNER = 2, OFFER = 1 };
 
-/* A manifest is its magic, six numbers of 8 bytes, the root, and a checksum. */
-enum { NUMBERS_AT = 8, ROOT_AT = 56, MANIFEST_SUM_AT = 88, MANIFEST_LEN = 96 };
+/* A manifest is its magic, five numbers of 8 bytes, the root, and a checksum. */
+enum { NUMBERS_AT = 8, ROOT_AT = 48, MANIFEST_SUM_AT = 80, MANIFEST_LEN = 88 };
 
 /* The file of the synced place has the place and a checksum. */
 enum { SYNCED_LEN = 16 };
@@ -52,7 +52,6 @@ static void write_manifest(const struct store *store)
     add_number(&file, manifest->first, 8);
     add_number(&file, manifest->first_place, 8);
     add_number(&file, manifest->last, 8);
-    add_number(&file, manifest->last_place, 8);
     add_number(&file, manifest->given_up, 8);
     memcpy(file.at + ROOT_AT, manifest->root, sizeof manifest->root);
     file.len = MANIFEST_SUM_AT;
@@ -75,7 +74,7 @@ static const char *read_manifest(struct store *store)
         const uint8_t *at = file.at + NUMBERS_AT;
         *manifest = (struct manifest){.format = number_at(at, 8), .first = number_at(at + 8, 8),
                                       .first_place = number_at(at + 16, 8), .last = number_at(at + 24, 8),
-                                      .last_place = number_at(at + 32, 8), .given_up = number_at(at + 40, 8)};
+                                      .given_up = number_at(at + 32, 8)};
         memcpy(manifest->root, file.at + ROOT_AT, sizeof manifest->root);
         if (manifest->given_up != 0)
             wrong = "it was given up";
@@ -314,14 +313,12 @@ static const char *load_file(struct store *store, uint64_t number, uint64_t sync
     size_t at = 0;
     if (!read_file(store->folder, name.text, &file))
         return "a log file is missing";
-    if (last && store->place != store->manifest.last_place)
-        wrong = "a log file is shorter than it was";
     for (size_t len = 1; wrong == NULL && len > 0; at += len) {
         len = record_len(file.at + at, file.len - at);
         if (len > 0)
             wrong = load_record(store, file.at + at);
     }
-    if (wrong == NULL && at < file.len && (!last || has_record(file.at + at + 1, file.len - at - 1)))
+    if (wrong == NULL && at < file.len && has_record(file.at + at + 1, file.len - at - 1))
         wrong = "a record is damaged, and others were logged after it";
     if (wrong == NULL && last && store->place < synced)
         wrong = "the end of the log is damaged or lost";
@@ -497,7 +494,6 @@ void store_begin_file(struct store *store)
     store_log(store);
     close(store->file);
     store->manifest.last++;
-    store->manifest.last_place = store->place;
     make_log(store);
     write_manifest(store);
 }
@@ -515,6 +511,7 @@ void store_checkpoint(struct store *store)
     const struct manifest old = store->manifest;
     struct antientropy_snapshot snapshot = {0};
     store_begin_file(store);
+    uint64_t place = store->place;
     snapshot_of(&store->replica, &snapshot);
     /* From here on others may put: the snapshot has the rows with which the new file begins. */
     struct bytes file = make_checkpoint(&snapshot, range_of(store));
@@ -523,7 +520,7 @@ void store_checkpoint(struct store *store)
     memcpy(store->manifest.root, file.at + CHECKPOINT_ROOT_AT, sizeof store->manifest.root);
     free(file.at);
     store->manifest.first = store->manifest.last;
-    store->manifest.first_place = store->manifest.last_place;
+    store->manifest.first_place = place;
     write_manifest(store);
     remove_before(store, &old);
 }

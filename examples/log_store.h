@@ -23,11 +23,10 @@
 
 /* What must be there at a start. */
 struct manifest {
-    uint64_t format;             /* format of the replica */
-    uint64_t first, first_place; /* first log file, and the place of its first record: the checkpoint has what was
-                                  * logged before it */
-    uint64_t last, last_place;   /* last log file, and the place of its first record */
-    uint64_t given_up;           /* 1 if a start has found damage: the node number isn't used again */
+    uint64_t format;      /* format of the replica */
+    uint64_t first, last; /* log files */
+    uint64_t first_place; /* place of the first record of the first file: the checkpoint has what was logged before */
+    uint64_t given_up;    /* 1 if a start has found damage: the node number isn't used again */
     uint8_t root[ANTIENTROPY_ROOT_LEN]; /* root of the checkpoint, if `first` isn't 1 */
 };
 
