@@ -152,7 +152,7 @@ struct count {
     struct tally alone, synced;
 };
 
-/* Starts the store after a fault, alone and with the partner. Alone it may lose at most so many puts. */
+/* Starts the store after a fault, alone and with the partner. Alone it may lose at most `most_lost` puts. */
 static void try_fault(struct small *small, struct count *count, size_t changed, const uint8_t *at, size_t len,
                       unsigned most_lost)
 {
