@@ -5,7 +5,8 @@
  * A store is killed while it writes a record, and started again; it renews its replica, migrates it, and makes a
  * checkpoint. Then a bit of its log flips: it can't go on under its number, and returns as another node, with a sync
  * from a partner. log_store.h says what its files are, and log_faults.c tries each single fault of theirs. The program
- * prints what happens, and ends with status 1 if a call returns another number than the one wanted. */
+ * prints what happens, and ends with status 1 if a call returns another number than the one wanted. Build it with
+ * log_store.c, checkpoint.c and disk.c. */
 #define _POSIX_C_SOURCE 200809L
 #include "log_store.h"
 

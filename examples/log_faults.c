@@ -2,13 +2,13 @@
  *
  *     log_faults FOLDER
  *
- * It makes a small store in FOLDER. Then it flips each bit of its files (of the checkpoint one in each byte), cuts each
- * file at each byte, and removes each file, one at a time. After each the store is started, alone and with a sync from
- * a partner that has its versions, and takes a put of each key. The program counts the starts after which the node is
+ * It makes a small store in FOLDER. Then it flips each bit of its files, cuts each at each byte (of the checkpoint some
+ * bits and bytes), and removes each, one at a time. After each the store is started, alone and with a sync from a
+ * partner that has its versions, and takes a put of each key. The program counts the starts after which the node is
  * whole: it goes on with all that it acknowledged. Others are refused: the node can't go on under its number. After a
  * crash of the machine, a fault of the last file can make a start lose the end of its log and use clocks a second time,
  * but only without the partner. The program ends with status 1 if that isn't so, or if a call returns another number
- * than the one wanted. */
+ * than the one wanted. Build it with log_store.c, checkpoint.c and disk.c. */
 #define _POSIX_C_SOURCE 200809L
 #include "log_store.h"
 
@@ -18,7 +18,7 @@
 #include <string.h>
 #include <unistd.h>
 
-enum { NODE = 1, LIMIT = 100, MOST_FILES = 5, MOST_ACKS = 8 };
+enum { NODE = 1, LIMIT = 100, MOST_FILES = 5, MOST_ACKS = 8, CHECKPOINT_STEP = 33 };
 
 /* The gate links it with --wrap=fsync, and gives it a folder in memory: no machine is killed here, and a disk would
  * make it slow. */
@@ -172,26 +172,26 @@ static void show(const char *what, const struct count *count)
            count->alone.twice, count->synced.all, count->synced.refused);
 }
 
-/* Flips `bits` bits of each byte of a file, one at a time. */
-static struct count flip_each(struct small *small, size_t changed, unsigned bits, unsigned most_lost)
+/* Flips each bit of a file whose number is a multiple of `step`, one at a time. */
+static struct count flip_each(struct small *small, size_t changed, size_t step, unsigned most_lost)
 {
     struct bytes *file = &small->file[changed].bytes;
     struct count count = {0};
-    for (size_t n = 0; n < file->len; n++)
-        for (unsigned bit = 0; bit < bits; bit++) {
-            uint8_t mask = (uint8_t)(1 << ((n + bit) % 8));
-            file->at[n] ^= mask;
-            try_fault(small, &count, changed, file->at, file->len, most_lost);
-            file->at[n] ^= mask;
-        }
+    for (size_t bit = 0; bit < 8 * file->len; bit += step) {
+        uint8_t mask = (uint8_t)(1 << bit % 8);
+        file->at[bit / 8] ^= mask;
+        try_fault(small, &count, changed, file->at, file->len, most_lost);
+        file->at[bit / 8] ^= mask;
+    }
     return count;
 }
 
-/* Cuts a file at each byte from one length to below another. */
-static struct count cut_each(struct small *small, size_t changed, size_t from, size_t to, unsigned most_lost)
+/* Cuts a file to each length from one to below another, in steps. */
+static struct count cut_each(struct small *small, size_t changed, size_t step, size_t from, size_t to,
+                             unsigned most_lost)
 {
     struct count count = {0};
-    for (size_t len = from; len < to; len++)
+    for (size_t len = from; len < to; len += step)
         try_fault(small, &count, changed, small->file[changed].bytes.at, len, most_lost);
     return count;
 }
@@ -274,24 +274,24 @@ static void make_small(struct small *small, struct states *states)
 static void try_last(struct small *small, const struct states *states, unsigned some)
 {
     size_t first = states->first.len, len = small->file[LOG_3].bytes.len;
-    struct count count = flip_each(small, LOG_3, 8, some);
+    struct count count = flip_each(small, LOG_3, 1, some);
     show("log.3: each bit flipped", &count);
-    count = cut_each(small, LOG_3, first, len, some);
+    count = cut_each(small, LOG_3, 1, first, len, some);
     show("log.3: cut in its last record", &count);
-    count = cut_each(small, LOG_3, 0, first, 2 * some);
+    count = cut_each(small, LOG_3, 1, 0, first, 2 * some);
     show("log.3: cut before its last record", &count);
 }
 
-/* Flips bits of each byte of a file, and cuts it at each byte. No start may lose anything then. */
-static void try_file(struct small *small, size_t changed, unsigned bits)
+/* Flips bits of a file and cuts it, each in steps. No start may lose anything then. */
+static void try_file(struct small *small, size_t changed, size_t step)
 {
     const struct file *file = &small->file[changed];
     char what[64];
-    struct count count = flip_each(small, changed, bits, 0);
-    snprintf(what, sizeof what, "%s: %s", file->name, bits == 8 ? "each bit flipped" : "a bit of each byte");
+    struct count count = flip_each(small, changed, step, 0);
+    snprintf(what, sizeof what, step == 1 ? "%s: each bit flipped" : "%s: each %zurd bit", file->name, step);
     show(what, &count);
-    count = cut_each(small, changed, 0, file->bytes.len, 0);
-    snprintf(what, sizeof what, "%s: cut at each byte", file->name);
+    count = cut_each(small, changed, step, 0, file->bytes.len, 0);
+    snprintf(what, sizeof what, step == 1 ? "%s: cut at each byte" : "%s: cut at each %zurd byte", file->name, step);
     show(what, &count);
 }
 
@@ -330,10 +330,10 @@ static void try_faults(const char *folder)
            "synced: whole", "refused");
     try_kills(&small, &states.longer);
     try_last(&small, &states, 0);
-    try_file(&small, LOG_2, 8);
-    try_file(&small, MANIFEST, 8);
-    try_file(&small, SYNCED, 8);
-    try_file(&small, CHECKPOINT, 1);
+    try_file(&small, LOG_2, 1);
+    try_file(&small, MANIFEST, 1);
+    try_file(&small, SYNCED, 1);
+    try_file(&small, CHECKPOINT, CHECKPOINT_STEP);
     try_missing(&small, &states);
 
     printf("after a crash of the machine, with an older synced place:\n");

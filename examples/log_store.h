@@ -15,7 +15,7 @@
  * acknowledged. Anything else that isn't as the manifest and the places say is damage, and then counters may have gone
  * back: the node returns under a number that was never used (docs/EMBEDDING_C.md, "Restarts"). After a crash of the
  * machine, `synced` may be behind. Then damage at the end of the last file looks like a torn tail, and only a sync from
- * a partner shows it. Build a program with log_store.c, checkpoint.c and disk.c. */
+ * a partner shows it. */
 #ifndef LOG_STORE_H
 #define LOG_STORE_H
 
