@@ -2,6 +2,7 @@
 #define _XOPEN_SOURCE 700
 #include "log_store.h"
 
+#include <dirent.h>
 #include <fcntl.h>
 #include <stdio.h>
 #include <stdlib.h>
@@ -498,17 +499,24 @@ void store_begin_file(struct store *store)
     write_manifest(store);
 }
 
-/* Removes the files that a checkpoint has made superfluous. One that a crash leaves over does no harm. */
-static void remove_before(const struct store *store, const struct manifest *old)
+/* Removes the files from before the first log file, even those that an earlier crash left over. */
+static void remove_old(const struct store *store)
 {
-    remove_file(store->folder, name_of("checkpoint", old->first).text);
-    for (uint64_t file = old->first; file < store->manifest.first; file++)
-        remove_file(store->folder, name_of("log", file).text);
+    DIR *folder = opendir(store->folder);
+    if (folder == NULL)
+        fail(store->folder);
+    for (struct dirent *entry; (entry = readdir(folder)) != NULL;) {
+        unsigned long long number = 0;
+        bool numbered = sscanf(entry->d_name, "log.%llu", &number) == 1
+            || sscanf(entry->d_name, "checkpoint.%llu", &number) == 1;
+        if (numbered && number < store->manifest.first)
+            remove_file(store->folder, entry->d_name);
+    }
+    closedir(folder);
 }
 
 void store_checkpoint(struct store *store)
 {
-    const struct manifest old = store->manifest;
     struct antientropy_snapshot snapshot = {0};
     store_begin_file(store);
     uint64_t place = store->place;
@@ -522,5 +530,5 @@ void store_checkpoint(struct store *store)
     store->manifest.first = store->manifest.last;
     store->manifest.first_place = place;
     write_manifest(store);
-    remove_before(store, &old);
+    remove_old(store);
 }
