@@ -1,9 +1,9 @@
 /* Why a replica that lost its entries must not return under its old node number.
  *
- * Node 1 restarts empty and takes a put under its old number: the put is lost, although it was acknowledged. Then it
- * restarts as node 3, with a sync, and takes the put again: nothing is lost, since node 2 holds the earlier versions.
- * One that no partner holds would be lost. The program prints each step, and ends with status 1 if a call returns
- * another number than the one wanted. */
+ * Node 1 restarts empty and takes a put under its old number: the put is lost, although it was acknowledged. A sync
+ * before the first put would have shown that node 1 had put more than it holds. So it restarts as node 3, with a sync,
+ * and takes the put again: nothing is lost, since node 2 holds the earlier versions. One that no partner holds would be
+ * lost. The program prints each step, and ends with status 1 if a call returns another number than the one wanted. */
 #include "antientropy.h"
 
 #include <stdio.h>
@@ -24,17 +24,17 @@ static void want(const char *call, uint32_t got, uint32_t wanted)
 }
 
 /* Puts a value, and prints the clock of the new version: the context here has at most the node's own counter. */
-static void put(struct antientropy *replica, uint16_t node, const char *value, const struct antientropy_pair *context,
-                size_t context_len)
+static void put(struct antientropy_replica *replica, unsigned node, const char *value,
+                const struct antientropy_pair *context, size_t context_len)
 {
     struct antientropy_receipt receipt;
-    want("put", antientropy_put(replica, node, KEY, sizeof KEY, context, context_len, ANTIENTROPY_LIVE,
-                                (const uint8_t *)value, strlen(value), &receipt), ANTIENTROPY_OK);
+    want("put", antientropy_put_read(replica, node, KEY, sizeof KEY, context, context_len, ANTIENTROPY_LIVE,
+                                     (const uint8_t *)value, strlen(value), &receipt), ANTIENTROPY_OK);
     printf("  put at node %u: %s, clock (%u,%llu)\n", node, value, node, (unsigned long long)receipt.counter);
 }
 
 /* Prints the versions of the key at a node. */
-static void show(struct antientropy *replica, unsigned node)
+static void show(struct antientropy_replica *replica, unsigned node)
 {
     struct antientropy_pair clock[32];
     uint8_t value[64], kind;
@@ -52,7 +52,8 @@ static void show(struct antientropy *replica, unsigned node)
 
 /* Syncs a replica from a partner, and prints the number of new versions. Each call has to succeed here:
  * examples/embed.c has a sync that makes room for long answers, and bounds the bad ones. */
-static void sync(struct antientropy *replica, unsigned node, struct antientropy *partner, uint16_t partner_node)
+static void sync(struct antientropy_replica *replica, unsigned node, struct antientropy_replica *partner,
+                 unsigned partner_node)
 {
     static uint8_t offer[64], ask[64], answer[1 << 16];
     struct antientropy_snapshot offered = {0};
@@ -77,8 +78,25 @@ static void sync(struct antientropy *replica, unsigned node, struct antientropy 
     printf("  node %u syncs from node %u: %llu new\n", node, partner_node, (unsigned long long)accepted);
 }
 
+/* Compares what a sync brought, the entries from `before` on, with what the replica had of its own node until then. */
+static void compare(struct antientropy_replica *replica, unsigned node, uint64_t before)
+{
+    struct antientropy_counts counts;
+    struct antientropy_pair clock[32];
+    uint64_t pairs, top;
+    want("count", antientropy_count(replica, &counts), ANTIENTROPY_OK);
+    want("top_counter", antientropy_top_counter(replica, node, KEY, sizeof KEY, before, &top), ANTIENTROPY_OK);
+    for (uint64_t entry = before; entry < counts.entries; entry++) {
+        want("entry_clock", antientropy_entry_clock(replica, entry, clock, 32, &pairs), ANTIENTROPY_OK);
+        for (uint64_t pair = 0; pair < pairs; pair++)
+            if (clock[pair].node == node && clock[pair].counter > top)
+                printf("  node %u had counter %llu, and gets its own counter %llu: it can't go on under its number\n",
+                       node, (unsigned long long)top, (unsigned long long)clock[pair].counter);
+    }
+}
+
 /* A process that ends and starts again: the replica is empty. */
-static void restart(struct antientropy *replica)
+static void restart(struct antientropy_replica *replica)
 {
     antientropy_free(replica);
     want("new", antientropy_new(replica, 2, 0, 0, 1000), ANTIENTROPY_OK);
@@ -86,7 +104,7 @@ static void restart(struct antientropy *replica)
 
 int main(void)
 {
-    struct antientropy first = {0}, second = {0};
+    struct antientropy_replica first = {0}, second = {0};
     const struct antientropy_pair seen[] = {{1, 1}};
     want("new", antientropy_new(&first, 2, 0, 0, 1000), ANTIENTROPY_OK);
     want("new", antientropy_new(&second, 2, 0, 0, 1000), ANTIENTROPY_OK);
@@ -104,6 +122,11 @@ int main(void)
     show(&first, 1);
     show(&second, 2);
     printf("  eggs are lost\n");
+
+    printf("seen: node 1 restarts empty, and syncs before its first put\n");
+    restart(&first);
+    sync(&first, 1, &second, 2);
+    compare(&first, 1, 0);
 
     printf("right: node 1 restarts empty, under the new number 3, and syncs\n");
     restart(&first);

@@ -3,204 +3,23 @@
  *     save FOLDER
  *
  * It writes FOLDER/one.checkpoint, which has the one row of the example in docs/FORMATS.md, and FOLDER/cart.checkpoint,
- * and loads them again. It refuses a truncated file, one with a changed byte, and one of another range. It ends with
- * status 1 if a call returns another number than the one wanted. */
-#define _POSIX_C_SOURCE 200809L
-#include "antientropy.h"
+ * and loads them again. It refuses a truncated file, one with a changed byte, and one of another range. Then a
+ * checkpoint and a log of format 1 are loaded after a migration. It ends with status 1 if a call returns another number
+ * than the one wanted. Build it with checkpoint.c and disk.c. */
+#include "checkpoint.h"
 
-#include <fcntl.h>
 #include <stdio.h>
 #include <stdlib.h>
 #include <string.h>
-#include <unistd.h>
 
-enum { OFFER = 1, OFFER_LEN = 39, ROOT_AT = 7, ROOT_LEN = 32, HEAD_LEN = 44, LIMIT = 1000 };
-
-static const uint8_t MAGIC[8] = {'a', 'n', 't', 'i', 'e', 'n', 't', 1};
-
-/* The numbers of a range, which the program knows from its configuration. */
-struct range {
-    uint8_t format, bits;
-    uint16_t number;
-};
-
-/* Bytes that grow. */
-struct bytes {
-    uint8_t *at;
-    size_t len, room;
-};
-
-/* Ends the program unless a call returned the number that is wanted. */
-static void want(const char *call, uint32_t got, uint32_t wanted)
-{
-    if (got != wanted) {
-        printf("%s returned %u, not %u\n", call, got, wanted);
-        exit(1);
-    }
-}
-
-/* Ends the program for a cause outside of the library. */
-static void fail(const char *what)
-{
-    perror(what);
-    exit(1);
-}
-
-/* Makes room for more bytes, and returns their place. */
-static uint8_t *more(struct bytes *bytes, size_t len)
-{
-    if (bytes->room - bytes->len < len) {
-        size_t room = bytes->len + len + 4096;
-        uint8_t *at = realloc(bytes->at, room);
-        if (at == NULL)
-            fail("realloc");
-        bytes->at = at;
-        bytes->room = room;
-    }
-    return bytes->at + bytes->len;
-}
-
-static unsigned leaves(struct range range)
-{
-    return range.format == 1 ? 256 : 4096;
-}
-
-/* Writes the root of a replica's rows now. All nodes become clean. */
-static void root_of(struct antientropy *replica, struct antientropy_snapshot *snapshot, uint8_t *root)
-{
-    uint8_t offer[OFFER_LEN];
-    uint64_t len;
-    want("rehash", antientropy_rehash(replica), ANTIENTROPY_OK);
-    want("snapshot", antientropy_snapshot(replica, snapshot), ANTIENTROPY_OK);
-    want("offer", antientropy_offer(snapshot, OFFER, offer, sizeof offer, &len), ANTIENTROPY_OK);
-    memcpy(root, offer + ROOT_AT, ROOT_LEN);
-}
-
-/* Appends the rows of a leaf, with their length before them. */
-static void add_leaf(struct bytes *file, struct antientropy_snapshot *snapshot, uint16_t leaf)
-{
-    uint64_t len;
-    uint8_t *at = more(file, 8);
-    uint32_t got = antientropy_rows(snapshot, leaf, at + 8, file->room - file->len - 8, &len);
-    if (got == ANTIENTROPY_SMALL) {
-        at = more(file, 8 + len);
-        got = antientropy_rows(snapshot, leaf, at + 8, len, &len);
-    }
-    want("rows", got, ANTIENTROPY_OK);
-    for (int n = 0; n < 8; n++)
-        at[n] = (uint8_t)(len >> (56 - 8 * n));
-    file->len += 8 + len;
-}
-
-/* Makes the checkpoint of a replica. */
-static struct bytes checkpoint(struct antientropy *replica, struct range range)
-{
-    struct antientropy_snapshot snapshot = {0};
-    struct bytes file = {0};
-    uint8_t *head = more(&file, HEAD_LEN);
-    memcpy(head, MAGIC, sizeof MAGIC);
-    head[8] = range.format;
-    head[9] = range.bits;
-    head[10] = (uint8_t)(range.number >> 8);
-    head[11] = (uint8_t)range.number;
-    root_of(replica, &snapshot, head + 12);
-    file.len = HEAD_LEN;
-    for (unsigned leaf = 0; leaf < leaves(range); leaf++)
-        add_leaf(&file, &snapshot, (uint16_t)leaf);
-    antientropy_snapshot_free(&snapshot);
-    return file;
-}
-
-/* Writes a file in one step: under another name, to the disk, and then under its own name. So a crash leaves the old
- * file or the new one, whole. */
-static void write_file(const char *folder, const char *name, const struct bytes *file)
-{
-    char path[4096], new[4096 + 8];
-    snprintf(path, sizeof path, "%s/%s", folder, name);
-    snprintf(new, sizeof new, "%s.new", path);
-    int to = open(new, O_WRONLY | O_CREAT | O_TRUNC, 0600), dir = open(folder, O_RDONLY);
-    if (to < 0 || dir < 0)
-        fail(path);
-    for (size_t done = 0; done < file->len;) {
-        ssize_t wrote = write(to, file->at + done, file->len - done);
-        if (wrote < 0)
-            fail(path);
-        done += (size_t)wrote;
-    }
-    if (fsync(to) != 0 || close(to) != 0 || rename(new, path) != 0 || fsync(dir) != 0 || close(dir) != 0)
-        fail(path);
-    printf("%s: %zu bytes\n", name, file->len);
-}
-
-static struct bytes read_file(const char *folder, const char *name)
-{
-    char path[4096];
-    struct bytes file = {0};
-    snprintf(path, sizeof path, "%s/%s", folder, name);
-    FILE *from = fopen(path, "rb");
-    if (from == NULL)
-        fail(path);
-    for (size_t got = 1; got > 0; file.len += got) {
-        uint8_t *at = more(&file, 4096);
-        got = fread(at, 1, file.room - file.len, from);
-    }
-    if (ferror(from) || fclose(from) != 0)
-        fail(path);
-    return file;
-}
-
-/* Loads each leaf of a file into a new replica. Returns what is wrong with the file, or NULL. */
-static const char *load_leaves(struct antientropy *replica, struct range range, const struct bytes *file)
-{
-    struct antientropy_loaded loaded;
-    size_t at = HEAD_LEN;
-    for (unsigned leaf = 0; leaf < leaves(range); leaf++) {
-        uint64_t len = 0;
-        if (file->len - at < 8)
-            return "the file is truncated, or a length in it is damaged";
-        for (int n = 0; n < 8; n++)
-            len = len << 8 | file->at[at++];
-        if (file->len - at < len)
-            return "the file is truncated, or a length in it is damaged";
-        uint32_t got = antientropy_load(replica, file->at + at, len, &loaded);
-        if (got == ANTIENTROPY_ROW_BROKEN || got == ANTIENTROPY_OTHER_RANGE || got == ANTIENTROPY_CROWDED)
-            return "the rows are damaged";
-        want("load", got, ANTIENTROPY_OK);
-        at += len;
-    }
-    return at == file->len ? NULL : "the file is too long";
-}
-
-/* Loads a checkpoint into an empty handle. Returns what is wrong with the file, or NULL: then the handle holds the
- * replica, with all nodes clean. The root finds damage, but no forged file. */
-static const char *load(struct antientropy *replica, struct range range, const struct bytes *file)
-{
-    struct antientropy_snapshot snapshot = {0};
-    uint8_t root[ROOT_LEN];
-    if (file->len < HEAD_LEN || memcmp(file->at, MAGIC, sizeof MAGIC) != 0)
-        return "this is no checkpoint";
-    if (file->at[8] != range.format || file->at[9] != range.bits
-        || (file->at[10] << 8 | file->at[11]) != range.number)
-        return "it is of another range";
-    want("new", antientropy_new(replica, range.format, range.bits, range.number, LIMIT), ANTIENTROPY_OK);
-    const char *wrong = load_leaves(replica, range, file);
-    if (wrong == NULL) {
-        root_of(replica, &snapshot, root);
-        antientropy_snapshot_free(&snapshot);
-        if (memcmp(root, file->at + 12, ROOT_LEN) != 0)
-            wrong = "its root differs";
-    }
-    if (wrong != NULL)
-        antientropy_free(replica);
-    return wrong;
-}
+enum { LIMIT = 1000 };
 
 /* Tries to load a file, and prints the outcome. */
 static void try(const char *name, struct range range, const struct bytes *file)
 {
-    struct antientropy replica = {0};
+    struct antientropy_replica replica = {0};
     struct antientropy_counts counts;
-    const char *wrong = load(&replica, range, file);
+    const char *wrong = load_checkpoint(&replica, range, LIMIT, file);
     if (wrong != NULL) {
         printf("%s: refused, %s\n", name, wrong);
         return;
@@ -211,29 +30,91 @@ static void try(const char *name, struct range range, const struct bytes *file)
     antientropy_free(&replica);
 }
 
-static void put(struct antientropy *replica, const char *key, const char *value, uint8_t kind)
+/* Puts a version of a key that has none. */
+static void put(struct antientropy_replica *replica, const char *key, const char *value, uint8_t kind)
 {
     struct antientropy_pair none[1] = {{0, 0}};
     struct antientropy_receipt receipt;
-    want("put", antientropy_put(replica, 1, (const uint8_t *)key, strlen(key), none, 0, kind, (const uint8_t *)value,
-                                strlen(value), &receipt), ANTIENTROPY_OK);
+    want("put", antientropy_put_read(replica, 1, (const uint8_t *)key, strlen(key), none, 0, kind,
+                                     (const uint8_t *)value, strlen(value), &receipt), ANTIENTROPY_OK);
+}
+
+/* Returns the checkpoint of a replica. */
+static struct bytes checkpoint_of(struct antientropy_replica *replica, struct range range)
+{
+    struct antientropy_snapshot snapshot = {0};
+    snapshot_of(replica, &snapshot);
+    struct bytes file = make_checkpoint(&snapshot, range);
+    antientropy_snapshot_free(&snapshot);
+    return file;
 }
 
 /* Saves a replica, and loads the file that was written. */
-static struct bytes save(const char *folder, const char *name, struct antientropy *replica, struct range range)
+static struct bytes save(const char *folder, const char *name, struct antientropy_replica *replica, struct range range)
 {
-    struct bytes made = checkpoint(replica, range);
+    struct bytes made = checkpoint_of(replica, range), file = {0};
     write_file(folder, name, &made);
+    printf("%s: %zu bytes\n", name, made.len);
     free(made.at);
-    struct bytes file = read_file(folder, name);
+    if (!read_file(folder, name, &file))
+        fail(name);
     try(name, range, &file);
     return file;
+}
+
+/* Returns the text of a key's row, as a log keeps it. */
+static struct bytes row_of(struct antientropy_replica *replica, const char *key)
+{
+    struct bytes row = {0};
+    uint64_t len;
+    uint8_t *at = more(&row, 4096);
+    want("get", antientropy_get(replica, (const uint8_t *)key, strlen(key), at, row.room, &len), ANTIENTROPY_OK);
+    row.len = len;
+    return row;
+}
+
+/* Loads a log's row of format 1 and migrates the replica. Writes the root of the result, and frees it. */
+static void finish(struct antientropy_replica *replica, const struct bytes *row, uint8_t *root)
+{
+    struct antientropy_snapshot snapshot = {0};
+    struct antientropy_loaded loaded;
+    uint64_t len;
+    want("load_format", antientropy_load_format(replica, 1, row->at, row->len, &loaded), ANTIENTROPY_OK);
+    want("migrate", antientropy_migrate(replica), ANTIENTROPY_OK);
+    snapshot_of(replica, &snapshot);
+    want("root", antientropy_root(&snapshot, root, ANTIENTROPY_ROOT_LEN, &len), ANTIENTROPY_OK);
+    antientropy_snapshot_free(&snapshot);
+    antientropy_free(replica);
+}
+
+/* A checkpoint of a range of format 1, and a log of one more put. They are loaded and then migrated, and loaded into a
+ * range that is of format 2 already. */
+static void outlive_a_migration(struct antientropy_replica *replica)
+{
+    const struct range first = {1, 0, 0};
+    uint8_t before[ANTIENTROPY_ROOT_LEN], after[ANTIENTROPY_ROOT_LEN];
+    struct antientropy_replica migrated = {0}, loaded = {0};
+    struct bytes file = checkpoint_of(replica, first);
+    put(replica, "b", "y", ANTIENTROPY_LIVE);
+    struct bytes row = row_of(replica, "b");
+    want("new", antientropy_new(&loaded, 1, 0, 0, LIMIT), ANTIENTROPY_OK);
+    want("new", antientropy_new(&migrated, 2, 0, 0, LIMIT), ANTIENTROPY_OK);
+    if (load_leaves(&loaded, 1, &file) != NULL || load_leaves(&migrated, 1, &file) != NULL) {
+        printf("the checkpoint is refused\n");
+        exit(1);
+    }
+    finish(&loaded, &row, after);
+    finish(&migrated, &row, before);
+    printf("migrated after the load and before it: %s roots\n",
+           memcmp(before, after, sizeof before) == 0 ? "equal" : "different");
+    free(file.at);
+    free(row.at);
 }
 
 int main(int argc, char **argv)
 {
     const struct range first = {1, 0, 0}, second = {2, 0, 0}, other = {2, 4, 9};
-    struct antientropy one = {0}, cart = {0};
+    struct antientropy_replica one = {0}, cart = {0};
     if (argc != 2) {
         printf("save FOLDER\n");
         return 1;
@@ -241,6 +122,8 @@ int main(int argc, char **argv)
     want("new", antientropy_new(&one, 1, 0, 0, LIMIT), ANTIENTROPY_OK);
     put(&one, "a", "x", ANTIENTROPY_LIVE);
     struct bytes file = save(argv[1], "one.checkpoint", &one, first);
+    try("in a range of format 2", second, &file);
+    outlive_a_migration(&one);
     free(file.at);
     antientropy_free(&one);
 
@@ -253,6 +136,7 @@ int main(int argc, char **argv)
     antientropy_free(&cart);
 
     try("for another range", other, &file);
+    try("for a range of format 1", first, &file);
     file.len--;
     try("truncated by a byte", second, &file);
     file.len++;
