@@ -47,9 +47,9 @@ pub extern "C" fn antientropy_hints_new(alloc: Global, hints: &mut Carrier) -> u
     begin(alloc, hints, 1)
 }
 
-/// Makes an empty store of hints, whose first hint gets the number `first`: after a restart, a number above all that the
-/// store had before. Refused, in order: HELD (the handle holds one already), UnknownHint (`first` is 0), NoMemory. On
-/// error the handle is unchanged.
+/// Makes an empty store of hints, whose first hint gets the number `first`: after a restart, one above all that were
+/// used. Refused, in order: HELD (the handle holds one already), UnknownHint (`first` is 0), NoMemory. On error the
+/// handle is unchanged.
 #[unsafe(no_mangle)]
 pub extern "C" fn antientropy_hints_restore(alloc: Global, hints: &mut Carrier, first: u64) -> u32
     ensures { MakesIn result (hints_in hints.old) (hints_in hints.new) (restore_fault first) (λ s. s ≡ restored first) }

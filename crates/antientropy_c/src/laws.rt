@@ -7,9 +7,9 @@ ghost use Rattle.antientropy_c.specs.Carried.{Carried, last_number, keep_at};
 ghost use Rattle.antientropy_c.specs.Puts.{kind_numbered};
 ghost use Rattle.antientropy_c.specs.HintSteps.{HintStep, GoesOn, IsKept, after_steps, hint_named};
 
-/// No number ever names two hints. After any keeps, confirmations, renewals and restarts a number that was used names the
-/// hint that it named, or none. A keep returns a number that was never used, and that names the hint that was kept. All
-/// numbers are below 2^64.
+/// No number ever names two hints. After any keeps, confirmations, renewals and restarts a number that was used names
+/// the hint that it named, or none. A keep returns a number that was never used, and that names the hint that was kept.
+/// All numbers are below 2^64.
 pub fn no_number_names_two_hints()
     ensures goes_on { (c : Carried) (steps : List HintStep) → GoesOn c (after_steps c steps) }
     ensures one { (c : Carried) (steps : List HintStep) (n : ℕ) (h later : Hint)
