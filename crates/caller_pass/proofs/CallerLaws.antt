@@ -131,9 +131,9 @@ pub renewed_readings : (s : State) (seat limit : ℕ) (p : PassView) → IsSettl
 renewed_readings s seat limit p is =
     All-weaker (IsTrueReading s.entries) (λ (r : Reading). All (λ (v : Version). covered v (held (renewed_by s seat limit).entries r.key) ≡ true) r.versions)
     (λ r true_of.
-        let now : IsTrueReading s.entries (whole s.entries r.key) = record { within = omega arith; versions = ap (λ (es : List Entry). held es r.key) (take-length s.entries) } in
-        All-weaker (λ (v : Version). covered v (held s.entries r.key) ≡ true) (λ (v : Version). covered v (held (renewed_by s seat limit).entries r.key) ≡ true) (λ v h. renewed_covers s seat limit v r.key h) r.versions
-        (never_back s.entries r (whole s.entries r.key) true_of now refl true_of.within))
+    let now : IsTrueReading s.entries (whole s.entries r.key) = record { within = omega arith; versions = ap (λ (es : List Entry). held es r.key) (take-length s.entries) } in
+    All-weaker (λ (v : Version). covered v (held s.entries r.key) ≡ true) (λ (v : Version). covered v (held (renewed_by s seat limit).entries r.key) ≡ true) (λ v h. renewed_covers s seat limit v r.key h) r.versions
+    (never_back s.entries r (whole s.entries r.key) true_of now refl true_of.within))
     p.readings is.readings
 
 -- ---- closed ranges

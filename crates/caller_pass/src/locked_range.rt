@@ -23,8 +23,8 @@ use hash_tree::{Hashed, NodeAt};
 use key_ring::HashedKey;
 use range_journal::Source;
 use range_state::{
-    Accepted, AnswerCounted, ContextTest, LeafRows, Loaded, RangeConfig, RangeCounts, RangeState, Receipt,
-    Record,
+    Accepted, AnswerCounted, ContextTest, LeafRows, Loaded, RangeConfig, RangeCounts, RangeState,
+    Receipt, Record,
 };
 use rehash::Job;
 use snapshot::Snapshot;
@@ -102,8 +102,9 @@ impl<L: Ledger> LockedRange<L> {
         ensures early { IfErr result (λ e. e ≡ Refusal.NoMemory
             → ask_fault self.old.state.config at key.now context.now kind value ≡ None) }
     {
+        let test = ContextTest::Fresh;
         let key = HashedKey::new(key);
-        self.put_hashed(alloc, ContextTest::Fresh, pass, at, &key, context, kind, value)
+        self.put_hashed(alloc, test, pass, at, &key, context, kind, value)
     }
 
     /// Puts a value at a node, as `RangeState::put_read` does for the seat of the pass, and adds the receipt to the
@@ -126,8 +127,9 @@ impl<L: Ledger> LockedRange<L> {
         ensures early { IfErr result (λ e. e ≡ Refusal.NoMemory
             → ask_fault self.old.state.config at key.now context.now kind value ≡ None) }
     {
+        let test = ContextTest::Read;
         let key = HashedKey::new(key);
-        self.put_hashed(alloc, ContextTest::Read, pass, at, &key, context, kind, value)
+        self.put_hashed(alloc, test, pass, at, &key, context, kind, value)
     }
 
     /// Puts a value as [`LockedRange::put`] does, or as [`LockedRange::put_read`] does, by the test of its context, for

@@ -132,11 +132,12 @@ impl<L: Ledger> SharedRange<L> {
             (put_in before pass.old self.now key.now context.now kind value)) }
     {
         let node = self.node();
+        let test = ContextTest::Fresh;
         let key = HashedKey::new(key);
         let mut range = self.range.lock(rt);
         // Called for its clause `valid` alone: the range is right.
         let _valid = range.config();
-        range.put_hashed(alloc, ContextTest::Fresh, pass, node, &key, context, kind, value)
+        range.put_hashed(alloc, test, pass, node, &key, context, kind, value)
     }
 
     /// Puts a value at the range's node, or a tombstone, as [`LockedRange::put_read`] does: only if its client has read
@@ -165,11 +166,12 @@ impl<L: Ledger> SharedRange<L> {
             (put_read_in before pass.old self.now key.now context.now kind value)) }
     {
         let node = self.node();
+        let test = ContextTest::Read;
         let key = HashedKey::new(key);
         let mut range = self.range.lock(rt);
         // Called for its clause `valid` alone: the range is right.
         let _valid = range.config();
-        range.put_hashed(alloc, ContextTest::Read, pass, node, &key, context, kind, value)
+        range.put_hashed(alloc, test, pass, node, &key, context, kind, value)
     }
 
     /// Accepts a version that another node sent, as a copy or as a hint, as [`LockedRange::accept`] does. The pass gets

@@ -102,13 +102,28 @@ fn rows_of_any_leaves_are_loaded_whole_or_not_at_all(rt: HostRuntime) -> Result<
     let mut state = new_range(alloc, 1, 1)?;
     let (front, _) = TWO_LEAVES.split_at(41);
     expect_no_rows(alloc, &mut state, Format::Two, ROW, Refusal::OtherFormat)?;
-    expect_no_rows(alloc, &mut state, Format::One, front, Refusal::RowBroken(41))?;
-    expect_no_rows(alloc, &mut state, Format::One, TWO_LEAVES, Refusal::JournalFull)?;
+    expect_no_rows(
+        alloc,
+        &mut state,
+        Format::One,
+        front,
+        Refusal::RowBroken(41),
+    )?;
+    expect_no_rows(
+        alloc,
+        &mut state,
+        Format::One,
+        TWO_LEAVES,
+        Refusal::JournalFull,
+    )?;
     let mut state = new_range(alloc, 2, 3)?;
     let Loaded { taken, known } = state.load_format(alloc, 4, Format::One, TWO_LEAVES)?;
     expect((taken, known) == (2, 0), "rows of two leaves are taken")?;
     let Loaded { taken, known } = state.load_format(alloc, 4, Format::Two, TOMBSTONE)?;
-    expect((taken, known) == (1, 0), "a tombstone of the same clock is news")
+    expect(
+        (taken, known) == (1, 0),
+        "a tombstone of the same clock is news",
+    )
 }
 
 #[test]
