@@ -7,7 +7,7 @@
  *
  * RETURN VALUES
  *
- * Each call but the two that free returns 0, or the number of the first cause in its list for which it was refused. A
+ * Each call but those that free returns 0, or the number of the first cause in its list for which it was refused. A
  * refused call changes nothing, with two exceptions: an antientropy_rehash that runs out of memory may have made some
  * nodes clean, and an antientropy_take that returns ANTIENTROPY_NOT_CANONICAL has failed its session. Unless a call
  * says otherwise, it writes through its result pointers only if it returns 0. A call of an empty handle (EMPTY) writes
