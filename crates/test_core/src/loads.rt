@@ -1,5 +1,5 @@
 //! Rows that are loaded from their texts.
-use crate::calls::{load_rows, new_range, root_of, rows_text};
+use crate::calls::{load_rows, new_range, rows_text};
 use range_state::{Loaded, RangeState};
 use std::alloc::Global;
 use std::test::Fail;
@@ -123,21 +123,5 @@ fn rows_of_any_leaves_are_loaded_whole_or_not_at_all(rt: HostRuntime) -> Result<
     expect(
         (taken, known) == (1, 0),
         "a tombstone of the same clock is news",
-    )
-}
-
-#[test]
-fn rows_saved_before_a_migration_are_loaded_after_it(rt: HostRuntime) -> Result<(), Fail> {
-    let alloc = rt.alloc();
-    let mut before = new_range(alloc, 1, 10)?;
-    before.load_format(alloc, 4, Format::One, TWO_LEAVES)?;
-    before.migrate(alloc)?;
-    let mut after = new_range(alloc, 2, 10)?;
-    after.load_format(alloc, 4, Format::One, TWO_LEAVES)?;
-    before.rehash_here(alloc)?;
-    after.rehash_here(alloc)?;
-    expect(
-        root_of(alloc, &before)? == root_of(alloc, &after)?,
-        "both have the same root",
     )
 }

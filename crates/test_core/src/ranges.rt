@@ -147,34 +147,10 @@ fn a_put_that_checks_replaces_only_what_was_read(rt: HostRuntime) -> Result<(), 
     )?;
     expect_held(alloc, &state, "[(1, 2)] Live [120]\n[(2, 1)] Live [121]\n")?;
     put_read_a(alloc, &mut state, &[(1, 2), (2, 1)])?;
-    expect_held(alloc, &state, "[(1, 3), (2, 1)] Live [120]\n")
-}
-
-#[test]
-fn a_put_that_does_not_check_replaces_an_unread_version(rt: HostRuntime) -> Result<(), Fail> {
-    let alloc = rt.alloc();
-    let mut state = range_of_two_clients(alloc)?;
-    put_a(alloc, &mut state, &[(1, 1), (2, 1)])?;
-    expect_held(alloc, &state, "[(1, 2), (2, 1)] Live [120]\n")
-}
-
-#[test]
-fn the_greatest_counter_is_that_of_the_entries_so_far(rt: HostRuntime) -> Result<(), Fail> {
-    let alloc = rt.alloc();
-    let state = range_of_two_clients(alloc)?;
-    for (node, entries, counter) in [
-        (1, 0, 0),
-        (1, 1, 1),
-        (1, 2, 1),
-        (1, 3, 2),
-        (1, 18_446_744_073_709_551_615, 2),
-        (2, 1, 0),
-        (2, 2, 1),
-        (3, 3, 0),
-    ] {
-        let top = state.journal().top_counter(node, b"a", entries);
-        expect(top == counter, "a node's greatest counter for a key")?;
-    }
-    let other = state.journal().top_counter(1, b"b", 3);
-    expect(other == 0, "another key has no counter")
+    expect_held(alloc, &state, "[(1, 3), (2, 1)] Live [120]\n")?;
+    let journal = state.journal();
+    expect(
+        journal.top_counter(1, b"a", 3) == 2 && journal.top_counter(1, b"a", 4) == 3,
+        "the greatest counter is that of the first entries",
+    )
 }
