@@ -7,8 +7,9 @@
  * partner that has its versions, and takes a put of each key. The program counts the starts after which the node is
  * whole: it goes on with all that it acknowledged. Others are refused: the node can't go on under its number. After a
  * crash of the machine, a fault of the last file can make a start lose the end of its log and use clocks a second time,
- * but only without the partner. The program ends with status 1 if that isn't so, or if a call returns another number
- * than the one wanted. Build it with log_store.c, checkpoint.c and disk.c. */
+ * but only without the partner. It also tries first starts in a folder that isn't new, starts of another node, and what
+ * a kill leaves over. The program ends with status 1 if that isn't so, or if a call returns another number than the one
+ * wanted. Build it with log_store.c, checkpoint.c and disk.c. */
 #define _POSIX_C_SOURCE 200809L
 #include "log_store.h"
 
@@ -131,6 +132,8 @@ static unsigned judge(struct small *small, bool alone, struct tally *tally)
     struct store store = {.folder = small->folder, .node = NODE, .limit = LIMIT};
     if (store_start(&store, alone ? NULL : &small->rows) != NULL) {
         tally->refused++;
+        if (store_start(&store, NULL) == NULL)
+            stop("a store that was refused starts alone");
         return 0;
     }
     unsigned lost = put_again(&store, small);
@@ -370,6 +373,23 @@ static void try_first_start(const char *folder)
     }
 }
 
+/* Starts the small store with an older synced place. The start notes the place before anything goes out, so a bit of
+ * the last record that flips afterwards is damage. */
+static void try_noted(struct small *small)
+{
+    struct store store = {.folder = small->folder, .node = NODE, .limit = LIMIT};
+    struct bytes *last = &small->file[LOG_3].bytes;
+    restore(small, small->files, NULL, 0);
+    if (store_start(&store, NULL) != NULL)
+        stop("an older synced place is damage");
+    store_close(&store);
+    last->at[last->len - 1] ^= 1;
+    write_plain(small->folder, "log.3", last->at, last->len);
+    last->at[last->len - 1] ^= 1;
+    if (store_start(&store, NULL) == NULL)
+        stop("a start doesn't note the synced place");
+}
+
 /* Starts the small store after each kill and each fault. */
 static void try_faults(const char *folder)
 {
@@ -391,6 +411,7 @@ static void try_faults(const char *folder)
     printf("after a crash of the machine, with an older synced place:\n");
     memcpy(small.file[SYNCED].bytes.at, states.old_synced.at, states.old_synced.len);
     try_kills(&small, &states);
+    try_noted(&small);
     try_last(&small, &states, 1);
     try_missing(&small, &states);
 
