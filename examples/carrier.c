@@ -4,8 +4,9 @@
  *     carrier FOLDER
  *
  * The hints are the second copies of their versions, so a log in FOLDER keeps them. The carrier is killed, and keeps
- * its pending hints again. Then each bit of the log's files flips, one at a time. The program prints what happens, and
- * ends with status 1 if a call returns another number than the one wanted. Build it with disk.c.
+ * its pending hints again. Then each bit of the log's files flips, one at a time: that takes 1,700 starts, so a folder
+ * in memory is faster. The program prints what happens, and ends with status 1 if a call returns another number than the
+ * one wanted. Build it with disk.c.
  *
  * The log is the file hints.N. Each start and each renewal begins the next one, with the pending hints, in one step.
  * Its places, and the numbers that a start gives to hints, begin at N * 2^40. So no number names two hints, even if a
@@ -165,7 +166,7 @@ static bool start(struct carrier *carrier)
     carrier->place = carrier->number << BASE;
     bool found = read_file(carrier->folder, name_of("hints", carrier->number).text, &log);
     bool noted = read_synced(carrier->synced, &synced);
-    for (size_t len; (len = record_len(log.at + at, log.len - at)) > 0; at += len, carrier->place++)
+    for (size_t len; found && (len = record_len(log.at + at, log.len - at)) > 0; at += len, carrier->place++)
         if (number_at(log.at + at, 8) != carrier->place)
             break;
     bool whole = found && noted && carrier->place >= synced
