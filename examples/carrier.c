@@ -5,8 +5,8 @@
  *
  * The hints are the second copies of their versions, so a log in FOLDER keeps them. The carrier is killed, and keeps
  * its pending hints again. Then each bit of the log's files flips, one at a time: that takes 1,700 starts, so a folder
- * in memory is faster. The program prints what happens, and ends with status 1 if a call returns another number than the
- * one wanted. Build it with disk.c.
+ * in memory is faster. The program prints what happens, and ends with status 1 if a call returns another number than
+ * the one wanted. Build it with disk.c.
  *
  * The log is the file hints.N. Each start and each renewal begins the next one, with the pending hints, in one step.
  * Its places, and the numbers that a start gives to hints, begin at N * 2^40. So no number names two hints, even if a
