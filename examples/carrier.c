@@ -153,8 +153,9 @@ static void keep_again(struct antientropy_hints *hints, const uint8_t *log, size
     }
 }
 
-/* Starts the carrier with the hints that are in the log, and not confirmed there. Returns false if the log is damaged:
- * then hints are lost behind the damage, and their owners get the versions by a sync alone. */
+/* Starts the carrier with the hints that are in the log, and not confirmed there. A first start has no log, and no
+ * synced place above 0. Returns false if the log is damaged: then hints are lost behind the damage, and their owners get
+ * the versions by a sync alone. */
 static bool start(struct carrier *carrier)
 {
     struct bytes log = {0};
@@ -171,7 +172,11 @@ static bool start(struct carrier *carrier)
             break;
     bool whole = found && noted && carrier->place >= synced
         && !has_later(log.at + at, log.len - at, carrier->place);
-    bool first = !found && lseek(carrier->synced, 0, SEEK_END) == 0;
+    bool first = !found && synced == 0 && (noted || lseek(carrier->synced, 0, SEEK_END) == 0);
+    if (first) {
+        note_synced(carrier->synced, 0);
+        sync_file(carrier->synced);
+    }
     if (carrier->number < synced >> BASE)
         carrier->number = synced >> BASE;
     want("restore", antientropy_hints_restore(&carrier->hints, ((carrier->number + 1) << BASE) + 1), ANTIENTROPY_OK);
