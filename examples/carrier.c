@@ -154,8 +154,8 @@ static void keep_again(struct antientropy_hints *hints, const uint8_t *log, size
 }
 
 /* Starts the carrier with the hints that are in the log, and not confirmed there. A first start has no log, and no
- * synced place above 0. Returns false if the log is damaged: then hints are lost behind the damage, and their owners get
- * the versions by a sync alone. */
+ * synced place above 0. Returns false if the log is damaged: then hints are lost behind the damage, and their owners
+ * get the versions by a sync alone. */
 static bool start(struct carrier *carrier)
 {
     struct bytes log = {0};
