@@ -1,14 +1,17 @@
-/* Bytes that grow, numbers in bytes, and files that are written in one step. */
+/* Bytes that grow, numbers in bytes, files that are written in one step, and the records of a log. */
 #define _POSIX_C_SOURCE 200809L
 #include "disk.h"
 
+#include <dirent.h>
 #include <errno.h>
 #include <fcntl.h>
 #include <stdio.h>
 #include <stdlib.h>
+#include <string.h>
 #include <unistd.h>
 
-enum { PATH_ROOM = 4096 };
+/* The file of a synced place has the place and a checksum. */
+enum { PATH_ROOM = 4096, SYNCED_LEN = 16 };
 
 void want(const char *call, uint32_t got, uint32_t wanted)
 {
@@ -111,6 +114,52 @@ void remove_file(const char *folder, const char *name)
         fail(path);
 }
 
+struct name name_of(const char *kind, uint64_t number)
+{
+    struct name name;
+    snprintf(name.text, sizeof name.text, "%s.%llu", kind, (unsigned long long)number);
+    return name;
+}
+
+/* Returns the number of a file of a kind, or 0 if the name isn't one. `end` is what follows the number. */
+static uint64_t number_of(const char *name, const char *kind, char **end)
+{
+    size_t len = strlen(kind);
+    if (strncmp(name, kind, len) != 0 || name[len] != '.')
+        return 0;
+    return strtoull(name + len + 1, end, 10);
+}
+
+uint64_t last_file(const char *folder, const char *kind)
+{
+    DIR *names = opendir(folder);
+    uint64_t last = 0;
+    char *end;
+    if (names == NULL)
+        fail(folder);
+    for (struct dirent *entry; (entry = readdir(names)) != NULL;) {
+        uint64_t number = number_of(entry->d_name, kind, &end);
+        if (number > last && *end == '\0')
+            last = number;
+    }
+    closedir(names);
+    return last;
+}
+
+void remove_before(const char *folder, const char *kind, uint64_t number)
+{
+    DIR *names = opendir(folder);
+    char *end;
+    if (names == NULL)
+        fail(folder);
+    for (struct dirent *entry; (entry = readdir(names)) != NULL;) {
+        uint64_t other = number_of(entry->d_name, kind, &end);
+        if (other > 0 && other < number)
+            remove_file(folder, entry->d_name);
+    }
+    closedir(names);
+}
+
 void sync_file(int file)
 {
     if (fsync(file) != 0)
@@ -144,4 +193,62 @@ void write_file(const char *folder, const char *name, const struct bytes *file)
     if (close(to) != 0 || rename(new, path) != 0)
         fail(path);
     sync_folder(folder);
+}
+
+size_t begin_record(struct bytes *bytes, uint64_t place, uint8_t kind)
+{
+    size_t begin = bytes->len;
+    add_number(bytes, place, 8);
+    add_number(bytes, kind, 1);
+    add_number(bytes, 0, 4);
+    return begin;
+}
+
+void end_record(struct bytes *bytes, size_t begin)
+{
+    write_number(bytes->at + begin + RECORD_LEN_AT, bytes->len - begin - RECORD_BYTES_AT, 4);
+    add_number(bytes, checksum(bytes->at + begin, bytes->len - begin), SUM_LEN);
+}
+
+size_t record_len(const uint8_t *at, size_t left)
+{
+    if (left < RECORD_BYTES_AT + SUM_LEN)
+        return 0;
+    size_t len = RECORD_BYTES_AT + number_at(at + RECORD_LEN_AT, 4);
+    if (left - SUM_LEN < len || checksum(at, len) != number_at(at + len, SUM_LEN))
+        return 0;
+    return len + SUM_LEN;
+}
+
+bool has_later(const uint8_t *at, size_t left, uint64_t place)
+{
+    for (; left > 0; at++, left--)
+        if (record_len(at, left) > 0 && number_at(at, 8) > place)
+            return true;
+    return false;
+}
+
+void append_record(int log, const struct bytes *record)
+{
+    if (write(log, record->at, record->len) != (ssize_t)record->len)
+        fail("write");
+    sync_file(log);
+}
+
+void note_synced(int file, uint64_t place)
+{
+    uint8_t at[SYNCED_LEN];
+    write_number(at, place, 8);
+    write_number(at + 8, checksum(at, 8), SUM_LEN);
+    if (pwrite(file, at, sizeof at, 0) != sizeof at)
+        fail("the synced place");
+}
+
+bool read_synced(int file, uint64_t *place)
+{
+    uint8_t at[SYNCED_LEN + 1];
+    if (pread(file, at, sizeof at, 0) != SYNCED_LEN || checksum(at, 8) != number_at(at + 8, SUM_LEN))
+        return false;
+    *place = number_at(at, 8);
+    return true;
 }

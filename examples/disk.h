@@ -1,5 +1,5 @@
-/* What the examples that write files share: bytes that grow, numbers in bytes, and files that are written in one
- * step. */
+/* What the examples that write files share: bytes that grow, numbers in bytes, files that are written in one step, and
+ * the records of a log. */
 #ifndef DISK_H
 #define DISK_H
 
@@ -12,6 +12,14 @@ struct bytes {
     uint8_t *at;
     size_t len, room;
 };
+
+/* The name of a file with a number. */
+struct name {
+    char text[32];
+};
+
+/* The parts of a record: its place in the log, a kind, the number of its bytes, the bytes, and a checksum. */
+enum { RECORD_KIND_AT = 8, RECORD_LEN_AT = 9, RECORD_BYTES_AT = 13, SUM_LEN = 8 };
 
 /* Ends the program unless a call returned the number that is wanted. */
 void want(const char *call, uint32_t got, uint32_t wanted);
@@ -48,10 +56,41 @@ void write_file(const char *folder, const char *name, const struct bytes *file);
 /* Removes a file of a folder, if it is there. */
 void remove_file(const char *folder, const char *name);
 
+/* Returns the name `kind`.`number`. */
+struct name name_of(const char *kind, uint64_t number);
+
+/* Returns the greatest number of the files of a kind in a folder, or 0 if there is none. */
+uint64_t last_file(const char *folder, const char *kind);
+
+/* Removes the files of a kind whose number is below another, even those that were never finished. */
+void remove_before(const char *folder, const char *kind, uint64_t number);
+
 /* Syncs a file to the disk. */
 void sync_file(int file);
 
 /* Syncs a folder to the disk: the names of its files. */
 void sync_folder(const char *folder);
+
+/* Begins a record at the end of some bytes. Its bytes are appended after that. Returns where it begins. */
+size_t begin_record(struct bytes *bytes, uint64_t place, uint8_t kind);
+
+/* Ends the record that begins there, with its length and its checksum. */
+void end_record(struct bytes *bytes, size_t begin);
+
+/* Returns the number of bytes of the record that begins here, or 0 if none that is whole does. */
+size_t record_len(const uint8_t *at, size_t left);
+
+/* Returns true if a whole record of a later place begins at some byte: then a bad one isn't the end of the log. */
+bool has_later(const uint8_t *at, size_t left, uint64_t place);
+
+/* Writes a record at the end of a log, and syncs it. */
+void append_record(int log, const struct bytes *record);
+
+/* Notes in a file the place up to which a log is synced. This isn't synced itself: after a crash of the machine, the
+ * file may have an earlier place, but never a later one. */
+void note_synced(int file, uint64_t place);
+
+/* Reads the place up to which a log was synced, at least. Returns false if it is damaged. */
+bool read_synced(int file, uint64_t *place);
 
 #endif

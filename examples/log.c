@@ -15,7 +15,7 @@
 #include <sys/stat.h>
 #include <unistd.h>
 
-enum { NODE = 1, NEW_NODE = 3, LIMIT = 4, PATH_ROOM = 4096 };
+enum { NODE = 1, PARTNER = 2, NEW_NODE = 3, LIMIT = 4, PATH_ROOM = 4096 };
 
 static void put(struct store *store, const char *key, uint8_t kind, const char *value)
 {
@@ -39,6 +39,16 @@ static bool show_start(struct store *store, struct antientropy_snapshot *partner
     return true;
 }
 
+/* Makes a new store. */
+static void make(struct store *store, uint64_t format)
+{
+    const char *used = store_make(store, format);
+    if (used != NULL) {
+        printf("%s: %s\n", store->folder, used);
+        exit(1);
+    }
+}
+
 /* Flips a bit of a file. */
 static void flip(const char *folder, const char *name, size_t byte)
 {
@@ -58,7 +68,9 @@ static void live(const char *folder, const char *next_folder)
     struct store next = {.folder = next_folder, .node = NEW_NODE, .limit = LIMIT};
     struct antientropy_replica partner = {0};
     struct antientropy_snapshot rows = {0};
-    store_make(&store, 1);
+    struct antientropy_receipt receipt;
+    const struct antientropy_pair none = {0, 0};
+    make(&store, 1);
     put(&store, "cart", ANTIENTROPY_LIVE, "milk");
     put(&store, "cart", ANTIENTROPY_LIVE, "milk, bread");
     put(&store, "order", ANTIENTROPY_LIVE, "paid");
@@ -88,12 +100,19 @@ static void live(const char *folder, const char *next_folder)
     snapshot_of(&partner, &rows);
     if (show_start(&store, &rows) || show_start(&store, &rows))
         exit(1);
-    store_make(&next, 2);
+    make(&next, 2);
     store_sync(&next.replica, &rows);
     store_log(&next);
     put(&next, "order", ANTIENTROPY_LIVE, "found");
     store_close(&next);
     show_start(&next, NULL);
+    store_close(&next);
+    antientropy_snapshot_free(&rows);
+
+    want("put_read", antientropy_put_read(&partner, PARTNER, (const uint8_t *)"tea", 3, &none, 0, ANTIENTROPY_LIVE,
+                                          (const uint8_t *)"green", 5, &receipt), ANTIENTROPY_OK);
+    snapshot_of(&partner, &rows);
+    show_start(&next, &rows); /* after a renewal: the journal was full */
     store_close(&next);
     antientropy_snapshot_free(&rows);
     antientropy_free(&partner);

@@ -7,8 +7,9 @@
  * partner that has its versions, and takes a put of each key. The program counts the starts after which the node is
  * whole: it goes on with all that it acknowledged. Others are refused: the node can't go on under its number. After a
  * crash of the machine, a fault of the last file can make a start lose the end of its log and use clocks a second time,
- * but only without the partner. The program ends with status 1 if that isn't so, or if a call returns another number
- * than the one wanted. Build it with log_store.c, checkpoint.c and disk.c. */
+ * but only without the partner. It also tries first starts in a folder that isn't new, starts of another node, and what
+ * a kill leaves over. The program ends with status 1 if that isn't so, or if a call returns another number than the one
+ * wanted. Build it with log_store.c, checkpoint.c and disk.c. */
 #define _POSIX_C_SOURCE 200809L
 #include "log_store.h"
 
@@ -131,6 +132,8 @@ static unsigned judge(struct small *small, bool alone, struct tally *tally)
     struct store store = {.folder = small->folder, .node = NODE, .limit = LIMIT};
     if (store_start(&store, alone ? NULL : &small->rows) != NULL) {
         tally->refused++;
+        if (store_start(&store, NULL) == NULL)
+            stop("a store that was refused starts alone");
         return 0;
     }
     unsigned lost = put_again(&store, small);
@@ -240,7 +243,8 @@ static void make_small(struct small *small, struct states *states)
     struct antientropy_replica partner = {0};
     struct antientropy_snapshot rows = {0};
     states->no_rows = checkpoint_of_none();
-    store_make(&store, 1);
+    if (store_make(&store, 1) != NULL)
+        stop("the folder has a store");
     small_put(&store, small, "cart", "milk");
     small_put(&store, small, "order", "paid");
     store_checkpoint(&store);
@@ -295,12 +299,20 @@ static void try_file(struct small *small, size_t changed, size_t step)
     show(what, &count);
 }
 
-/* Starts the small store after a kill at each byte of a record that isn't acknowledged. */
-static void try_kills(struct small *small, const struct bytes *longer)
+/* Starts the small store after a kill at each byte of a record that isn't acknowledged, and after a kill in one with a
+ * value that looks like a record of the log. */
+static void try_kills(struct small *small, const struct states *states)
 {
+    const struct bytes *longer = &states->longer, *first = &states->first;
+    size_t begin = small->file[LOG_3].bytes.len;
     struct count count = {0};
-    for (size_t len = small->file[LOG_3].bytes.len; len <= longer->len; len++)
+    struct bytes tail = {0};
+    for (size_t len = begin; len <= longer->len; len++)
         try_fault(small, &count, LOG_3, longer->at, len, 0);
+    memcpy(more(&tail, begin + RECORD_BYTES_AT + first->len), longer->at, begin + RECORD_BYTES_AT);
+    memcpy(tail.at + begin + RECORD_BYTES_AT, first->at, first->len);
+    try_fault(small, &count, LOG_3, tail.at, begin + RECORD_BYTES_AT + first->len, 0);
+    free(tail.at);
     show("killed at each byte of a record", &count);
     if (count.alone.refused + count.synced.refused > 0)
         stop("a torn tail was taken for damage");
@@ -320,25 +332,86 @@ static void try_missing(struct small *small, const struct states *states)
     show("an older file, or a record removed", &other);
 }
 
+/* Tries a first start in a folder that lost its manifest and perhaps another file, and after a kill in a first one.
+ * Then starts the store with another number, and with what a kill leaves over: a checkpoint and a log file that were to
+ * be removed, and an empty log file. */
+static void try_others(struct small *small)
+{
+    struct store store = {.folder = small->folder, .node = NODE, .limit = LIMIT};
+    struct store other_node = {.folder = small->folder, .node = NODE + 1, .limit = LIMIT};
+    struct store other_range = {.folder = small->folder, .node = NODE, .bits = 1, .number = 1, .limit = LIMIT};
+    for (size_t n = 0; n < small->files; n++) {
+        restore(small, n, NULL, 0);
+        remove_file(small->folder, "manifest");
+        if (store_make(&store, 2) == NULL)
+            stop("a folder without a manifest begins anew");
+    }
+    restore(small, small->files, NULL, 0);
+    if (store_start(&other_node, NULL) == NULL || store_start(&other_range, NULL) == NULL)
+        stop("another node or range starts in the folder");
+    write_plain(small->folder, "log.1", NULL, 0);
+    write_plain(small->folder, "log.4", NULL, 0);
+    write_plain(small->folder, "checkpoint.1.new", NULL, 0);
+    if (store_start(&store, NULL) != NULL)
+        stop("what a kill leaves over is damage");
+    store_close(&store);
+    if (last_file(small->folder, "log") != 3 || open_file(small->folder, "log.1", O_RDONLY) >= 0
+        || open_file(small->folder, "checkpoint.1.new", O_RDONLY) >= 0)
+        stop("what a kill leaves over remains");
+    printf("first starts without the manifest, and starts of another node or range: refused\n");
+}
+
+/* Kills a first start before it writes the manifest, and starts again. */
+static void try_first_start(const char *folder)
+{
+    struct store store = {.folder = folder, .node = NODE, .limit = LIMIT};
+    for (int n = 0; n < 2; n++) {
+        if (store_make(&store, 1) != NULL)
+            stop("a first start that was killed can't be made again");
+        store_close(&store);
+        remove_file(folder, "manifest");
+    }
+}
+
+/* Starts the small store with an older synced place. The start notes the place before anything goes out, so a bit of
+ * the last record that flips afterwards is damage. */
+static void try_noted(struct small *small)
+{
+    struct store store = {.folder = small->folder, .node = NODE, .limit = LIMIT};
+    struct bytes *last = &small->file[LOG_3].bytes;
+    restore(small, small->files, NULL, 0);
+    if (store_start(&store, NULL) != NULL)
+        stop("an older synced place is damage");
+    store_close(&store);
+    last->at[last->len - 1] ^= 1;
+    write_plain(small->folder, "log.3", last->at, last->len);
+    last->at[last->len - 1] ^= 1;
+    if (store_start(&store, NULL) == NULL)
+        stop("a start doesn't note the synced place");
+}
+
 /* Starts the small store after each kill and each fault. */
 static void try_faults(const char *folder)
 {
     struct small small = {.folder = folder};
     struct states states = {0};
+    try_first_start(folder);
     make_small(&small, &states);
     printf("%-36s %6s %12s %9s %14s %13s %9s\n", "", "faults", "alone: whole", "refused", "loses its end",
            "synced: whole", "refused");
-    try_kills(&small, &states.longer);
+    try_kills(&small, &states);
     try_last(&small, &states, 0);
     try_file(&small, LOG_2, 1);
     try_file(&small, MANIFEST, 1);
     try_file(&small, SYNCED, 1);
     try_file(&small, CHECKPOINT, CHECKPOINT_STEP);
     try_missing(&small, &states);
+    try_others(&small);
 
     printf("after a crash of the machine, with an older synced place:\n");
     memcpy(small.file[SYNCED].bytes.at, states.old_synced.at, states.old_synced.len);
-    try_kills(&small, &states.longer);
+    try_kills(&small, &states);
+    try_noted(&small);
     try_last(&small, &states, 1);
     try_missing(&small, &states);
 

@@ -2,24 +2,17 @@
 #define _XOPEN_SOURCE 700
 #include "log_store.h"
 
-#include <dirent.h>
 #include <fcntl.h>
 #include <stdio.h>
 #include <stdlib.h>
 #include <string.h>
 #include <unistd.h>
 
-/* The parts of a record: place, format, number of bytes, rows, checksum. */
-enum { FORMAT_AT = 8, LEN_AT = 9, ROWS_AT = 13, SUM_LEN = 8 };
-
 /* The numbers of the partner, and of its offer. */
 enum { PARTNER = 2, OFFER = 1 };
 
-/* A manifest is its magic, five numbers of 8 bytes, the root, and a checksum. */
-enum { NUMBERS_AT = 8, ROOT_AT = 48, MANIFEST_SUM_AT = 80, MANIFEST_LEN = 88 };
-
-/* The file of the synced place has the place and a checksum. */
-enum { SYNCED_LEN = 16 };
+/* A manifest is its magic, eight numbers of 8 bytes, the root, and a checksum. */
+enum { NUMBERS_AT = 8, NUMBERS = 8, ROOT_AT = 72, MANIFEST_SUM_AT = 104, MANIFEST_LEN = 112 };
 
 static const uint8_t MAGIC[8] = {'a', 'n', 't', 'i', 'l', 'o', 'g', 1};
 
@@ -29,31 +22,18 @@ struct key {
     uint8_t bytes[ANTIENTROPY_KEY_MAX];
 };
 
-/* The name of a file with a number. */
-struct name {
-    char text[32];
-};
-
-static struct name name_of(const char *kind, uint64_t number)
-{
-    struct name name;
-    snprintf(name.text, sizeof name.text, "%s.%llu", kind, (unsigned long long)number);
-    return name;
-}
-
 /* ---- the manifest */
 
 static void write_manifest(const struct store *store)
 {
     const struct manifest *manifest = &store->manifest;
+    const uint64_t numbers[NUMBERS] = {store->node,     store->bits,           store->number,  manifest->format,
+                                       manifest->first, manifest->first_place, manifest->last, manifest->given_up};
     struct bytes file = {0};
     memcpy(more(&file, MANIFEST_LEN), MAGIC, sizeof MAGIC);
     file.len = sizeof MAGIC;
-    add_number(&file, manifest->format, 8);
-    add_number(&file, manifest->first, 8);
-    add_number(&file, manifest->first_place, 8);
-    add_number(&file, manifest->last, 8);
-    add_number(&file, manifest->given_up, 8);
+    for (size_t n = 0; n < NUMBERS; n++)
+        add_number(&file, numbers[n], 8);
     memcpy(file.at + ROOT_AT, manifest->root, sizeof manifest->root);
     file.len = MANIFEST_SUM_AT;
     add_number(&file, checksum(file.at, MANIFEST_SUM_AT), SUM_LEN);
@@ -61,73 +41,33 @@ static void write_manifest(const struct store *store)
     free(file.at);
 }
 
+/* Reads the manifest. Returns why the folder can't be this store's, or NULL. If the manifest is damaged, its format is
+ * 0 then. */
 static const char *read_manifest(struct store *store)
 {
     struct manifest *manifest = &store->manifest;
     struct bytes file = {0};
+    uint64_t numbers[NUMBERS];
     const char *wrong = NULL;
     if (!read_file(store->folder, "manifest", &file)) {
         wrong = "there is no manifest";
-    } else if (file.len != MANIFEST_LEN || memcmp(file.at, MAGIC, sizeof MAGIC) != 0
-               || checksum(file.at, MANIFEST_SUM_AT) != number_at(file.at + MANIFEST_SUM_AT, SUM_LEN)) {
-        wrong = "the manifest is damaged";
-    } else {
-        const uint8_t *at = file.at + NUMBERS_AT;
-        *manifest = (struct manifest){.format = number_at(at, 8), .first = number_at(at + 8, 8),
-                                      .first_place = number_at(at + 16, 8), .last = number_at(at + 24, 8),
-                                      .given_up = number_at(at + 32, 8)};
+    } else if (file.len == MANIFEST_LEN && memcmp(file.at, MAGIC, sizeof MAGIC) == 0
+               && checksum(file.at, MANIFEST_SUM_AT) == number_at(file.at + MANIFEST_SUM_AT, SUM_LEN)) {
+        for (size_t n = 0; n < NUMBERS; n++)
+            numbers[n] = number_at(file.at + NUMBERS_AT + 8 * n, 8);
+        *manifest = (struct manifest){.format = numbers[3], .first = numbers[4], .first_place = numbers[5],
+                                      .last = numbers[6], .given_up = numbers[7]};
         memcpy(manifest->root, file.at + ROOT_AT, sizeof manifest->root);
-        if (manifest->given_up != 0)
+        if (numbers[0] != store->node || numbers[1] != store->bits || numbers[2] != store->number)
+            wrong = "the folder is of another node, or of another range";
+        else if (manifest->given_up != 0)
             wrong = "it was given up";
     }
     free(file.at);
     return wrong;
 }
 
-/* ---- the synced place */
-
-/* Notes that the log is synced up to the next place. This isn't synced itself: after a crash of the machine, the file
- * may have an earlier place, but never a later one. */
-static void note_synced(struct store *store)
-{
-    uint8_t place[SYNCED_LEN];
-    write_number(place, store->place, 8);
-    write_number(place + 8, checksum(place, 8), SUM_LEN);
-    if (pwrite(store->synced, place, sizeof place, 0) != sizeof place)
-        fail("synced");
-}
-
-/* Returns the place up to which the log was synced at least. */
-static const char *read_synced(struct store *store, uint64_t *place)
-{
-    uint8_t at[SYNCED_LEN + 1];
-    if (pread(store->synced, at, sizeof at, 0) != SYNCED_LEN || checksum(at, 8) != number_at(at + 8, SUM_LEN))
-        return "the synced place is damaged";
-    *place = number_at(at, 8);
-    return NULL;
-}
-
 /* ---- records */
-
-/* Returns the number of bytes of the record that begins here, or 0 if none that is whole does. */
-static size_t record_len(const uint8_t *at, size_t left)
-{
-    if (left < ROWS_AT + SUM_LEN)
-        return 0;
-    size_t len = ROWS_AT + number_at(at + LEN_AT, 4);
-    if (left - SUM_LEN < len || checksum(at, len) != number_at(at + len, SUM_LEN))
-        return 0;
-    return len + SUM_LEN;
-}
-
-/* Returns true if a whole record begins at some byte. A value that looks like one makes a false alarm. */
-static bool has_record(const uint8_t *at, size_t left)
-{
-    for (; left > 0; at++, left--)
-        if (record_len(at, left) > 0)
-            return true;
-    return false;
-}
 
 static int compare_keys(const void *first, const void *second)
 {
@@ -163,18 +103,15 @@ static void add_row(struct bytes *record, struct antientropy_replica *replica, c
     record->len += len;
 }
 
-/* Makes the record of the rows of some keys. A key of several entries has one row. */
+/* Makes the record of the rows of some keys: its kind is their format. A key of several entries has one row. */
 static struct bytes make_record(struct store *store, const struct key *keys, size_t count)
 {
     struct bytes record = {0};
-    add_number(&record, store->place, 8);
-    add_number(&record, store->manifest.format, 1);
-    add_number(&record, 0, 4);
+    size_t begin = begin_record(&record, store->place, (uint8_t)store->manifest.format);
     for (size_t n = 0; n < count; n++)
         if (n == 0 || compare_keys(&keys[n - 1], &keys[n]) != 0)
             add_row(&record, &store->replica, &keys[n]);
-    write_number(record.at + LEN_AT, record.len - ROWS_AT, 4);
-    add_number(&record, checksum(record.at, record.len), SUM_LEN);
+    end_record(&record, begin);
     return record;
 }
 
@@ -187,14 +124,12 @@ void store_log(struct store *store)
         return;
     struct key *keys = new_keys(store, count);
     struct bytes record = make_record(store, keys, count);
-    if (write(store->file, record.at, record.len) != (ssize_t)record.len)
-        fail("write");
-    sync_file(store->file);
+    append_record(store->file, &record);
     free(record.at);
     free(keys);
     store->place++;
     store->logged = counts.entries;
-    note_synced(store);
+    note_synced(store->synced, store->place);
 }
 
 /* Renews the replica. All its entries are logged, and so are those of the new journal: one for each version held. */
@@ -211,14 +146,13 @@ static void renew(struct store *store)
 
 /* ---- the start */
 
-/* Opens the file of the synced place and locks it, until it is closed: two processes of one number are as bad as
- * counters that go back. Returns false if it isn't there. */
-static bool lock(struct store *store, int flags)
+/* Opens the file of the synced place, if it is there, and locks it until it is closed: two processes of one number are
+ * as bad as counters that go back. */
+static void lock(struct store *store, int flags)
 {
     store->synced = open_file(store->folder, "synced", flags);
     if (store->synced >= 0 && lockf(store->synced, F_TLOCK, 0) != 0)
         fail("another process has the store");
-    return store->synced >= 0;
 }
 
 /* Makes an empty log file, and syncs the file of the synced place with it. */
@@ -243,18 +177,44 @@ static void new_replica(struct store *store)
          ANTIENTROPY_OK);
 }
 
-void store_make(struct store *store, uint64_t format)
+/* Returns what a folder has that a first start would lose, or NULL. A first start that was killed has left an empty log
+ * file, and a synced place that is 0 or wasn't written. */
+static const char *is_used(const struct store *store)
 {
-    if (open_file(store->folder, "manifest", O_RDONLY) >= 0 || !lock(store, O_RDWR | O_CREAT)) {
-        printf("%s has a store\n", store->folder);
-        exit(1);
-    }
+    int manifest = open_file(store->folder, "manifest", O_RDONLY);
+    struct bytes log = {0};
+    uint64_t place = 0;
+    const char *used = NULL;
+    read_file(store->folder, "log.1", &log);
+    if (manifest >= 0)
+        used = "it has a manifest";
+    else if (last_file(store->folder, "checkpoint") > 0 || last_file(store->folder, "log") > 1 || log.len > 0)
+        used = "the manifest is missing, but there is a log or a checkpoint";
+    else if (lseek(store->synced, 0, SEEK_END) > 0 && (!read_synced(store->synced, &place) || place > 0))
+        used = "the manifest is missing, but there is a synced place";
+    if (manifest >= 0)
+        close(manifest);
+    free(log.at);
+    return used;
+}
+
+const char *store_make(struct store *store, uint64_t format)
+{
+    store->replica = (struct antientropy_replica){0};
     store->manifest = (struct manifest){.format = format, .first = 1, .last = 1};
     store->place = store->logged = store->torn = 0;
-    note_synced(store);
+    store->file = -1;
+    lock(store, O_RDWR | O_CREAT);
+    const char *used = is_used(store);
+    if (used != NULL) {
+        store_close(store);
+        return used;
+    }
+    note_synced(store->synced, 0);
     make_log(store);
     write_manifest(store);
     new_replica(store);
+    return NULL;
 }
 
 /* Makes the replica with which the first log file began. */
@@ -279,13 +239,13 @@ static const char *load_first(struct store *store)
 static const char *load_record(struct store *store, const uint8_t *at)
 {
     struct antientropy_loaded loaded;
-    uint64_t len = number_at(at + LEN_AT, 4);
+    uint64_t len = number_at(at + RECORD_LEN_AT, 4);
     if (number_at(at, 8) != store->place)
         return "a record is missing";
-    uint32_t got = antientropy_load_format(&store->replica, at[FORMAT_AT], at + ROWS_AT, len, &loaded);
+    uint32_t got = antientropy_load_format(&store->replica, at[RECORD_KIND_AT], at + RECORD_BYTES_AT, len, &loaded);
     if (got == ANTIENTROPY_JOURNAL_FULL) {
         renew(store);
-        got = antientropy_load_format(&store->replica, at[FORMAT_AT], at + ROWS_AT, len, &loaded);
+        got = antientropy_load_format(&store->replica, at[RECORD_KIND_AT], at + RECORD_BYTES_AT, len, &loaded);
     }
     if (got == ANTIENTROPY_NO_MEMORY || got == ANTIENTROPY_JOURNAL_FULL)
         want("load_format", got, ANTIENTROPY_OK);
@@ -319,7 +279,7 @@ static const char *load_file(struct store *store, uint64_t number, uint64_t sync
         if (len > 0)
             wrong = load_record(store, file.at + at);
     }
-    if (wrong == NULL && at < file.len && has_record(file.at + at + 1, file.len - at - 1))
+    if (wrong == NULL && at < file.len && has_later(file.at + at + 1, file.len - at - 1, store->place))
         wrong = "a record is damaged, and others were logged after it";
     if (wrong == NULL && last && store->place < synced)
         wrong = "the end of the log is damaged or lost";
@@ -329,24 +289,25 @@ static const char *load_file(struct store *store, uint64_t number, uint64_t sync
     return wrong;
 }
 
-/* Returns true if a file after the last one has records: then the manifest is older than the log. */
+/* Returns true if the file after the last one has records: then the manifest is older than the log. If it is empty, a
+ * kill has left it, and it is removed. */
 static bool is_old(const struct store *store)
 {
+    const struct name name = name_of("log", store->manifest.last + 1);
     struct bytes file = {0};
-    bool old = read_file(store->folder, name_of("log", store->manifest.last + 1).text, &file) && file.len > 0;
+    read_file(store->folder, name.text, &file);
+    bool old = file.len > 0;
+    if (!old)
+        remove_file(store->folder, name.text);
     free(file.at);
     return old;
 }
 
-/* Ends a start that found damage, and remembers it: a later start, without a partner say, may not see it. */
-static const char *give_up(struct store *store, const char *wrong)
+/* Removes what is before the first log file: the files of before a checkpoint, or of one that a kill has ended. */
+static void remove_old(const struct store *store)
 {
-    if (store->manifest.format != 0 && store->manifest.given_up == 0) {
-        store->manifest.given_up = 1;
-        write_manifest(store);
-    }
-    store_close(store);
-    return wrong;
+    remove_before(store->folder, "log", store->manifest.first);
+    remove_before(store->folder, "checkpoint", store->manifest.first);
 }
 
 /* Makes the replica that the folder has. */
@@ -354,13 +315,14 @@ static const char *load_all(struct store *store)
 {
     struct antientropy_counts counts;
     uint64_t synced = 0;
-    bool locked = lock(store, O_RDWR);
-    const char *wrong = read_manifest(store);
-    if (wrong == NULL)
-        wrong = locked ? read_synced(store, &synced) : "the synced place is missing";
-    if (wrong == NULL && is_old(store))
+    const char *wrong = NULL;
+    if (store->manifest.format == 0)
+        wrong = "the manifest is damaged";
+    else if (store->synced < 0 || !read_synced(store->synced, &synced))
+        wrong = "the synced place is missing or damaged";
+    else if (is_old(store))
         wrong = "the manifest is older than the log";
-    if (wrong == NULL)
+    else
         wrong = load_first(store);
     store->place = store->manifest.first_place;
     for (uint64_t file = store->manifest.first; wrong == NULL && file <= store->manifest.last; file++)
@@ -369,7 +331,8 @@ static const char *load_all(struct store *store)
         return wrong;
     want("count", antientropy_count(&store->replica, &counts), ANTIENTROPY_OK);
     store->logged = counts.entries;
-    note_synced(store);
+    note_synced(store->synced, store->place);
+    remove_old(store);
     return NULL;
 }
 
@@ -424,17 +387,36 @@ void store_sync(struct antientropy_replica *replica, struct antientropy_snapshot
     want("session state", (uint32_t)state, ANTIENTROPY_FINISHED);
 }
 
+/* Loads the log, syncs from the partner, and compares. A renewal before the sync makes room in the journal; between the
+ * sync and the comparison it would number the entries anew. */
+static const char *load_and_sync(struct store *store, struct antientropy_snapshot *partner)
+{
+    const char *wrong = load_all(store);
+    if (wrong != NULL || partner == NULL)
+        return wrong;
+    renew(store);
+    store_sync(&store->replica, partner);
+    return log_synced(store);
+}
+
 const char *store_start(struct store *store, struct antientropy_snapshot *partner)
 {
     store->replica = (struct antientropy_replica){0};
     store->manifest = (struct manifest){0};
-    store->file = store->synced = -1;
-    const char *wrong = load_all(store);
-    if (wrong == NULL && partner != NULL)
-        store_sync(&store->replica, partner);
-    if (wrong == NULL)
-        wrong = log_synced(store);
-    return wrong == NULL ? NULL : give_up(store, wrong);
+    store->file = -1;
+    lock(store, O_RDWR);
+    const char *wrong = read_manifest(store);
+    if (wrong == NULL) {
+        wrong = load_and_sync(store, partner);
+        /* A later start, without a partner say, may not see the damage. */
+        if (wrong != NULL) {
+            store->manifest.given_up = 1;
+            write_manifest(store);
+        }
+    }
+    if (wrong != NULL)
+        store_close(store);
+    return wrong;
 }
 
 void store_close(struct store *store)
@@ -497,22 +479,6 @@ void store_begin_file(struct store *store)
     store->manifest.last++;
     make_log(store);
     write_manifest(store);
-}
-
-/* Removes the files from before the first log file, even those that an earlier crash left over. */
-static void remove_old(const struct store *store)
-{
-    DIR *folder = opendir(store->folder);
-    if (folder == NULL)
-        fail(store->folder);
-    for (struct dirent *entry; (entry = readdir(folder)) != NULL;) {
-        unsigned long long number = 0;
-        bool numbered = sscanf(entry->d_name, "log.%llu", &number) == 1
-            || sscanf(entry->d_name, "checkpoint.%llu", &number) == 1;
-        if (numbered && number < store->manifest.first)
-            remove_file(store->folder, entry->d_name);
-    }
-    closedir(folder);
 }
 
 void store_checkpoint(struct store *store)

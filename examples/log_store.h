@@ -2,13 +2,13 @@
  *
  * A folder has these files:
  *
- *     manifest        what must be there: the first and the last log file, and the checkpoint with its root
+ *     manifest        whose it is, and what must be there: the first and the last log file, the checkpoint's root
  *     checkpoint.N    the rows at the moment at which the log file N began, unless N is 1
  *     log.N           the groups of rows that were logged since then
  *     synced          the place up to which the log is synced, at least; locked by the process that has the store
  *
  * A record of a log file has the rows of a group: of the keys of all entries since the record before it. It has its
- * place in the log, which counts the records from the first file on, the format of the rows, the number of their bytes,
+ * place in the log, which counts all records that were ever logged, the format of the rows, the number of their bytes,
  * the rows in ascending order of key, and a checksum of all that. After each record the file is synced.
  *
  * So a crash leaves at most one record that isn't whole, at the end of the last file: a torn tail, which wasn't
@@ -46,15 +46,17 @@ struct store {
     int synced;      /* the file of the synced place */
 };
 
-/* Makes a new store in a folder that has none: the first start of a node number. */
-void store_make(struct store *store, uint64_t format);
+/* Makes a new store in a folder that has none: the first start of a node number. Returns NULL, or what the folder has:
+ * then the store isn't open. */
+const char *store_make(struct store *store, uint64_t format);
 
 /* Takes all that a partner's snapshot has and a replica lacks. */
 void store_sync(struct antientropy_replica *replica, struct antientropy_snapshot *partner);
 
 /* Starts the store of a folder, before the first put: makes its replica, syncs it from a partner if there is one (not
  * NULL), and looks for versions of this node that the log lacks. A host syncs from each partner that it reaches.
- * Returns NULL, or what is damaged: then the store isn't open, and its node number isn't used again. */
+ * Returns NULL, or what is wrong: then the store isn't open. If the folder is this store's, its node number isn't used
+ * again. */
 const char *store_start(struct store *store, struct antientropy_snapshot *partner);
 
 /* Closes the store. */
