@@ -1,5 +1,5 @@
 //! The rows of a leaf in chunks: finding a row, and offering a version.
-ghost use Rattle.std.specs.Prelude.{◌≡◌, ◌+◌, ◌<◌, ◌≤◌, ◌^◌, [], None, length, take, drop, OnErr, IsTrue};
+ghost use Rattle.std.specs.Prelude.{◌≡◌, ◌↔◌, ◌+◌, ◌<◌, ◌≤◌, ◌^◌, [], None, length, take, drop, OnErr, IsTrue};
 ghost use Rattle.std.specs.List.{AllByRecursion, flat_map, insert};
 ghost use Rattle.std.specs.declared.cmp.Ordering.TheVariants.{Less, Greater};
 ghost use Rattle.vclock.specs.Answer.{Answers};
@@ -9,7 +9,7 @@ ghost use Rattle.version_set.specs.Kind.{value_fault};
 ghost use Rattle.version_set.specs.Version.{offer_fault, offered};
 ghost use Rattle.row_bytes.specs.Rows.{FitsText};
 ghost use Rattle.hash_tree.specs.Leaves.{Bucket, key_cmp, AscendByKey, IsPlace, versions_in, with_offer};
-ghost use Rattle.hash_tree.specs.Chunks.{all_rows, chunk_rows, chunk_text, AreChunks, Follows, Precedes, place_in, IsSpot, IsRowSpot, IsGapSpot, IsRoomySpot, IsSplit, row_versions, offered_at};
+ghost use Rattle.hash_tree.specs.Chunks.{all_rows, chunk_rows, chunk_text, AreChunks, IsRowOf, Follows, Precedes, IsGapOf, place_in, IsSpot, IsRowSpot, IsGapSpot, IsRoomySpot, IsSplit, row_versions, offered_at};
 
 use crate::chunk::Chunk;
 use crate::written_rows::MOST_ROWS;
@@ -65,8 +65,7 @@ fn spot_near(chunks: &[Chunk], near: Spot, key: &[u8]) -> Result<Spot, Spot>
 
 /// Returns true if the row of a key is at a spot.
 fn is_row_of(chunks: &[Chunk], spot: Spot, key: &[u8]) -> bool
-    requires { AscendByKey (all_rows chunks.now) }
-    ensures { IsTrue result → IsSpot key.now chunks.now (Ok spot) }
+    ensures { IsTrue result ↔ IsRowOf key.now chunks.now spot }
 {
     let Some(chunk) = chunks.get(spot.chunk) else {
         return false;
@@ -79,8 +78,7 @@ fn is_row_of(chunks: &[Chunk], spot: Spot, key: &[u8]) -> bool
 
 /// Returns true if the row of a key would be inserted at a gap. Returns false for a gap between two chunks.
 fn is_gap_of(chunks: &[Chunk], gap: Spot, key: &[u8]) -> bool
-    requires { AscendByKey (all_rows chunks.now) }
-    ensures { IsTrue result → IsSpot key.now chunks.now (Err gap) }
+    ensures { IsTrue result ↔ IsGapOf key.now chunks.now gap }
 {
     let Some(chunk) = chunks.get(gap.chunk) else {
         return false;
@@ -90,7 +88,7 @@ fn is_gap_of(chunks: &[Chunk], gap: Spot, key: &[u8]) -> bool
 
 /// Returns true if a key is greater than that of the row before a gap, or the gap is before all rows.
 fn follows(rows: &[Row], gap: Spot, key: &[u8]) -> bool
-    ensures { IsTrue result → Follows key.now rows.now gap }
+    ensures { IsTrue result ↔ Follows key.now rows.now gap }
 {
     if gap.at == 0 {
         return gap.chunk == 0;
@@ -104,7 +102,7 @@ fn follows(rows: &[Row], gap: Spot, key: &[u8]) -> bool
 /// Returns true if a key is less than that of the row after a gap, or the gap is after all rows of `count` chunks.
 fn precedes(rows: &[Row], count: usize, gap: Spot, key: &[u8]) -> bool
     requires { gap.chunk < count }
-    ensures { IsTrue result → Precedes key.now rows.now count gap }
+    ensures { IsTrue result ↔ Precedes key.now rows.now count gap }
 {
     match rows.get(gap.at) {
         Some(row) => row.key.as_slice().cmp(key).is_gt(),

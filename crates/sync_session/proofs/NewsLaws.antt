@@ -1,6 +1,6 @@
 -- Reading a leaf's text beside the own rows.
-use Rattle.std.proofs.Common.{◌≡◌, inl, inr, ℕ, zero, suc, ◌+◌, ◌<◌, ◌≤◌, Bool, true, false, cond, Option, Some, None, List, [], ◌∷◌, ◌++◌, ◌-◌, length, get_or, refl, sym, ap, subst, ◌∙◌, append_assoc, slice_get, arith}
-use Rattle.std.specs.Prelude.{nat_eq}
+use Rattle.std.proofs.Common.{◌≡◌, inl, inr, ℕ, zero, suc, ◌+◌, ◌<◌, ◌≤◌, ◌^◌, Bool, true, false, cond, Option, Some, None, List, [], ◌∷◌, ◌++◌, ◌-◌, length, get_or, refl, sym, ap, subst, ◌∙◌, append_assoc, slice_get, arith}
+use Rattle.std.specs.Prelude.{nat_eq, Result, Ok, Err}
 use Rattle.std.specs.Int.{w16, to_be_bytes}
 use Rattle.std.specs.List.{flat_map, sum_by, AllByRecursion, Contains}
 use Rattle.std.specs.declared.cmp.Ordering.TheVariants.{Less}
@@ -11,33 +11,33 @@ use Rattle.std.proofs.lemmas.List.Elements.{Contains-append_left, Contains-appen
 use Rattle.std.proofs.lemmas.List.Sums.{sum_by-cons}
 use Rattle.std.proofs.lemmas.Option.{slice_get-get_or}
 use Rattle.vclock.specs.declared.format.Format.{Format}
+use Rattle.vclock.specs.declared.refusal.Refusal.{Refusal}
+use Rattle.vclock.specs.declared.refusal.Refusal.TheVariants as refusals
 use Rattle.version_set.specs.declared.version.Version.{Version}
 use Rattle.version_set.specs.Version.{version_text}
 use Rattle.version_set.proofs.ListLaws.{all-inner, all-push, all-rest, Pairwise-filter}
 use Rattle.key_ring.specs.Places.{range_at}
 use Rattle.row_bytes.specs.declared.row.Row.{Row}
-use Rattle.row_bytes.specs.Rows.{is_before, row_text, IsRow, KeysAscend, AreRows, BeginsWithKey}
+use Rattle.row_bytes.specs.Rows.{is_before, row_text, IsRow, KeysAscend, BeginsWithKey}
 use Rattle.row_bytes.specs.Reading.{key_of, last_key}
 use Rattle.row_bytes.proofs.RowLaws.{one_row}
 use Rattle.row_bytes.proofs.TextLengthLaws.{row_text_len, row_short}
 use Rattle.hash_tree.specs.Leaves.{Bucket, AscendByKey, rows_in_leaf, versions_in, key_cmp}
 use Rattle.hash_tree.specs.Texts.{leaf_byte, leaf_text}
+use Rattle.tree_nodes.specs.Nodes.{tree_depth}
 use Rattle.hash_tree.proofs.KeyLaws.{all_get}
 use Rattle.hash_tree.proofs.KeySpotLaws.{ascend_middle}
 use Rattle.hash_tree.proofs.LeafLaws.{held_by_row}
 use Rattle.snapshot.specs.RowMaps.{RowMap, IsRowMap, leaf_in}
 use Rattle.sync_session.specs.TreeNodes.{Node}
-use Rattle.sync_session.specs.Walks.{AreSpelled}
-use Rattle.sync_session.specs.Readings.{AreOthers, LiesIn, FrontOwn, FrontRun}
+use Rattle.sync_session.specs.Walks.{TakenText, Walk, AreSpelled}
+use Rattle.sync_session.specs.Steps.{IsDue, IsTakeFault}
+use Rattle.sync_session.specs.declared.news.News.{News}
+use Rattle.sync_session.specs.Readings.{AreOthers, LiesIn, FrontOwn, FrontRun, end_key, OnTheWay, IsReadTo, IsReadFault, ReadsNews, Tells}
 use Rattle.sync_session.proofs.ReadingLaws.{spelled_body}
 use Rattle.sync_session.proofs.TextLaws.{keys_ascend}
 
 -- ---- the last key
-
--- the key of the last row, or else the key before them
-abbrev pub end_key : List ℕ → List Row → List ℕ
-end_key last [] = last
-end_key last (r ∷ rows) = end_key r.key rows
 
 end_key-push : (last : List ℕ) (rows : List Row) (r : Row) → end_key last (rows ++ r ∷ []) ≡ r.key
 end_key-push last [] r = refl
@@ -76,16 +76,6 @@ news_short format own (x ∷ rows) others known news = elim news [
 ]
 
 -- ---- on the way
-
--- the rows that were read from a body up to here, beside the own ones; and any that spell all of the text begin with them
-pub record OnTheWay (m : RowMap) (n : Node) (text body last rest : List ℕ) (others : List Row) (known : ℕ) : Type 0 where
-  pub rows : List Row
-  pub are : AreRows m.format rows
-  pub here : AllByRecursion (λ (r : Row). LiesIn m n.index r.key) rows
-  pub body_is : body ≡ flat_map (row_text m.format) rows ++ rest
-  pub last_is : last ≡ end_key [] rows
-  pub news : AreOthers m.rows rows others known
-  pub only : (all : List Row) → AreSpelled m n text all → (more : List Row) × (all ≡ rows ++ more) × (rest ≡ flat_map (row_text m.format) more)
 
 pub way_begins : (m : RowMap) (n : Node) (text body : List ℕ) (others : List Row) (known mark : ℕ) (format : Format) → format ≡ m.format → mark ≡ leaf_byte format → text ≡ mark ∷ body → others ≡ [] → known ≡ 0 → OnTheWay m n text body [] body others known
 way_begins m n text body others known mark format same first is none nothing = record {
@@ -335,3 +325,38 @@ found_key a b e = ap bytes_of e
     bytes_of : Option (List ℕ) → List ℕ
     bytes_of None = []
     bytes_of (Some bytes) = bytes
+
+-- ---- read up to a place
+
+-- the same text, read further
+pub read_on : {m : RowMap} {n : Node} {text last rest : List ℕ} {others : List Row} {known : ℕ} (read : IsReadTo m n text last rest others known) (end after : List ℕ) (more : List Row) (count : ℕ) → OnTheWay m n text read.body end after more count → IsReadTo m n text end after more count
+read_on read end after more count way = record { body = read.body; short = read.short; text_is = read.text_is; way = way }
+
+-- so many versions are known at most
+pub read_known : {m : RowMap} {n : Node} {text last rest : List ℕ} {others : List Row} {known : ℕ} → IsReadTo m n text last rest others known → known < 2 ^ 64
+read_known {m = m} {n = n} {text = text} {last = last} {rest = rest} {others = others} {known = known} read = omega (arith, way_known m n text read.body last rest others known read.way, read.short)
+
+-- the row that is next
+pub read_next : {m : RowMap} {n : Node} {text last rest : List ℕ} {others : List Row} {known : ℕ} → IsReadTo m n text last rest others known → (all : List Row) → AreSpelled m n text all → 0 < length rest → IsNext m n last rest
+read_next {m = m} {n = n} {text = text} {last = last} {rest = rest} {others = others} {known = known} read all spelled some = next_of m n text read.body last rest others known all read.way spelled some
+
+-- at the end
+pub read_done : {m : RowMap} {n : Node} {text last rest : List ℕ} {others : List Row} {known : ℕ} → IsReadTo m n text last rest others known → rest ≡ [] → (rows : List Row) × AreSpelled m n text rows × AreOthers m.rows rows others known
+read_done {m = m} {n = n} {text = text} {last = last} {rest = rest} {others = others} {known = known} read none = way_done m n text read.body last rest others known (leaf_byte m.format) m.format read.way none refl refl read.text_is
+
+-- the fault of a step is that of the whole
+pub read_fault : (m : RowMap) (n : Node) (text : List ℕ) (e : Refusal) → IsReadFault m n text e → ReadsNews m n text (Err e)
+read_fault m n text refusals.NotCanonical fault = fault
+read_fault m n text e fault = fault
+
+-- the news of a leaf's text that is due
+pub leaf_told : (w : Walk) (t : TakenText) (result : Result News Refusal) → IsDue w t → t.node.depth ≡ tree_depth w.own.format → ReadsNews w.own t.node t.text result → Tells w t result
+leaf_told w t (Ok news) due deep told = (due, inr (deep, (told.0, told.1, told.2)))
+leaf_told w t (Err refusals.NotCanonical) due deep told = (
+  due,
+  λ can. elim can [
+    | inl inner ↦ omega (arith, inner.0, deep)
+    | inr leaf ↦ told leaf.1.0 leaf.1.1
+  ],
+)
+leaf_told w t (Err e) due deep told = subst (IsTakeFault w t) (sym told) (due, λ less. absurd (omega (arith, less, deep)))

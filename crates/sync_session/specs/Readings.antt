@@ -1,13 +1,14 @@
 -- The rows of a text, read without taking it.
-use Rattle.std.specs.Prelude.{◌≡◌, ◌⊎◌, ◌<◌, ℕ, ◌+◌, ◌++◌, Option, Some, None, Result, Ok, Err, List, [], ◌∷◌, length}
-use Rattle.std.specs.List.{Contains, flat_map, sum_by}
+use Rattle.std.specs.Prelude.{◌≡◌, ◌≢◌, ◌⊎◌, ◌<◌, ◌^◌, ℕ, ◌+◌, ◌++◌, Option, Some, None, Result, Ok, Err, List, [], ◌∷◌, length}
+use Rattle.std.specs.List.{AllByRecursion, Contains, flat_map, sum_by}
 use Rattle.vclock.specs.declared.refusal.Refusal.{Refusal}
 use Rattle.vclock.specs.declared.refusal.Refusal.TheVariants as refusals
 use Rattle.key_ring.specs.Places.{range_at}
 use Rattle.row_bytes.specs.declared.row.Row.{Row}
 use Rattle.row_bytes.specs.Reading.{last_key}
-use Rattle.row_bytes.specs.Rows.{row_text, IsRow}
+use Rattle.row_bytes.specs.Rows.{row_text, IsRow, AreRows}
 use Rattle.hash_tree.specs.Leaves.{Bucket, IsRun}
+use Rattle.hash_tree.specs.Texts.{leaf_byte}
 use Rattle.tree_nodes.specs.Nodes.{tree_depth}
 use Rattle.snapshot.specs.RowMaps.{RowMap, leaf_in}
 use Rattle.sync_session.specs.declared.news.News.{News}
@@ -15,10 +16,14 @@ use Rattle.sync_session.specs.TreeNodes.{Node}
 use Rattle.sync_session.specs.Walks.{TakenText, Walk, AreSpelled, IsInnerText}
 use Rattle.sync_session.specs.Steps.{IsDue, IsTakeFault}
 
+-- the fault of a text that is found without memory
+abbrev pub IsBeginFault : Walk → TakenText → Refusal → Type 0
+IsBeginFault w t e = IsTakeFault w t e × (e ≢ refusals.NoMemory)
+
 -- a text is awaited, or the fault of a text that is not
 abbrev pub Awaits : Walk → TakenText → Result (Unit {0}) Refusal → Type 0
 Awaits w t (Ok ok) = IsDue w t
-Awaits w t (Err e) = IsTakeFault w t e
+Awaits w t (Err e) = IsBeginFault w t e
 
 -- the rows of a leaf's text
 abbrev pub ReadsLeaf : RowMap → Node → List ℕ → Result (List Row) Refusal → Type 0
@@ -78,3 +83,44 @@ pub record FrontRun (b : Bucket) (key text : List ℕ) (versions : ℕ) (last af
   pub versions_is : versions ≡ sum_by (λ (r : Row). length r.versions) run
   pub last_is : last ≡ last_key run
   pub text_is : text ≡ flat_map (row_text b.format) run ++ after
+
+-- ---- reading a leaf's text row by row
+
+-- the key of the last row, or else the key before them
+abbrev pub end_key : List ℕ → List Row → List ℕ
+end_key last [] = last
+end_key last (r ∷ rows) = end_key r.key rows
+
+-- The rows that were read from a body up to here, beside the own ones; and any rows that spell all of the text begin
+-- with them.
+pub record OnTheWay (m : RowMap) (n : Node) (text body last rest : List ℕ) (others : List Row) (known : ℕ) : Type 0 where
+  pub rows : List Row
+  pub are : AreRows m.format rows
+  pub here : AllByRecursion (λ (r : Row). LiesIn m n.index r.key) rows
+  pub body_is : body ≡ flat_map (row_text m.format) rows ++ rest
+  pub last_is : last ≡ end_key [] rows
+  pub news : AreOthers m.rows rows others known
+  pub only : (all : List Row) → AreSpelled m n text all → (more : List Row) × (all ≡ rows ++ more) × (rest ≡ flat_map (row_text m.format) more)
+
+-- A leaf's text was read up to here: its body is fewer than 2^64 bytes after its first byte, and others are the rows so
+-- far that the own ones lack.
+pub record IsReadTo (m : RowMap) (n : Node) (text last rest : List ℕ) (others : List Row) (known : ℕ) : Type 0 where
+  pub body : List ℕ
+  pub short : length body < 2 ^ 64
+  pub text_is : text ≡ leaf_byte m.format ∷ body
+  pub way : OnTheWay m n text body last rest others known
+
+-- the text was read one row further, which the own rows lack; or to its end, and has no other such row
+abbrev pub StepsTo : RowMap → Node → List ℕ → ℕ → List Row → Option Row → List ℕ → List ℕ → ℕ → Type 0
+StepsTo m n text left others (Some r) last rest known = IsReadTo m n text last rest (others ++ r ∷ []) known × (length rest < left)
+StepsTo m n text left others None last rest known = IsReadTo m n text last rest others known × (rest ≡ [])
+
+-- no rows spell the text, or memory ran out
+abbrev pub IsReadFault : RowMap → Node → List ℕ → Refusal → Type 0
+IsReadFault m n text refusals.NotCanonical = (rows : List Row) → AreSpelled m n text rows → ⊥
+IsReadFault m n text e = e ≡ refusals.NoMemory
+
+-- a text that is due: of an inner node, or of a leaf and read up to its first row
+abbrev pub Begins : Walk → TakenText → Option (List ℕ × List ℕ × ℕ) → Type 0
+Begins w t None = IsDue w t × (t.node.depth < tree_depth w.own.format) × IsInnerText w.own.format t.text
+Begins w t (Some p) = IsDue w t × (t.node.depth ≡ tree_depth w.own.format) × IsReadTo w.own t.node t.text p.0 p.1 [] p.2

@@ -24,7 +24,7 @@ pub mod state;
 pub mod taken_text;
 mod text_reader;
 
-pub use news::News;
+pub use news::{News, NewsPlace, NewsStep};
 pub use session::{Answered, Session};
 pub use state::SessionState;
 pub use taken_text::Taken;

@@ -1,15 +1,15 @@
 //! The rows of a partner's leaf that the local snapshot lacks.
-ghost use Rattle.std.specs.Prelude.{◌≡◌, ◌<◌, ◌^◌, ⊤, [], None, length, MatchOption, option_map};
+ghost use Rattle.std.specs.Prelude.{◌≡◌, ◌<◌, ◌^◌, ⊤, ℕ, List, [], None, length, MatchOption, MatchResult, option_map};
 ghost use Rattle.std.specs.List.{sum_by};
 ghost use Rattle.vclock.specs.Answer.{Answers};
 ghost use Rattle.row_bytes.specs.declared.row.Row.{Row};
 ghost use Rattle.hash_tree.specs.Leaves.{AscendByKey};
 ghost use Rattle.tree_nodes.specs.Nodes.{tree_depth};
 ghost use Rattle.sync_session.specs.TreeNodes.{as_node};
-ghost use Rattle.sync_session.specs.Readings.{ReadsNews, FrontRow, FrontOwn, FrontRun};
+ghost use Rattle.sync_session.specs.Readings.{ReadsNews, IsReadTo, StepsTo, IsReadFault, FrontRow, FrontOwn, FrontRun};
 
-use crate::text_reader::{body_of, is_here};
-use hash_tree::{NodeAt, SharedLeaf, leaf_byte};
+use crate::text_reader::is_here;
+use hash_tree::{NodeAt, SharedLeaf};
 use row_bytes::{Row, key_at, read_row};
 use snapshot::Snapshot;
 use std::alloc::Global;
@@ -38,24 +38,49 @@ impl News {
     }
 }
 
-/// Returns the news in a leaf's text. Refused: NotCanonical (no rows of the range give the leaf this text), NoMemory,
-/// which may replace NotCanonical.
-pub(crate) fn leaf_news(
+/// A place in the text of a leaf, up to which its rows were read beside those of the local snapshot.
+#[derive(Clone, Copy)]
+pub struct NewsPlace<'a> {
+    /// The key of the last row before the place: no bytes at the first row.
+    pub(crate) last: &'a [u8],
+    /// The bytes from the place on.
+    pub(crate) rest: &'a [u8],
+    /// The number of versions of the rows before the place that the local snapshot has.
+    pub known: u64,
+}
+
+/// A step through the text of a leaf.
+#[derive(Drop)]
+pub struct NewsStep<'a> {
+    /// The next row that the local snapshot lacks, or `None` at the end of the text.
+    pub row: Option<Row>,
+    /// The place after that row, or at the end.
+    pub place: NewsPlace<'a>,
+}
+
+/// Reads on to the next row that the local snapshot lacks. Refused: NotCanonical (no rows of the range give the leaf
+/// this text), NoMemory, which may replace NotCanonical.
+pub(crate) fn next_news<'a>(
     alloc: Global,
-    own: &Snapshot,
+    own: &'a Snapshot,
     node: NodeAt,
-    text: &[u8],
-) -> Result<News, Refusal>
-    requires { node.depth ≡ tree_depth own.now.format }
-    ensures { ReadsNews own.now (as_node node) text.now result }
+    place: NewsPlace<'a>,
+) -> Result<NewsStep<'a>, Refusal>
+    requires leaf { node.depth ≡ tree_depth own.now.format }
+    requires read { (text : List ℕ) × (others : List Row)
+        × IsReadTo own.now (as_node node) text place.last.now place.rest.now others place.known }
+    ensures { (text : List ℕ) (others : List Row)
+        → IsReadTo own.now (as_node node) text place.entry.last.now place.entry.rest.now others place.entry.known
+        → MatchResult result (λ step. StepsTo own.now (as_node node) text (length place.entry.rest.now) others
+        step.row step.place.last.now step.place.rest.now step.place.known)
+        (IsReadFault own.now (as_node node) text) }
 {
-    let Some(body) = body_of(leaf_byte(own.format()), text) else {
-        return Err(Refusal::NotCanonical);
-    };
+    // Called for its clause alone: the local rows are those of a range.
+    let _format = own.format();
     let leaf = own.rows(node.index);
-    let mut news = News::none(alloc);
-    let mut last: &[u8] = &[];
-    let mut rest = body;
+    let mut known = place.known;
+    let mut last = place.last;
+    let mut rest = place.rest;
     'rows: while !rest.is_empty() {
         let Some(key) = key_at(rest) else {
             return Err(Refusal::NotCanonical);
@@ -64,27 +89,63 @@ pub(crate) fn leaf_news(
             return Err(Refusal::NotCanonical);
         }
         if let Some(skipped) = front_run(leaf, key, rest) {
-            news.known += skipped.versions;
+            known += skipped.versions;
             last = skipped.last;
             rest = skipped.after;
             continue;
         }
-        rest = match front_own(leaf, key, rest) {
-            Some((versions, after)) => {
-                news.known += versions;
-                after
-            }
-            None => {
-                let Some((row, after)) = front_row(alloc, own, node.index, rest)? else {
-                    return Err(Refusal::NotCanonical);
-                };
-                news.rows.push(row)?;
-                after
-            }
+        if let Some((versions, after)) = front_own(leaf, key, rest) {
+            known += versions;
+            last = key;
+            rest = after;
+            continue;
+        }
+        let Some((row, after)) = front_row(alloc, own, node.index, rest)? else {
+            return Err(Refusal::NotCanonical);
         };
-        last = key;
+        let place = NewsPlace {
+            last: key,
+            rest: after,
+            known,
+        };
+        return Ok(NewsStep {
+            row: Some(row),
+            place,
+        });
     }
-    Ok(news)
+    let place = NewsPlace { last, rest, known };
+    Ok(NewsStep { row: None, place })
+}
+
+/// Collects the news in a leaf's text from its first row on. Refused: NotCanonical (no rows of the range give the leaf
+/// this text), NoMemory, which may replace NotCanonical.
+pub(crate) fn leaf_news(
+    alloc: Global,
+    own: &Snapshot,
+    node: NodeAt,
+    first: NewsPlace<'_>,
+) -> Result<News, Refusal>
+    requires leaf { node.depth ≡ tree_depth own.now.format }
+    requires read { (text : List ℕ)
+        × IsReadTo own.now (as_node node) text first.last.now first.rest.now [] first.known }
+    ensures { (text : List ℕ) → IsReadTo own.now (as_node node) text first.entry.last.now first.entry.rest.now [] first.entry.known
+        → ReadsNews own.now (as_node node) text result }
+{
+    let mut rows = Vec::new(alloc);
+    let mut place = first;
+    'rows: loop {
+        let NewsStep { row, place: after } = next_news(alloc, own, node, place)?;
+        place = after;
+        match row {
+            Some(row) => rows.push(row)?,
+            None => {
+                return Ok(News {
+                    rows,
+                    known: place.known,
+                });
+            }
+        }
+    }
 }
 
 /// Local rows with which a text begins, one after another.

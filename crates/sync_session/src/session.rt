@@ -1,19 +1,20 @@
 //! A walk of two trees.
-ghost use Rattle.std.specs.Prelude.{◌≡◌, ◌<◌, ◌↔◌, None, [], IsTrue, map};
+ghost use Rattle.std.specs.Prelude.{◌≡◌, ◌<◌, ◌↔◌, ℕ, List, None, [], length, IsTrue, map, option_map, MatchResult};
 ghost use Rattle.std.specs.Arc.{arc_value};
 ghost use Rattle.vclock.specs.Answer.{Answers};
 ghost use Rattle.vclock.specs.Outcome.{Does, gives};
+ghost use Rattle.row_bytes.specs.declared.row.Row.{Row};
 ghost use Rattle.tree_nodes.specs.Nodes.{tree_depth};
 ghost use Rattle.sync_session.specs.TreeNodes.{as_node};
 ghost use Rattle.sync_session.specs.Walks.{TakenText, asks, IsCanonical, IsInnerText};
 ghost use Rattle.sync_session.specs.Steps.{state_by, started, after, failed, cancelled_by, IsDue, Takes};
-ghost use Rattle.sync_session.specs.Readings.{Shows, Tells, Awaits};
+ghost use Rattle.sync_session.specs.Readings.{Shows, Tells, Awaits, Begins, IsBeginFault, IsReadTo, StepsTo, IsReadFault};
 
-use crate::news::{News, leaf_news};
+use crate::news::{News, NewsPlace, NewsStep};
 use crate::state::SessionState;
 use crate::taken_text::Taken;
-use crate::{node_list, text_reader};
-use hash_tree::{Digest, Hashed, NodeAt, tree_depth};
+use crate::{news, node_list, text_reader};
+use hash_tree::{Digest, Hashed, NodeAt, leaf_byte, tree_depth};
 use row_bytes::RowList;
 use snapshot::Snapshot;
 use std::alloc::Global;
@@ -34,8 +35,8 @@ pub enum Answered {
 /// known at first. It asks for the root's text, then for the children whose digests differ, down to the leaves that
 /// differ, and no others. The partner isn't trusted: each text must have the digest that is expected at its node.
 ///
-/// Only `start`, `rows_of`, `news_of`, `take`, `take_inner` and `take_leaf` allocate. On error a session is unchanged, unless `take`
-/// refuses a text as NotCanonical: then the session has failed.
+/// Only `start`, `rows_of`, `next_news`, `news_of`, `take`, `take_inner` and `take_leaf` allocate. On error a session is
+/// unchanged, unless `take` refuses a text as NotCanonical: then the session has failed.
 ///
 /// ```
 /// match session.take(alloc, node, text)? {
@@ -179,6 +180,60 @@ impl Session {
         }
     }
 
+    /// Begins to read a text that is due, without taking it: returns the place of the first row of a leaf's text, and
+    /// `None` for the text of an inner node. Doesn't allocate.
+    ///
+    /// Refused, in order: NotAsked (the node isn't outstanding), WrongDigest (the text's digest isn't the one expected
+    /// at the node), NotCanonical (an inner node can't have this text, or a leaf's text begins otherwise).
+    pub fn begin_news<'a>(
+        &'a self,
+        node: NodeAt,
+        text: &'a Hashed,
+    ) -> Result<Option<NewsPlace<'a>>, Refusal>
+        ensures { MatchResult result (λ place. Begins self.now (record { node = as_node node; text = text.now })
+            (option_map (λ p. (p.last.now, p.rest.now, p.known)) place))
+            (IsBeginFault self.now (record { node = as_node node; text = text.now })) }
+    {
+        self.expects(node, text)?;
+        if self.is_inner(node, text) {
+            return Ok(None);
+        }
+        let format = self.own.format();
+        if node.depth != tree_depth(format) {
+            return Err(Refusal::NotCanonical);
+        }
+        match text_reader::body_of(leaf_byte(format), text.text()) {
+            Some(body) => Ok(Some(NewsPlace {
+                last: &[],
+                rest: body,
+                known: 0,
+            })),
+            None => Err(Refusal::NotCanonical),
+        }
+    }
+
+    /// Reads a leaf's text on from a place to the next row that the local snapshot lacks, without taking the text. A row
+    /// that the local snapshot has, byte by byte, is counted and not read.
+    ///
+    /// Refused: NotCanonical (no rows of the range give the leaf this text), NoMemory, which may replace NotCanonical.
+    pub fn next_news<'a>(
+        &'a self,
+        alloc: Global,
+        node: NodeAt,
+        place: NewsPlace<'a>,
+    ) -> Result<NewsStep<'a>, Refusal>
+        requires leaf { node.depth ≡ tree_depth self.now.own.format }
+        requires read { (text : List ℕ) × (others : List Row)
+            × IsReadTo self.now.own (as_node node) text place.last.now place.rest.now others place.known }
+        ensures { (text : List ℕ) (others : List Row)
+            → IsReadTo self.now.own (as_node node) text place.entry.last.now place.entry.rest.now others place.entry.known
+            → MatchResult result (λ step. StepsTo self.now.own (as_node node) text (length place.entry.rest.now) others
+            step.row step.place.last.now step.place.rest.now step.place.known)
+            (IsReadFault self.now.own (as_node node) text) }
+    {
+        news::next_news(alloc, &self.own, node, place)
+    }
+
     /// Returns the rows in a text that is due and that the local snapshot lacks, without taking the text. A row that
     /// the local snapshot has is counted and not read. The text of an inner node has no rows.
     ///
@@ -187,14 +242,10 @@ impl Session {
     pub fn news_of(&self, alloc: Global, node: NodeAt, text: &Hashed) -> Result<News, Refusal>
         ensures { Tells self.now (record { node = as_node node; text = text.now }) result }
     {
-        self.expects(node, text)?;
-        if self.is_inner(node, text) {
-            return Ok(News::none(alloc));
+        match self.begin_news(node, text)? {
+            Some(first) => news::leaf_news(alloc, &self.own, node, first),
+            None => Ok(News::none(alloc)),
         }
-        if node.depth != tree_depth(self.own.format()) {
-            return Err(Refusal::NotCanonical);
-        }
-        leaf_news(alloc, &self.own, node, text.text())
     }
 
     /// Takes a text for a node. At an inner node, the children whose digests in the text differ from the local
