@@ -59,7 +59,7 @@ with_record [] id P Q f h = absurd h
 with_record (r ∷ rs) zero P Q f h = f r (omega arith) refl h
 with_record (r ∷ rs) (suc id) P Q f h = with_record rs id P Q (λ x within was p. f x (omega (arith, within)) was p) h
 
-kept_at : (s : State) (id : ℕ) (r : Record) → IsRight s → slice_get s.records id ≡ Some r → IsKept s.config s.entries r
+pub kept_at : (s : State) (id : ℕ) (r : Record) → IsRight s → slice_get s.records id ≡ Some r → IsKept s.config s.entries r
 kept_at s id r ok here =
     let within = slice_get_within s.records id r here in
     record_kept s id r ok within (sym (get_or_from_slice_get s.records id r r here))
@@ -210,7 +210,7 @@ first_cause : (a b : Option Refusal) (e : Refusal) → (a ≡ Some e → e ≡ C
 first_cause None b e f g h = g h
 first_cause (Some x) b e f g h = f h
 
-crowded_is : (s : State) (seat : ℕ) (offers : Offers) (e : Refusal) → crowded_in s seat Partner offers ≡ Some e → e ≡ Crowded
+pub crowded_is : (s : State) (seat : ℕ) (offers : Offers) (e : Refusal) → crowded_in s seat Partner offers ≡ Some e → e ≡ Crowded
 crowded_is s seat [] e h = absurd (let clash : None ≡ Some e = h in cc)
 crowded_is s seat (o ∷ offers) e h = first_cause (offer_fault o.1 (held s.entries o.0)) _ e (crowded_cause o.1 (held s.entries o.0) e) (crowded_is (accept_step s seat Partner o.0 o.1) seat offers e) h
 

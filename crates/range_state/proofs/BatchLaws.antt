@@ -28,7 +28,7 @@ Offers = List (List ℕ × Version)
 
 -- ---- entries alone decide
 
-entries_step : (s : State) (seat : ℕ) (source : Source) (key : List ℕ) (v : Version) → (accept_step s seat source key v).entries ≡ cond (knows s key v) s.entries (s.entries ++ entry_of s seat source key v ∷ [])
+pub entries_step : (s : State) (seat : ℕ) (source : Source) (key : List ℕ) (v : Version) → (accept_step s seat source key v).entries ≡ cond (knows s key v) s.entries (s.entries ++ entry_of s seat source key v ∷ [])
 entries_step s seat source key v = elim (knows s key v) as (λ b. (cond b s (journaled s (entry_of s seat source key v))).entries ≡ cond b s.entries (s.entries ++ entry_of s seat source key v ∷ [])) [ true ↦ refl | false ↦ refl ]
 
 same_step : (s t : State) (seat : ℕ) (source : Source) (key : List ℕ) (v : Version) → s.entries ≡ t.entries → (accept_step s seat source key v).entries ≡ (accept_step t seat source key v).entries
@@ -129,7 +129,7 @@ set_ahead s leaf b key is at =
     ∙ ap (λ (n : ℕ). versions_in key (rows_in_leaf (leaf_in s.config) n (rows_of (ahead s b).entries))) at
     ∙ leaf_holds (leaf_in s.config) (ahead s b).entries key
 
-alone : (s : State) (seat : ℕ) (source : Source) (key : List ℕ) (v : Version) → crowded_in s seat source ((key, v) ∷ []) ≡ offer_fault v (held s.entries key)
+pub alone : (s : State) (seat : ℕ) (source : Source) (key : List ℕ) (v : Version) → crowded_in s seat source ((key, v) ∷ []) ≡ offer_fault v (held s.entries key)
 alone s seat source key v = elim (offer_fault v (held s.entries key)) as (λ o. first_fault o None ≡ o) [ Some e ↦ refl | None ↦ refl ]
 
 -- one that is known

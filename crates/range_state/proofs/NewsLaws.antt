@@ -14,6 +14,7 @@ use Rattle.hash_tree.proofs.KeyLaws.{all_get}
 use Rattle.sync_session.specs.declared.news.News.{News}
 use Rattle.sync_session.specs.Readings.{AreOthers}
 use Rattle.sync_session.specs.Walks.{TakenText, Held}
+use Rattle.sync_session.proofs.NewsRowLaws.{others_all}
 use Rattle.sync_session.proofs.StepLaws.{Held-grows}
 use Rattle.range_state.specs.State.{State, knows, accept_step}
 use Rattle.range_state.specs.Sessions.{offers_in, offers_of, taken_in, crowded_in}
@@ -97,17 +98,9 @@ news_stand s seat own (r ∷ rows) others known h news = elim news [
       same_idle s seat r rows others has.1.0 known (idle s seat r.key r.versions row) has.1.1 (news_stand s seat own rows others has.1.0 h has.1.2)
 ]
 
--- what holds of all rows holds of the news
-news_all : (P : Row → Type 0) (own rows others : List Row) (known : ℕ) → AllByRecursion P rows → AreOthers own rows others known → AllByRecursion P others
-news_all P own [] others known all news = subst (AllByRecursion P) (sym news.0) tt
-news_all P own (r ∷ rows) others known all news = elim news [
-  | inl other ↦ subst (AllByRecursion P) (sym other.1.1) (all.0, news_all P own rows other.1.0 known all.1 other.1.2)
-  | inr has ↦ news_all P own rows others has.1.0 all.1 has.1.2
-]
-
 -- what the news of a leaf's text have
 pub news_ready : {s : State} {id : ℕ} {t : TakenText} {news : News} → NewsRead s id t news → AllByRecursion (IsRowFor s.config t.node.index) news.rows.items × (length (offers_of news.rows.items) + news.known ≤ length t.text)
 news_ready {s = s} {t = t} {news = news} seen =
     let ready = rows_ready seen in
     let all = news_stand s 0 seen.own seen.rows news.rows.items news.known seen.held seen.parted in
-    (news_all (IsRowFor s.config t.node.index) seen.own seen.rows news.rows.items news.known ready.0 seen.parted, omega (arith, ready.1, all.count))
+    (others_all (IsRowFor s.config t.node.index) seen.own seen.rows news.rows.items news.known ready.0 seen.parted, omega (arith, ready.1, all.count))

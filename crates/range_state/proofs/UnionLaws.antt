@@ -130,7 +130,7 @@ abbrev pub offers_for : List ℕ → Offers → List Version
 offers_for key [] = []
 offers_for key (o ∷ offers) = cond (pointwise nat_eq o.0 key) (o.1 ∷ offers_for key offers) (offers_for key offers)
 
-step_held : (s : State) (seat : ℕ) (k : List ℕ) (v : Version) (key : List ℕ) → held (accept_step s seat Partner k v).entries key ≡ cond (pointwise nat_eq k key) (offered v (held s.entries key)) (held s.entries key)
+pub step_held : (s : State) (seat : ℕ) (k : List ℕ) (v : Version) (key : List ℕ) → held (accept_step s seat Partner k v).entries key ≡ cond (pointwise nat_eq k key) (offered v (held s.entries key)) (held s.entries key)
 step_held s seat k v key = elim (cases_Bool (knows s k v)) [
   | inl known ↦ ap (λ b. held (cond b s (journaled s (entry_of s seat Partner k v))).entries key) known ∙ by_key known (pointwise nat_eq k key) (bytes_eq-Decides k key)
   | inr news ↦ ap (λ b. held (cond b s (journaled s (entry_of s seat Partner k v))).entries key) news ∙ held-push s.entries (entry_of s seat Partner k v) key

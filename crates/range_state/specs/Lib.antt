@@ -18,3 +18,4 @@ pub mod Trees
 pub mod Counts
 pub mod Run
 pub mod Replays
+pub mod Judgements

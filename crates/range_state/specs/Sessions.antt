@@ -14,7 +14,7 @@ use Rattle.range_journal.specs.Journal.{held}
 use Rattle.row_bytes.specs.declared.row.Row.{Row}
 use Rattle.tree_nodes.specs.Nodes.{tree_depth}
 use Rattle.walk_messages.specs.declared.message.Offer.{Offer}
-use Rattle.sync_session.specs.Readings.{AreOthers}
+use Rattle.sync_session.specs.Readings.{AreOthers, Tells}
 use Rattle.sync_session.specs.declared.news.News.{News}
 use Rattle.sync_session.specs.Steps.{started, after, failed, cancelled_by, IsDue, IsTakeFault}
 use Rattle.sync_session.specs.Walks.{TakenText, Walk, AreSpelled, IsInnerText}
@@ -155,13 +155,26 @@ pub record IsLeafFault (s : State) (seat : ℕ) (r : Record) (t : TakenText) (e 
   pub read : IsLeafRead s r t rows
   pub fault : leaf_fault s seat (offers_of rows) ≡ Some e
 
+-- the fault of a text that is not taken
+abbrev pub TextFault : State → ℕ → Record → TakenText → Refusal → Type 0
+TextFault s seat r t refusals.Crowded = IsLeafFault s seat r t refusals.Crowded
+TextFault s seat r t refusals.JournalFull = IsLeafFault s seat r t refusals.JournalFull
+TextFault s seat r t e = IsTakeFault r.session t e
+
 -- the fault of a text, and the state afterwards: a session fails by a text that no node can have, otherwise nothing
 -- changes
 abbrev pub Refuses : State → ℕ → ℕ → Record → TakenText → Refusal → State → Type 0
-Refuses s seat id r t refusals.Crowded new = IsLeafFault s seat r t refusals.Crowded × (new ≡ s)
-Refuses s seat id r t refusals.JournalFull new = IsLeafFault s seat r t refusals.JournalFull × (new ≡ s)
-Refuses s seat id r t refusals.NotCanonical new = IsTakeFault r.session t refusals.NotCanonical × (new ≡ walked_to s id r (failed r.session))
-Refuses s seat id r t e new = IsTakeFault r.session t e × (new ≡ s)
+Refuses s seat id r t refusals.NotCanonical new = TextFault s seat r t refusals.NotCanonical × (new ≡ walked_to s id r (failed r.session))
+Refuses s seat id r t e new = TextFault s seat r t e × (new ≡ s)
+
+-- a text that a session can take: of an inner node, or of a leaf whose versions can all be accepted
+abbrev pub IsTakable : State → ℕ → Record → TakenText → Type 0
+IsTakable s seat r t = IsInnerRead s r t ⊎ ((rows : List Row) × IsLeafRead s r t rows × (leaf_fault s seat (offers_of rows) ≡ None))
+
+-- the news in a text for a session, if it can take the text
+abbrev pub TellsText : State → ℕ → Record → TakenText → Result News Refusal → Type 0
+TellsText s seat r t (Ok news) = Tells r.session t (Ok news) × IsTakable s seat r t
+TellsText s seat r t (Err e) = TextFault s seat r t e
 
 -- the result of a text for a session, and the state afterwards
 abbrev pub TakesText : State → ℕ → ℕ → Record → TakenText → Result AnswerTaken Refusal → State → Type 0

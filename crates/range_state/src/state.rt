@@ -31,6 +31,7 @@ mod answers;
 mod bulk;
 pub mod counts;
 mod format_loading;
+mod judgement;
 pub mod loading;
 mod migration;
 mod preparation;

@@ -8,3 +8,4 @@ pub mod OrderLaws
 pub mod NodeLists
 pub mod ReadingLaws
 pub mod NewsLaws
+pub mod NewsRowLaws

@@ -121,6 +121,6 @@ IsReadFault m n text refusals.NotCanonical = (rows : List Row) → AreSpelled m 
 IsReadFault m n text e = e ≡ refusals.NoMemory
 
 -- a text that is due: of an inner node, or of a leaf and read up to its first row
-abbrev pub Begins : Walk → TakenText → Option (List ℕ × List ℕ × ℕ) → Type 0
-Begins w t None = IsDue w t × (t.node.depth < tree_depth w.own.format) × IsInnerText w.own.format t.text
-Begins w t (Some p) = IsDue w t × (t.node.depth ≡ tree_depth w.own.format) × IsReadTo w.own t.node t.text p.0 p.1 [] p.2
+abbrev pub BeginsAtOnce : Walk → TakenText → Option (List ℕ × List ℕ × ℕ) → Type 0
+BeginsAtOnce w t None = IsDue w t × (t.node.depth < tree_depth w.own.format) × IsInnerText w.own.format t.text
+BeginsAtOnce w t (Some p) = IsDue w t × (t.node.depth ≡ tree_depth w.own.format) × IsReadTo w.own t.node t.text p.0 p.1 [] p.2

@@ -8,7 +8,7 @@ ghost use Rattle.tree_nodes.specs.Nodes.{tree_depth};
 ghost use Rattle.sync_session.specs.TreeNodes.{as_node};
 ghost use Rattle.sync_session.specs.Walks.{TakenText, asks, IsCanonical, IsInnerText};
 ghost use Rattle.sync_session.specs.Steps.{state_by, started, after, failed, cancelled_by, IsDue, Takes};
-ghost use Rattle.sync_session.specs.Readings.{Shows, Tells, Awaits, Begins, IsBeginFault, IsReadTo, StepsTo, IsReadFault};
+ghost use Rattle.sync_session.specs.Readings.{Shows, Tells, Awaits, BeginsAtOnce, IsBeginFault, IsReadTo, StepsTo, IsReadFault};
 
 use crate::news::{News, NewsPlace, NewsStep};
 use crate::state::SessionState;
@@ -190,7 +190,7 @@ impl Session {
         node: NodeAt,
         text: &'a Hashed,
     ) -> Result<Option<NewsPlace<'a>>, Refusal>
-        ensures { MatchResult result (λ place. Begins self.now (record { node = as_node node; text = text.now })
+        ensures { MatchResult result (λ place. BeginsAtOnce self.now (record { node = as_node node; text = text.now })
             (option_map (λ p. (p.last.now, p.rest.now, p.known)) place))
             (IsBeginFault self.now (record { node = as_node node; text = text.now })) }
     {

@@ -19,6 +19,7 @@ pub(crate) fn show_all<R: Print + AllocGlobal>(rt: &R, both: &Snapshots) -> io::
     let alloc = rt.alloc();
     show(rt, "Session::start", start(alloc, both))?;
     show(rt, "Session::rows_of", rows_of(alloc, both))?;
+    show(rt, "Session::next_news", next_news(alloc, both))?;
     show(rt, "Session::news_of", news_of(alloc, both))?;
     show(rt, "Session::take", take(alloc, both))?;
     show(rt, "Session::take_inner", take_inner(alloc, both))?;
@@ -78,6 +79,18 @@ fn rows_of(alloc: Global, both: &Snapshots) -> Result<u64, Refusal> {
     let session = session_after(alloc, both, ASKED.saturating_sub(1))?;
     let (node, text) = first_text(alloc, &session, &both.partner)?;
     Ok(session.rows_of(alloc, node, &text)?.len() as u64)
+}
+
+/// Returns the number of rows, 0 or 1, up to the first one in the leaf that is asked last and that the local snapshot
+/// lacks.
+fn next_news(alloc: Global, both: &Snapshots) -> Result<u64, Refusal> {
+    let session = session_after(alloc, both, ASKED.saturating_sub(1))?;
+    let (node, text) = first_text(alloc, &session, &both.partner)?;
+    let Some(first) = session.begin_news(node, &text)? else {
+        return Err(Refusal::Stale);
+    };
+    let step = session.next_news(alloc, node, first)?;
+    Ok(u64::from(step.row.is_some()))
 }
 
 /// Returns the number of rows in the leaf that is asked last and that the local snapshot lacks.

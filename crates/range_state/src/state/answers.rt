@@ -26,6 +26,7 @@ impl RangeState {
     /// NoMemory. Reading a leaf allocates, so at a leaf NoMemory may replace NotCanonical, Crowded and JournalFull. The
     /// state is unchanged after any refusal but NotCanonical.
     ///
+    /// A leaf is judged a row at a time before its rows are copied, so one that is refused takes the memory of one row.
     /// A row that is in the session's snapshot, too, isn't read: its bytes are compared, and its versions are known.
     pub fn take_answer(
         &mut self,
@@ -58,7 +59,8 @@ impl RangeState {
         ensures room { IfOk result (λ taken. (told.new.items ≡ [])
             ⊎ (vec_len told.new + vec_len taken.receipts ≤ vec_capacity told.new)) }
     {
-        match self.record(id)?.session.news_of(alloc, node, &text) {
+        let kept = self.record(id)?;
+        match self.news_of(alloc, kept, node, &text) {
             Ok(news) => {
                 if node.depth == tree_depth(self.config.format()) {
                     self.take_leaf(alloc, told, seat, id, node, text, &news)

@@ -104,7 +104,7 @@ impl RangeState {
 }
 
 /// Adds two counts. Refused: NoMemory (the sum is over 2^64 - 1: no memory holds that number of versions).
-fn sum(count: u64, more: u64) -> Result<u64, Refusal>
+pub(super) fn sum(count: u64, more: u64) -> Result<u64, Refusal>
     ensures { AnswersOrNoMemory result None (λ sum. sum ≡ count + more) }
 {
     count.checked_add(more).ok_or(Refusal::NoMemory)

@@ -1,0 +1,145 @@
+//! Judgement of a partner's text before anything of it is kept.
+ghost use Rattle.std.specs.Prelude.{◌≡◌, ◌+◌, ℕ, List, [], ◌∷◌, ◌++◌, ⊤, None, length};
+ghost use Rattle.vclock.specs.Answer.{Answers, AnswersAtOnce, AnswersOrNoMemory};
+ghost use Rattle.range_journal.specs.Journal.{held};
+ghost use Rattle.range_journal.specs.declared.journal.Source.TheVariants as sources;
+ghost use Rattle.row_bytes.specs.declared.row.Row.{Row};
+ghost use Rattle.tree_nodes.specs.Nodes.{tree_depth};
+ghost use Rattle.sync_session.specs.TreeNodes.{as_node};
+ghost use Rattle.sync_session.specs.Readings.{IsReadTo};
+ghost use Rattle.sync_session.specs.Walks.{Held};
+ghost use Rattle.range_state.specs.Records.{IsKept};
+ghost use Rattle.range_state.specs.State.{leaf_in};
+ghost use Rattle.range_state.specs.Sessions.{offers_in, offers_of, taken_in, crowded_in, leaf_fault, TellsText};
+ghost use Rattle.range_state.specs.Judgements.{HasOtherKeys, IsCounted, IsOfRange, JudgesLeaf};
+
+use crate::record::Record;
+use crate::state::RangeState;
+use crate::state::sync::sum;
+use hash_tree::{Hashed, NodeAt};
+use row_bytes::Row;
+use std::alloc::Global;
+use sync_session::{News, NewsPlace, NewsStep, Session};
+use vclock::Refusal;
+use version_set::{Offered, VersionSet};
+
+impl RangeState {
+    /// Returns the news in a text that the session of a kept record awaits, if all of it can be taken: no rows for an inner
+    /// node. A leaf's text is judged first, a row at a time, so a leaf that is refused costs the memory of one row.
+    ///
+    /// Refused, in order: NotAsked, WrongDigest, NotCanonical, Crowded, JournalFull, NoMemory. At a leaf NoMemory may
+    /// replace NotCanonical, Crowded and JournalFull.
+    pub(super) fn news_of(
+        &self,
+        alloc: Global,
+        kept: &Record,
+        node: NodeAt,
+        text: &Hashed,
+    ) -> Result<News, Refusal>
+        requires { IsKept self.now.config self.now.entries kept.now }
+        ensures { (seat : ℕ) → TellsText self.now seat kept.now
+            (record { node = as_node node; text = text.now }) result }
+    {
+        if let Some(first) = kept.session.begin_news(node, text)? {
+            self.judge_leaf(alloc, &kept.session, node, first)?;
+        }
+        kept.session.news_of(alloc, node, text)
+    }
+
+    /// Judges a leaf's text from its first row on. Refused, in order: NotCanonical (no rows of the range give the leaf
+    /// this text), Crowded, JournalFull, NoMemory, which may replace each of them.
+    fn judge_leaf(
+        &self,
+        alloc: Global,
+        session: &Session,
+        node: NodeAt,
+        first: NewsPlace<'_>,
+    ) -> Result<(), Refusal>
+        requires range { IsOfRange self.now.config session.now.own }
+        requires leaf { node.depth ≡ tree_depth session.now.own.format }
+        requires own { Held session.now.own.rows (held self.now.entries) }
+        requires read { (text : List ℕ)
+            × IsReadTo session.now.own (as_node node) text first.last.now first.rest.now [] first.known }
+        ensures { (text : List ℕ) (seat : ℕ)
+            → IsReadTo session.now.own (as_node node) text first.entry.last.now first.entry.rest.now [] first.entry.known
+            → JudgesLeaf self.now seat session.now.own (as_node node) text result }
+    {
+        let mut place = first;
+        let mut news = Some(0);
+        'rows: loop {
+            let NewsStep { row, place: after } = session.next_news(alloc, node, place)?;
+            place = after;
+            match row {
+                Some(row) => news = self.with_news(alloc, node.index, &row, news)?,
+                None => return self.judge(news),
+            }
+        }
+    }
+
+    /// Judges the news of a leaf by their number, or `None` if a key has too many versions. Refused, in order: Crowded,
+    /// JournalFull.
+    fn judge(&self, news: Option<u64>) -> Result<(), Refusal>
+        ensures { (seat : ℕ) (others : List Row) → IsCounted self.now seat others news
+            → AnswersAtOnce result (leaf_fault self.now seat (offers_of others)) (λ _. ⊤) }
+    {
+        match news {
+            None => Err(Refusal::Crowded),
+            Some(count) if count > self.config.limit() - self.journal.len() => {
+                Err(Refusal::JournalFull)
+            }
+            Some(_) => Ok(()),
+        }
+    }
+
+    /// Adds the number of a row's versions that are new: `None` from the first version on that is too many for its key.
+    /// Refused: NoMemory.
+    fn with_news(
+        &self,
+        alloc: Global,
+        leaf: u16,
+        row: &Row,
+        news: Option<u64>,
+    ) -> Result<Option<u64>, Refusal>
+        requires { leaf ≡ leaf_in self.now.config row.now.key }
+        ensures { (seat : ℕ) (others : List Row) → IsCounted self.now seat others news → HasOtherKeys row.now others
+            → AnswersOrNoMemory result None (IsCounted self.now seat (others ++ row.now ∷ [])) }
+    {
+        let Some(count) = news else {
+            return Ok(None);
+        };
+        match self.count_news(alloc, leaf, row) {
+            Ok(more) => Ok(Some(sum(count, more)?)),
+            Err(Refusal::Crowded) => Ok(None),
+            Err(refusal) => Err(refusal),
+        }
+    }
+
+    /// Counts the versions of a row that are new. Refused: Crowded (one version, in its turn, would be too many for the
+    /// key), NoMemory, which may replace Crowded.
+    fn count_news(&self, alloc: Global, leaf: u16, row: &Row) -> Result<u64, Refusal>
+        requires { leaf ≡ leaf_in self.now.config row.now.key }
+        ensures { (seat : ℕ) → AnswersOrNoMemory result (crowded_in self.now seat sources.Partner (offers_in row.now))
+            (λ count. length (taken_in self.now seat (offers_in row.now)).entries ≡ length self.now.entries + count) }
+    {
+        let mut set = self.set_at(alloc, leaf, row.key.as_slice())?;
+        let mut count = 0;
+        for version in row.versions.as_slice() {
+            match set.offer(version.try_clone()?)? {
+                Offered::Added => count += 1,
+                Offered::Known => {}
+            }
+        }
+        Ok(count)
+    }
+
+    /// Copies the set that is held for a key of a leaf. Refused: NoMemory.
+    fn set_at(&self, alloc: Global, leaf: u16, key: &[u8]) -> Result<VersionSet, Refusal>
+        requires { leaf ≡ leaf_in self.now.config key.now }
+        ensures { Answers result None (λ set. set ≡ held self.now.entries key.now) }
+    {
+        match self.leaves.get(leaf).search(key) {
+            (Some(set), _) => set.try_clone(alloc),
+            (None, _) => Ok(VersionSet::empty(alloc)),
+        }
+    }
+}
