@@ -118,7 +118,7 @@ pub(crate) unsafe fn value(
     let mut kind = 0;
     // SAFETY: the conditions are the same.
     let value = unsafe { bytes(|out, len, need| call(&mut kind, out, len, need)) }?;
-    Ok((Kind::from_number(kind.into()), value))
+    Ok((Kind::from(u64::from(kind)), value))
 }
 
 /// Returns the clock that a call writes.

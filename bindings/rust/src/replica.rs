@@ -169,7 +169,7 @@ impl Replica {
         value: Option<&[u8]>,
         context: &Clock,
     ) -> Result<Receipt, Refusal> {
-        let (kind, data, pairs) = (kind_of(value) as u8, value.unwrap_or_default(), context.pairs());
+        let (kind, data, pairs) = (kind_of(value).number() as u8, value.unwrap_or_default(), context.pairs());
         written(|receipt| {
             // SAFETY: as in `sys`.
             unsafe {
@@ -193,7 +193,7 @@ impl Replica {
     ///
     /// Refused as `BadClock`, `ClockFull`, `BadKey`, `BadValue`, `OtherRange`, `Crowded` or `JournalFull`.
     pub fn accept(&mut self, key: &[u8], version: &Version) -> Result<bool, Refusal> {
-        let (kind, data) = (version.kind() as u8, version.value.as_deref().unwrap_or_default());
+        let (kind, data) = (version.kind().number() as u8, version.value.as_deref().unwrap_or_default());
         let pairs = version.clock.pairs();
         let taken: u64 = written(|taken| {
             // SAFETY: as in `sys`.
@@ -339,10 +339,12 @@ impl Replica {
                 number
             })
         })?;
-        Ok(value.map(|value| {
-            let clock = Clock::from(pairs[..reading.pairs as usize].to_vec());
-            (Version::of(clock, (Kind::from_number(reading.kind), value)), reading.versions)
-        }))
+        value
+            .map(|value| {
+                let clock = Clock::from(pairs[..reading.pairs as usize].to_vec());
+                Ok((Version::of(clock, (Kind::from(reading.kind), value))?, reading.versions))
+            })
+            .transpose()
     }
 }
 
@@ -400,7 +402,7 @@ impl Replica {
     fn entry_parts(&mut self, number: u64) -> Result<Entry, Refusal> {
         let handle = self.handle.raw();
         // SAFETY: as in `sys`, for the four calls.
-        let (key, value, clock, source) = unsafe {
+        let (key, value, clock, source): (_, _, _, u64) = unsafe {
             (
                 bytes(|out, len, need| sys::antientropy_entry_key(handle, number, out, len, need))?,
                 value(|kind, out, len, need| sys::antientropy_entry_value(handle, number, kind, out, len, need))?,
@@ -408,7 +410,7 @@ impl Replica {
                 written(|source| sys::antientropy_entry_source(handle, number, source))?,
             )
         };
-        Ok(Entry { number, key, version: Version::of(clock, value), source: Source::from_number(source) })
+        Ok(Entry { number, key, version: Version::of(clock, value)?, source: Source::from(source) })
     }
 }
 
