@@ -7,11 +7,11 @@ import "C"
 //
 // Refused as [ErrBadMessage] if the tree has no such leaf.
 func (r *Replica) KeyAfter(leaf uint16, key []byte) (next []byte, found bool, err error) {
-	r.lock.Lock()
-	defer r.lock.Unlock()
-	return r.room.copyIfFound(func(out *C.uint8_t, outLen C.size_t) C.uint32_t {
-		return C.antientropy_key_after(&r.handle, C.uint64_t(leaf), bytesAt(key), C.size_t(len(key)), out, outLen,
-			&r.room.need)
+	held := r.at.locked()
+	defer held.lock.Unlock()
+	return held.room.copyIfFound(func(out *C.uint8_t, outLen C.size_t) C.uint32_t {
+		return C.antientropy_key_after(&held.handle, C.uint64_t(leaf), bytesAt(key), C.size_t(len(key)), out, outLen,
+			&held.room.need)
 	})
 }
 
