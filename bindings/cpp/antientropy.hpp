@@ -622,31 +622,44 @@ inline Result<std::optional<Version>> read_version(ReplicaHandle *replica, std::
     return or_none(read_version(replica, key, index, held));
 }
 
-inline Result<std::optional<std::string>> key_after(ReplicaHandle *replica, std::uint64_t leaf, std::string_view key) {
-    return or_none(bytes(
-        [&](auto... out) { return c::antientropy_key_after(replica, leaf, data(key), key.size(), out...); }));
-}
-
-/// The keys of all leaves, one at a time.
-class Keys {
+/// The keys of a leaf, one at a time.
+class LeafKeys {
 public:
-    explicit Keys(Shared<ReplicaHandle> replica) : replica_(std::move(replica)) {}
+    LeafKeys(Shared<ReplicaHandle> replica, std::uint64_t leaf) : replica_(std::move(replica)), leaf_(leaf) {}
 
     Result<std::optional<std::string>> operator()() {
-        while (true) {
-            auto next = key_after(replica_.get(), leaf_, key_);
-            if (!next && next.refusal() == Refusal::BadMessage) return std::optional<std::string>();
-            if (!next) return next;
-            key_ = next->value_or("");
-            if (*next) return next;
-            leaf_++;
-        }
+        const auto number = c::antientropy_key_next(replica_.get(), leaf_, key_, sizeof key_, &length_);
+        return or_none(result(number, text(key_, length_)));
+    }
+
+    /// Goes on with the next leaf.
+    void skip() {
+        leaf_++;
+        length_ = 0;
     }
 
 private:
     Shared<ReplicaHandle> replica_;
-    std::uint64_t leaf_ = 0;
-    std::string key_;
+    std::uint64_t leaf_, length_ = 0;
+    std::uint8_t key_[ANTIENTROPY_KEY_MAX];
+};
+
+/// The keys of all leaves, one at a time.
+class Keys {
+public:
+    explicit Keys(Shared<ReplicaHandle> replica) : keys_(std::move(replica), 0) {}
+
+    Result<std::optional<std::string>> operator()() {
+        while (true) {
+            auto next = keys_();
+            if (!next && next.refusal() == Refusal::BadMessage) return std::optional<std::string>();
+            if (!next || *next) return next;
+            keys_.skip();
+        }
+    }
+
+private:
+    LeafKeys keys_;
 };
 
 inline Result<Entry> entry(ReplicaHandle *replica, std::uint64_t number) {
@@ -1318,18 +1331,15 @@ public:
 
     /// Goes through the keys of a leaf, from 0, in ascending order. Refused: BadMessage (the tree has no such leaf).
     Sequence<std::string> keys_of(std::uint64_t leaf) {
-        const auto next = [replica = handle_.share(), leaf, key = std::string()]() mutable {
-            auto found = detail::key_after(replica.get(), leaf, key);
-            if (found && *found) key = **found;
-            return found;
-        };
-        return Sequence<std::string>(next);
+        return Sequence<std::string>(detail::LeafKeys(handle_.share(), leaf));
     }
 
     /// Returns the least key of a leaf above a key, or the first one for a key of no bytes; none if no key follows.
     /// Refused: BadMessage (the tree has no such leaf).
     Result<std::optional<std::string>> key_after(std::uint64_t leaf, std::string_view key) {
-        return detail::key_after(at(), leaf, key);
+        return detail::or_none(detail::bytes([&](auto... out) {
+            return c::antientropy_key_after(at(), leaf, detail::data(key), key.size(), out...);
+        }));
     }
 
     // ---- the journal

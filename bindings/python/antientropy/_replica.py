@@ -2,11 +2,11 @@
 
 from __future__ import annotations
 
-from ctypes import c_uint64
+from ctypes import byref, c_uint64, create_string_buffer
 from typing import BinaryIO, Callable, Iterable, Iterator, List, Optional, Sequence
 
 from . import _checkpoint, _sync
-from ._calls import CLOCK_MAX
+from ._calls import CLOCK_MAX, KEY_MAX
 from ._convert import fits, to_bytes, to_clock, to_kind, to_pairs, to_value
 from ._handle import Handle, Results
 from ._library import Library, current
@@ -182,13 +182,16 @@ class Replica(Handle):
 
     def keys_of(self, leaf: int) -> Iterator[bytes]:
         """Yields the keys of a leaf in ascending order. Raises BadMessage if the tree has no such leaf."""
-        key = b""
+        fits(leaf, 64)
+        key, length = create_string_buffer(KEY_MAX), c_uint64()
         while True:
-            try:
-                key = self._get_bytes("key_after", fits(leaf, 64), key, len(key))
-            except class_of("NoVersion"):
+            with self._lock:
+                number = self._library.key_next(self._at, leaf, key, KEY_MAX, byref(length))
+            if number == self._library.no_version:
                 return
-            yield key
+            if number:
+                raise self._library.refusal("key_next", number)
+            yield key.raw[: length.value]
 
     def _read_or_none(self, key: bytes, index: int) -> Optional[Version]:
         fits(index, 64)

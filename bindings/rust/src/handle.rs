@@ -10,6 +10,9 @@ use crate::values::{Clock, Kind, Pair};
 /// Bytes that a call gets on the stack for its result. A longer result needs a second call.
 const BYTES_ROOM: usize = 16 << 10;
 
+/// Bytes of the longest key.
+pub(crate) const KEY_MAX: usize = 255;
+
 /// The most pairs of a clock.
 pub(crate) const CLOCK_MAX: usize = 32;
 

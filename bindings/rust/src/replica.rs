@@ -6,7 +6,7 @@ use std::{fmt, iter};
 
 use crate::checkpoint::{self, CheckpointError};
 use crate::functions::read_offer;
-use crate::handle::{bytes, clock, value, written, Owned, CLOCK_MAX};
+use crate::handle::{bytes, clock, value, written, Owned, CLOCK_MAX, KEY_MAX};
 use crate::refusal::{check, found, Refusal};
 use crate::session::{Session, SessionId};
 use crate::snapshot::Snapshot;
@@ -129,6 +129,19 @@ impl Replica {
             // SAFETY: as in `sys`.
             unsafe { sys::antientropy_count(self.handle.raw(), counts) }
         })
+    }
+}
+
+/// The key of a leaf that an iterator has returned last.
+struct Seen {
+    leaf: u16,
+    key: [u8; KEY_MAX],
+    len: u64,
+}
+
+impl Seen {
+    fn none_of(leaf: u16) -> Seen {
+        Seen { leaf, key: [0; KEY_MAX], len: 0 }
     }
 }
 
@@ -291,38 +304,46 @@ impl Replica {
     /// # Ok::<(), antientropy::Refusal>(())
     /// ```
     pub fn keys(&mut self) -> impl Iterator<Item = Result<Vec<u8>, Refusal>> + '_ {
-        let mut last = Some((0, Vec::new()));
+        let mut seen = Some(Seen::none_of(0));
         iter::from_fn(move || {
-            let (leaf, key) = last.take()?;
-            let next = self.key_from(leaf, &key).transpose()?;
-            last = next.as_ref().ok().cloned();
-            Some(next.map(|(_, key)| key))
+            let next = self.key_on(seen.as_mut()?).transpose();
+            if !matches!(next, Some(Ok(_))) {
+                seen = None;
+            }
+            next
         })
     }
 
     /// Returns an iterator over the keys of a leaf, in ascending order. Its first result is a refusal as `BadMessage`
     /// if the tree has no such leaf.
     pub fn keys_of(&mut self, leaf: u16) -> impl Iterator<Item = Result<Vec<u8>, Refusal>> + '_ {
-        let mut last = Some(Vec::new());
+        let mut seen = Some(Seen::none_of(leaf));
         iter::from_fn(move || {
-            let next = self.key_after(leaf, &last.take()?).transpose()?;
-            last = next.as_ref().ok().cloned();
-            Some(next)
+            let next = self.key_next(seen.as_mut()?).transpose();
+            if !matches!(next, Some(Ok(_))) {
+                seen = None;
+            }
+            next
         })
     }
 
-    /// Returns the key after a key of a leaf, in this leaf or in those after it, with its leaf.
-    fn key_from(&mut self, first: u16, key: &[u8]) -> Result<Option<(u16, Vec<u8>)>, Refusal> {
-        let mut after = key;
-        for leaf in first.. {
-            match self.key_after(leaf, after) {
-                Ok(Some(key)) => return Ok(Some((leaf, key))),
-                Ok(None) => after = &[],
-                Err(Refusal::BadMessage) => break,
-                Err(refusal) => return Err(refusal),
+    /// Returns the next key of a leaf, or the first one of those after it.
+    fn key_on(&mut self, seen: &mut Seen) -> Result<Option<Vec<u8>>, Refusal> {
+        loop {
+            match self.key_next(seen) {
+                Ok(None) => *seen = Seen::none_of(seen.leaf + 1),
+                Err(Refusal::BadMessage) => return Ok(None),
+                next => return next,
             }
         }
-        Ok(None)
+    }
+
+    /// Returns the next key of a leaf.
+    fn key_next(&mut self, seen: &mut Seen) -> Result<Option<Vec<u8>>, Refusal> {
+        let (handle, leaf, key) = (self.handle.raw(), seen.leaf.into(), seen.key.as_mut_ptr());
+        // SAFETY: as in `sys`.
+        let next = check(unsafe { sys::antientropy_key_next(handle, leaf, key, KEY_MAX, &mut seen.len) });
+        Ok(found(next)?.map(|()| seen.key[..seen.len as usize].to_vec()))
     }
 
     /// Returns one of the versions held for a key, with the number of all.

@@ -188,7 +188,9 @@ fn numbers_of_a_newer_library() {
 #[test]
 fn limits() {
     let numbers = numbers();
-    assert!(text("src/handle.rs").contains(&format!("CLOCK_MAX: usize = {};", numbers["CLOCK_MAX"])));
+    for limit in ["CLOCK_MAX", "KEY_MAX"] {
+        assert!(text("src/handle.rs").contains(&format!("{limit}: usize = {};", numbers[limit])));
+    }
     assert!(text("src/values.rs").contains(&format!("Root = [u8; {}];", numbers["ROOT_LEN"])));
     assert!(text("src/replica.rs").contains("limit: 1_000_000 }") && numbers["ENTRIES_MAX"] == 1_000_000);
     let leaves = format!("1 => Ok({}), 2 => Ok({}),", numbers["LEAVES_1"], numbers["LEAVES_2"]);
