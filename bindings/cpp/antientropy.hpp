@@ -6,7 +6,8 @@
 ///
 /// RESULTS. A call that can be refused returns a `Result`: a value, or the `Refusal` of the first cause in the call's
 /// list. A refused call changes nothing, except as antientropy.h says. What isn't there is no refusal: the value is a
-/// std::optional, and has none. This header throws no exception. Those of the standard library pass through it
+/// std::optional, and has none. `value` of a result without one throws a `BadAccess`, or ends the program if exceptions
+/// are off. No other call throws an exception of this header. Those of the standard library pass through it
 /// (std::bad_alloc, or what a stream throws on demand), and so do those of a `Reach`.
 ///
 /// OBJECTS. All classes with a handle are moved, not copied. A call of an object that was closed or moved from is
@@ -27,14 +28,20 @@
 #error "include antientropy.hpp without antientropy.h, whose names it has in antientropy::c"
 #endif
 
+#include <fcntl.h>
 #include <stdbool.h>
 #include <stddef.h>
 #include <stdint.h>
+#include <unistd.h>
 
 #include <algorithm>
 #include <cassert>
+#include <cerrno>
 #include <cstddef>
 #include <cstdint>
+#include <cstdio>
+#include <cstdlib>
+#include <filesystem>
 #include <functional>
 #include <initializer_list>
 #include <istream>
@@ -42,8 +49,10 @@
 #include <memory>
 #include <optional>
 #include <ostream>
+#include <stdexcept>
 #include <string>
 #include <string_view>
+#include <system_error>
 #include <utility>
 #include <variant>
 #include <vector>
@@ -90,7 +99,59 @@ enum class Refusal : std::uint32_t {
     NoVersion = c::ANTIENTROPY_NO_VERSION,
 };
 
-/// What `Result` and `FileResult` share: a value, or an error. Test it before its value is used.
+/// Why a checkpoint wasn't written or loaded.
+enum class Fault {
+    NotWritten, ///< the stream failed, or a call of the system, whose error is in `system`
+    NoCheckpoint, ///< the bytes don't begin as a checkpoint of format 1 or 2 does
+    Truncated, ///< the file ends early, a length in it is damaged, or it can't be read
+    Damaged, ///< its numbers or rows are refused, its root differs, or bytes follow
+    Refused ///< a call was refused for a cause that isn't the file's: BadRing (the limit), JournalFull, NoMemory, Empty
+};
+
+/// The error of a checkpoint. `refusal` is that of the call that was refused, if any, and `system` the `errno` of the
+/// call of the system that failed, if any.
+struct FileError {
+    Fault fault;
+    std::optional<Refusal> refusal;
+    std::error_code system = {};
+};
+
+/// Returns the library's name of a cause: "BadKey" for BadKey. Other numbers have no name.
+inline std::string name(Refusal refusal);
+
+/// Returns an error in words: "NotWritten: No space left on device", or "Damaged: BadRing".
+inline std::string name(const FileError &error);
+
+/// What `value` throws if there is none. Its message has the name of the error.
+template <class E>
+class BadAccess : public std::runtime_error {
+public:
+    explicit BadAccess(E error) : std::runtime_error("antientropy: " + name(error)), error_(error) {}
+
+    /// The error: a `Refusal` or a `FileError`.
+    const E &error() const noexcept { return error_; }
+
+private:
+    E error_;
+};
+
+namespace detail {
+
+/// Throws, or without exceptions writes the message to the standard error and aborts.
+template <class E>
+[[noreturn]] void fail(const E &error) {
+    const BadAccess<E> bad(error);
+#ifdef __cpp_exceptions
+    throw bad;
+#else
+    std::fprintf(stderr, "%s\n", bad.what());
+    std::abort();
+#endif
+}
+
+} // namespace detail
+
+/// What `Result` and `FileResult` share: a value, or an error.
 template <class T, class E>
 class Either {
 public:
@@ -100,13 +161,18 @@ public:
     /// True if there is a value.
     explicit operator bool() const noexcept { return held_.index() == 0; }
 
-    /// The value.
+    /// The value. Throws BadAccess if there is none.
+    T &value() & { return *checked().held(); }
+    const T &value() const & { return *checked().held(); }
+    /// The value of a temporary, moved out of it.
+    T value() && { return std::move(*checked().held()); }
+
+    /// The value. That there is one was tested before: only assert tests it here.
     T &operator*() & { return *held(); }
     const T &operator*() const & { return *held(); }
-    /// The value of a temporary, moved out of it.
     T operator*() && { return std::move(*held()); }
 
-    /// Access to the value.
+    /// Access to the value, as by `*`.
     T *operator->() { return held(); }
     const T *operator->() const { return held(); }
 
@@ -118,6 +184,15 @@ protected:
     }
 
 private:
+    Either &checked() {
+        std::as_const(*this).checked();
+        return *this;
+    }
+    const Either &checked() const {
+        if (!*this) detail::fail(failure());
+        return *this;
+    }
+
     T *held() {
         assert(*this);
         return std::get_if<0>(&held_);
@@ -150,6 +225,11 @@ public:
     /// True if the call wasn't refused.
     explicit operator bool() const noexcept { return !refusal_; }
 
+    /// Throws BadAccess if the call was refused.
+    void value() const {
+        if (refusal_) detail::fail(*refusal_);
+    }
+
     /// The cause, if the call was refused.
     Refusal refusal() const {
         assert(refusal_);
@@ -158,21 +238,6 @@ public:
 
 private:
     std::optional<Refusal> refusal_;
-};
-
-/// Why a checkpoint wasn't written or loaded.
-enum class Fault {
-    NotWritten, ///< the stream failed
-    NoCheckpoint, ///< the bytes don't begin as a checkpoint of format 1 or 2 does
-    Truncated, ///< the file ends early, a length in it is damaged, or it can't be read
-    Damaged, ///< its numbers or rows are refused, its root differs, or bytes follow
-    Refused ///< a call was refused for a cause that isn't the file's: BadRing (the limit), JournalFull, NoMemory, Empty
-};
-
-/// The error of a checkpoint. `refusal` is that of the call that was refused, if any.
-struct FileError {
-    Fault fault;
-    std::optional<Refusal> refusal;
 };
 
 /// The result of a call that writes or reads a checkpoint: a value, or an error that is no refusal.
@@ -557,31 +622,44 @@ inline Result<std::optional<Version>> read_version(ReplicaHandle *replica, std::
     return or_none(read_version(replica, key, index, held));
 }
 
-inline Result<std::optional<std::string>> key_after(ReplicaHandle *replica, std::uint64_t leaf, std::string_view key) {
-    return or_none(bytes(
-        [&](auto... out) { return c::antientropy_key_after(replica, leaf, data(key), key.size(), out...); }));
-}
-
-/// The keys of all leaves, one at a time.
-class Keys {
+/// The keys of a leaf, one at a time.
+class LeafKeys {
 public:
-    explicit Keys(Shared<ReplicaHandle> replica) : replica_(std::move(replica)) {}
+    LeafKeys(Shared<ReplicaHandle> replica, std::uint64_t leaf) : replica_(std::move(replica)), leaf_(leaf) {}
 
     Result<std::optional<std::string>> operator()() {
-        while (true) {
-            auto next = key_after(replica_.get(), leaf_, key_);
-            if (!next && next.refusal() == Refusal::BadMessage) return std::optional<std::string>();
-            if (!next) return next;
-            key_ = next->value_or("");
-            if (*next) return next;
-            leaf_++;
-        }
+        const auto number = c::antientropy_key_next(replica_.get(), leaf_, key_, sizeof key_, &length_);
+        return or_none(result(number, text(key_, length_)));
+    }
+
+    /// Goes on with the next leaf.
+    void skip() {
+        leaf_++;
+        length_ = 0;
     }
 
 private:
     Shared<ReplicaHandle> replica_;
-    std::uint64_t leaf_ = 0;
-    std::string key_;
+    std::uint64_t leaf_, length_ = 0;
+    std::uint8_t key_[ANTIENTROPY_KEY_MAX];
+};
+
+/// The keys of all leaves, one at a time.
+class Keys {
+public:
+    explicit Keys(Shared<ReplicaHandle> replica) : keys_(std::move(replica), 0) {}
+
+    Result<std::optional<std::string>> operator()() {
+        while (true) {
+            auto next = keys_();
+            if (!next && next.refusal() == Refusal::BadMessage) return std::optional<std::string>();
+            if (!next || *next) return next;
+            keys_.skip();
+        }
+    }
+
+private:
+    LeafKeys keys_;
 };
 
 inline Result<Entry> entry(ReplicaHandle *replica, std::uint64_t number) {
@@ -673,6 +751,59 @@ inline std::string to_bytes(const Head &head) {
     return std::string(magic) + to_bytes(head.format, 1) + to_bytes(head.bits, 1) + to_bytes(head.range, 2) + head.root;
 }
 
+/// A file that is written beside the one whose place it takes. It is removed if it doesn't take it.
+class NewFile {
+public:
+    explicit NewFile(std::filesystem::path place)
+        : place_(std::move(place)), name_(place_.native() + ".new"),
+          at_(::open(name_.c_str(), O_WRONLY | O_CREAT | O_TRUNC | O_CLOEXEC, 0666)) {
+        check(at_ >= 0);
+    }
+    NewFile(const NewFile &) = delete;
+    NewFile &operator=(const NewFile &) = delete;
+    ~NewFile() {
+        if (at_ < 0) return;
+        ::close(at_);
+        if (!placed_) ::unlink(name_.c_str());
+    }
+
+    /// The error of the first call of the system that failed, if any.
+    std::error_code error() const noexcept { return error_; }
+
+    /// Writes bytes. Returns false if there is an error.
+    bool write(std::string_view bytes) {
+        while (!error_ && !bytes.empty()) {
+            const auto written = ::write(at_, bytes.data(), bytes.size());
+            if (written >= 0) bytes.remove_prefix(static_cast<std::size_t>(written));
+            else if (errno != EINTR) check(false);
+        }
+        return !error_;
+    }
+
+    /// Brings the bytes to the disk, then the file to its place, and then the folder, which names it, to the disk.
+    void take_place() {
+        placed_ = check(::fsync(at_) == 0) && check(std::rename(name_.c_str(), place_.c_str()) == 0);
+        if (!placed_) return;
+        const auto folder = place_.has_parent_path() ? place_.parent_path() : ".";
+        const int at = ::open(folder.c_str(), O_RDONLY | O_DIRECTORY | O_CLOEXEC);
+        if (!check(at >= 0)) return;
+        check(::fsync(at) == 0);
+        ::close(at);
+    }
+
+private:
+    bool check(bool done) {
+        if (!done) error_.assign(errno, std::generic_category());
+        return done;
+    }
+
+    std::error_code error_;
+    bool placed_ = false;
+    std::filesystem::path place_;
+    std::string name_;
+    int at_;
+};
+
 inline FileResult<Head> read_head(std::istream &file) {
     const auto bytes = read_bytes(file, head_length);
     if (!bytes) return FileError{Fault::Truncated, std::nullopt};
@@ -691,11 +822,17 @@ inline FileResult<Head> read_head(std::istream &file) {
 /// Returns the version of the library, as ANTIENTROPY_VERSION.
 inline std::uint32_t version() { return c::antientropy_version(); }
 
-/// Returns the library's name of a cause: "BadKey" for BadKey. Other numbers have no name.
 inline std::string name(Refusal refusal) {
     const auto number = static_cast<std::uint32_t>(refusal);
     auto found = detail::bytes([&](auto... out) { return c::antientropy_name(number, out...); });
     return found ? *std::move(found) : std::string();
+}
+
+inline std::string name(const FileError &error) {
+    constexpr const char *faults[] = {"NotWritten", "NoCheckpoint", "Truncated", "Damaged", "Refused"};
+    std::string fault = faults[static_cast<int>(error.fault)];
+    if (error.refusal) return fault + ": " + name(*error.refusal);
+    return error.system ? fault + ": " + error.system.message() : fault;
 }
 
 /// Returns the range and the leaf of a key, in a ring of 2^bits ranges (bits 0 to 8) of format 1 or 2.
@@ -779,15 +916,21 @@ public:
     /// Writes a checkpoint of the rows (docs/FORMATS.md), and returns the number of the journal's entries that are in
     /// it. The caller brings the file to its disk. Errors: NotWritten, Refused.
     FileResult<std::uint64_t> save(std::ostream &file) {
-        auto digest = root();
-        if (!digest) return FileError{Fault::Refused, digest.refusal()};
-        file << detail::to_bytes(detail::Head{format_, bits_, range_, std::move(*digest)});
-        for (unsigned leaf = 0; leaf < detail::leaves_of(format_) && file; leaf++) {
-            const auto texts = rows(leaf);
-            if (!texts) return FileError{Fault::Refused, texts.refusal()};
-            file << detail::to_bytes(texts->size(), 8) << *texts;
-        }
+        const auto error = write([&](const std::string &bytes) { return bool(file << bytes); });
+        if (error) return *error;
         if (!file.flush()) return FileError{Fault::NotWritten, std::nullopt};
+        return entries_;
+    }
+
+    /// Saves a checkpoint in place of the file at a path, and brings it to the disk. It is written first to a file of
+    /// that name with ".new" after it: so one save to a path at a time. After an error, or if the program ends on the
+    /// way, the old checkpoint is there or the new one, whole. Errors: NotWritten, Refused.
+    FileResult<std::uint64_t> save(const std::filesystem::path &path) {
+        detail::NewFile file(path);
+        const auto error = write([&](const std::string &bytes) { return file.write(bytes); });
+        if (error && error->refusal) return *error;
+        if (!error) file.take_place();
+        if (file.error()) return FileError{Fault::NotWritten, std::nullopt, file.error()};
         return entries_;
     }
 
@@ -798,6 +941,21 @@ private:
         : format_(format), bits_(bits), range_(range) {}
 
     c::antientropy_offered *at() { return handle_.get(); }
+
+    /// Writes the bytes of a checkpoint by a function that returns false if it can't.
+    template <class Write>
+    std::optional<FileError> write(Write write) {
+        auto digest = root();
+        if (!digest) return FileError{Fault::Refused, digest.refusal()};
+        bool written = write(detail::to_bytes(detail::Head{format_, bits_, range_, std::move(*digest)}));
+        for (unsigned leaf = 0; leaf < detail::leaves_of(format_) && written; leaf++) {
+            const auto texts = rows(leaf);
+            if (!texts) return FileError{Fault::Refused, texts.refusal()};
+            written = write(detail::to_bytes(texts->size(), 8) + *texts);
+        }
+        if (!written) return FileError{Fault::NotWritten, std::nullopt};
+        return std::nullopt;
+    }
 
     detail::Owner<c::antientropy_offered, c::antientropy_snapshot_free> handle_;
     std::uint64_t format_, bits_, range_, entries_ = 0;
@@ -1173,18 +1331,15 @@ public:
 
     /// Goes through the keys of a leaf, from 0, in ascending order. Refused: BadMessage (the tree has no such leaf).
     Sequence<std::string> keys_of(std::uint64_t leaf) {
-        const auto next = [replica = handle_.share(), leaf, key = std::string()]() mutable {
-            auto found = detail::key_after(replica.get(), leaf, key);
-            if (found && *found) key = **found;
-            return found;
-        };
-        return Sequence<std::string>(next);
+        return Sequence<std::string>(detail::LeafKeys(handle_.share(), leaf));
     }
 
     /// Returns the least key of a leaf above a key, or the first one for a key of no bytes; none if no key follows.
     /// Refused: BadMessage (the tree has no such leaf).
     Result<std::optional<std::string>> key_after(std::uint64_t leaf, std::string_view key) {
-        return detail::key_after(at(), leaf, key);
+        return detail::or_none(detail::bytes([&](auto... out) {
+            return c::antientropy_key_after(at(), leaf, detail::data(key), key.size(), out...);
+        }));
     }
 
     // ---- the journal
@@ -1270,6 +1425,14 @@ public:
         auto now = snapshot();
         if (!now) return refused(now.refusal());
         return now->save(file);
+    }
+
+    /// Saves a checkpoint of the rows now in place of the file at a path, and brings it to the disk: see
+    /// `Snapshot::save`. Errors: NotWritten, Refused.
+    FileResult<std::uint64_t> save(const std::filesystem::path &path) {
+        auto now = snapshot();
+        if (!now) return refused(now.refusal());
+        return now->save(path);
     }
 
     // ---- sessions

@@ -2,7 +2,9 @@ package antientropy
 
 import (
 	"fmt"
+	"io"
 	"reflect"
+	"runtime"
 	"sync"
 	"testing"
 	"time"
@@ -21,24 +23,33 @@ type handle struct {
 
 // emptyHandles returns an object of each type with methods that call the library.
 func emptyHandles() []handle {
-	replica, snapshot, hints, slots := new(Replica), new(Snapshot), new(Hints), new(Slots)
+	r, s, h, l := new(replica), new(snapshot), new(hints), new(slots)
 	return []handle{
-		{replica, &replica.lock},
-		{snapshot, &snapshot.lock},
-		{hints, &hints.lock},
-		{slots, &slots.lock},
-		{&Session{replica: replica}, &replica.lock},
+		{&Replica{r}, &r.lock},
+		{&Snapshot{at: s}, &s.lock},
+		{&Hints{h}, &h.lock},
+		{&Slots{l}, &l.lock},
+		{&Session{replica: r}, &r.lock},
 	}
 }
 
-// callMethod calls a method with arguments that are 0, except that bytes are an offer. It returns the error of the
-// method, or of the scanner that the method returns.
+// zeroHandles returns the zero value of each type.
+func zeroHandles() []handle {
+	return []handle{{object: new(Replica)}, {object: new(Snapshot)}, {object: new(Hints)}, {object: new(Slots)},
+		{object: new(Session)}}
+}
+
+// callMethod calls a method with arguments that are 0, except that bytes are an offer, and that a reach brings nothing.
+// It returns the error of the method, or of the scanner that the method returns.
 func callMethod(method reflect.Value) error {
 	var arguments []reflect.Value
 	for i := 0; i < method.Type().NumIn(); i++ {
 		argument := reflect.Zero(method.Type().In(i))
-		if argument.Type() == reflect.TypeOf([]byte{}) {
+		switch argument.Type() {
+		case reflect.TypeOf([]byte{}):
 			argument = reflect.ValueOf(append([]byte{1}, make([]byte, OfferLen-1)...))
+		case reflect.TypeOf(Reach(nil)):
+			argument = reflect.ValueOf(Reach(func([][]byte) ([][]byte, error) { return nil, nil }))
 		}
 		arguments = append(arguments, argument)
 	}
@@ -52,9 +63,9 @@ func callMethod(method reflect.Value) error {
 	return err
 }
 
-// eachMethod calls a function with each method that reads a handle.
-func eachMethod(call func(name string, method reflect.Value, lock *sync.Mutex)) {
-	for _, handle := range emptyHandles() {
+// eachMethod calls a function with each method that reads one of the handles.
+func eachMethod(handles []handle, call func(name string, method reflect.Value, lock *sync.Mutex)) {
+	for _, handle := range handles {
 		object := reflect.ValueOf(handle.object)
 		for i := 0; i < object.NumMethod(); i++ {
 			name := fmt.Sprint(object.Type().Elem().Name(), ".", object.Type().Method(i).Name)
@@ -67,7 +78,7 @@ func eachMethod(call func(name string, method reflect.Value, lock *sync.Mutex)) 
 
 func TestEachMethodOfAHandleThatHoldsNothing(t *testing.T) {
 	count := 0
-	eachMethod(func(name string, method reflect.Value, _ *sync.Mutex) {
+	eachMethod(append(emptyHandles(), zeroHandles()...), func(name string, method reflect.Value, _ *sync.Mutex) {
 		err := callMethod(method)
 		isFree := method.Type().NumIn() == 0 && method.Type().NumOut() == 1 && err == nil
 		if err != ErrEmpty && !isFree {
@@ -75,14 +86,14 @@ func TestEachMethodOfAHandleThatHoldsNothing(t *testing.T) {
 		}
 		count++
 	})
-	if count < 50 {
+	if count < 100 {
 		t.Errorf("there are %d methods", count)
 	}
 }
 
 // No method passes a lock that is held, and each gives it back.
 func TestEachMethodTakesTheLock(t *testing.T) {
-	eachMethod(func(name string, method reflect.Value, lock *sync.Mutex) {
+	eachMethod(emptyHandles(), func(name string, method reflect.Value, lock *sync.Mutex) {
 		done := make(chan bool)
 		lock.Lock()
 		go func() {
@@ -118,12 +129,61 @@ func TestCloseTwice(t *testing.T) {
 	}
 }
 
+// A copy of an object is the same one: it lives on without the original, and after a Close both are refused.
+func TestCopiesShareAHandle(t *testing.T) {
+	r, err := NewReplica(Config{Format: 2, Limit: 1})
+	if err != nil {
+		t.Fatal(err)
+	}
+	s, err := r.Snapshot()
+	if err != nil {
+		t.Fatal(err)
+	}
+	h, err := NewHints()
+	if err != nil {
+		t.Fatal(err)
+	}
+	l, err := NewSlots(1, 1, 1)
+	if err != nil {
+		t.Fatal(err)
+	}
+	replicas, snapshots, hints, slots := *r, *s, *h, *l
+	calls := []func() error{
+		func() error { _, err := replicas.Count(); return err },
+		func() error { _, err := snapshots.Root(); return err },
+		func() error { _, err := hints.Count(); return err },
+		func() error { _, err := slots.Count(); return err },
+	}
+	r, s, h, l = nil, nil, nil, nil
+	for _, call := range calls {
+		runtime.GC()
+		if err := call(); err != nil {
+			t.Error(err)
+		}
+	}
+	first, second, third, fourth := replicas, snapshots, hints, slots
+	for _, closer := range []io.Closer{&first, &second, &third, &fourth, &first} {
+		if err := closer.Close(); err != nil {
+			t.Error(err)
+		}
+	}
+	for _, call := range calls {
+		if err := call(); err != ErrEmpty {
+			t.Errorf("after Close of a copy the error is %v", err)
+		}
+	}
+	calls, replicas, snapshots, hints, slots = nil, Replica{}, Snapshot{}, Hints{}, Slots{}
+	first, second, third, fourth = replicas, snapshots, hints, slots
+	runtime.GC() // the finalizers free nothing twice
+	runtime.GC()
+}
+
 func TestUnknownSession(t *testing.T) {
 	r, err := NewReplica(Config{Format: 2, Limit: 1})
 	if err != nil {
 		t.Fatal(err)
 	}
-	session := reflect.ValueOf(&Session{replica: r, number: 9})
+	session := reflect.ValueOf(&Session{replica: r.at, number: 9})
 	for _, name := range []string{"State", "Outstanding", "Ask", "AskAt", "Asks", "Cancel"} {
 		if err := callMethod(session.MethodByName(name)); err != ErrUnknownSession {
 			t.Errorf("%s returns the error %v", name, err)
@@ -141,8 +201,7 @@ func TestALockForEachHandle(t *testing.T) {
 	if err != nil {
 		t.Fatal(err)
 	}
-	r.lock.Lock()
-	defer r.lock.Unlock()
+	defer r.at.locked().lock.Unlock()
 	if _, err := snapshot.Offer(1); err != nil {
 		t.Error(err)
 	}

@@ -9,8 +9,13 @@ import (
 )
 
 // Hints are the versions that a node carries for replicas that are down. A hint is of no range, and its number never
-// names another one. Goroutines may share hints. A copy must not be used.
+// names another one. Goroutines may share hints. A copy is the same hints.
 type Hints struct {
+	at *hints
+}
+
+// A hints is what [Hints] and their copies share.
+type hints struct {
 	lock   sync.Mutex
 	handle C.struct_antientropy_hints
 	room   room
@@ -32,32 +37,51 @@ type HintCounts struct {
 
 // NewHints makes an empty store of hints. The first hint gets the number 1.
 func NewHints() (*Hints, error) {
-	h := new(Hints)
-	if err := check(C.antientropy_hints_new(&h.handle)); err != nil {
+	made := new(hints)
+	if err := check(C.antientropy_hints_new(&made.handle)); err != nil {
 		return nil, err
 	}
-	runtime.SetFinalizer(h, (*Hints).Close)
-	return h, nil
+	return made.owned(), nil
 }
 
 // RestoreHints makes an empty store of hints, after a restart. The first hint gets the number first, which must be
 // above all numbers in the program's log: hints that are kept again get new numbers, which are logged, and no old
 // number names another hint. Refused as [ErrUnknownHint] if first is 0.
 func RestoreHints(first uint64) (*Hints, error) {
-	h := new(Hints)
-	if err := check(C.antientropy_hints_restore(&h.handle, C.uint64_t(first))); err != nil {
+	made := new(hints)
+	if err := check(C.antientropy_hints_restore(&made.handle, C.uint64_t(first))); err != nil {
 		return nil, err
 	}
-	runtime.SetFinalizer(h, (*Hints).Close)
-	return h, nil
+	return made.owned(), nil
 }
 
-// Close frees the memory. Later calls are refused as [ErrEmpty]; another Close does nothing. The error is nil.
+// Close frees the memory. Later calls are refused as [ErrEmpty], those of copies too; another Close does nothing. The
+// error is nil.
 func (h *Hints) Close() error {
-	h.lock.Lock()
-	defer h.lock.Unlock()
-	C.antientropy_hints_free(&h.handle)
+	h.at.close()
 	return nil
+}
+
+// locked takes the lock, which its caller gives back. Hints that no call made hold nothing.
+func (h *hints) locked() *hints {
+	if h == nil {
+		h = new(hints)
+	}
+	h.lock.Lock()
+	return h
+}
+
+// owned returns hints that were made. The garbage collector closes them, once no copy is used.
+func (h *hints) owned() *Hints {
+	runtime.SetFinalizer(h, (*hints).close)
+	return &Hints{h}
+}
+
+// close frees the memory.
+func (h *hints) close() {
+	held := h.locked()
+	defer held.lock.Unlock()
+	C.antientropy_hints_free(&held.handle)
 }
 
 // Keep keeps a version for its owner. It returns the number of the hint: one more than the last.
@@ -66,19 +90,19 @@ func (h *Hints) Close() error {
 func (h *Hints) Keep(owner uint16, key []byte, version Version) (number uint64, err error) {
 	var id C.uint64_t
 	clock, value := version.Clock, version.Value
-	h.lock.Lock()
-	defer h.lock.Unlock()
-	err = check(C.antientropy_hint_keep(&h.handle, C.uint64_t(owner), bytesAt(key), C.size_t(len(key)), pairsAt(clock),
+	held := h.at.locked()
+	defer held.lock.Unlock()
+	err = check(C.antientropy_hint_keep(&held.handle, C.uint64_t(owner), bytesAt(key), C.size_t(len(key)), pairsAt(clock),
 		C.size_t(len(clock)), C.uint8_t(version.Kind), bytesAt(value), C.size_t(len(value)), &id))
 	return uint64(id), err
 }
 
 // NextPending returns the owner's pending hint with the least number over `after`: 0 gives the first.
 func (h *Hints) NextPending(owner uint16, after uint64) (hint Hint, found bool, err error) {
-	h.lock.Lock()
-	defer h.lock.Unlock()
-	return h.read(func(out *C.uint8_t, outLen C.size_t) C.uint32_t {
-		return C.antientropy_go_hint_next(&h.handle, C.uint64_t(owner), C.uint64_t(after), out, outLen, &h.room.need)
+	held := h.at.locked()
+	defer held.lock.Unlock()
+	return held.read(func(out *C.uint8_t, outLen C.size_t) C.uint32_t {
+		return C.antientropy_go_hint_next(&held.handle, C.uint64_t(owner), C.uint64_t(after), out, outLen, &held.room.need)
 	})
 }
 
@@ -95,15 +119,15 @@ func (h *Hints) Pending(owner uint16) *Scanner[Hint] {
 
 // Hint returns a hint, pending or delivered.
 func (h *Hints) Hint(number uint64) (hint Hint, found bool, err error) {
-	h.lock.Lock()
-	defer h.lock.Unlock()
-	return h.read(func(out *C.uint8_t, outLen C.size_t) C.uint32_t {
-		return C.antientropy_go_hint(&h.handle, C.uint64_t(number), out, outLen, &h.room.need)
+	held := h.at.locked()
+	defer held.lock.Unlock()
+	return held.read(func(out *C.uint8_t, outLen C.size_t) C.uint32_t {
+		return C.antientropy_go_hint(&held.handle, C.uint64_t(number), out, outLen, &held.room.need)
 	})
 }
 
 // read returns the hint that a call writes as a record. The caller holds the lock.
-func (h *Hints) read(call func(out *C.uint8_t, outLen C.size_t) C.uint32_t) (hint Hint, found bool, err error) {
+func (h *hints) read(call func(out *C.uint8_t, outLen C.size_t) C.uint32_t) (hint Hint, found bool, err error) {
 	bytes, number := h.room.fill(call)
 	if found, err = isFound(number); !found {
 		return Hint{}, false, err
@@ -120,24 +144,24 @@ func (h *Hints) read(call func(out *C.uint8_t, outLen C.size_t) C.uint32_t) (hin
 // Confirm ends the wait of a pending hint, after its owner has the version on its disk. Known is true if the owner knew
 // the version. Refused as [ErrUnknownHint].
 func (h *Hints) Confirm(number uint64, known bool) error {
-	h.lock.Lock()
-	defer h.lock.Unlock()
-	return check(C.antientropy_hint_confirm(&h.handle, C.uint64_t(number), C.bool(known)))
+	held := h.at.locked()
+	defer held.lock.Unlock()
+	return check(C.antientropy_hint_confirm(&held.handle, C.uint64_t(number), C.bool(known)))
 }
 
 // Renew drops the delivered hints. The pending ones get new numbers, above every number that was used, in order: an old
 // number names no hint then. Refused as [ErrHintsFull] if a number would be over 2^64 - 1.
 func (h *Hints) Renew() error {
-	h.lock.Lock()
-	defer h.lock.Unlock()
-	return check(C.antientropy_hints_renew(&h.handle))
+	held := h.at.locked()
+	defer held.lock.Unlock()
+	return check(C.antientropy_hints_renew(&held.handle))
 }
 
 // Count returns the counts of pending and of delivered hints.
 func (h *Hints) Count() (HintCounts, error) {
 	var counts C.struct_antientropy_hint_counts
-	h.lock.Lock()
-	defer h.lock.Unlock()
-	err := check(C.antientropy_hints_count(&h.handle, &counts))
+	held := h.at.locked()
+	defer held.lock.Unlock()
+	err := check(C.antientropy_hints_count(&held.handle, &counts))
 	return HintCounts{Pending: uint64(counts.pending), Delivered: uint64(counts.delivered)}, err
 }

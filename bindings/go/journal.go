@@ -29,10 +29,10 @@ type Entry struct {
 
 // Entry returns an entry of the journal, by its number from 0.
 func (r *Replica) Entry(number uint64) (entry Entry, found bool, err error) {
-	r.lock.Lock()
-	defer r.lock.Unlock()
-	bytes, got := r.room.fill(func(out *C.uint8_t, outLen C.size_t) C.uint32_t {
-		return C.antientropy_go_entry(&r.handle, C.uint64_t(number), out, outLen, &r.room.need)
+	held := r.at.locked()
+	defer held.lock.Unlock()
+	bytes, got := held.room.fill(func(out *C.uint8_t, outLen C.size_t) C.uint32_t {
+		return C.antientropy_go_entry(&held.handle, C.uint64_t(number), out, outLen, &held.room.need)
 	})
 	if found, err = isFound(got); !found {
 		return Entry{}, false, err
@@ -66,9 +66,9 @@ func (r *Replica) Entries(start uint64) *Scanner[Entry] {
 // `entries` entries of the journal (all, if there are fewer). Refused as [ErrBadClock] if the node is 0.
 func (r *Replica) TopCounter(node uint16, key []byte, entries uint64) (uint64, error) {
 	var counter C.uint64_t
-	r.lock.Lock()
-	defer r.lock.Unlock()
-	err := check(C.antientropy_top_counter(&r.handle, C.uint64_t(node), bytesAt(key), C.size_t(len(key)),
+	held := r.at.locked()
+	defer held.lock.Unlock()
+	err := check(C.antientropy_top_counter(&held.handle, C.uint64_t(node), bytesAt(key), C.size_t(len(key)),
 		C.uint64_t(entries), &counter))
 	return uint64(counter), err
 }

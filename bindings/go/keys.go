@@ -7,28 +7,45 @@ import "C"
 //
 // Refused as [ErrBadMessage] if the tree has no such leaf.
 func (r *Replica) KeyAfter(leaf uint16, key []byte) (next []byte, found bool, err error) {
-	r.lock.Lock()
-	defer r.lock.Unlock()
-	return r.room.copyIfFound(func(out *C.uint8_t, outLen C.size_t) C.uint32_t {
-		return C.antientropy_key_after(&r.handle, C.uint64_t(leaf), bytesAt(key), C.size_t(len(key)), out, outLen,
-			&r.room.need)
+	held := r.at.locked()
+	defer held.lock.Unlock()
+	return held.room.copyIfFound(func(out *C.uint8_t, outLen C.size_t) C.uint32_t {
+		return C.antientropy_key_after(&held.handle, C.uint64_t(leaf), bytesAt(key), C.size_t(len(key)), out, outLen,
+			&held.room.need)
 	})
+}
+
+// A seenKey is the key of a leaf that a scanner has read last.
+type seenKey struct {
+	leaf C.uint64_t
+	key  [KeyMax]byte
+	len  C.uint64_t
+}
+
+// keyNext returns the key of a leaf after the one that was seen, and takes it for seen.
+func (r *Replica) keyNext(seen *seenKey) (next []byte, found bool, err error) {
+	held := r.at.locked()
+	defer held.lock.Unlock()
+	number := C.antientropy_key_next(&held.handle, seen.leaf, bytesAt(seen.key[:]), KeyMax, &seen.len)
+	if found, err = isFound(number); !found {
+		return nil, false, err
+	}
+	return clone(seen.key[:seen.len]), true, nil
 }
 
 // Keys returns a scanner of the keys, leaf by leaf. Keys that are put meanwhile are scanned if they lie ahead.
 func (r *Replica) Keys() *Scanner[[]byte] {
-	leaf, last := uint16(0), []byte(nil)
+	var seen seenKey
 	return scan(func() ([]byte, bool, error) {
 		for {
-			key, found, err := r.KeyAfter(leaf, last)
+			key, found, err := r.keyNext(&seen)
 			if err == ErrBadMessage {
 				return nil, false, nil // there are no more leaves
 			}
 			if found || err != nil {
-				last = append(last[:0], key...)
 				return key, found, err
 			}
-			leaf, last = leaf+1, nil
+			seen = seenKey{leaf: seen.leaf + 1}
 		}
 	})
 }
@@ -36,10 +53,8 @@ func (r *Replica) Keys() *Scanner[[]byte] {
 // KeysOf returns a scanner of the keys of a leaf, in ascending order. Its error is [ErrBadMessage] if the tree has no
 // such leaf.
 func (r *Replica) KeysOf(leaf uint16) *Scanner[[]byte] {
-	var last []byte
+	seen := seenKey{leaf: C.uint64_t(leaf)}
 	return scan(func() ([]byte, bool, error) {
-		key, found, err := r.KeyAfter(leaf, last)
-		last = append(last[:0], key...)
-		return key, found, err
+		return r.keyNext(&seen)
 	})
 }

@@ -5,16 +5,16 @@ import "C"
 
 // Get returns all versions held for a key, as they are at one moment. Several are concurrent.
 func (r *Replica) Get(key []byte) ([]Version, error) {
-	r.lock.Lock()
-	defer r.lock.Unlock()
-	return r.read(key, 0, VersionsMax)
+	held := r.at.locked()
+	defer held.lock.Unlock()
+	return held.read(key, 0, VersionsMax)
 }
 
 // Read returns one of the versions held for a key, by its index from 0.
 func (r *Replica) Read(key []byte, index uint64) (version Version, found bool, err error) {
-	r.lock.Lock()
-	defer r.lock.Unlock()
-	versions, err := r.read(key, index, 1)
+	held := r.at.locked()
+	defer held.lock.Unlock()
+	versions, err := held.read(key, index, 1)
 	if len(versions) == 0 {
 		return Version{}, false, err
 	}
@@ -22,7 +22,7 @@ func (r *Replica) Read(key []byte, index uint64) (version Version, found bool, e
 }
 
 // read returns the versions held for a key, from an index on: at most `most`. The caller holds the lock.
-func (r *Replica) read(key []byte, index, most uint64) ([]Version, error) {
+func (r *replica) read(key []byte, index, most uint64) ([]Version, error) {
 	bytes, number := r.room.fill(func(out *C.uint8_t, outLen C.size_t) C.uint32_t {
 		return C.antientropy_go_read(r.memory(), bytesAt(key), C.size_t(len(key)), C.uint64_t(index), C.uint64_t(most),
 			out, outLen, &r.room.need)
@@ -52,20 +52,20 @@ func (r *Replica) Versions(key []byte) *Scanner[Version] {
 // CountVersions returns the number of versions held for a key.
 func (r *Replica) CountVersions(key []byte) (uint64, error) {
 	var count C.uint64_t
-	r.lock.Lock()
-	defer r.lock.Unlock()
-	err := check(C.antientropy_versions(&r.handle, bytesAt(key), C.size_t(len(key)), &count))
+	held := r.at.locked()
+	defer held.lock.Unlock()
+	err := check(C.antientropy_versions(&held.handle, bytesAt(key), C.size_t(len(key)), &count))
 	return uint64(count), err
 }
 
 // Value returns the value and the kind of one of the versions held for a key. A tombstone's value has no bytes.
 func (r *Replica) Value(key []byte, index uint64) (value []byte, kind Kind, found bool, err error) {
 	var kindOf C.uint8_t
-	r.lock.Lock()
-	defer r.lock.Unlock()
-	value, found, err = r.room.copyIfFound(func(out *C.uint8_t, outLen C.size_t) C.uint32_t {
-		return C.antientropy_value(&r.handle, bytesAt(key), C.size_t(len(key)), C.uint64_t(index), &kindOf, out, outLen,
-			&r.room.need)
+	held := r.at.locked()
+	defer held.lock.Unlock()
+	value, found, err = held.room.copyIfFound(func(out *C.uint8_t, outLen C.size_t) C.uint32_t {
+		return C.antientropy_value(&held.handle, bytesAt(key), C.size_t(len(key)), C.uint64_t(index), &kindOf, out, outLen,
+			&held.room.need)
 	})
 	return value, Kind(kindOf), found, err
 }
@@ -73,21 +73,21 @@ func (r *Replica) Value(key []byte, index uint64) (value []byte, kind Kind, foun
 // Clock returns the clock of one of the versions held for a key.
 func (r *Replica) Clock(key []byte, index uint64) (clock Clock, found bool, err error) {
 	var pairs [ClockMax]C.struct_antientropy_pair
-	r.lock.Lock()
-	defer r.lock.Unlock()
-	found, err = isFound(C.antientropy_clock(&r.handle, bytesAt(key), C.size_t(len(key)), C.uint64_t(index), &pairs[0],
-		ClockMax, &r.room.need))
+	held := r.at.locked()
+	defer held.lock.Unlock()
+	found, err = isFound(C.antientropy_clock(&held.handle, bytesAt(key), C.size_t(len(key)), C.uint64_t(index), &pairs[0],
+		ClockMax, &held.room.need))
 	if !found {
 		return nil, false, err
 	}
-	return clockOf(pairs[:r.room.need]), true, nil
+	return clockOf(pairs[:held.room.need]), true, nil
 }
 
 // Row returns the text of the row of a key (docs/FORMATS.md). Refused as [ErrBadKey].
 func (r *Replica) Row(key []byte) (row []byte, found bool, err error) {
-	r.lock.Lock()
-	defer r.lock.Unlock()
-	return r.room.copyIfAny(func(out *C.uint8_t, outLen C.size_t) C.uint32_t {
-		return C.antientropy_get(&r.handle, bytesAt(key), C.size_t(len(key)), out, outLen, &r.room.need)
+	held := r.at.locked()
+	defer held.lock.Unlock()
+	return held.room.copyIfAny(func(out *C.uint8_t, outLen C.size_t) C.uint32_t {
+		return C.antientropy_get(&held.handle, bytesAt(key), C.size_t(len(key)), out, outLen, &held.room.need)
 	})
 }

@@ -17,8 +17,13 @@ type Config struct {
 	Limit  uint64 // maximum number of the journal's entries, 1 to EntriesMax
 }
 
-// A Replica is a replica of one range of a ring. Goroutines may share it. A copy must not be used.
+// A Replica is a replica of one range of a ring. Goroutines may share it. A copy is the same replica.
 type Replica struct {
+	at *replica // so a copy has no handle of its own, which would be freed twice
+}
+
+// A replica is what a [Replica] and its copies share.
+type replica struct {
 	lock   sync.Mutex
 	handle C.struct_antientropy_replica
 	config Config
@@ -44,23 +49,43 @@ type Receipt struct {
 
 // NewReplica makes an empty replica. Refused as [ErrBadRing] if a number is outside its limits.
 func NewReplica(config Config) (*Replica, error) {
-	r := &Replica{config: config}
+	made := &replica{config: config}
 	bits, number, limit := C.uint64_t(config.Bits), C.uint64_t(config.Range), C.uint64_t(config.Limit)
-	if err := check(C.antientropy_new(&r.handle, C.uint64_t(config.Format), bits, number, limit)); err != nil {
+	if err := check(C.antientropy_new(&made.handle, C.uint64_t(config.Format), bits, number, limit)); err != nil {
 		return nil, err
 	}
-	runtime.SetFinalizer(r, (*Replica).Close)
-	return r, nil
+	return made.owned(), nil
 }
 
-// Close frees the memory. Later calls are refused as [ErrEmpty]; another Close does nothing. The error is nil.
+// Close frees the memory. Later calls are refused as [ErrEmpty], those of copies too; another Close does nothing. The
+// error is nil.
 //
 // Each method holds the lock to its end, so the garbage collector doesn't close a replica that is in use.
 func (r *Replica) Close() error {
-	r.lock.Lock()
-	defer r.lock.Unlock()
-	C.antientropy_free(&r.handle)
+	r.at.close()
 	return nil
+}
+
+// locked takes the lock, which its caller gives back. A replica that no call made holds nothing.
+func (r *replica) locked() *replica {
+	if r == nil {
+		r = new(replica)
+	}
+	r.lock.Lock()
+	return r
+}
+
+// owned returns a replica that was made. The garbage collector closes it, once no copy is used.
+func (r *replica) owned() *Replica {
+	runtime.SetFinalizer(r, (*replica).close)
+	return &Replica{r}
+}
+
+// close frees the memory.
+func (r *replica) close() {
+	held := r.locked()
+	defer held.lock.Unlock()
+	C.antientropy_free(&held.handle)
 }
 
 // Renew returns a new replica with the versions that are held: one entry for each, and no sessions.
@@ -68,49 +93,48 @@ func (r *Replica) Close() error {
 // This one is left unchanged: close it, and go on with the new one under the same node number. Refused as [ErrBadRing]
 // (the limit) or [ErrJournalFull] (more versions are held than the limit).
 func (r *Replica) Renew(limit uint64) (*Replica, error) {
-	r.lock.Lock()
-	defer r.lock.Unlock()
-	renewed := &Replica{config: r.config}
+	held := r.at.locked()
+	defer held.lock.Unlock()
+	renewed := &replica{config: held.config}
 	renewed.config.Limit = limit
-	if err := check(C.antientropy_renew(&r.handle, &renewed.handle, C.uint64_t(limit))); err != nil {
+	if err := check(C.antientropy_renew(&held.handle, &renewed.handle, C.uint64_t(limit))); err != nil {
 		return nil, err
 	}
-	runtime.SetFinalizer(renewed, (*Replica).Close)
-	return renewed, nil
+	return renewed.owned(), nil
 }
 
 // memory returns the memory of the handle, for the calls that are made most.
-func (r *Replica) memory() *C.antientropy_go_handle {
+func (r *replica) memory() *C.antientropy_go_handle {
 	return (*C.antientropy_go_handle)(unsafe.Pointer(&r.handle))
 }
 
 // Migrate converts a replica of format 1 to format 2. All nodes become dirty, and open sessions are cancelled.
 func (r *Replica) Migrate() error {
-	r.lock.Lock()
-	defer r.lock.Unlock()
-	if err := check(C.antientropy_migrate(&r.handle)); err != nil {
+	held := r.at.locked()
+	defer held.lock.Unlock()
+	if err := check(C.antientropy_migrate(&held.handle)); err != nil {
 		return err
 	}
-	r.config.Format = 2
+	held.config.Format = 2
 	return nil
 }
 
 // Config returns the numbers of the replica. Its format is 2 after [Replica.Migrate].
 func (r *Replica) Config() Config {
-	r.lock.Lock()
-	defer r.lock.Unlock()
-	return r.config
+	held := r.at.locked()
+	defer held.lock.Unlock()
+	return held.config
 }
 
 // Count returns the counts of entries, dirty nodes and sessions.
 func (r *Replica) Count() (Counts, error) {
-	r.lock.Lock()
-	defer r.lock.Unlock()
-	return r.count()
+	held := r.at.locked()
+	defer held.lock.Unlock()
+	return held.count()
 }
 
 // count returns the counts. The caller holds the lock.
-func (r *Replica) count() (Counts, error) {
+func (r *replica) count() (Counts, error) {
 	var counts C.struct_antientropy_counts
 	err := check(C.antientropy_count(&r.handle, &counts))
 	return Counts{
@@ -143,9 +167,9 @@ func (r *Replica) PutTombstone(node uint16, key []byte, context Clock) (Receipt,
 }
 
 func (r *Replica) put(node uint16, key []byte, context Clock, kind Kind, value []byte) (Receipt, error) {
-	r.lock.Lock()
-	defer r.lock.Unlock()
-	got := C.antientropy_go_put_read(r.memory(), C.uint64_t(node), bytesAt(key), C.size_t(len(key)), pairsAt(context),
+	held := r.at.locked()
+	defer held.lock.Unlock()
+	got := C.antientropy_go_put_read(held.memory(), C.uint64_t(node), bytesAt(key), C.size_t(len(key)), pairsAt(context),
 		C.size_t(len(context)), C.uint8_t(kind), bytesAt(value), C.size_t(len(value)))
 	return receiptOf(got)
 }
@@ -164,9 +188,9 @@ func (r *Replica) PutTombstoneUnread(node uint16, key []byte, context Clock) (Re
 }
 
 func (r *Replica) putUnread(node uint16, key []byte, context Clock, kind Kind, value []byte) (Receipt, error) {
-	r.lock.Lock()
-	defer r.lock.Unlock()
-	got := C.antientropy_go_put(r.memory(), C.uint64_t(node), bytesAt(key), C.size_t(len(key)), pairsAt(context),
+	held := r.at.locked()
+	defer held.lock.Unlock()
+	got := C.antientropy_go_put(held.memory(), C.uint64_t(node), bytesAt(key), C.size_t(len(key)), pairsAt(context),
 		C.size_t(len(context)), C.uint8_t(kind), bytesAt(value), C.size_t(len(value)))
 	return receiptOf(got)
 }
@@ -183,9 +207,9 @@ func receiptOf(got C.struct_antientropy_go_receipt) (Receipt, error) {
 func (r *Replica) Accept(key []byte, version Version) (bool, error) {
 	var taken C.uint64_t
 	clock, value := version.Clock, version.Value
-	r.lock.Lock()
-	defer r.lock.Unlock()
-	number := C.antientropy_accept(&r.handle, bytesAt(key), C.size_t(len(key)), pairsAt(clock), C.size_t(len(clock)),
+	held := r.at.locked()
+	defer held.lock.Unlock()
+	number := C.antientropy_accept(&held.handle, bytesAt(key), C.size_t(len(key)), pairsAt(clock), C.size_t(len(clock)),
 		C.uint8_t(version.Kind), bytesAt(value), C.size_t(len(value)), &taken)
 	return taken != 0, check(number)
 }

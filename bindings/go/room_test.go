@@ -45,7 +45,7 @@ func TestResultsAroundTheLengthOfARoom(t *testing.T) {
 			"Entry": func() ([]byte, error) { entry, _, err := r.Entry(0); return entry.Version.Value, err },
 			"Hint":  func() ([]byte, error) { hint, _, err := hints.Hint(1); return hint.Version.Value, err },
 		} {
-			after, afterHints := guard(&r.room), guard(&hints.room)
+			after, afterHints := guard(&r.at.room), guard(&hints.at.room)
 			value, err := read()
 			if err != nil || !bytes.Equal(value, version.Value) {
 				t.Errorf("%s returns %d of %d bytes, and the error %v", name, len(value), length, err)

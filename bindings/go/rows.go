@@ -32,9 +32,9 @@ func (e *RowError) Unwrap() error {
 // Refused as [ErrRowBroken] by a [RowError], and as [ErrOtherRange], [ErrCrowded] or [ErrJournalFull].
 func (r *Replica) LoadRows(rows []byte) (Loaded, error) {
 	var loaded C.struct_antientropy_loaded
-	r.lock.Lock()
-	defer r.lock.Unlock()
-	return loadedOf(C.antientropy_load(&r.handle, bytesAt(rows), C.size_t(len(rows)), &loaded), &loaded)
+	held := r.at.locked()
+	defer held.lock.Unlock()
+	return loadedOf(C.antientropy_load(&held.handle, bytesAt(rows), C.size_t(len(rows)), &loaded), &loaded)
 }
 
 // LoadFormat accepts all versions in rows of a format and of any leaves, in ascending order of key, as copies, or none.
@@ -44,9 +44,9 @@ func (r *Replica) LoadRows(rows []byte) (Loaded, error) {
 // as [ErrRowBroken] by a [RowError], and as [ErrOtherRange], [ErrCrowded] or [ErrJournalFull].
 func (r *Replica) LoadFormat(format uint8, rows []byte) (Loaded, error) {
 	var loaded C.struct_antientropy_loaded
-	r.lock.Lock()
-	defer r.lock.Unlock()
-	number := C.antientropy_load_format(&r.handle, C.uint64_t(format), bytesAt(rows), C.size_t(len(rows)), &loaded)
+	held := r.at.locked()
+	defer held.lock.Unlock()
+	number := C.antientropy_load_format(&held.handle, C.uint64_t(format), bytesAt(rows), C.size_t(len(rows)), &loaded)
 	return loadedOf(number, &loaded)
 }
 

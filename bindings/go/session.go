@@ -29,7 +29,7 @@ type Taken struct {
 // A Session is a session of a replica with a partner's offer. Its calls are calls of the replica, so others, even puts,
 // may come between.
 type Session struct {
-	replica *Replica
+	replica *replica
 	number  uint64
 	offer   uint32
 }
@@ -39,24 +39,24 @@ type Session struct {
 //
 // Refused as [ErrBadMessage], [ErrOtherFormat], [ErrOtherRange] or [ErrSessionsFull].
 func (r *Replica) Open(partner uint16, offer []byte) (*Session, error) {
-	r.lock.Lock()
-	defer r.lock.Unlock()
-	if err := r.rehash(); err != nil {
+	held := r.at.locked()
+	defer held.lock.Unlock()
+	if err := held.rehash(); err != nil {
 		return nil, err
 	}
-	return r.open(partner, offer)
+	return held.open(partner, offer)
 }
 
 // OpenIfClean opens a session with a partner's offer. Refused as [Replica.Open], or as [ErrDirty] if a node has no
 // digest.
 func (r *Replica) OpenIfClean(partner uint16, offer []byte) (*Session, error) {
-	r.lock.Lock()
-	defer r.lock.Unlock()
-	return r.open(partner, offer)
+	held := r.at.locked()
+	defer held.lock.Unlock()
+	return held.open(partner, offer)
 }
 
 // open opens a session. The caller holds the lock.
-func (r *Replica) open(partner uint16, offer []byte) (*Session, error) {
+func (r *replica) open(partner uint16, offer []byte) (*Session, error) {
 	parts, err := ReadOffer(offer)
 	if err != nil {
 		return nil, err
@@ -82,28 +82,27 @@ func (s *Session) OfferNumber() uint32 {
 // State returns the state of the session.
 func (s *Session) State() (State, error) {
 	var state C.uint64_t
-	s.replica.lock.Lock()
-	defer s.replica.lock.Unlock()
-	err := check(C.antientropy_session(&s.replica.handle, C.uint64_t(s.number), &state))
+	held := s.replica.locked()
+	defer held.lock.Unlock()
+	err := check(C.antientropy_session(&held.handle, C.uint64_t(s.number), &state))
 	return State(state), err
 }
 
 // Outstanding returns the number of nodes that are outstanding: 0 if the session has ended.
 func (s *Session) Outstanding() (uint64, error) {
 	var count C.uint64_t
-	s.replica.lock.Lock()
-	defer s.replica.lock.Unlock()
-	err := check(C.antientropy_outstanding(&s.replica.handle, C.uint64_t(s.number), &count))
+	held := s.replica.locked()
+	defer held.lock.Unlock()
+	err := check(C.antientropy_outstanding(&held.handle, C.uint64_t(s.number), &count))
 	return uint64(count), err
 }
 
 // Ask returns the ask for the first outstanding node, and false if there is none.
 func (s *Session) Ask() (ask []byte, found bool, err error) {
-	r := s.replica
-	r.lock.Lock()
-	defer r.lock.Unlock()
-	return r.room.copyIfAny(func(out *C.uint8_t, outLen C.size_t) C.uint32_t {
-		return C.antientropy_ask(&r.handle, C.uint64_t(s.number), C.uint32_t(s.offer), out, outLen, &r.room.need)
+	held := s.replica.locked()
+	defer held.lock.Unlock()
+	return held.room.copyIfAny(func(out *C.uint8_t, outLen C.size_t) C.uint32_t {
+		return C.antientropy_ask(&held.handle, C.uint64_t(s.number), C.uint32_t(s.offer), out, outLen, &held.room.need)
 	})
 }
 
@@ -111,22 +110,20 @@ func (s *Session) Ask() (ask []byte, found bool, err error) {
 //
 // Each answer that is taken changes the places.
 func (s *Session) AskAt(place uint64) (ask []byte, found bool, err error) {
-	r := s.replica
-	r.lock.Lock()
-	defer r.lock.Unlock()
-	return r.room.copyIfAny(func(out *C.uint8_t, outLen C.size_t) C.uint32_t {
-		return C.antientropy_ask_at(&r.handle, C.uint64_t(s.number), C.uint64_t(place), C.uint32_t(s.offer), out,
-			outLen, &r.room.need)
+	held := s.replica.locked()
+	defer held.lock.Unlock()
+	return held.room.copyIfAny(func(out *C.uint8_t, outLen C.size_t) C.uint32_t {
+		return C.antientropy_ask_at(&held.handle, C.uint64_t(s.number), C.uint64_t(place), C.uint32_t(s.offer), out,
+			outLen, &held.room.need)
 	})
 }
 
 // Asks returns the asks for all outstanding nodes. They may be sent at once.
 func (s *Session) Asks() ([][]byte, error) {
-	r := s.replica
-	r.lock.Lock()
-	defer r.lock.Unlock()
-	bytes, err := r.room.copy(func(out *C.uint8_t, outLen C.size_t) C.uint32_t {
-		return C.antientropy_go_asks(&r.handle, C.uint64_t(s.number), C.uint32_t(s.offer), out, outLen, &r.room.need)
+	held := s.replica.locked()
+	defer held.lock.Unlock()
+	bytes, err := held.room.copy(func(out *C.uint8_t, outLen C.size_t) C.uint32_t {
+		return C.antientropy_go_asks(&held.handle, C.uint64_t(s.number), C.uint32_t(s.offer), out, outLen, &held.room.need)
 	})
 	asks := make([][]byte, 0, len(bytes)/AskLen)
 	for ; len(bytes) > 0; bytes = bytes[AskLen:] {
@@ -141,16 +138,16 @@ func (s *Session) Asks() ([][]byte, error) {
 // session has failed), [ErrCrowded] or [ErrJournalFull] (the node remains outstanding).
 func (s *Session) Take(answer []byte) (Taken, error) {
 	var taken C.struct_antientropy_taken
-	s.replica.lock.Lock()
-	defer s.replica.lock.Unlock()
-	err := check(C.antientropy_take(&s.replica.handle, C.uint64_t(s.number), C.uint32_t(s.offer), bytesAt(answer),
+	held := s.replica.locked()
+	defer held.lock.Unlock()
+	err := check(C.antientropy_take(&held.handle, C.uint64_t(s.number), C.uint32_t(s.offer), bytesAt(answer),
 		C.size_t(len(answer)), &taken))
 	return Taken{Accepted: uint64(taken.accepted), Known: uint64(taken.known), State: State(taken.state)}, err
 }
 
 // Cancel cancels the session if it is open.
 func (s *Session) Cancel() error {
-	s.replica.lock.Lock()
-	defer s.replica.lock.Unlock()
-	return check(C.antientropy_cancel(&s.replica.handle, C.uint64_t(s.number)))
+	held := s.replica.locked()
+	defer held.lock.Unlock()
+	return check(C.antientropy_cancel(&held.handle, C.uint64_t(s.number)))
 }

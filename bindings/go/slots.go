@@ -11,8 +11,13 @@ import (
 // Slots are slots for background work, which backs off when the foreground is slow.
 //
 // Their target stays from the floor to the ceiling, and begins at the ceiling. It falls if the latency of the
-// foreground is above the threshold. Goroutines may share slots. A copy must not be used.
+// foreground is above the threshold. Goroutines may share slots. A copy is the same slots.
 type Slots struct {
+	at *slots
+}
+
+// A slots is what [Slots] and their copies share.
+type slots struct {
 	lock   sync.Mutex
 	handle C.struct_antientropy_slots
 }
@@ -27,68 +32,83 @@ type SlotCounts struct {
 // NewSlots makes slots, of which none is lent. The threshold is in microseconds. Refused as [ErrBadRing] if the floor
 // or the ceiling is outside its limits.
 func NewSlots(floor, ceiling, threshold uint32) (*Slots, error) {
-	s := new(Slots)
-	err := check(C.antientropy_slots_new(&s.handle, C.uint32_t(floor), C.uint32_t(ceiling), C.uint32_t(threshold)))
+	made := new(slots)
+	err := check(C.antientropy_slots_new(&made.handle, C.uint32_t(floor), C.uint32_t(ceiling), C.uint32_t(threshold)))
 	if err != nil {
 		return nil, err
 	}
-	runtime.SetFinalizer(s, (*Slots).Close)
-	return s, nil
+	runtime.SetFinalizer(made, (*slots).close)
+	return &Slots{made}, nil
 }
 
-// Close frees the memory. Later calls are refused as [ErrEmpty]; another Close does nothing. The error is nil.
+// Close frees the memory. Later calls are refused as [ErrEmpty], those of copies too; another Close does nothing. The
+// error is nil.
 func (s *Slots) Close() error {
-	s.lock.Lock()
-	defer s.lock.Unlock()
-	C.antientropy_slots_free(&s.handle)
+	s.at.close()
 	return nil
+}
+
+// locked takes the lock, which its caller gives back. Slots that no call made hold nothing.
+func (s *slots) locked() *slots {
+	if s == nil {
+		s = new(slots)
+	}
+	s.lock.Lock()
+	return s
+}
+
+// close frees the memory.
+func (s *slots) close() {
+	held := s.locked()
+	defer held.lock.Unlock()
+	C.antientropy_slots_free(&held.handle)
 }
 
 // Lend lends a slot, before background work. Refused as [ErrNoSlot] if the slots lent reach the target.
 func (s *Slots) Lend() error {
-	s.lock.Lock()
-	defer s.lock.Unlock()
-	return check(C.antientropy_slot_lend(&s.handle))
+	held := s.at.locked()
+	defer held.lock.Unlock()
+	return check(C.antientropy_slot_lend(&held.handle))
 }
 
 // GiveBack gives a slot back, after background work. Refused as [ErrNoSlot] if none is lent.
 func (s *Slots) GiveBack() error {
-	s.lock.Lock()
-	defer s.lock.Unlock()
-	return check(C.antientropy_slot_give_back(&s.handle))
+	held := s.at.locked()
+	defer held.lock.Unlock()
+	return check(C.antientropy_slot_give_back(&held.handle))
 }
 
 // Sample takes the latency of a reply in microseconds, with its moment in milliseconds. Refused as [ErrClockBack] if a
 // later moment was accepted before.
 func (s *Slots) Sample(moment uint64, micros uint32) error {
-	s.lock.Lock()
-	defer s.lock.Unlock()
-	return check(C.antientropy_slots_sample(&s.handle, C.uint64_t(moment), C.uint32_t(micros)))
+	held := s.at.locked()
+	defer held.lock.Unlock()
+	return check(C.antientropy_slots_sample(&held.handle, C.uint64_t(moment), C.uint32_t(micros)))
 }
 
 // Adjust sets the target by the samples of the last minute. It returns their 99th percentile in microseconds. Without
 // samples it returns false, and the target is left unchanged. Refused as [ErrClockBack].
 func (s *Slots) Adjust(now uint64) (micros uint64, found bool, err error) {
 	var p99 C.struct_antientropy_percentile
-	s.lock.Lock()
-	defer s.lock.Unlock()
-	err = check(C.antientropy_slots_adjust(&s.handle, C.uint64_t(now), &p99))
+	held := s.at.locked()
+	defer held.lock.Unlock()
+	err = check(C.antientropy_slots_adjust(&held.handle, C.uint64_t(now), &p99))
 	return uint64(p99.micros), p99.found != 0, err
 }
 
 // SetTarget sets the target. Slots that are lent stay lent. Refused as [ErrBadRing] if the target is below the floor or
 // above the ceiling.
 func (s *Slots) SetTarget(target uint32) error {
-	s.lock.Lock()
-	defer s.lock.Unlock()
-	return check(C.antientropy_slots_set_target(&s.handle, C.uint32_t(target)))
+	held := s.at.locked()
+	defer held.lock.Unlock()
+	return check(C.antientropy_slots_set_target(&held.handle, C.uint32_t(target)))
 }
 
 // Count returns the target, and the counts of slots that are lent and free.
 func (s *Slots) Count() (SlotCounts, error) {
 	var counts C.struct_antientropy_slot_counts
-	s.lock.Lock()
-	defer s.lock.Unlock()
-	err := check(C.antientropy_slots_count(&s.handle, &counts))
+	held := s.at.locked()
+	defer held.lock.Unlock()
+	err := check(C.antientropy_slots_count(&held.handle, &counts))
 	return SlotCounts{Target: uint64(counts.target), Lent: uint64(counts.lent), Free: uint64(counts.free)}, err
 }

@@ -1,6 +1,12 @@
 package antientropy
 
-import "bytes"
+import (
+	"bytes"
+	"errors"
+)
+
+// ErrNoReach is the error of a sync without a [Reach].
+var ErrNoReach = errors.New("antientropy: the sync has no Reach")
 
 // A Reach sends asks to a partner, and returns the answers in their order: nil for one that is missing. Answers that
 // are missing at the end may be left out. An error ends the sync.
@@ -35,14 +41,18 @@ func (s Synced) Finished() bool {
 // Sync takes the versions of a partner's offer that this replica lacks, within the default bounds. If the roots are
 // equal it opens no session.
 //
-// A leaf with a crowded key is left. Refused as [Replica.Open], and as [ErrNotCanonical] or [ErrJournalFull]. After a
-// refusal, or an error of reach, the versions that were taken stay: the result has their number.
+// A leaf with a crowded key is left. Refused as [Replica.Open], and as [ErrNotCanonical] or [ErrJournalFull]; without a
+// reach as [ErrNoReach], before anything else. After a refusal, or an error of reach, the versions that were taken stay:
+// the result has their number.
 func (r *Replica) Sync(partner uint16, offer []byte, reach Reach) (Synced, error) {
 	return r.SyncWithin(DefaultBounds(), partner, offer, reach)
 }
 
 // SyncWithin takes the versions of a partner's offer as [Replica.Sync], within other bounds.
 func (r *Replica) SyncWithin(bounds Bounds, partner uint16, offer []byte, reach Reach) (Synced, error) {
+	if reach == nil {
+		return Synced{}, ErrNoReach
+	}
 	root, err := r.Root()
 	if err != nil {
 		return Synced{}, err

@@ -57,6 +57,12 @@ func TestNoAsksInFlightCountAsOne(t *testing.T) {
 	equal(t, []any{synced.Finished(), len(l.rounds)}, []any{true, synced.Asks})
 }
 
+// A sync without a reach opens no session, and hashes nothing.
+func TestASyncWithoutReach(t *testing.T) {
+	r, offer := filled(1), must(must(filled(2).Snapshot()).Offer(1))
+	unchanged(t, r, antientropy.ErrNoReach, func() error { _, err := r.Sync(9, offer, nil); return err })
+}
+
 // The roots of empty replicas are equal, whatever their format and range.
 func TestEmptyRanges(t *testing.T) {
 	empty := func(format uint8, number uint16) *antientropy.Replica {
@@ -187,6 +193,6 @@ func TestAFullJournal(t *testing.T) {
 }
 
 func TestSyncOfNoOffer(t *testing.T) {
-	_, err := newReplica().Sync(1, []byte("?"), nil)
+	_, err := newReplica().Sync(1, []byte("?"), new(link).reach)
 	refused(t, err, antientropy.ErrBadMessage)
 }

@@ -22,13 +22,13 @@ func Place(format, bits uint8, key []byte) (Spot, error) {
 
 // Rehash hashes all nodes of the tree that have no digest.
 func (r *Replica) Rehash() error {
-	r.lock.Lock()
-	defer r.lock.Unlock()
-	return r.rehash()
+	held := r.at.locked()
+	defer held.lock.Unlock()
+	return held.rehash()
 }
 
 // rehash hashes all nodes. The caller holds the lock.
-func (r *Replica) rehash() error {
+func (r *replica) rehash() error {
 	return check(C.antientropy_rehash(&r.handle))
 }
 
@@ -36,9 +36,9 @@ func (r *Replica) rehash() error {
 // number of nodes that have none then: repeat it until that is 0, and other goroutines make their calls between.
 func (r *Replica) RehashSome(most uint64) (left uint64, err error) {
 	var nodes C.uint64_t
-	r.lock.Lock()
-	defer r.lock.Unlock()
-	err = check(C.antientropy_rehash_some(&r.handle, C.uint64_t(most), &nodes))
+	held := r.at.locked()
+	defer held.lock.Unlock()
+	err = check(C.antientropy_rehash_some(&held.handle, C.uint64_t(most), &nodes))
 	return uint64(nodes), err
 }
 

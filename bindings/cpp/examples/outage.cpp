@@ -1,7 +1,7 @@
-// An outage and its repair: two replicas write apart, take over what they lack, and merge the key that both wrote.
+// An outage and its repair: two replicas write apart, take over what they lack, and merge the key that both wrote. A
+// call that is refused ends the program: `value` throws.
 #include "antientropy.hpp"
 
-#include <cstdlib>
 #include <iostream>
 #include <iterator>
 
@@ -11,23 +11,15 @@ namespace {
 
 constexpr std::uint64_t A = 1, B = 2;
 
-// The value of a call that can't be refused here.
-template <class T>
-T sure(Result<T> result) {
-    if (result) return *std::move(result);
-    std::cerr << "refused: " << name(result.refusal()) << '\n';
-    std::exit(1);
-}
-
 // Takes what the partner has. Here its snapshot is called directly; elsewhere the messages go over a network.
 Synced sync(Replica &replica, Replica &partner, std::uint64_t node) {
-    Snapshot snapshot = sure(partner.snapshot());
+    Snapshot snapshot = partner.snapshot().value();
     const auto reach = [&](const std::vector<std::string> &asks) {
         std::vector<std::optional<std::string>> answers;
-        for (const auto &ask : asks) answers.push_back(sure(snapshot.serve(1, ask)));
+        for (const auto &ask : asks) answers.push_back(snapshot.serve(1, ask).value());
         return answers;
     };
-    return sure(replica.sync(node, sure(snapshot.offer(1)), reach));
+    return replica.sync(node, snapshot.offer(1).value(), reach).value();
 }
 
 // A number of versions in words.
@@ -40,30 +32,30 @@ std::ptrdiff_t count_keys(Replica &replica) {
     return std::distance(keys.begin(), keys.end());
 }
 
-const char *equal(Replica &a, Replica &b) { return sure(a.root()) == sure(b.root()) ? "yes" : "no"; }
+const char *equal(Replica &a, Replica &b) { return a.root().value() == b.root().value() ? "yes" : "no"; }
 
 std::string values(Replica &replica, std::string_view key) {
     std::string values;
-    for (const auto &version : sure(replica.get(key))) values += (values.empty() ? "" : " | ") + version.value;
+    for (const auto &version : replica.get(key).value()) values += (values.empty() ? "" : " | ") + version.value;
     return values;
 }
 
 } // namespace
 
 int main() {
-    Replica a = sure(Replica::make()), b = sure(Replica::make());
-    sure(a.put(A, "order", "paid"));
+    Replica a = Replica::make().value(), b = Replica::make().value();
+    a.put(A, "order", "paid").value();
     sync(b, a, A);
-    sure(a.put(A, "cart", "milk"));
-    sure(a.put(A, "gift", "wrapped"));
-    sure(b.put(B, "cart", "eggs"));
+    a.put(A, "cart", "milk").value();
+    a.put(A, "gift", "wrapped").value();
+    b.put(B, "cart", "eggs").value();
     std::cout << "a has " << count_keys(a) << " keys, b has " << count_keys(b) << '\n';
     std::cout << "roots equal: " << equal(a, b) << '\n';
     std::cout << "b took " << count(sync(b, a, A).accepted) << '\n';
     std::cout << "a took " << count(sync(a, b, B).accepted) << '\n';
     if (values(a, "cart") == values(b, "cart")) std::cout << "cart at both: " << values(a, "cart") << '\n';
-    const Clock context = sure(merge(sure(a.get("cart"))));
-    sure(a.put(A, "cart", "milk, eggs", context));
+    const Clock context = merge(a.get("cart").value()).value();
+    a.put(A, "cart", "milk, eggs", context).value();
     sync(b, a, A);
     std::cout << "merged: " << values(b, "cart") << '\n';
     std::cout << "roots equal: " << equal(a, b) << '\n';

@@ -6,16 +6,11 @@
 
 namespace {
 
-std::string fault_of(const FileError &error) {
-    const char *names[] = {"NotWritten", "NoCheckpoint", "Truncated", "Damaged", "Refused"};
-    return std::string(names[static_cast<int>(error.fault)]) + (error.refusal ? ' ' + name(*error.refusal) : "");
-}
-
 /// The error of a load, or "loaded".
 std::string load(const std::string &bytes, std::uint64_t limit = 100) {
     std::istringstream file(bytes);
     const auto loaded = Replica::load(file, limit);
-    return loaded ? "loaded" : fault_of(loaded.error());
+    return loaded ? "loaded" : name(loaded.error());
 }
 
 std::string saved(Replica &replica) {
@@ -310,8 +305,8 @@ void closed() {
     snapshot.close();
     REFUSED(Empty, snapshot.root());
     std::ostringstream file;
-    CHECK(fault_of(snapshot.save(file).error()) == "Refused Empty");
-    CHECK(fault_of(replica.save(file).error()) == "Refused Empty");
+    CHECK(name(snapshot.save(file).error()) == "Refused: Empty");
+    CHECK(name(replica.save(file).error()) == "Refused: Empty");
 }
 
 void checkpoints() {
@@ -327,7 +322,7 @@ void checkpoints() {
     CHECK(load(saved(other)) == "loaded");
     std::ostringstream failing;
     failing.setstate(std::ios::badbit);
-    CHECK(fault_of(replica.save(failing).error()) == "NotWritten");
+    CHECK(name(replica.save(failing).error()) == "NotWritten");
 }
 
 /// The example of docs/FORMATS.md: the live row of format 1, in leaf 12 of 256.
@@ -358,12 +353,12 @@ void damaged_checkpoints() {
     }
     CHECK(load("") == "Truncated");
     CHECK(load("ANTIENT" + bytes.substr(7)) == "NoCheckpoint");
-    CHECK(load(bytes, 0) == "Refused BadRing");
+    CHECK(load(bytes, 0) == "Refused: BadRing");
     std::string bits = bytes;
     bits[9] = 9;
-    CHECK(load(bits) == "Damaged BadRing");
+    CHECK(load(bits) == "Damaged: BadRing");
     sure(replica.put(1, "gift", ""));
-    CHECK(load(saved(replica), 1) == "Refused JournalFull");
+    CHECK(load(saved(replica), 1) == "Refused: JournalFull");
 }
 
 void hints() {

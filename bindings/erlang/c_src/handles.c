@@ -65,6 +65,14 @@ bool on_normal_scheduler(void)
     return enif_thread_type() == ERL_NIF_THR_NORMAL_SCHEDULER;
 }
 
+ERL_NIF_TERM or_elsewhere(ErlNifEnv *env, ERL_NIF_TERM result, const char *name, nif *again, int argc,
+                          const ERL_NIF_TERM argv[])
+{
+    if (result == ELSEWHERE)
+        return enif_schedule_nif(env, name, ERL_NIF_DIRTY_JOB_CPU_BOUND, again, argc, argv);
+    return result;
+}
+
 ERL_NIF_TERM with_lock(const struct call *call, ErlNifEnv *env, int argc, const ERL_NIF_TERM argv[])
 {
     void *found;
@@ -78,9 +86,7 @@ ERL_NIF_TERM with_lock(const struct call *call, ErlNifEnv *env, int argc, const 
     }
     ERL_NIF_TERM result = call->held(env, at, argv);
     enif_mutex_unlock(at->lock);
-    if (result == ELSEWHERE)
-        return enif_schedule_nif(env, call->name, ERL_NIF_DIRTY_JOB_CPU_BOUND, call->again, argc, argv);
-    return result;
+    return or_elsewhere(env, result, call->name, call->again, argc, argv);
 }
 
 struct resource *make_resource(enum kind kind)

@@ -49,8 +49,14 @@ struct call {
 #define DECLARE(name, arity, flags) nif nif_##name;
 CALLS(DECLARE)
 
-/* Begins the definition of a function without a handle. */
-#define FUNCTION(name) ERL_NIF_TERM nif_##name(UNUSED ErlNifEnv *env, UNUSED int argc, UNUSED const ERL_NIF_TERM argv[])
+/* Begins the definition of a function without a handle. It may return ELSEWHERE as `held` does. */
+#define FUNCTION(name)                                                                                                 \
+    static nif plain_##name;                                                                                           \
+    ERL_NIF_TERM nif_##name(ErlNifEnv *env, int argc, const ERL_NIF_TERM argv[])                                       \
+    {                                                                                                                  \
+        return or_elsewhere(env, plain_##name(env, argc, argv), #name, nif_##name, argc, argv);                        \
+    }                                                                                                                  \
+    static ERL_NIF_TERM plain_##name(UNUSED ErlNifEnv *env, UNUSED int argc, UNUSED const ERL_NIF_TERM argv[])
 
 /* Begins the definition of a function with a handle of a kind. */
 #define CALL(kind, name)                                                                                               \
@@ -62,7 +68,7 @@ CALLS(DECLARE)
     }                                                                                                                  \
     static ERL_NIF_TERM held_##name(ErlNifEnv *env, struct resource *at, UNUSED const ERL_NIF_TERM argv[])
 
-/* No term. */
+/* Returned in place of a term: the call begins again on a dirty scheduler. */
 #define ELSEWHERE 0
 
 /* Bytes of an argument, or of a result, that a call handles in far less than a millisecond. */
@@ -73,6 +79,10 @@ bool on_normal_scheduler(void);
 
 /* Opens the resource types. Returns false if one can't be opened. */
 bool open_types(ErlNifEnv *env);
+
+/* Returns the result of a function, or for ELSEWHERE begins the function again on a dirty scheduler. */
+ERL_NIF_TERM or_elsewhere(ErlNifEnv *env, ERL_NIF_TERM result, const char *name, nif *again, int argc,
+                          const ERL_NIF_TERM argv[]);
 
 /* Makes a call with the lock of the handle in its first argument. A normal scheduler doesn't wait for the lock: the
  * call begins again on a dirty one. */

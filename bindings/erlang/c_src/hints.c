@@ -36,7 +36,7 @@ CALL(HINTS, hint_keep)
     uint64_t owner, id;
     ErlNifBinary key;
     struct version version;
-    if (!get_u64(env, argv[1], &owner) || !enif_inspect_binary(env, argv[2], &key))
+    if (!get_u64(env, argv[1], &owner) || !get_key(env, argv[2], &key))
         return enif_make_badarg(env);
     uint32_t number = get_version(env, argv[3], &version);
     if (number != ANTIENTROPY_OK)

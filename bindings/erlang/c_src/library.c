@@ -23,7 +23,7 @@ FUNCTION(place)
     uint64_t format, bits;
     ErlNifBinary key;
     struct antientropy_spot spot;
-    if (!get_u64(env, argv[0], &format) || !get_u64(env, argv[1], &bits) || !enif_inspect_binary(env, argv[2], &key))
+    if (!get_u64(env, argv[0], &format) || !get_u64(env, argv[1], &bits) || !get_key(env, argv[2], &key))
         return enif_make_badarg(env);
     uint32_t number = antientropy_place(format, bits, key.data, key.size, &spot);
     if (number != ANTIENTROPY_OK)
@@ -45,7 +45,7 @@ static uint32_t get_clocks(ErlNifEnv *env, const ERL_NIF_TERM argv[], struct clo
     return number;
 }
 
-static ERL_NIF_TERM order_atom(uint64_t order)
+static ERL_NIF_TERM order_atom(ErlNifEnv *env, uint64_t order)
 {
     const ERL_NIF_TERM orders[] = {
         [ANTIENTROPY_BEFORE] = atoms.before,
@@ -53,7 +53,7 @@ static ERL_NIF_TERM order_atom(uint64_t order)
         [ANTIENTROPY_EQUAL] = atoms.equal,
         [ANTIENTROPY_APART] = atoms.apart,
     };
-    return orders[order];
+    return one_of(env, sizeof orders / sizeof *orders, orders, order);
 }
 
 /* compare(First, Second) -> {ok, before | 'after' | equal | apart} */
@@ -67,7 +67,7 @@ FUNCTION(compare)
     number = antientropy_compare(first.pairs, first.len, second.pairs, second.len, &order);
     drop_clock(&first);
     drop_clock(&second);
-    return number == ANTIENTROPY_OK ? ok(env, order_atom(order)) : refused(env, number);
+    return number == ANTIENTROPY_OK ? ok(env, order_atom(env, order)) : refused(env, number);
 }
 
 /* merge(First, Second) -> {ok, Clock} */
@@ -90,9 +90,9 @@ FUNCTION(read_offer)
 {
     ErlNifBinary offer;
     struct antientropy_offer_parts parts;
-    if (!get_bytes(env, argv[0], &offer))
-        return enif_make_badarg(env);
-    uint32_t number = antientropy_read_offer(offer.data, offer.size, &parts);
+    uint32_t number = get_bytes(env, argv[0], &offer);
+    if (number == ANTIENTROPY_OK)
+        number = antientropy_read_offer(offer.data, offer.size, &parts);
     if (number != ANTIENTROPY_OK)
         return refused(env, number);
     const ERL_NIF_TERM keys[] = {atoms.number, atoms.format, atoms.range, atoms.root};

@@ -111,10 +111,9 @@ CALL(REPLICA, load_rows)
 {
     ErlNifBinary rows;
     struct antientropy_loaded loaded;
-    if (!get_bytes(env, argv[1], &rows))
-        return enif_make_badarg(env);
-    if (rows.size > FEW_BYTES && on_normal_scheduler())
-        return ELSEWHERE;
+    uint32_t number = get_bytes(env, argv[1], &rows);
+    if (number != ANTIENTROPY_OK)
+        return refused(env, number);
     return loaded_result(env, antientropy_load(&at->replica, rows.data, rows.size, &loaded), &loaded);
 }
 
@@ -124,9 +123,10 @@ CALL(REPLICA, load_format)
     uint64_t format;
     ErlNifBinary rows;
     struct antientropy_loaded loaded;
-    if (!get_u64(env, argv[1], &format) || !get_bytes(env, argv[2], &rows))
+    if (!get_u64(env, argv[1], &format))
         return enif_make_badarg(env);
-    if (rows.size > FEW_BYTES && on_normal_scheduler())
-        return ELSEWHERE;
+    uint32_t number = get_bytes(env, argv[2], &rows);
+    if (number != ANTIENTROPY_OK)
+        return refused(env, number);
     return loaded_result(env, antientropy_load_format(&at->replica, format, rows.data, rows.size, &loaded), &loaded);
 }

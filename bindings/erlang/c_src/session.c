@@ -11,15 +11,17 @@ CALL(REPLICA, open)
     uint64_t partner, session;
     ErlNifBinary offer;
     bool rehash;
-    if (!get_u64(env, argv[1], &partner) || !get_bytes(env, argv[2], &offer) || !get_bool(argv[3], &rehash))
+    if (!get_u64(env, argv[1], &partner) || !get_bool(argv[3], &rehash))
         return enif_make_badarg(env);
-    uint32_t number = rehash ? antientropy_rehash(&at->replica) : ANTIENTROPY_OK;
+    uint32_t number = get_bytes(env, argv[2], &offer);
+    if (number == ANTIENTROPY_OK && rehash)
+        number = antientropy_rehash(&at->replica);
     if (number == ANTIENTROPY_OK)
         number = antientropy_open(&at->replica, partner, offer.data, offer.size, &session);
     return number == ANTIENTROPY_OK ? ok(env, enif_make_uint64(env, session)) : refused(env, number);
 }
 
-static ERL_NIF_TERM state_atom(uint64_t state)
+static ERL_NIF_TERM state_atom(ErlNifEnv *env, uint64_t state)
 {
     const ERL_NIF_TERM states[] = {
         [ANTIENTROPY_OPEN] = atoms.open,
@@ -27,7 +29,7 @@ static ERL_NIF_TERM state_atom(uint64_t state)
         [ANTIENTROPY_FAILED] = atoms.failed,
         [ANTIENTROPY_CANCELLED] = atoms.cancelled,
     };
-    return states[state];
+    return one_of(env, sizeof states / sizeof *states, states, state);
 }
 
 /* session(Replica, Session) -> {ok, open | finished | failed | cancelled} */
@@ -37,7 +39,7 @@ CALL(REPLICA, session)
     if (!get_u64(env, argv[1], &session))
         return enif_make_badarg(env);
     uint32_t number = antientropy_session(&at->replica, session, &state);
-    return number == ANTIENTROPY_OK ? ok(env, state_atom(state)) : refused(env, number);
+    return number == ANTIENTROPY_OK ? ok(env, state_atom(env, state)) : refused(env, number);
 }
 
 /* outstanding(Replica, Session) -> {ok, Count} */
@@ -112,16 +114,16 @@ CALL(REPLICA, take)
     uint32_t offer;
     ErlNifBinary answer;
     struct antientropy_taken taken;
-    if (!get_u64(env, argv[1], &session) || !get_u32(env, argv[2], &offer) || !get_bytes(env, argv[3], &answer))
+    if (!get_u64(env, argv[1], &session) || !get_u32(env, argv[2], &offer))
         return enif_make_badarg(env);
-    if (answer.size > FEW_BYTES && on_normal_scheduler())
-        return ELSEWHERE;
-    uint32_t number = antientropy_take(&at->replica, session, offer, answer.data, answer.size, &taken);
+    uint32_t number = get_bytes(env, argv[3], &answer);
+    if (number == ANTIENTROPY_OK)
+        number = antientropy_take(&at->replica, session, offer, answer.data, answer.size, &taken);
     if (number != ANTIENTROPY_OK)
         return refused(env, number);
     const ERL_NIF_TERM keys[] = {atoms.accepted, atoms.known, atoms.state};
     const ERL_NIF_TERM values[] = {enif_make_uint64(env, taken.accepted), enif_make_uint64(env, taken.known),
-                                   state_atom(taken.state)};
+                                   state_atom(env, taken.state)};
     return ok(env, make_map(env, 3, keys, values));
 }
 

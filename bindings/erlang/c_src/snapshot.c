@@ -83,8 +83,11 @@ CALL(SNAPSHOT, serve)
     uint32_t offer, number;
     ErlNifBinary ask;
     struct room room;
-    if (!get_u32(env, argv[1], &offer) || !get_bytes(env, argv[2], &ask))
+    if (!get_u32(env, argv[1], &offer))
         return enif_make_badarg(env);
+    number = get_bytes(env, argv[2], &ask);
+    if (number != ANTIENTROPY_OK)
+        return refused(env, number);
     open_room(&room);
     do {
         number = antientropy_serve(&at->snapshot, offer, ask.data, ask.size, room.at, room.len, &room.need);

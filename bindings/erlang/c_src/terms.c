@@ -6,6 +6,9 @@
 
 enum { NUMBERS = 256, ATOM_ROOM = 2 * ANTIENTROPY_NAME_MAX };
 
+/* Pairs of a clock that are read in far less than a millisecond, and lists within lists that are looked into. */
+enum { FEW_PAIRS = 1024, NESTED = 256 };
+
 struct atoms atoms;
 
 /* The atoms of the numbers that calls return. */
@@ -43,6 +46,11 @@ ERL_NIF_TERM name_of(uint32_t number)
     return number < NUMBERS ? names[number] : atoms.undefined;
 }
 
+ERL_NIF_TERM one_of(ErlNifEnv *env, size_t len, const ERL_NIF_TERM of[], uint64_t number)
+{
+    return number < len ? of[number] : enif_make_uint64(env, number);
+}
+
 ERL_NIF_TERM ok(ErlNifEnv *env, ERL_NIF_TERM term)
 {
     return enif_make_tuple2(env, atoms.ok, term);
@@ -52,6 +60,8 @@ ERL_NIF_TERM refused(ErlNifEnv *env, uint32_t number)
 {
     if (number == BADARG)
         return enif_make_badarg(env);
+    if (number == LONG_ARGUMENT)
+        return ELSEWHERE;
     return enif_make_tuple2(env, atoms.error, name_of(number));
 }
 
@@ -115,22 +125,76 @@ bool get_bool(ERL_NIF_TERM term, bool *flag)
     return *flag || enif_is_identical(term, atoms.no);
 }
 
-bool get_bytes(ErlNifEnv *env, ERL_NIF_TERM term, ErlNifBinary *bytes)
+bool get_key(ErlNifEnv *env, ERL_NIF_TERM term, ErlNifBinary *key)
 {
-    return enif_inspect_iolist_as_binary(env, term, bytes);
+    if (!enif_inspect_binary(env, term, key))
+        return false;
+    if (key->size > ANTIENTROPY_KEY_MAX)
+        key->size = ANTIENTROPY_KEY_MAX + 1;
+    return true;
 }
 
-bool get_value(ErlNifEnv *env, ERL_NIF_TERM term, struct value *value)
+/* What is known of the number of bytes of iodata. */
+enum size { FITS, TOO_LONG, UNKNOWN };
+
+/* Tells whether iodata has at most `most` bytes. A normal scheduler looks at no more than FEW_BYTES elements of lists.
+ * The search ends at what isn't iodata: then it FITS, and enif_inspect_iolist_as_binary fails there too. */
+static enum size size_of(ErlNifEnv *env, ERL_NIF_TERM term, size_t most)
 {
-    static uint8_t none;
-    if (enif_is_identical(term, atoms.tombstone)) {
-        value->kind = ANTIENTROPY_TOMBSTONE;
-        value->bytes.data = &none;
-        value->bytes.size = 0;
-        return true;
+    ERL_NIF_TERM rests[NESTED], head;
+    ErlNifBinary bytes;
+    unsigned byte;
+    size_t nested = 0, len = 0, steps = on_normal_scheduler() ? FEW_BYTES : SIZE_MAX;
+    for (rests[nested++] = term; nested > 0;) {
+        ERL_NIF_TERM list = rests[--nested];
+        while (enif_get_list_cell(env, list, &head, &list)) {
+            if (steps-- == 0)
+                return UNKNOWN;
+            if (!enif_get_uint(env, head, &byte)) {
+                if (nested == NESTED)
+                    return UNKNOWN;
+                rests[nested++] = list;
+                list = head;
+            } else if (byte > UINT8_MAX) {
+                return FITS;
+            } else if (++len > most) {
+                return TOO_LONG;
+            }
+        }
+        if (enif_inspect_binary(env, list, &bytes)) {
+            if (bytes.size > most - len)
+                return TOO_LONG;
+            len += bytes.size;
+        } else if (!enif_is_empty_list(env, list)) {
+            return FITS;
+        }
     }
-    value->kind = ANTIENTROPY_LIVE;
-    return get_bytes(env, term, &value->bytes);
+    return FITS;
+}
+
+uint32_t get_bytes(ErlNifEnv *env, ERL_NIF_TERM term, ErlNifBinary *bytes)
+{
+    if (on_normal_scheduler() && size_of(env, term, FEW_BYTES) != FITS)
+        return LONG_ARGUMENT;
+    return enif_inspect_iolist_as_binary(env, term, bytes) ? ANTIENTROPY_OK : BADARG;
+}
+
+uint32_t get_value(ErlNifEnv *env, ERL_NIF_TERM term, struct value *value)
+{
+    static uint8_t too_long[ANTIENTROPY_VALUE_MAX_2 + 1];
+    value->kind = enif_is_identical(term, atoms.tombstone) ? ANTIENTROPY_TOMBSTONE : ANTIENTROPY_LIVE;
+    value->bytes.data = too_long;
+    value->bytes.size = 0;
+    if (value->kind == ANTIENTROPY_TOMBSTONE)
+        return ANTIENTROPY_OK;
+    enum size size = size_of(env, term, ANTIENTROPY_VALUE_MAX_2);
+    if (size == UNKNOWN && on_normal_scheduler())
+        return LONG_ARGUMENT;
+    if (size != TOO_LONG && !enif_inspect_iolist_as_binary(env, term, &value->bytes))
+        return BADARG;
+    if (size == TOO_LONG || value->bytes.size > sizeof too_long)
+        value->bytes.size = sizeof too_long;
+    return ANTIENTROPY_OK;
 }
 
 static bool get_pair(ErlNifEnv *env, ERL_NIF_TERM node, ERL_NIF_TERM counter, struct antientropy_pair *pair)
@@ -138,49 +202,63 @@ static bool get_pair(ErlNifEnv *env, ERL_NIF_TERM node, ERL_NIF_TERM counter, st
     return get_u64(env, node, &pair->node) && get_u64(env, counter, &pair->counter);
 }
 
-static bool fill_from_map(ErlNifEnv *env, ERL_NIF_TERM map, struct antientropy_pair *pairs)
+static bool fill_from_map(ErlNifEnv *env, ERL_NIF_TERM map, struct clock *clock)
 {
     ErlNifMapIterator iterator;
     ERL_NIF_TERM node, counter;
-    bool fits = true;
-    if (!enif_map_iterator_create(env, map, &iterator, ERL_NIF_MAP_ITERATOR_FIRST))
+    bool fits = enif_map_iterator_create(env, map, &iterator, ERL_NIF_MAP_ITERATOR_FIRST);
+    if (!fits)
         return false;
-    for (; fits && enif_map_iterator_get_pair(env, &iterator, &node, &counter); pairs++) {
-        fits = get_pair(env, node, counter, pairs);
+    for (size_t place = 0; fits && place < clock->len; place++) {
+        fits = enif_map_iterator_get_pair(env, &iterator, &node, &counter)
+            && get_pair(env, node, counter, &clock->pairs[place]);
         enif_map_iterator_next(env, &iterator);
     }
     enif_map_iterator_destroy(env, &iterator);
     return fits;
 }
 
-static bool fill_from_list(ErlNifEnv *env, ERL_NIF_TERM list, struct antientropy_pair *pairs)
+static bool fill_from_list(ErlNifEnv *env, ERL_NIF_TERM list, struct clock *clock)
 {
     ERL_NIF_TERM head;
     const ERL_NIF_TERM *pair;
     int arity;
-    for (; enif_get_list_cell(env, list, &head, &list); pairs++) {
-        if (!enif_get_tuple(env, head, &arity, &pair) || arity != 2 || !get_pair(env, pair[0], pair[1], pairs))
+    for (size_t place = 0; place < clock->len; place++) {
+        if (!enif_get_list_cell(env, list, &head, &list) || !enif_get_tuple(env, head, &arity, &pair) || arity != 2
+            || !get_pair(env, pair[0], pair[1], &clock->pairs[place]))
             return false;
+    }
+    return true;
+}
+
+/* Counts the elements of a list, up to `most`. Returns false if it isn't a list to there. */
+static bool count_elements(ErlNifEnv *env, ERL_NIF_TERM list, size_t most, size_t *len)
+{
+    ERL_NIF_TERM head;
+    for (*len = 0; *len < most; ++*len) {
+        if (!enif_get_list_cell(env, list, &head, &list))
+            return enif_is_empty_list(env, list);
     }
     return true;
 }
 
 uint32_t get_clock(ErlNifEnv *env, ERL_NIF_TERM term, struct clock *clock)
 {
+    size_t most = on_normal_scheduler() ? FEW_PAIRS + 1 : MOST_PAIRS;
     bool is_map = enif_get_map_size(env, term, &clock->len);
-    unsigned len;
-    if (!is_map) {
-        if (!enif_get_list_length(env, term, &len))
-            return BADARG;
-        clock->len = len;
-    }
+    if (!is_map && !count_elements(env, term, most, &clock->len))
+        return BADARG;
+    if (clock->len > FEW_PAIRS && on_normal_scheduler())
+        return LONG_ARGUMENT;
+    if (clock->len > MOST_PAIRS)
+        clock->len = MOST_PAIRS;
     clock->pairs = clock->few;
     if (clock->len > ANTIENTROPY_CLOCK_MAX) {
         clock->pairs = enif_alloc(clock->len * sizeof *clock->pairs);
         if (clock->pairs == NULL)
             return ANTIENTROPY_NO_MEMORY;
     }
-    if (is_map ? fill_from_map(env, term, clock->pairs) : fill_from_list(env, term, clock->pairs))
+    if (is_map ? fill_from_map(env, term, clock) : fill_from_list(env, term, clock))
         return ANTIENTROPY_OK;
     drop_clock(clock);
     return BADARG;
@@ -189,10 +267,10 @@ uint32_t get_clock(ErlNifEnv *env, ERL_NIF_TERM term, struct clock *clock)
 uint32_t get_version(ErlNifEnv *env, ERL_NIF_TERM term, struct version *version)
 {
     ERL_NIF_TERM clock, value;
-    if (!enif_get_map_value(env, term, atoms.clock, &clock) || !enif_get_map_value(env, term, atoms.value, &value)
-        || !get_value(env, value, &version->value))
+    if (!enif_get_map_value(env, term, atoms.clock, &clock) || !enif_get_map_value(env, term, atoms.value, &value))
         return BADARG;
-    return get_clock(env, clock, &version->clock);
+    uint32_t number = get_value(env, value, &version->value);
+    return number == ANTIENTROPY_OK ? get_clock(env, clock, &version->clock) : number;
 }
 
 void drop_clock(struct clock *clock)

@@ -65,8 +65,12 @@ extern struct atoms {
     ATOMS(ATOM_FIELD)
 } atoms;
 
-/* No number of the library: an argument of a wrong type. */
+/* No numbers of the library: an argument of a wrong type, and one that takes long to read, on a normal scheduler. */
 #define BADARG UINT32_MAX
+#define LONG_ARGUMENT (UINT32_MAX - 1)
+
+/* The most pairs of a clock that a call gets. Of more, one has a bad node, or the node of another one. */
+#define MOST_PAIRS (ANTIENTROPY_NODE_MAX + 1)
 
 /* A clock that a call takes. Pairs that don't fit in `few` are the clock's own: drop_clock frees them. */
 struct clock {
@@ -105,10 +109,13 @@ void make_atoms(ErlNifEnv *env);
 /* Returns the atom of a number that a call returned, or `undefined`. */
 ERL_NIF_TERM name_of(uint32_t number);
 
+/* Returns the atom of a number that counts from 0, or the number itself if only a newer library has it. */
+ERL_NIF_TERM one_of(ErlNifEnv *env, size_t len, const ERL_NIF_TERM of[], uint64_t number);
+
 /* Returns {ok, Term}. */
 ERL_NIF_TERM ok(ErlNifEnv *env, ERL_NIF_TERM term);
 
-/* Returns {error, Name}, or for BADARG the exception. */
+/* Returns {error, Name}, for BADARG the exception, or for LONG_ARGUMENT ELSEWHERE. */
 ERL_NIF_TERM refused(ErlNifEnv *env, uint32_t number);
 
 /* Returns `ok` or a refusal. */
@@ -123,20 +130,24 @@ ERL_NIF_TERM make_bytes(ErlNifEnv *env, const uint8_t *bytes, size_t len);
 ERL_NIF_TERM make_clock(ErlNifEnv *env, const struct antientropy_pair *pairs, size_t len);
 ERL_NIF_TERM make_version(ErlNifEnv *env, ERL_NIF_TERM clock, ERL_NIF_TERM value);
 
-/* ---- arguments: each function returns false if the term isn't of the type */
+/* ---- arguments: each function returns false, or BADARG, if the term isn't of the type */
 
 bool get_u32(ErlNifEnv *env, ERL_NIF_TERM term, uint32_t *number);
 bool get_u64(ErlNifEnv *env, ERL_NIF_TERM term, uint64_t *number);
 bool get_bool(ERL_NIF_TERM term, bool *flag);
 
-/* Reads iodata. */
-bool get_bytes(ErlNifEnv *env, ERL_NIF_TERM term, ErlNifBinary *bytes);
+/* Reads a key. Of one that is too long, what follows its first byte too many is left out. */
+bool get_key(ErlNifEnv *env, ERL_NIF_TERM term, ErlNifBinary *key);
 
-/* Reads iodata, or the atom `tombstone`. */
-bool get_value(ErlNifEnv *env, ERL_NIF_TERM term, struct value *value);
+/* Reads iodata. Returns OK, BADARG, or LONG_ARGUMENT for over FEW_BYTES. */
+uint32_t get_bytes(ErlNifEnv *env, ERL_NIF_TERM term, ErlNifBinary *bytes);
 
-/* Reads a map of nodes to counters, or a list of pairs. Returns OK, BADARG or NO_MEMORY: only after OK is the clock to
- * be dropped. */
+/* Reads iodata, or the atom `tombstone`. Of bytes that are too many for each format, what follows the first byte too
+ * many is left out. Returns OK, BADARG or LONG_ARGUMENT. */
+uint32_t get_value(ErlNifEnv *env, ERL_NIF_TERM term, struct value *value);
+
+/* Reads a map of nodes to counters, or a list of pairs: at most MOST_PAIRS. Returns OK, BADARG, LONG_ARGUMENT or
+ * NO_MEMORY: only after OK is the clock to be dropped. */
 uint32_t get_clock(ErlNifEnv *env, ERL_NIF_TERM term, struct clock *clock);
 
 /* Reads a map that has a clock and a value. Returns what get_clock returns. */

@@ -13,9 +13,11 @@ static ERL_NIF_TERM put_by(ErlNifEnv *env, struct resource *at, const ERL_NIF_TE
     struct value value;
     struct clock context;
     struct antientropy_receipt receipt;
-    if (!get_u64(env, argv[1], &node) || !enif_inspect_binary(env, argv[2], &key) || !get_value(env, argv[3], &value))
+    if (!get_u64(env, argv[1], &node) || !get_key(env, argv[2], &key))
         return enif_make_badarg(env);
-    uint32_t number = get_clock(env, argv[4], &context);
+    uint32_t number = get_value(env, argv[3], &value);
+    if (number == ANTIENTROPY_OK)
+        number = get_clock(env, argv[4], &context);
     if (number != ANTIENTROPY_OK)
         return refused(env, number);
     if (after_read)
@@ -50,7 +52,7 @@ CALL(REPLICA, accept)
     ErlNifBinary key;
     struct version version;
     uint64_t taken;
-    if (!enif_inspect_binary(env, argv[1], &key))
+    if (!get_key(env, argv[1], &key))
         return enif_make_badarg(env);
     uint32_t number = get_version(env, argv[2], &version);
     if (number != ANTIENTROPY_OK)
@@ -92,7 +94,7 @@ CALL(REPLICA, get)
     ErlNifBinary key;
     ERL_NIF_TERM versions[ANTIENTROPY_VERSIONS_MAX];
     uint64_t count = 0, len = 0;
-    if (!enif_inspect_binary(env, argv[1], &key))
+    if (!get_key(env, argv[1], &key))
         return enif_make_badarg(env);
     do {
         uint32_t number = read_version(env, at, &key, len, &count, &versions[len]);
@@ -113,7 +115,7 @@ CALL(REPLICA, read)
     ErlNifBinary key;
     uint64_t index, versions;
     ERL_NIF_TERM version;
-    if (!enif_inspect_binary(env, argv[1], &key) || !get_u64(env, argv[2], &index))
+    if (!get_key(env, argv[1], &key) || !get_u64(env, argv[2], &index))
         return enif_make_badarg(env);
     uint32_t number = read_version(env, at, &key, index, &versions, &version);
     return number == ANTIENTROPY_OK ? ok(env, version) : refused(env, number);
@@ -124,7 +126,7 @@ CALL(REPLICA, count_versions)
 {
     ErlNifBinary key;
     uint64_t count;
-    if (!enif_inspect_binary(env, argv[1], &key))
+    if (!get_key(env, argv[1], &key))
         return enif_make_badarg(env);
     uint32_t number = antientropy_versions(&at->replica, key.data, key.size, &count);
     return number == ANTIENTROPY_OK ? ok(env, enif_make_uint64(env, count)) : refused(env, number);
@@ -138,7 +140,7 @@ CALL(REPLICA, value)
     struct room room;
     uint8_t kind;
     uint32_t number;
-    if (!enif_inspect_binary(env, argv[1], &key) || !get_u64(env, argv[2], &index))
+    if (!get_key(env, argv[1], &key) || !get_u64(env, argv[2], &index))
         return enif_make_badarg(env);
     open_room(&room);
     do
@@ -155,7 +157,7 @@ CALL(REPLICA, clock)
     ErlNifBinary key;
     uint64_t index, len;
     struct antientropy_pair pairs[ANTIENTROPY_CLOCK_MAX];
-    if (!enif_inspect_binary(env, argv[1], &key) || !get_u64(env, argv[2], &index))
+    if (!get_key(env, argv[1], &key) || !get_u64(env, argv[2], &index))
         return enif_make_badarg(env);
     uint32_t number =
         antientropy_clock(&at->replica, key.data, key.size, index, pairs, ANTIENTROPY_CLOCK_MAX, &len);
@@ -168,7 +170,7 @@ CALL(REPLICA, row)
     ErlNifBinary key;
     struct room room;
     uint32_t number;
-    if (!enif_inspect_binary(env, argv[1], &key))
+    if (!get_key(env, argv[1], &key))
         return enif_make_badarg(env);
     open_room(&room);
     do {
@@ -185,13 +187,13 @@ CALL(REPLICA, key_after)
     uint64_t leaf, len;
     ErlNifBinary key;
     uint8_t next[ANTIENTROPY_KEY_MAX];
-    if (!get_u64(env, argv[1], &leaf) || !enif_inspect_binary(env, argv[2], &key))
+    if (!get_u64(env, argv[1], &leaf) || !get_key(env, argv[2], &key))
         return enif_make_badarg(env);
     uint32_t number = antientropy_key_after(&at->replica, leaf, key.data, key.size, next, sizeof next, &len);
     return number == ANTIENTROPY_OK ? ok(env, make_bytes(env, next, len)) : refused(env, number);
 }
 
-static ERL_NIF_TERM source_atom(uint64_t source)
+static ERL_NIF_TERM source_atom(ErlNifEnv *env, uint64_t source)
 {
     const ERL_NIF_TERM sources[] = {
         [ANTIENTROPY_PUT] = atoms.put,
@@ -199,7 +201,7 @@ static ERL_NIF_TERM source_atom(uint64_t source)
         [ANTIENTROPY_HINT] = atoms.hint,
         [ANTIENTROPY_PARTNER] = atoms.partner,
     };
-    return sources[source];
+    return one_of(env, sizeof sources / sizeof *sources, sources, source);
 }
 
 /* entry(Replica, Number) -> {ok, Entry} */
@@ -227,7 +229,7 @@ CALL(REPLICA, entry)
     const ERL_NIF_TERM keys[] = {atoms.number, atoms.key, atoms.clock, atoms.value, atoms.source};
     const ERL_NIF_TERM values[] = {enif_make_uint64(env, entry), make_bytes(env, key, key_len),
                                    make_clock(env, pairs, clock_len), room_value(env, &room, kind),
-                                   source_atom(source)};
+                                   source_atom(env, source)};
     return ok(env, make_map(env, 5, keys, values));
 }
 
@@ -236,7 +238,7 @@ CALL(REPLICA, top_counter)
 {
     uint64_t node, entries, counter;
     ErlNifBinary key;
-    if (!get_u64(env, argv[1], &node) || !enif_inspect_binary(env, argv[2], &key) || !get_u64(env, argv[3], &entries))
+    if (!get_u64(env, argv[1], &node) || !get_key(env, argv[2], &key) || !get_u64(env, argv[3], &entries))
         return enif_make_badarg(env);
     uint32_t number = antientropy_top_counter(&at->replica, node, key.data, key.size, entries, &counter);
     return number == ANTIENTROPY_OK ? ok(env, enif_make_uint64(env, counter)) : refused(env, number);

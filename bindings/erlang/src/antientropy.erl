@@ -5,7 +5,9 @@
 %%
 %% A call returns `{error, Name}' if it is refused: Name is the library's name of the cause, and docs/FORMATS.md says
 %% what to do. A refused call changes nothing, except as `antientropy.h' says. An argument of a wrong type raises
-%% `badarg', and so does a number of over 64 bits (of an offer and of slots: over 32 bits).
+%% `badarg', and so does a number of over 64 bits (of an offer and of slots: over 32 bits). A value or a clock that is
+%% too long is refused without a look at all of it. A source, a state or an order that only a newer library knows is its
+%% number.
 %%
 %% Processes may share a handle, which has a lock. It is of its node: send messages to other nodes, not handles.
 -module(antientropy).

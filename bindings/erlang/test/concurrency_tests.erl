@@ -62,6 +62,7 @@ long_calls_test_() ->
         {inorder, [
             {timeout, 60, fun() -> a_scheduler_is_not_blocked(Replica) end},
             {timeout, 60, fun long_texts_go_elsewhere/0},
+            {timeout, 60, fun() -> long_arguments_are_not_read(Replica) end},
             {timeout, 60, fun() -> processes_wait(Replica) end},
             {timeout, 60, fun() -> a_snapshot_does_not_wait(Replica) end},
             {timeout, 60, fun() -> a_process_is_killed(Replica) end},
@@ -126,6 +127,27 @@ long_texts_go_elsewhere() ->
     {ok, Answer} = elsewhere(fun() -> antientropy_snapshot:serve(Snapshot, 1, <<2, 1:32, 3, Leaf:16>>) end),
     {ok, #{accepted := 64}} = elsewhere(fun() -> antientropy_session:take(Session, Answer) end),
     {ok, #{known := 64}} = elsewhere(fun() -> antientropy:load_rows(Copy, Row) end).
+
+%% Arguments that are too long for any call are refused before all of them is read, which takes some tenths of a second.
+long_arguments_are_not_read(Replica) ->
+    Value = lists:duplicate(1000, lists:duplicate(20_000, $v)),
+    Key = binary:copy(<<"k">>, 20_000_000),
+    Pairs = [{Node, 1} || Node <- lists:seq(1, 2_000_000)],
+    [
+        ?assert(shortest(5, fun() -> ?assertEqual({error, Name}, Call()) end) < 50_000)
+     || {Name, Call} <- [
+            {bad_value, fun() -> antientropy:put(Replica, 1, <<"k">>, Value) end},
+            {bad_value, fun() -> antientropy:accept(Replica, <<"k">>, #{clock => #{1 => 1}, value => Value}) end},
+            {bad_key, fun() -> antientropy:put(Replica, 1, Key, <<>>) end},
+            {no_version, fun() -> antientropy:read(Replica, Key, 0) end},
+            {bad_clock, fun() -> antientropy:put(Replica, 1, <<"k">>, <<>>, Pairs) end},
+            {bad_clock, fun() -> antientropy:compare(#{}, Pairs) end}
+        ]
+    ].
+
+%% Makes a call some times, and returns the microseconds of the shortest one: others may be held up by the machine.
+shortest(Times, Call) ->
+    lists:min([element(1, timer:tc(Call)) || _ <- lists:seq(1, Times)]).
 
 elsewhere(Call) ->
     {Ticked, Result} = ticks(Call),

@@ -135,9 +135,9 @@ is_exported({Module, Function, Arity}) ->
     {module, Module} = code:ensure_loaded(Module),
     erlang:function_exported(Module, Function, Arity).
 
-%% The names of the calls in the header.
+%% The names of the calls in the header, but for key_next: it is key_after with the key's memory for the result.
 declared() ->
-    found([text(?HEADER)], "(?m)^(?:uint32_t|void) antientropy_(\\w+)\\(").
+    found([text(?HEADER)], "(?m)^(?:uint32_t|void) antientropy_(\\w+)\\(") -- ["key_next"].
 
 %% The first group of each match, sorted.
 found(Texts, Pattern) ->

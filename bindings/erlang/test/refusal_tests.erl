@@ -26,6 +26,9 @@ refusals_test_() ->
             fun no_version/1,
             fun empty/1,
             fun wrong_types/1,
+            fun long_values/1,
+            fun long_clocks/1,
+            fun long_keys/1,
             fun numbers_that_c_cannot_hold/1,
             fun other_handles/1
         ]
@@ -226,6 +229,76 @@ long_clocks_of_wrong_types(Replica) ->
         badarg(fun() -> antientropy:put(Replica, 1, <<"k">>, <<>>, Clock) end)
      || Clock <- [Pairs ++ [none], maps:from_list([{none, 1} | Pairs])]
     ].
+
+%% Causes that are tested before the length of a value are found, however long it is.
+long_values(Replica) ->
+    Great = lists:duplicate(1000, lists:duplicate(20_000, $v)),
+    [
+        begin
+            refused(bad_value, Replica, put, [Replica, 1, <<"new">>, Value]),
+            refused(bad_value, Replica, accept, [Replica, <<"new">>, live(#{2 => 1}, Value)]),
+            refused(bad_clock, Replica, put, [Replica, 0, <<"new">>, Value]),
+            refused(clock_full, Replica, put, [Replica, 1, <<"new">>, Value, pairs(33)]),
+            refused(bad_key, Replica, put, [Replica, 1, <<>>, Value])
+        end
+     || Value <- [Great, [<<"v">> | Great], [[], [Great]], iolist_to_binary(Great), [iolist_to_binary(Great)]]
+    ],
+    badarg(fun() -> antientropy:put(Replica, 1, <<"new">>, [256 | Great]) end),
+    badarg(fun() -> antientropy:put(Replica, 1, <<"new">>, [none | Great]) end),
+    [
+        begin
+            {ok, _} = antientropy:put(Replica, 1, <<"new", Place>>, Value),
+            Bytes = iolist_to_binary(Value),
+            ?assertMatch({ok, [#{value := Bytes}]}, antientropy:get(Replica, <<"new", Place>>))
+        end
+     || {Place, Value} <- lists:enumerate([
+            lists:duplicate(65_536, $v),
+            [lists:duplicate(65_535, [[], <<>>]) | <<"v">>],
+            [[lists:duplicate(32_768, $v) | binary:copy(<<"v">>, 32_767)], <<"v">>],
+            lists:foldl(fun(Byte, Nested) -> [Nested, Byte rem 256] end, <<>>, lists:seq(1, 1000)),
+            lists:foldl(fun(Byte, Nested) -> [Byte rem 256 | Nested] end, <<"end">>, lists:seq(1, 5000))
+        ])
+    ],
+    refused(bad_value, Replica, put, [Replica, 1, <<"other">>, lists:duplicate(65_537, $v)]),
+    refused({row_broken, 0}, Replica, load_rows, [Replica, Great]),
+    refused(bad_message, Replica, read_offer, [Great]).
+
+%% The pairs 1 to `Last', each of which has a counter of 1.
+pairs(Last) ->
+    [{Node, 1} || Node <- lists:seq(1, Last)].
+
+%% A clock of more pairs than there are nodes is none; up to that number it may have too many pairs.
+long_clocks(Replica) ->
+    Other = live(#{1 => 1}, <<>>),
+    [
+        begin
+            refused(Name, Replica, put, [Replica, 1, <<"k">>, <<>>, Clock]),
+            refused(Name, Replica, accept, [Replica, <<"k">>, Other#{clock := Clock}]),
+            refused(Name, Replica, compare, [Clock, #{}]),
+            refused(Name, Replica, merge, [[#{}, Clock]])
+        end
+     || {Name, Pairs} <- [
+            {clock_full, pairs(33)},
+            {clock_full, pairs(65_535)},
+            {bad_clock, pairs(65_536)},
+            {bad_clock, pairs(200_000)},
+            {bad_clock, [{0, 1} | pairs(65_535)]}
+        ],
+        Clock <- [Pairs, maps:from_list(Pairs)]
+    ],
+    refused(bad_clock, Replica, put, [Replica, 1, <<"k">>, <<>>, lists:duplicate(2_000_000, {1, 1})]),
+    badarg(fun() -> antientropy:put(Replica, 1, <<"k">>, <<>>, [{1, 1}, none | pairs(200_000)]) end),
+    badarg(fun() -> antientropy:put(Replica, 1, <<"k">>, <<>>, pairs(2000) ++ {1, 1}) end).
+
+long_keys(Replica) ->
+    Key = binary:copy(<<"k">>, 20_000_000),
+    refused(bad_key, Replica, put, [Replica, 1, Key, <<>>]),
+    refused(bad_key, Replica, accept, [Replica, Key, live(#{1 => 1}, <<>>)]),
+    refused(bad_key, Replica, row, [Replica, Key]),
+    refused(bad_key, Replica, place, [2, 0, Key]),
+    refused(no_version, Replica, read, [Replica, Key, 0]),
+    ?assertEqual({ok, []}, antientropy:get(Replica, Key)),
+    ?assertEqual({ok, 0}, antientropy:top_counter(Replica, 1, Key)).
 
 numbers_that_c_cannot_hold(Replica) ->
     [

@@ -10,6 +10,9 @@ from typing import Any, Dict, Tuple
 
 PREFIX = "antientropy_"
 
+#: Bytes of the longest key.
+KEY_MAX = 255
+
 #: The most pairs of a clock.
 CLOCK_MAX = 32
 
@@ -51,6 +54,7 @@ CALLS: Dict[str, Tuple[Any, Tuple[Any, ...]]] = {
     "clock": (c_uint32, (*_HANDLE, *_BYTES, c_uint64, *_OUT)),
     "read": (c_uint32, (*_HANDLE, *_BYTES, c_uint64, *_STRUCT, *_PAIRS, c_void_p, c_size_t)),
     "key_after": (c_uint32, (*_HANDLE, c_uint64, *_BYTES, *_OUT)),
+    "key_next": (c_uint32, (*_HANDLE, c_uint64, *_OUT)),
     "compare": (c_uint32, (*_PAIRS, *_PAIRS, *_NUMBER)),
     "merge": (c_uint32, (*_PAIRS, *_PAIRS, *_OUT)),
     "entry_key": (c_uint32, (*_HANDLE, c_uint64, *_OUT)),

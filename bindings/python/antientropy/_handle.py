@@ -3,8 +3,8 @@
 from __future__ import annotations
 
 from ctypes import byref, c_uint8, c_uint64, create_string_buffer
-from threading import Lock
-from typing import Any, List, Optional, TypeVar
+from threading import RLock
+from typing import Any, ContextManager, List, NoReturn, Optional, TypeVar
 
 from ._calls import CLOCK_MAX, HandleStruct
 from ._convert import to_clock, to_value
@@ -16,8 +16,24 @@ _BYTES_ROOM = 1 << 16
 Self = TypeVar("Self", bound="Handle")
 
 
+class Results:
+    """Memory for the results of a call."""
+
+    __slots__ = ("words", "reading", "need", "room")
+
+    def __init__(self) -> None:
+        self.words = (c_uint64 * (2 * CLOCK_MAX))()
+        self.reading = (c_uint64 * 4)()
+        self.need = c_uint64()
+        self.room = create_string_buffer(_BYTES_ROOM)
+
+
 class Handle:
     """A handle of the library, with a lock: one thread at a time is in a call of it.
+
+    A signal handler may run while its own thread has the lock, before or after a call of the library, but not within
+    one. It may then read, since each call has results of its own, but not change anything: the method that it
+    interrupted may make several calls, which are to find the same.
 
     The names of methods that need the lock held by their caller end with `_held`.
     """
@@ -28,17 +44,14 @@ class Handle:
     def __init__(self, library: Library) -> None:
         self._library = library
         self._free_call = getattr(library, self._free)
-        self._lock = Lock()
+        self._lock = RLock()
         self._struct = HandleStruct()
         self._at = byref(self._struct)
-        self._words = (c_uint64 * (2 * CLOCK_MAX))()
-        self._need = c_uint64()
-        self._kind = c_uint8()
-        self._room = create_string_buffer(_BYTES_ROOM)
+        self._spare: List[Results] = []
 
     def close(self) -> None:
         """Frees the memory. Later calls are refused as Empty."""
-        with self._lock:
+        with self._to_change():
             self._free_call(self._at)
 
     def __enter__(self: Self) -> Self:
@@ -48,11 +61,28 @@ class Handle:
         self.close()
 
     def __del__(self) -> None:
-        if hasattr(self, "_room"):
+        if hasattr(self, "_spare"):
             self.close()
 
+    def __reduce_ex__(self, protocol: object) -> NoReturn:
+        """Refuses copies and pickles: two objects would own, and close, one handle."""
+        raise TypeError(f"a {type(self).__name__} can't be copied or pickled: it owns memory of the library")
+
+    def _to_change(self) -> ContextManager[Any]:
+        """Returns the lock, for a call that changes something. Raises RuntimeError if this thread has it."""
+        if self._lock._is_owned():  # type: ignore[attr-defined]
+            raise RuntimeError(f"a signal handler interrupted a call of this {type(self).__name__}: it may only read")
+        return self._lock
+
+    def _take_results(self) -> Results:
+        """Memory that no other call uses. The caller appends it to `_spare` after its use, unless it is refused."""
+        try:
+            return self._spare.pop()
+        except IndexError:
+            return Results()
+
     def _call(self, call: str, *args: Any) -> None:
-        with self._lock:
+        with self._to_change():
             self._call_held(call, *args)
 
     def _call_held(self, call: str, *args: Any) -> None:
@@ -64,29 +94,43 @@ class Handle:
         with self._lock:
             return self._words_held(length, call, *args)
 
+    def _change_words(self, length: int, call: str, *args: Any) -> List[int]:
+        with self._to_change():
+            return self._words_held(length, call, *args)
+
     def _words_held(self, length: int, call: str, *args: Any) -> List[int]:
         """The words of a struct or a number that a call writes."""
-        self._call_held(call, *args, self._words)
-        return self._words[:length]
+        results = self._take_results()
+        self._call_held(call, *args, results.words)
+        words = results.words[:length]
+        self._spare.append(results)
+        return words
 
     def _get_bytes(self, call: str, *args: Any) -> bytes:
         with self._lock:
             return self._bytes_held(call, *args)
 
     def _bytes_held(self, call: str, *args: Any) -> bytes:
-        function, need = getattr(self._library, call), byref(self._need)
-        number = function(self._at, *args, self._room, len(self._room), need)
+        function, results = getattr(self._library, call), self._take_results()
+        need = byref(results.need)
+        number = function(self._at, *args, results.room, len(results.room), need)
         if number == self._library.small:
-            self._room = create_string_buffer(self._need.value)
-            number = function(self._at, *args, self._room, len(self._room), need)
+            results.room = create_string_buffer(results.need.value)
+            number = function(self._at, *args, results.room, len(results.room), need)
         if number:
             raise self._library.refusal(call, number)
-        return self._room[: self._need.value]
+        data = results.room[: results.need.value]
+        self._spare.append(results)
+        return data
 
     def _value_held(self, call: str, *args: Any) -> Optional[bytes]:
-        data = self._bytes_held(call, *args, byref(self._kind))
-        return to_value(self._kind.value, data)
+        kind = c_uint8()
+        data = self._bytes_held(call, *args, byref(kind))
+        return to_value(kind.value, data)
 
     def _clock_held(self, call: str, *args: Any) -> Clock:
-        self._call_held(call, *args, self._words, CLOCK_MAX, byref(self._need))
-        return to_clock(self._words[: 2 * self._need.value])
+        results = self._take_results()
+        self._call_held(call, *args, results.words, CLOCK_MAX, byref(results.need))
+        clock = to_clock(results.words[: 2 * results.need.value])
+        self._spare.append(results)
+        return clock

@@ -42,7 +42,7 @@ class Hints(Handle):
         """
         key, (kind, data) = to_bytes(key), to_kind(value)
         args = (fits(owner, 64), key, len(key), *to_pairs(clock), kind, data, len(data))
-        return self._get_words(1, "hint_keep", *args)[0]
+        return self._change_words(1, "hint_keep", *args)[0]
 
     def next(self, owner: int, after: int = 0) -> Optional[int]:
         """Returns the number of the owner's first pending hint over `after`, or None if there is none."""

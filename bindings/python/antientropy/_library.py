@@ -5,7 +5,7 @@ from __future__ import annotations
 import os
 from ctypes import CDLL, byref, c_uint64, create_string_buffer
 from ctypes.util import find_library
-from threading import Lock
+from threading import RLock
 from typing import Any, Callable, Optional, Tuple, Type, Union
 
 from ._calls import CALLS, PREFIX
@@ -71,7 +71,8 @@ class Library:
 
 
 _current: Optional[Library] = None
-_lock = Lock()
+#: A signal handler may load the library, too, while it is loaded.
+_lock = RLock()
 
 
 def load_library(path: Union[str, os.PathLike[str]]) -> None:

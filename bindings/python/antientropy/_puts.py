@@ -30,7 +30,7 @@ def put_many(replica: Replica, node: int, items: Iterable[Put]) -> List[Receipt]
     What ctypes would make for each call is made once here, and plain bytes need no conversion: both take longer than
     the put itself. The lock is taken for each put, so that `items` may read the replica, and reads all earlier puts.
     """
-    put, at, lock = replica._library.prepared("put_read"), replica._at, replica._lock
+    put, at, lock = replica._library.prepared("put_read"), replica._at, replica._to_change()
     at_node, lengths = c_uint64(fits(node, 64)), _Lengths()
     kinds = {kind: c_uint8(kind) for kind in map(int, Kind)}
     live, no_pairs, none = kinds[Kind.LIVE], to_pairs(())[0], lengths[0]

@@ -2,7 +2,6 @@
 
 from __future__ import annotations
 
-from threading import Lock
 from typing import Dict, Optional, Tuple, Type
 
 from ._values import Receipt
@@ -37,13 +36,12 @@ class Refused(Exception):
 
 
 _classes: Dict[str, Type[Refused]] = {}
-_lock = Lock()
 
 
 def class_of(name: str) -> Type[Refused]:
     """Returns the subclass of a name: the same one for all libraries, made at the first call."""
-    with _lock:
-        if name not in _classes:
-            fields = {"__module__": "antientropy", "__doc__": f"A call that the library refused as {name}."}
-            _classes[name] = type(name, (Refused,), fields)
-        return _classes[name]
+    if name not in _classes:
+        fields = {"__module__": "antientropy", "__doc__": f"A call that the library refused as {name}."}
+        # (one step, since another thread or a signal handler may have made it)
+        _classes.setdefault(name, type(name, (Refused,), fields))
+    return _classes[name]

@@ -2,13 +2,13 @@
 
 from __future__ import annotations
 
-from ctypes import c_uint64
+from ctypes import byref, c_uint64, create_string_buffer
 from typing import BinaryIO, Callable, Iterable, Iterator, List, Optional, Sequence
 
 from . import _checkpoint, _sync
-from ._calls import CLOCK_MAX
+from ._calls import CLOCK_MAX, KEY_MAX
 from ._convert import fits, to_bytes, to_clock, to_kind, to_pairs, to_value
-from ._handle import Handle
+from ._handle import Handle, Results
 from ._library import Library, current
 from ._puts import put_many
 from ._refused import class_of
@@ -44,7 +44,6 @@ class Replica(Handle):
     def _prepare(self, library: Library, format: int, bits: int, range: int) -> None:
         super().__init__(library)
         self.format, self.bits, self.range = format, bits, range
-        self._reading = (c_uint64 * 4)()
 
     def renew(self, limit: int = _LIMIT) -> Replica:
         """Returns a new replica with the versions that are held: one entry for each, and no sessions.
@@ -60,7 +59,7 @@ class Replica(Handle):
 
     def migrate(self) -> None:
         """Converts a replica of format 1 to format 2. All nodes become dirty, and open sessions are cancelled."""
-        with self._lock:
+        with self._to_change():
             self._call_held("migrate")
             self.format = 2
 
@@ -95,12 +94,15 @@ class Replica(Handle):
     ) -> Receipt:
         key, (pairs, length), (kind, data) = to_bytes(key), to_pairs(context), to_kind(value)
         fits(node, 64)
-        with self._lock:
-            words = self._words
+        with self._to_change():
+            results = self._take_results()
+            words = results.words
             number = put(self._at, node, key, len(key), pairs, length, kind, data, len(data), words)
-            if not number:
-                return Receipt(words[0], words[1])
-        raise self._library.refusal(name, number)
+            receipt = Receipt(words[0], words[1])
+            self._spare.append(results)
+        if number:
+            raise self._library.refusal(name, number)
+        return receipt
 
     def put_many(self, node: int, items: Iterable[Put]) -> List[Receipt]:
         """Puts each item at a node, in turn, and returns the receipts. An item is a key, a value and maybe a context.
@@ -116,18 +118,20 @@ class Replica(Handle):
         Raises BadClock, ClockFull, BadKey, BadValue, OtherRange, Crowded or JournalFull.
         """
         key, (kind, data) = to_bytes(key), to_kind(value)
-        return bool(self._get_words(1, "accept", key, len(key), *to_pairs(clock), kind, data, len(data))[0])
+        return bool(self._change_words(1, "accept", key, len(key), *to_pairs(clock), kind, data, len(data))[0])
 
     def get(self, key: bytes) -> List[Version]:
         """Returns all versions held for a key, as they are at one moment. Several are concurrent."""
         key = to_bytes(key)
         versions: List[Version] = []
         with self._lock:
-            version = self._read_held(key, 0)
+            results = self._take_results()
+            version = self._read_held(results, key, 0)
             while version is not None:
                 versions.append(version)
-                more = len(versions) < self._reading[0]
-                version = self._read_held(key, len(versions)) if more else None
+                more = len(versions) < results.reading[0]
+                version = self._read_held(results, key, len(versions)) if more else None
+            self._spare.append(results)
         return versions
 
     def versions(self, key: bytes) -> Iterator[Version]:
@@ -178,21 +182,28 @@ class Replica(Handle):
 
     def keys_of(self, leaf: int) -> Iterator[bytes]:
         """Yields the keys of a leaf in ascending order. Raises BadMessage if the tree has no such leaf."""
-        key = b""
+        fits(leaf, 64)
+        key, length = create_string_buffer(KEY_MAX), c_uint64()
         while True:
-            try:
-                key = self._get_bytes("key_after", fits(leaf, 64), key, len(key))
-            except class_of("NoVersion"):
+            with self._lock:
+                number = self._library.key_next(self._at, leaf, key, KEY_MAX, byref(length))
+            if number == self._library.no_version:
                 return
-            yield key
+            if number:
+                raise self._library.refusal("key_next", number)
+            yield key.raw[: length.value]
 
     def _read_or_none(self, key: bytes, index: int) -> Optional[Version]:
+        fits(index, 64)
         with self._lock:
-            return self._read_held(key, fits(index, 64))
+            results = self._take_results()
+            version = self._read_held(results, key, index)
+            self._spare.append(results)
+        return version
 
-    def _read_held(self, key: bytes, index: int) -> Optional[Version]:
-        """A version of a key, or None if there is no such one. `_reading` has the number of versions then."""
-        reading, words, room = self._reading, self._words, self._room
+    def _read_held(self, results: Results, key: bytes, index: int) -> Optional[Version]:
+        """A version of a key, or None if there is no such one. The number of versions is in `results.reading`."""
+        reading, words, room = results.reading, results.words, results.room
         number = self._library.read(self._at, key, len(key), index, reading, words, CLOCK_MAX, room, len(room))
         if not number:
             _, pairs, size, kind = reading[:]
@@ -252,7 +263,7 @@ class Replica(Handle):
 
         Returns the number of nodes that have none then. Repeat it until that is 0: other calls may come between.
         """
-        return self._get_words(1, "rehash_some", fits(most, 64))[0]
+        return self._change_words(1, "rehash_some", fits(most, 64))[0]
 
     def snapshot(self, rehash: bool = True) -> Snapshot:
         """Returns a snapshot of the rows now. Raises Dirty if `rehash` is False and a node has no digest."""
@@ -280,12 +291,13 @@ class Replica(Handle):
         return self._load_rows("load_format", to_bytes(rows), fits(format, 64))
 
     def _load_rows(self, call: str, rows: bytes, *format: int) -> Loaded:
-        with self._lock:
-            try:
-                return Loaded(*self._words_held(2, call, *format, rows, len(rows)))
-            except class_of("RowBroken") as refused:
-                refused.offset = self._words[2]
-                raise
+        words = (c_uint64 * len(Loaded._fields + ("offset",)))()
+        try:
+            self._call(call, *format, rows, len(rows), words)
+        except class_of("RowBroken") as refused:
+            refused.offset = words[2]
+            raise
+        return Loaded(*words[:2])
 
     def save(self, file: BinaryIO) -> int:
         """Writes a checkpoint of the rows now (docs/FORMATS.md). Returns the number of entries that it covers.

@@ -24,7 +24,7 @@ class Session:
         #: Number that the partner gave its offer.
         self.offer_number = read_offer(offer).number
         fits(partner, 64)
-        with replica._lock:
+        with replica._to_change():
             if rehash:
                 replica._call_held("rehash")
             #: Number of the session, from 0.
@@ -71,7 +71,7 @@ class Session:
         Crowded or JournalFull (the node remains outstanding).
         """
         answer = to_bytes(answer)
-        words = self._replica._get_words(3, "take", self.number, self.offer_number, answer, len(answer))
+        words = self._replica._change_words(3, "take", self.number, self.offer_number, answer, len(answer))
         return Taken(words[0], words[1], State(words[2]))
 
     def cancel(self) -> None:

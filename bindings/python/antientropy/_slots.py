@@ -50,7 +50,7 @@ class Slots(Handle):
 
         Without samples it returns None, and the target is left unchanged. Raises ClockBack.
         """
-        found, micros = self._get_words(2, "slots_adjust", fits(now, 64))
+        found, micros = self._change_words(2, "slots_adjust", fits(now, 64))
         return micros if found else None
 
     def set_target(self, target: int) -> None:

@@ -77,6 +77,7 @@ class HeaderTest(unittest.TestCase):
     def test_limits(self):
         numbers = constants()
         self.assertEqual(_calls.CLOCK_MAX, numbers["CLOCK_MAX"])
+        self.assertEqual(_calls.KEY_MAX, numbers["KEY_MAX"])
         self.assertEqual(_calls.ROOT_LEN, numbers["ROOT_LEN"])
         self.assertEqual(_checkpoint._LEAVES, {1: numbers["LEAVES_1"], 2: numbers["LEAVES_2"]})
         self.assertEqual(antientropy.version()[0], numbers["VERSION_MAJOR"])

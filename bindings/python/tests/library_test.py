@@ -1,12 +1,13 @@
 """Loading of the library, refusals as classes, and handles that nobody closed."""
 
+import copy
 import gc
 import os
 import pickle
 import unittest
 
 import antientropy
-from antientropy import Refused, Replica
+from antientropy import Hints, Refused, Replica, Slots
 from antientropy._library import current
 
 from tests.support import run
@@ -48,6 +49,15 @@ class LibraryTest(unittest.TestCase):
         error = pickle.loads(pickle.dumps(antientropy.Crowded("put", 7, "Crowded")))
         self.assertIs(type(error), antientropy.Crowded)
         self.assertEqual((error.call, error.number, error.name), ("put", 7, "Crowded"))
+
+    def test_a_handle_is_not_copied(self):
+        with Replica() as replica, replica.snapshot() as snapshot:
+            for handle in (replica, snapshot, Hints(), Slots(1, 1, 1)):
+                for call in (copy.copy, copy.deepcopy, pickle.dumps):
+                    with self.assertRaisesRegex(TypeError, "can't be copied or pickled"):
+                        call(handle)
+            gc.collect()
+            self.assertEqual((replica.count().entries, snapshot.root()), (0, replica.root()))
 
     def test_unknown_number(self):
         error = current().refusal("put", 250)

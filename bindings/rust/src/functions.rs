@@ -42,11 +42,11 @@ pub fn place(format: u8, bits: u8, key: &[u8]) -> Result<Spot, Refusal> {
 /// ```
 pub fn compare(first: &Clock, second: &Clock) -> Result<Order, Refusal> {
     let (first, second) = (first.pairs(), second.pairs());
-    let order = written(|order| {
+    let order: u64 = written(|order| {
         // SAFETY: no handle; the rest as in `sys`.
         unsafe { sys::antientropy_compare(first.as_ptr(), first.len(), second.as_ptr(), second.len(), order) }
     })?;
-    Ok(Order::from_number(order))
+    Ok(Order::from(order))
 }
 
 /// Merges clocks, for the context of a put that replaces the versions of all. Refused as `BadClock` or `ClockFull`.

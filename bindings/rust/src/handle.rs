@@ -10,6 +10,9 @@ use crate::values::{Clock, Kind, Pair};
 /// Bytes that a call gets on the stack for its result. A longer result needs a second call.
 const BYTES_ROOM: usize = 16 << 10;
 
+/// Bytes of the longest key.
+pub(crate) const KEY_MAX: usize = 255;
+
 /// The most pairs of a clock.
 pub(crate) const CLOCK_MAX: usize = 32;
 
@@ -118,7 +121,7 @@ pub(crate) unsafe fn value(
     let mut kind = 0;
     // SAFETY: the conditions are the same.
     let value = unsafe { bytes(|out, len, need| call(&mut kind, out, len, need)) }?;
-    Ok((Kind::from_number(kind.into()), value))
+    Ok((Kind::from(u64::from(kind)), value))
 }
 
 /// Returns the clock that a call writes.

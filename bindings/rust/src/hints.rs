@@ -57,7 +57,7 @@ impl Hints {
     ///
     /// Refused as `BadClock` (also if the owner is 0), `ClockFull`, `BadKey`, `BadValue` or `HintsFull`.
     pub fn keep(&mut self, owner: u16, key: &[u8], version: &Version) -> Result<u64, Refusal> {
-        let (kind, data) = (version.kind() as u8, version.value.as_deref().unwrap_or_default());
+        let (kind, data) = (version.kind().number() as u8, version.value.as_deref().unwrap_or_default());
         let pairs = version.clock.pairs();
         written(|id| {
             // SAFETY: as in `sys`.
@@ -140,6 +140,6 @@ impl Hints {
                 clock(|out, len, need| sys::antientropy_hint_clock(handle, number, out, len, need))?,
             )
         };
-        Ok(Hint { number, owner: owner as u16, key, version: Version::of(clock, value) })
+        Ok(Hint { number, owner: owner as u16, key, version: Version::of(clock, value)? })
     }
 }

@@ -6,7 +6,7 @@ use std::{fmt, iter};
 
 use crate::checkpoint::{self, CheckpointError};
 use crate::functions::read_offer;
-use crate::handle::{bytes, clock, value, written, Owned, CLOCK_MAX};
+use crate::handle::{bytes, clock, value, written, Owned, CLOCK_MAX, KEY_MAX};
 use crate::refusal::{check, found, Refusal};
 use crate::session::{Session, SessionId};
 use crate::snapshot::Snapshot;
@@ -132,6 +132,19 @@ impl Replica {
     }
 }
 
+/// The key of a leaf that an iterator has returned last.
+struct Seen {
+    leaf: u16,
+    key: [u8; KEY_MAX],
+    len: u64,
+}
+
+impl Seen {
+    fn none_of(leaf: u16) -> Seen {
+        Seen { leaf, key: [0; KEY_MAX], len: 0 }
+    }
+}
+
 /// Versions.
 impl Replica {
     /// Puts a value, or a tombstone for `None`, at a node, after a read: the context is the clock of all that was read.
@@ -169,7 +182,7 @@ impl Replica {
         value: Option<&[u8]>,
         context: &Clock,
     ) -> Result<Receipt, Refusal> {
-        let (kind, data, pairs) = (kind_of(value) as u8, value.unwrap_or_default(), context.pairs());
+        let (kind, data, pairs) = (kind_of(value).number() as u8, value.unwrap_or_default(), context.pairs());
         written(|receipt| {
             // SAFETY: as in `sys`.
             unsafe {
@@ -193,7 +206,7 @@ impl Replica {
     ///
     /// Refused as `BadClock`, `ClockFull`, `BadKey`, `BadValue`, `OtherRange`, `Crowded` or `JournalFull`.
     pub fn accept(&mut self, key: &[u8], version: &Version) -> Result<bool, Refusal> {
-        let (kind, data) = (version.kind() as u8, version.value.as_deref().unwrap_or_default());
+        let (kind, data) = (version.kind().number() as u8, version.value.as_deref().unwrap_or_default());
         let pairs = version.clock.pairs();
         let taken: u64 = written(|taken| {
             // SAFETY: as in `sys`.
@@ -291,38 +304,46 @@ impl Replica {
     /// # Ok::<(), antientropy::Refusal>(())
     /// ```
     pub fn keys(&mut self) -> impl Iterator<Item = Result<Vec<u8>, Refusal>> + '_ {
-        let mut last = Some((0, Vec::new()));
+        let mut seen = Some(Seen::none_of(0));
         iter::from_fn(move || {
-            let (leaf, key) = last.take()?;
-            let next = self.key_from(leaf, &key).transpose()?;
-            last = next.as_ref().ok().cloned();
-            Some(next.map(|(_, key)| key))
+            let next = self.key_on(seen.as_mut()?).transpose();
+            if !matches!(next, Some(Ok(_))) {
+                seen = None;
+            }
+            next
         })
     }
 
     /// Returns an iterator over the keys of a leaf, in ascending order. Its first result is a refusal as `BadMessage`
     /// if the tree has no such leaf.
     pub fn keys_of(&mut self, leaf: u16) -> impl Iterator<Item = Result<Vec<u8>, Refusal>> + '_ {
-        let mut last = Some(Vec::new());
+        let mut seen = Some(Seen::none_of(leaf));
         iter::from_fn(move || {
-            let next = self.key_after(leaf, &last.take()?).transpose()?;
-            last = next.as_ref().ok().cloned();
-            Some(next)
+            let next = self.key_next(seen.as_mut()?).transpose();
+            if !matches!(next, Some(Ok(_))) {
+                seen = None;
+            }
+            next
         })
     }
 
-    /// Returns the key after a key of a leaf, in this leaf or in those after it, with its leaf.
-    fn key_from(&mut self, first: u16, key: &[u8]) -> Result<Option<(u16, Vec<u8>)>, Refusal> {
-        let mut after = key;
-        for leaf in first.. {
-            match self.key_after(leaf, after) {
-                Ok(Some(key)) => return Ok(Some((leaf, key))),
-                Ok(None) => after = &[],
-                Err(Refusal::BadMessage) => break,
-                Err(refusal) => return Err(refusal),
+    /// Returns the next key of a leaf, or the first one of those after it.
+    fn key_on(&mut self, seen: &mut Seen) -> Result<Option<Vec<u8>>, Refusal> {
+        loop {
+            match self.key_next(seen) {
+                Ok(None) => *seen = Seen::none_of(seen.leaf + 1),
+                Err(Refusal::BadMessage) => return Ok(None),
+                next => return next,
             }
         }
-        Ok(None)
+    }
+
+    /// Returns the next key of a leaf.
+    fn key_next(&mut self, seen: &mut Seen) -> Result<Option<Vec<u8>>, Refusal> {
+        let (handle, leaf, key) = (self.handle.raw(), seen.leaf.into(), seen.key.as_mut_ptr());
+        // SAFETY: as in `sys`.
+        let next = check(unsafe { sys::antientropy_key_next(handle, leaf, key, KEY_MAX, &mut seen.len) });
+        Ok(found(next)?.map(|()| seen.key[..seen.len as usize].to_vec()))
     }
 
     /// Returns one of the versions held for a key, with the number of all.
@@ -339,10 +360,12 @@ impl Replica {
                 number
             })
         })?;
-        Ok(value.map(|value| {
-            let clock = Clock::from(pairs[..reading.pairs as usize].to_vec());
-            (Version::of(clock, (Kind::from_number(reading.kind), value)), reading.versions)
-        }))
+        value
+            .map(|value| {
+                let clock = Clock::from(pairs[..reading.pairs as usize].to_vec());
+                Ok((Version::of(clock, (Kind::from(reading.kind), value))?, reading.versions))
+            })
+            .transpose()
     }
 }
 
@@ -400,7 +423,7 @@ impl Replica {
     fn entry_parts(&mut self, number: u64) -> Result<Entry, Refusal> {
         let handle = self.handle.raw();
         // SAFETY: as in `sys`, for the four calls.
-        let (key, value, clock, source) = unsafe {
+        let (key, value, clock, source): (_, _, _, u64) = unsafe {
             (
                 bytes(|out, len, need| sys::antientropy_entry_key(handle, number, out, len, need))?,
                 value(|kind, out, len, need| sys::antientropy_entry_value(handle, number, kind, out, len, need))?,
@@ -408,7 +431,7 @@ impl Replica {
                 written(|source| sys::antientropy_entry_source(handle, number, source))?,
             )
         };
-        Ok(Entry { number, key, version: Version::of(clock, value), source: Source::from_number(source) })
+        Ok(Entry { number, key, version: Version::of(clock, value)?, source: Source::from(source) })
     }
 }
 

@@ -51,11 +51,11 @@ impl<'a> Session<'a> {
 
     /// Returns the state of the session.
     pub fn state(&mut self) -> Result<State, Refusal> {
-        let state = written(|state| {
+        let state: u64 = written(|state| {
             // SAFETY: as in `sys`.
             unsafe { sys::antientropy_session(self.handle.raw(), self.id.number, state) }
         })?;
-        Ok(State::from_number(state))
+        Ok(State::from(state))
     }
 
     /// Returns the number of nodes that are outstanding: 0 if the session has ended.
@@ -103,7 +103,7 @@ impl<'a> Session<'a> {
             // SAFETY: as in `sys`.
             unsafe { sys::antientropy_take(self.handle.raw(), id.number, id.offer, answer, len, taken) }
         })?;
-        Ok(Taken { accepted: taken.accepted, known: taken.known, state: State::from_number(taken.state) })
+        Ok(Taken { accepted: taken.accepted, known: taken.known, state: State::from(taken.state) })
     }
 
     /// Cancels the session if it is open.

@@ -158,6 +158,13 @@ extern "C" {
         out_len: usize,
         need: *mut u64,
     ) -> u32;
+    pub fn antientropy_key_next(
+        replica: *mut Handle,
+        leaf: u64,
+        key: *mut u8,
+        key_room: usize,
+        key_len: *mut u64,
+    ) -> u32;
     pub fn antientropy_compare(
         first: *const Pair,
         first_len: usize,

@@ -2,6 +2,8 @@
 
 use std::fmt;
 
+use crate::refusal::Refusal;
+
 /// A pair of a clock: a node and its counter.
 #[repr(C)]
 #[derive(Clone, Copy, Debug, Default, PartialEq, Eq, Hash)]
@@ -72,16 +74,28 @@ macro_rules! numbered {
     ($(#[$doc:meta])* $name:ident { $($(#[$member_doc:meta])* $member:ident = $number:literal,)* }) => {
         $(#[$doc])*
         #[derive(Clone, Copy, Debug, PartialEq, Eq, Hash)]
+        #[non_exhaustive]
         pub enum $name {
-            $($(#[$member_doc])* $member = $number,)*
+            $($(#[$member_doc])* $member,)*
+            /// A number that this crate doesn't know: one of a newer library.
+            Other(u64),
+        }
+
+        impl From<u64> for $name {
+            fn from(number: u64) -> $name {
+                match number {
+                    $($number => $name::$member,)*
+                    other => $name::Other(other),
+                }
+            }
         }
 
         impl $name {
-            /// Returns the member of a number that the library returned.
-            pub(crate) fn from_number(number: u64) -> $name {
-                match number {
-                    $($number => $name::$member,)*
-                    other => unreachable!("the library has no {} {}", stringify!($name), other),
+            /// Returns the number that the header has for it.
+            pub fn number(self) -> u64 {
+                match self {
+                    $($name::$member => $number,)*
+                    $name::Other(number) => number,
                 }
             }
         }
@@ -155,9 +169,15 @@ impl Version {
         kind_of(self.value.as_deref())
     }
 
-    /// Returns a version that a call returned in parts.
-    pub(crate) fn of(clock: Clock, (kind, value): (Kind, Vec<u8>)) -> Version {
-        Version { clock, value: (kind == Kind::Live).then_some(value) }
+    /// Returns a version that a call returned in parts. One of an unknown kind is refused as `BadValue`, since it may
+    /// be neither a value nor a tombstone.
+    pub(crate) fn of(clock: Clock, (kind, value): (Kind, Vec<u8>)) -> Result<Version, Refusal> {
+        let value = match kind {
+            Kind::Live => Some(value),
+            Kind::Tombstone => None,
+            Kind::Other(_) => return Err(Refusal::BadValue),
+        };
+        Ok(Version { clock, value })
     }
 }
 
@@ -290,4 +310,14 @@ pub struct SlotCounts {
     pub lent: u64,
     /// Slots that could be lent now.
     pub free: u64,
+}
+
+#[cfg(test)]
+mod tests {
+    use super::*;
+
+    #[test]
+    fn a_version_of_an_unknown_kind() {
+        assert_eq!(Version::of(Clock::new(), (Kind::Other(2), vec![])), Err(Refusal::BadValue));
+    }
 }

@@ -159,24 +159,38 @@ fn refusals_have_the_names_of_the_header() {
 fn enums() {
     let numbers = numbers();
     let kinds = [("LIVE", Kind::Live), ("TOMBSTONE", Kind::Tombstone)];
-    kinds.iter().for_each(|(name, kind)| assert_eq!(numbers[*name], *kind as u64));
+    kinds.iter().for_each(|(name, kind)| assert_eq!(numbers[*name], kind.number()));
     let sources = [("PUT", Source::Put), ("COPY", Source::Copy), ("HINT", Source::Hint), ("PARTNER", Source::Partner)];
-    sources.iter().for_each(|(name, source)| assert_eq!(numbers[*name], *source as u64));
+    sources.iter().for_each(|(name, source)| assert_eq!(numbers[*name], source.number()));
     let states = [
         ("OPEN", State::Open),
         ("FINISHED", State::Finished),
         ("FAILED", State::Failed),
         ("CANCELLED", State::Cancelled),
     ];
-    states.iter().for_each(|(name, state)| assert_eq!(numbers[*name], *state as u64));
+    states.iter().for_each(|(name, state)| assert_eq!(numbers[*name], state.number()));
     let orders = [("BEFORE", Order::Before), ("AFTER", Order::After), ("EQUAL", Order::Equal), ("APART", Order::Apart)];
-    orders.iter().for_each(|(name, order)| assert_eq!(numbers[*name], *order as u64));
+    orders.iter().for_each(|(name, order)| assert_eq!(numbers[*name], order.number()));
+}
+
+/// A number of a newer library is kept, and no other member has it.
+#[test]
+fn numbers_of_a_newer_library() {
+    for number in [4, 255, u64::MAX] {
+        assert_eq!((Kind::from(number), Kind::Other(number).number()), (Kind::Other(number), number));
+        assert_eq!((Source::from(number), Source::Other(number).number()), (Source::Other(number), number));
+        assert_eq!((State::from(number), State::Other(number).number()), (State::Other(number), number));
+        assert_eq!((Order::from(number), Order::Other(number).number()), (Order::Other(number), number));
+    }
+    assert_eq!(Source::from(3), Source::Partner);
 }
 
 #[test]
 fn limits() {
     let numbers = numbers();
-    assert!(text("src/handle.rs").contains(&format!("CLOCK_MAX: usize = {};", numbers["CLOCK_MAX"])));
+    for limit in ["CLOCK_MAX", "KEY_MAX"] {
+        assert!(text("src/handle.rs").contains(&format!("{limit}: usize = {};", numbers[limit])));
+    }
     assert!(text("src/values.rs").contains(&format!("Root = [u8; {}];", numbers["ROOT_LEN"])));
     assert!(text("src/replica.rs").contains("limit: 1_000_000 }") && numbers["ENTRIES_MAX"] == 1_000_000);
     let leaves = format!("1 => Ok({}), 2 => Ok({}),", numbers["LEAVES_1"], numbers["LEAVES_2"]);
