@@ -4,11 +4,14 @@
 //!
 //! - [`config`]: the number of a range, its format, and the limit of its journal.
 //! - [`context_test`]: the tests of a put's context.
-//! - [`state`]: the state and its calls: `put`, `put_read`, `accept`, `get`, `versions` and `rows`; for the tree `take_job`,
-//!   `take_jobs`, `install`, `digest_at`, `dirty_count`, `rehash`, `rehash_here`, `rehash_some` and `snapshot`; for
-//!   sessions with partners `open_session`, `take_answer`, `cancel_session`, `records` and `open_sessions`, and
-//!   `sync_with` for a whole session; `reconcile` for a session each way; `migrate` to format 2; `renewed` for a new range
-//!   that begins with the versions held.
+//! - [`state`]: the state and its calls: `put`, `put_read`, `accept`, `get`, `versions`, `find` and `rows`, and `put_into`
+//!   and `accept_into` for receipts in a list; for the tree `take_job`, `take_jobs`, `install`, `digest_at`,
+//!   `dirty_count`, `rehash`, `rehash_here`, `rehash_some` and `snapshot`; for sessions with partners `open_session`,
+//!   `outstanding`, `take_answer`, `take_answer_into`, `cancel_session`, `records` and `open_sessions`, and `sync_with`
+//!   for a whole session; `reconcile` for a session each way; `migrate` to format 2; `rows_text`, `load_rows`,
+//!   `load_into` and `load_format` for rows as bytes; `check_limit` and `renewed` for a new range that begins with the
+//!   versions held; `counts`.
+//! - [`leaf_rows`]: rows of a leaf that were read from bytes.
 //! - [`record`]: a session of a range, and its partner.
 //! - [`event`], [`run`]: the calls as events, and lists of events.
 //! - [`laws`]: laws proved from the definitions, such as that a range that finished a session holds the versions that
