@@ -29,7 +29,7 @@ static uint64_t need;
 static void see(const char *call, const char *number, uint32_t got, uint32_t wanted)
 {
     if (got != wanted) {
-        printf("%s returned %u, not %s\n", call, got, number);
+        printf("%s returned %s, not %s\n", call, antientropy_strerror(got), number);
         exit(1);
     }
     printf("%s %s\n", call, number);
@@ -39,7 +39,7 @@ static void see(const char *call, const char *number, uint32_t got, uint32_t wan
 static void ok(const char *call, uint32_t got)
 {
     if (got != ANTIENTROPY_OK) {
-        printf("%s returned %u\n", call, got);
+        printf("%s returned %s\n", call, antientropy_strerror(got));
         exit(1);
     }
 }
