@@ -1,6 +1,6 @@
 /* What calls cost. For ranges of 2,000 keys in no order, of 9 and of 36 bytes, in both formats, it prints how many
  * growths of memory a call makes, and the bytes that it asks for. With the word "instructions" it makes the calls whose
- * instructions callgrind counts: those in functions named `counted_..`.
+ * instructions callgrind counts: those in functions named `counted_..`, on a range with some 80 rows in a leaf.
  *
  * It is linked with -Wl,--wrap=malloc,--wrap=realloc. check_c compares what it prints with costs.out. It ends with
  * status 1 if a call is refused. */
@@ -10,7 +10,7 @@
 #include <stdlib.h>
 #include <string.h>
 
-enum { KEYS = 2000, VALUE = 100, OFFER = 7, MANY = 1000, ROOM = 1 << 16, LONG = 1 << 20, HEAD = 16 };
+enum { KEYS = 2000, MANY_KEYS = 20000, VALUE = 100, OFFER = 7, MANY = 1000, ROOM = 1 << 16, LONG = 1 << 20, HEAD = 16 };
 
 /* A function whose instructions are counted: it isn't copied into its callers. */
 #define COUNTED __attribute__((noinline)) static void
@@ -41,7 +41,7 @@ static struct antientropy_snapshot first, second;
 static struct antientropy_receipt receipt;
 static const struct antientropy_pair clock_1 = {1, 1}, clock_2 = {1, 2};
 static uint8_t value[ANTIENTROPY_VALUE_MAX_2 + 1], out[ROOM], message[HEAD + LONG];
-static char keys[KEYS + MANY][40];
+static char keys[MANY_KEYS + MANY][40];
 static size_t key_len;
 static uint8_t offer[ANTIENTROPY_OFFER_LEN];
 static uint64_t len, session;
@@ -72,7 +72,7 @@ static void want(const char *what, uint32_t got, uint32_t wanted)
 static void make_keys(size_t len_of_keys)
 {
     key_len = len_of_keys;
-    for (uint32_t n = 0; n < KEYS + MANY; n++) {
+    for (uint32_t n = 0; n < MANY_KEYS + MANY; n++) {
         uint32_t a = (n + 1) * 2654435761u, b = (n + 1) * 2246822519u;
         if (key_len == 9)
             snprintf(keys[n], sizeof keys[n], "k%08x", a);
@@ -107,11 +107,11 @@ static uint32_t get(uint32_t n)
 }
 
 /* Makes the replica with the first keys. */
-static void fill(uint64_t format, size_t len_of_keys)
+static void fill(uint64_t format, size_t len_of_keys, uint32_t count)
 {
     make_keys(len_of_keys);
     want("new", antientropy_new(&replica, format, 0, 0, 100000), ANTIENTROPY_OK);
-    for (uint32_t n = 0; n < KEYS; n++)
+    for (uint32_t n = 0; n < count; n++)
         want("put", put(n, &clock_1, 0), ANTIENTROPY_OK);
 }
 
@@ -136,7 +136,7 @@ static uint32_t open(void)
 static void range(uint64_t format, size_t len_of_keys)
 {
     printf("format %d, keys of %d bytes\n", (int)format, (int)len_of_keys);
-    fill(format, len_of_keys);
+    fill(format, len_of_keys, KEYS);
     COST("a put of a new key", put(KEYS, &clock_1, 0));
     COST("a rewrite", put(0, &clock_1, 1));
     COST("a read", read(1));
@@ -163,7 +163,7 @@ static void range(uint64_t format, size_t len_of_keys)
 
 COUNTED counted_puts(void)
 {
-    for (uint32_t n = KEYS; n < KEYS + MANY; n++)
+    for (uint32_t n = MANY_KEYS; n < MANY_KEYS + MANY; n++)
         want("put", put(n, &clock_1, 0), ANTIENTROPY_OK);
 }
 
@@ -215,7 +215,7 @@ COUNTED counted_unasked(void)
 
 static void instructions(void)
 {
-    fill(2, 36);
+    fill(1, 36, MANY_KEYS);
     rehash();
     want("snapshot", antientropy_snapshot(&replica, &first), ANTIENTROPY_OK);
     make_offer();
