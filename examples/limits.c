@@ -226,8 +226,8 @@ static void lengths(void)
     is("top_counter of an endless key",
        antientropy_top_counter(&replica, 1, value, SIZE_MAX, 1, &count) == ANTIENTROPY_OK && count == 0);
     is("place", antientropy_place(2, 0, value, 1, &spot) == ANTIENTROPY_OK);
-    is("key_after an endless key", antientropy_key_after(&replica, spot.leaf, value, SIZE_MAX, bytes, sizeof bytes, &len)
-                                       == ANTIENTROPY_NO_VERSION);
+    is("key_after an endless key", antientropy_key_after(&replica, spot.leaf, value, SIZE_MAX, bytes, sizeof bytes,
+                                                         &len) == ANTIENTROPY_NO_VERSION);
     antientropy_hints_free(&hints);
     antientropy_free(&replica);
 }
