@@ -21,7 +21,7 @@ static size_t room;
 static void want(const char *call, uint32_t got, uint32_t wanted)
 {
     if (got != wanted) {
-        printf("%s returned %u, not %u\n", call, got, wanted);
+        printf("%s returned %s, not %s\n", call, antientropy_strerror(got), antientropy_strerror(wanted));
         exit(1);
     }
 }
@@ -169,10 +169,8 @@ static void list(struct antientropy_replica *replica)
     printf("keys:");
     for (uint64_t leaf = 0; leaf < ANTIENTROPY_LEAVES_2; leaf++) {
         uint64_t len = 0;
-        while (antientropy_key_after(replica, leaf, key, len, text, sizeof text, &len) == ANTIENTROPY_OK) {
-            memcpy(key, text, len);
+        while (antientropy_key_next(replica, leaf, key, sizeof key, &len) == ANTIENTROPY_OK)
             printf(" %.*s", (int)len, (const char *)key);
-        }
     }
     printf("\n");
 }

@@ -51,6 +51,11 @@ static void formats(void)
         uint32_t beyond = antientropy_key_after(&replica, leaves[n], bytes, 0, bytes, sizeof bytes, &len);
         is("LEAVES", last == ANTIENTROPY_OK || last == ANTIENTROPY_NO_VERSION);
         is("LEAVES + 1", beyond == ANTIENTROPY_BAD_MESSAGE);
+        len = 0;
+        last = antientropy_key_next(&replica, leaves[n] - 1, bytes, sizeof bytes, &len);
+        beyond = antientropy_key_next(&replica, leaves[n], bytes, sizeof bytes, &len);
+        is("LEAVES of key_next", last == ANTIENTROPY_OK || last == ANTIENTROPY_NO_VERSION);
+        is("LEAVES + 1 of key_next", beyond == ANTIENTROPY_BAD_MESSAGE);
         antientropy_free(&replica);
     }
 }
@@ -135,6 +140,9 @@ static void replica_numbers(void)
            antientropy_open(&replica, nodes[n], offer, sizeof offer, &session) == ANTIENTROPY_BAD_CLOCK);
         is("key_after beyond the leaves",
            antientropy_key_after(&replica, leaves[n], value, 0, key, sizeof key, &len) == ANTIENTROPY_BAD_MESSAGE);
+        len = 0;
+        is("key_next beyond the leaves",
+           antientropy_key_next(&replica, leaves[n], key, sizeof key, &len) == ANTIENTROPY_BAD_MESSAGE);
         is("rows beyond the leaves",
            antientropy_rows(&snapshot, leaves[n], bytes, sizeof bytes, &len) == ANTIENTROPY_BAD_MESSAGE);
     }
@@ -174,6 +182,56 @@ static void hint_numbers(void)
     antientropy_hints_free(&hints);
 }
 
+/* Lengths that no memory has: they are judged before a byte is read. */
+static void lengths(void)
+{
+    struct antientropy_replica replica = {0};
+    struct antientropy_hints hints = {0};
+    struct antientropy_pair pair = {1, 1}, pairs[1];
+    struct antientropy_reading reading;
+    struct antientropy_receipt receipt;
+    struct antientropy_spot spot;
+    uint64_t count;
+    uint8_t kind;
+    is("new", antientropy_new(&replica, 2, 0, 0, 1000) == ANTIENTROPY_OK);
+    is("hints_new", antientropy_hints_new(&hints) == ANTIENTROPY_OK);
+    is("accept", accept(&replica, 1, &pair, 1, 1) == ANTIENTROPY_OK);
+    is("put of an endless key", antientropy_put(&replica, 1, value, SIZE_MAX, &pair, 1, ANTIENTROPY_LIVE, value, 1,
+                                                &receipt) == ANTIENTROPY_BAD_KEY);
+    is("put of an endless value", antientropy_put(&replica, 1, value, 1, &pair, 1, ANTIENTROPY_LIVE, value, SIZE_MAX,
+                                                  &receipt) == ANTIENTROPY_BAD_VALUE);
+    is("put of an endless context", antientropy_put(&replica, 1, value, 1, &pair, SIZE_MAX, ANTIENTROPY_LIVE, value, 1,
+                                                    &receipt) == ANTIENTROPY_BAD_CLOCK);
+    is("put_read of an endless key", antientropy_put_read(&replica, 1, value, SIZE_MAX, &pair, 1, ANTIENTROPY_LIVE,
+                                                          value, 1, &receipt) == ANTIENTROPY_BAD_KEY);
+    is("accept of an endless key", accept(&replica, SIZE_MAX, &pair, 1, 1) == ANTIENTROPY_BAD_KEY);
+    is("accept of an endless value", accept(&replica, 1, &pair, 1, SIZE_MAX) == ANTIENTROPY_BAD_VALUE);
+    is("accept of an endless clock", accept(&replica, 1, &pair, SIZE_MAX, 1) == ANTIENTROPY_BAD_CLOCK);
+    is("hint_keep of an endless key", antientropy_hint_keep(&hints, 1, value, SIZE_MAX, &pair, 1, ANTIENTROPY_LIVE,
+                                                            value, 1, &len) == ANTIENTROPY_BAD_KEY);
+    is("hint_keep of an endless value", antientropy_hint_keep(&hints, 1, value, 1, &pair, 1, ANTIENTROPY_LIVE, value,
+                                                              SIZE_MAX, &len) == ANTIENTROPY_BAD_VALUE);
+    is("compare of an endless clock", antientropy_compare(&pair, 1, &pair, SIZE_MAX, &len) == ANTIENTROPY_BAD_CLOCK);
+    is("place of an endless key", antientropy_place(2, 0, value, SIZE_MAX, &spot) == ANTIENTROPY_BAD_KEY);
+    is("get of an endless key",
+       antientropy_get(&replica, value, SIZE_MAX, bytes, sizeof bytes, &len) == ANTIENTROPY_BAD_KEY);
+    is("versions of an endless key",
+       antientropy_versions(&replica, value, SIZE_MAX, &count) == ANTIENTROPY_OK && count == 0);
+    is("read of an endless key", antientropy_read(&replica, value, SIZE_MAX, 0, &reading, pairs, 1, bytes,
+                                                  sizeof bytes) == ANTIENTROPY_NO_VERSION);
+    is("value of an endless key", antientropy_value(&replica, value, SIZE_MAX, 0, &kind, bytes, sizeof bytes, &len)
+                                      == ANTIENTROPY_NO_VERSION);
+    is("clock of an endless key",
+       antientropy_clock(&replica, value, SIZE_MAX, 0, pairs, 1, &len) == ANTIENTROPY_NO_VERSION);
+    is("top_counter of an endless key",
+       antientropy_top_counter(&replica, 1, value, SIZE_MAX, 1, &count) == ANTIENTROPY_OK && count == 0);
+    is("place", antientropy_place(2, 0, value, 1, &spot) == ANTIENTROPY_OK);
+    is("key_after an endless key", antientropy_key_after(&replica, spot.leaf, value, SIZE_MAX, bytes, sizeof bytes,
+                                                         &len) == ANTIENTROPY_NO_VERSION);
+    antientropy_hints_free(&hints);
+    antientropy_free(&replica);
+}
+
 /* The version and the names. */
 static void names(void)
 {
@@ -181,11 +239,15 @@ static void names(void)
     is("VERSION", antientropy_version() == ANTIENTROPY_VERSION);
     for (uint32_t number = 0; number <= ANTIENTROPY_NO_VERSION; number++) {
         is("name", antientropy_name(number, bytes, sizeof bytes, &len) == ANTIENTROPY_OK && len > 0);
+        const char *name = antientropy_strerror(number);
+        is("strerror", strlen(name) == len && memcmp(name, bytes, len) == 0);
         longest = len > longest ? len : longest;
     }
     is("NAME_MAX", longest == ANTIENTROPY_NAME_MAX);
     is("a number without a name",
        antientropy_name(ANTIENTROPY_NO_VERSION + 1, bytes, sizeof bytes, &len) == ANTIENTROPY_OK && len == 0);
+    is("strerror of a number without a name", strcmp(antientropy_strerror(ANTIENTROPY_NO_VERSION + 1), "unknown") == 0
+                                                  && strcmp(antientropy_strerror(UINT32_MAX), "unknown") == 0);
     is("BAD_KEY", antientropy_name(ANTIENTROPY_BAD_KEY, bytes, sizeof bytes, &len) == ANTIENTROPY_OK && len == 6
                       && memcmp(bytes, "BadKey", 6) == 0);
 }
@@ -197,6 +259,7 @@ int main(void)
     sessions();
     replica_numbers();
     hint_numbers();
+    lengths();
     names();
     printf("the header's limits are the library's\n");
     return 0;

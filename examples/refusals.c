@@ -29,7 +29,7 @@ static uint64_t need;
 static void see(const char *call, const char *number, uint32_t got, uint32_t wanted)
 {
     if (got != wanted) {
-        printf("%s returned %u, not %s\n", call, got, number);
+        printf("%s returned %s, not %s\n", call, antientropy_strerror(got), number);
         exit(1);
     }
     printf("%s %s\n", call, number);
@@ -39,7 +39,7 @@ static void see(const char *call, const char *number, uint32_t got, uint32_t wan
 static void ok(const char *call, uint32_t got)
 {
     if (got != ANTIENTROPY_OK) {
-        printf("%s returned %u\n", call, got);
+        printf("%s returned %s\n", call, antientropy_strerror(got));
         exit(1);
     }
 }
@@ -191,6 +191,23 @@ static void puts_and_accepts(void)
     antientropy_free(&full);
 }
 
+/* The keys of a leaf in one buffer, which a refused call leaves unchanged. */
+static void keys_in_one_buffer(uint64_t leaf)
+{
+    uint8_t key[8] = "c-------";
+    uint64_t len = 1;
+    SEE(key_next, EMPTY, antientropy_key_next(&none, leaf, key, sizeof key, &len));
+    SEE(key_next, BAD_MESSAGE, antientropy_key_next(&made, ANTIENTROPY_LEAVES_2, key, sizeof key, &len));
+    SEE(key_next, SMALL, antientropy_key_next(&made, leaf, key, 3, &len));
+    is("key_next changes nothing", len == 1 && memcmp(key, "c-------", sizeof key) == 0);
+    OK(antientropy_key_next(&made, leaf, key, sizeof key, &len));
+    is("the key takes the place of the one before", len == 4 && memcmp(key, "cart----", sizeof key) == 0);
+    SEE(key_next, NO_VERSION, antientropy_key_next(&made, leaf, key, sizeof key, &len));
+    len = sizeof key + 1;
+    SEE(key_next, BAD_KEY, antientropy_key_next(&made, leaf, key, sizeof key, &len));
+    is("key_next leaves all unchanged", len == sizeof key + 1 && memcmp(key, "cart----", sizeof key) == 0);
+}
+
 static void reads(void)
 {
     struct antientropy_reading reading;
@@ -216,6 +233,7 @@ static void reads(void)
     SEE(key_after, BAD_MESSAGE, antientropy_key_after(&made, ANTIENTROPY_LEAVES_2, KEY, 0, out, ROOM, &need));
     SEE(key_after, NO_VERSION, antientropy_key_after(&made, spot.leaf, KEY, 4, out, ROOM, &need));
     SEE(key_after, SMALL, antientropy_key_after(&made, spot.leaf, KEY, 0, out, 3, &need));
+    keys_in_one_buffer(spot.leaf);
     SEE(entry_key, EMPTY, antientropy_entry_key(&none, 0, out, ROOM, &need));
     SEE(entry_key, NO_VERSION, antientropy_entry_key(&made, 2, out, ROOM, &need));
     SEE(entry_key, SMALL, antientropy_entry_key(&made, 0, out, 3, &need));
@@ -555,6 +573,7 @@ static void empty_replicas(struct results *at)
     EMPTY(antientropy_read(&empty, KEY, 4, 0, &at->reading, at->pairs, ANTIENTROPY_CLOCK_MAX, at->bytes,
                            sizeof at->bytes));
     EMPTY(antientropy_key_after(&empty, 0, KEY, 0, at->bytes, sizeof at->bytes, &at->number));
+    EMPTY(antientropy_key_next(&empty, 0, at->bytes, sizeof at->bytes, &at->number));
     EMPTY(antientropy_entry_key(&empty, 0, at->bytes, sizeof at->bytes, &at->number));
     EMPTY(antientropy_entry_value(&empty, 0, &at->kind, at->bytes, sizeof at->bytes, &at->number));
     EMPTY(antientropy_entry_clock(&empty, 0, at->pairs, ANTIENTROPY_CLOCK_MAX, &at->number));
@@ -662,5 +681,9 @@ int main(void)
     slots();
     empty_handles();
     antientropy_free(&made);
+    antientropy_free(NULL);
+    antientropy_snapshot_free(NULL);
+    antientropy_hints_free(NULL);
+    antientropy_slots_free(NULL);
     return 0;
 }

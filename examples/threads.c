@@ -19,7 +19,7 @@ static pthread_mutex_t lock = PTHREAD_MUTEX_INITIALIZER;
 static void want(const char *call, uint32_t got, uint32_t wanted)
 {
     if (got != wanted) {
-        printf("%s returned %u, not %u\n", call, got, wanted);
+        printf("%s returned %s, not %s\n", call, antientropy_strerror(got), antientropy_strerror(wanted));
         exit(1);
     }
 }

@@ -21,9 +21,9 @@
  *
  * THE CALLER'S SIDE (nothing checks it)
  *
- * - Each pointer is valid, aligned and not NULL, even if its length is 0. Memory for out, need and the like is the
- *   caller's, and doesn't overlap the other arguments of the call; no call gets one handle twice. The library keeps no
- *   pointer that it is passed.
+ * - Each pointer is valid, aligned and not NULL, even if its length is 0; a call that frees accepts NULL. Memory for
+ *   out, need and the like is the caller's, and doesn't overlap the call's other arguments. No call gets one handle
+ *   twice. The library keeps no pointer that it is passed.
  * - A handle (struct antientropy_replica, antientropy_snapshot, antientropy_hints, antientropy_slots) is initialised
  *   with `= {0}`, and its fields are left alone. It may be moved in memory between calls; of copies only one is used.
  *   All bytes zero means that it holds nothing.
@@ -58,7 +58,7 @@ extern "C" {
 
 /* The version of this header. A struct that gets a field, or a call that gets another argument, is a new soname. */
 #define ANTIENTROPY_VERSION_MAJOR 1
-#define ANTIENTROPY_VERSION_MINOR 0
+#define ANTIENTROPY_VERSION_MINOR 1
 #define ANTIENTROPY_VERSION_PATCH 0
 #define ANTIENTROPY_VERSION \
     (10000 * ANTIENTROPY_VERSION_MAJOR + 100 * ANTIENTROPY_VERSION_MINOR + ANTIENTROPY_VERSION_PATCH)
@@ -257,6 +257,19 @@ uint32_t antientropy_version(void);
  * no bytes. Refused: SMALL. */
 uint32_t antientropy_name(uint32_t number, uint8_t *out, size_t out_len, uint64_t *need);
 
+/* Returns the name of a number that a call returned, as antientropy_name does, with a zero byte: "BadKey" for 4. Other
+ * numbers are "unknown". */
+static inline const char *antientropy_strerror(uint32_t number)
+{
+    static const char *const names[] = {
+        "Ok", "BadClock", "ClockFull", "CounterFull", "BadKey", "BadValue", "StaleContext", "Crowded", "JournalFull",
+        "OtherRange", "Dirty", "Stale", "UnknownSession", "NotAsked", "WrongDigest", "NotCanonical", "OtherFormat",
+        "SessionsFull", "NoSlot", "ClockBack", "UnknownHint", "HintsFull", "Gone", "Behind", "Unsettled", "Stranger",
+        "LinkLost", "BadRing", "Down", "BadLine", "RowBroken", "BadMessage", "NoMemory", "Small", "Empty", "Held",
+        "NoVersion"};
+    return number < sizeof names / sizeof *names ? names[number] : "unknown";
+}
+
 /* Returns the range and the leaf of a key, in a ring of 2^bits ranges (bits 0 to 8) of format 1 or 2. It needs no
  * replica.
  * Refused, in order: BAD_RING (the format or the bits), BAD_KEY. */
@@ -271,7 +284,8 @@ uint32_t antientropy_place(uint64_t format, uint64_t bits, const uint8_t *key, s
 uint32_t antientropy_new(struct antientropy_replica *replica, uint64_t format, uint64_t bits, uint64_t range,
                          uint64_t limit);
 
-/* Frees the replica that a handle holds, if it holds one. */
+/* Frees the replica that a handle holds, if it holds one. In C and C++ each call that frees accepts NULL, and does
+ * nothing; a pointer to the call, and the call from another language, don't. */
 void antientropy_free(struct antientropy_replica *replica);
 
 /* Makes a new replica in the empty handle `into`, which begins with the versions that `from` holds: one entry for each,
@@ -290,8 +304,9 @@ uint32_t antientropy_count(struct antientropy_replica *replica, struct antientro
 
 /* ---- versions */
 
-/* Only the puts and accept check the range of a key. The reads find no version of a key of another range. Of the
- * reads only antientropy_get checks the length of a key. */
+/* Only the puts and accept check the range of a key. The reads find no version of a key of another range, and none of a
+ * key that isn't 1 to 255 bytes long (of them only antientropy_get refuses it). Lengths are judged first: no byte is
+ * read of a longer key, and none is copied of a value or a clock that is too long. */
 
 /* Puts a value (LIVE) or a tombstone (TOMBSTONE, with no value) for a key at a node, 1 to 65,535, after a read: of the
  * two puts it is the one to use. The context is the clock of all that the client has read, its pairs in any order; the
@@ -302,7 +317,7 @@ uint32_t antientropy_count(struct antientropy_replica *replica, struct antientro
  * Refused, in order: EMPTY; BAD_CLOCK (the node is 0 or over 65,535, or the context isn't a clock), CLOCK_FULL (the
  * context has over 32 pairs), BAD_VALUE (unknown kind); BAD_KEY, BAD_VALUE (too long for the format, or a tombstone
  * that has a value or is in format 1), OTHER_RANGE, CLOCK_FULL and COUNTER_FULL (the context can't be raised),
- * STALE_CONTEXT, CROWDED, JOURNAL_FULL, NO_MEMORY. NO_MEMORY may be returned instead of any but EMPTY. */
+ * STALE_CONTEXT, CROWDED, JOURNAL_FULL, NO_MEMORY. NO_MEMORY may be returned instead of any from OTHER_RANGE on. */
 uint32_t antientropy_put_read(struct antientropy_replica *replica, uint64_t node, const uint8_t *key, size_t key_len,
                               const struct antientropy_pair *context, size_t context_len, uint8_t kind,
                               const uint8_t *value, size_t value_len, struct antientropy_receipt *receipt);
@@ -313,7 +328,7 @@ uint32_t antientropy_put_read(struct antientropy_replica *replica, uint64_t node
  * Refused, in order: EMPTY; BAD_CLOCK (the node is 0 or over 65,535, or the context isn't a clock), CLOCK_FULL (the
  * context has over 32 pairs), BAD_VALUE (unknown kind); BAD_KEY, BAD_VALUE (too long for the format, or a tombstone
  * that has a value or is in format 1), OTHER_RANGE, CLOCK_FULL and COUNTER_FULL (the context can't be raised),
- * STALE_CONTEXT, CROWDED, JOURNAL_FULL, NO_MEMORY. NO_MEMORY may be returned instead of any but EMPTY. */
+ * STALE_CONTEXT, CROWDED, JOURNAL_FULL, NO_MEMORY. NO_MEMORY may be returned instead of any from OTHER_RANGE on. */
 uint32_t antientropy_put(struct antientropy_replica *replica, uint64_t node, const uint8_t *key, size_t key_len,
                          const struct antientropy_pair *context, size_t context_len, uint8_t kind,
                          const uint8_t *value, size_t value_len, struct antientropy_receipt *receipt);
@@ -321,7 +336,7 @@ uint32_t antientropy_put(struct antientropy_replica *replica, uint64_t node, con
 /* Accepts a version of another replica, as a copy. `taken` is 1 if it is new and now an entry of the journal, 0 if it
  * was known. Refused, in order: EMPTY; BAD_CLOCK (the pairs aren't a clock), CLOCK_FULL, BAD_VALUE (unknown kind);
  * BAD_KEY, BAD_VALUE, OTHER_RANGE; then, if it is new, CROWDED, JOURNAL_FULL; NO_MEMORY, which may be returned instead
- * of any but EMPTY. */
+ * of any from OTHER_RANGE on. */
 uint32_t antientropy_accept(struct antientropy_replica *replica, const uint8_t *key, size_t key_len,
                             const struct antientropy_pair *clock, size_t clock_len, uint8_t kind, const uint8_t *value,
                             size_t value_len, uint64_t *taken);
@@ -359,6 +374,14 @@ uint32_t antientropy_read(struct antientropy_replica *replica, const uint8_t *ke
 uint32_t antientropy_key_after(struct antientropy_replica *replica, uint64_t leaf, const uint8_t *key, size_t key_len,
                                uint8_t *out, size_t out_len, uint64_t *need);
 
+/* Lists the keys of a leaf with one buffer. The key that was seen is the first `key_len` bytes of `key`: none at first.
+ * The least key of the leaf above it takes its place, and `key_len` becomes its length. `key_room` is the room at
+ * `key`, and 255 bytes are enough. After a refusal `key` and `key_len` are unchanged.
+ * Refused, in order: EMPTY, BAD_MESSAGE (the tree has no such leaf), BAD_KEY (`key_len` is over `key_room`), NO_VERSION
+ * (no key follows), SMALL. */
+uint32_t antientropy_key_next(struct antientropy_replica *replica, uint64_t leaf, uint8_t *key, size_t key_room,
+                              uint64_t *key_len);
+
 /* Orders of two clocks. */
 enum {
     ANTIENTROPY_BEFORE = 0, /* the second has seen everything the first has, and more */
@@ -368,14 +391,14 @@ enum {
 };
 
 /* Compares two clocks. It needs no replica. Refused, in order: BAD_CLOCK and CLOCK_FULL of the first, BAD_CLOCK and
- * CLOCK_FULL of the second, NO_MEMORY, which may be returned instead of any. */
+ * CLOCK_FULL of the second, NO_MEMORY. */
 uint32_t antientropy_compare(const struct antientropy_pair *first, size_t first_len,
                              const struct antientropy_pair *second, size_t second_len, uint64_t *order);
 
 /* Merges two clocks, for the context of a put that replaces the versions of both: the result has for each node the
  * greater counter. It needs no replica. `out_len` and `need` count pairs; there are at most 32. Refused, in order:
  * BAD_CLOCK and CLOCK_FULL of the first, BAD_CLOCK and CLOCK_FULL of the second, CLOCK_FULL (over 32 nodes), NO_MEMORY,
- * which may be returned instead of any, SMALL. */
+ * which may be returned instead of this CLOCK_FULL, SMALL. */
 uint32_t antientropy_merge(const struct antientropy_pair *first, size_t first_len,
                            const struct antientropy_pair *second, size_t second_len, struct antientropy_pair *out,
                            size_t out_len, uint64_t *need);
@@ -534,8 +557,7 @@ void antientropy_hints_free(struct antientropy_hints *hints);
  * hint is of no range: the owner checks the key and the format when it accepts the version.
  * Refused, in order: EMPTY; BAD_CLOCK (the owner is 0 or over 65,535, or the pairs aren't a clock), CLOCK_FULL,
  * BAD_VALUE (unknown kind); BAD_KEY, BAD_VALUE (too long for format 2, or a tombstone that has a value), HINTS_FULL
- * (10,000 are pending, 2^32 - 1 were kept since the last renewal, or the number would be over 2^64 - 1), NO_MEMORY,
- * which may be returned instead of any but EMPTY. */
+ * (10,000 are pending, 2^32 - 1 were kept since the last renewal, or the number would be over 2^64 - 1), NO_MEMORY. */
 uint32_t antientropy_hint_keep(struct antientropy_hints *hints, uint64_t owner, const uint8_t *key, size_t key_len,
                                const struct antientropy_pair *clock, size_t clock_len, uint8_t kind,
                                const uint8_t *value, size_t value_len, uint64_t *id);
@@ -611,5 +633,22 @@ uint32_t antientropy_slots_count(struct antientropy_slots *slots, struct antient
 #ifdef __cplusplus
 }
 #endif
+
+/* The calls that free, for NULL too. The library's own calls, which other languages link, take a handle. */
+#define ANTIENTROPY_ACCEPTS_NULL(call, handle) \
+    static inline void call##_any(struct handle *at) \
+    { \
+        if (at) \
+            call(at); \
+    }
+ANTIENTROPY_ACCEPTS_NULL(antientropy_free, antientropy_replica)
+ANTIENTROPY_ACCEPTS_NULL(antientropy_snapshot_free, antientropy_snapshot)
+ANTIENTROPY_ACCEPTS_NULL(antientropy_hints_free, antientropy_hints)
+ANTIENTROPY_ACCEPTS_NULL(antientropy_slots_free, antientropy_slots)
+#undef ANTIENTROPY_ACCEPTS_NULL
+#define antientropy_free(replica) antientropy_free_any(replica)
+#define antientropy_snapshot_free(snapshot) antientropy_snapshot_free_any(snapshot)
+#define antientropy_hints_free(hints) antientropy_hints_free_any(hints)
+#define antientropy_slots_free(slots) antientropy_slots_free_any(slots)
 
 #endif

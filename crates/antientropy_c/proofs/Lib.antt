@@ -8,4 +8,8 @@ pub mod PublicationWord
 pub mod ReplicaWord
 mod Sent
 pub mod KeyLaws
+pub mod PairLaws
+pub mod PartLaws
+pub mod AskLaws
+pub mod LengthLaws
 pub mod SlotsWord

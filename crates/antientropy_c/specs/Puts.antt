@@ -1,9 +1,13 @@
 -- Versions from C: their numbers need not be right.
 use Rattle.std.specs.Prelude.{◌≡◌, ℕ, ◌&&◌, nat_le, ◌==◌, List, Option, Some, None, Result, Ok, Err, if◌then◌else◌}
+use Rattle.vclock.specs.Answer.{first_fault}
+use Rattle.vclock.specs.Bytes.{key_fault}
 use Rattle.vclock.specs.Clock.{Pairs, counter, clock_of, pairs_fault}
 use Rattle.vclock.specs.Outcome.{Outcome, ◌>>◌}
 use Rattle.vclock.specs.declared.refusal.Refusal.{Refusal}
-use Rattle.vclock.specs.declared.refusal.Refusal.TheVariants.{BadClock, BadValue}
+use Rattle.vclock.specs.declared.format.Format.{Format}
+use Rattle.vclock.specs.declared.refusal.Refusal.TheVariants.{BadClock, BadValue, NoMemory}
+use Rattle.version_set.specs.Kind.{value_fault}
 use Rattle.version_set.specs.declared.kind.Kind.{Kind}
 use Rattle.version_set.specs.declared.kind.Kind.TheVariants.{Live, Tombstone}
 use Rattle.range_journal.specs.declared.journal.Entry.{Entry}
@@ -27,6 +31,16 @@ kind_fault kind = if nat_le kind 1 then None else Some BadValue
 -- the kind of a number: 0 for a live version, 1 for a tombstone
 abbrev pub kind_numbered : ℕ → Kind
 kind_numbered kind = if kind == 0 then Live else Tombstone
+
+-- the fault of a key and of a version's parts, which is found before any of them is copied
+abbrev pub parts_fault : Format → List ℕ → Pairs → ℕ → List ℕ → Option Refusal
+parts_fault format key clock kind value =
+    first_fault (pairs_fault clock) (first_fault (kind_fault kind) (first_fault (key_fault key) (value_fault format (kind_numbered kind) value)))
+
+-- the result is NoMemory only if there is none of these early causes
+abbrev pub NoMemoryAfter : {T : Type 0} → Option Refusal → Result T Refusal → Type 0
+NoMemoryAfter early (Ok x) = Unit {0}
+NoMemoryAfter early (Err e) = e ≡ NoMemory → early ≡ None
 
 -- a put by seat 0, by a test of its context
 abbrev pub put_at_by : ContextTest → State → ℕ → List ℕ → Pairs → ℕ → List ℕ → Outcome Entry State

@@ -2,11 +2,11 @@
 use Rattle.std.specs.Prelude.{◌≡◌, ℕ, ◌==◌, nat_le, List, length, slice_get, Option, Some, None, Result, Ok, Err, MatchBool, if◌then◌else◌}
 use Rattle.vclock.specs.Outcome.{Does}
 use Rattle.vclock.specs.declared.refusal.Refusal.{Refusal}
-use Rattle.vclock.specs.declared.refusal.Refusal.TheVariants.{BadClock, BadMessage, UnknownSession}
+use Rattle.vclock.specs.declared.refusal.Refusal.TheVariants.{BadClock, BadMessage, UnknownSession, NotAsked}
 use Rattle.walk_messages.specs.declared.message.Answer.{Answer}
 use Rattle.walk_messages.specs.declared.message.Message.{Message}
 use Rattle.walk_messages.specs.declared.message.Message.TheVariants as messages
-use Rattle.sync_session.specs.TreeNodes.{as_node}
+use Rattle.sync_session.specs.TreeNodes.{Node, as_node, contains_node}
 use Rattle.sync_session.specs.declared.state.SessionState.{SessionState}
 use Rattle.sync_session.specs.declared.state.SessionState.TheVariants.{Open, Finished, Failed, Cancelled}
 use Rattle.range_state.specs.State.{State}
@@ -36,6 +36,14 @@ OpensUnless (Some e) s partner bytes r t = (r ≡ Err e) × (t ≡ s)
 abbrev pub TellsNumber : Result ℕ Refusal → ℕ → ℕ → Type 0
 TellsNumber (Ok n) old new = new ≡ n
 TellsNumber (Err e) old new = new ≡ old
+
+-- the fault of a text for a node that a session does not have outstanding, which is found without the text
+abbrev pub asked_for : Option Record → Node → Option Refusal
+asked_for None node = Some UnknownSession
+asked_for (Some r) node = if contains_node node r.session.outstanding then None else Some NotAsked
+
+abbrev pub asked_fault : State → ℕ → Node → Option Refusal
+asked_fault s id node = asked_for (slice_get s.records id) node
 
 -- an answer of the offer with that number is taken, as by seat 0, and one of another offer is refused
 abbrev pub TakesWith : State → ℕ → ℕ → Answer → Result AnswerTaken Refusal → State → Type 0

@@ -1,15 +1,16 @@
 //! Comparison and merge of clocks, for C.
 ghost use Rattle.std.specs.Prelude.{◌≡◌, ℕ, Result};
-ghost use Rattle.vclock.specs.Answer.{AnswersOrNoMemory, first_fault};
+ghost use Rattle.vclock.specs.Answer.{Answers, AnswersOrNoMemory, first_fault};
 ghost use Rattle.vclock.specs.Clock.{Pairs, pairs_fault, clock_of, merged};
 ghost use Rattle.vclock.specs.declared.refusal.Refusal.{Refusal};
 ghost use Rattle.antientropy_c.specs.Numbers.{Returns};
 ghost use Rattle.antientropy_c.specs.Pairs.{clock_pairs, number_of_order, order_between};
 ghost use Rattle.antientropy_c.specs.Merges.{merges_fault, HandsClock, GivesClock};
+ghost use Rattle.antientropy_c.specs.Puts.{NoMemoryAfter};
 ghost use Rattle.antientropy_c.specs.Sessions.{TellsNumber};
 
 use crate::numbers::code;
-use crate::pair::{Pair, clock_of};
+use crate::pair::{Pair, check_pairs, clock_of};
 use crate::sessions::tell_number;
 use crate::versions::copy_pairs;
 use std::alloc::Global;
@@ -18,8 +19,7 @@ use vclock::{Clock, ClockOrder, Refusal};
 /// Compares two clocks: 0 if the second has seen everything that the first has, and more; 1 if the first has seen
 /// everything that the second has, and more; 2 if they are equal; 3 if neither has seen everything that the other has.
 ///
-/// Refused, in order: BadClock and ClockFull of the first and then of the second, NoMemory, which may replace each of
-/// these.
+/// Refused, in order: BadClock and ClockFull of the first and then of the second, NoMemory.
 #[unsafe(no_mangle)]
 #[tactic(auto, using(crate::proofs::CallLaws::returns))]
 pub extern "C" fn antientropy_compare(
@@ -28,7 +28,7 @@ pub extern "C" fn antientropy_compare(
     second: &[Pair],
     order: &mut u64,
 ) -> u32
-    ensures { Returns result (λ (r : Result ℕ Refusal). AnswersOrNoMemory r
+    ensures { Returns result (λ (r : Result ℕ Refusal). Answers r
         (first_fault (pairs_fault (clock_pairs first.now)) (pairs_fault (clock_pairs second.now)))
         (λ n. n ≡ order_between (clock_of (clock_pairs first.now)) (clock_of (clock_pairs second.now)))
         × TellsNumber r order.old order.new) }
@@ -40,10 +40,12 @@ pub extern "C" fn antientropy_compare(
 
 /// Compares two clocks.
 fn compare(alloc: Global, first: &[Pair], second: &[Pair]) -> Result<u64, Refusal>
-    ensures { AnswersOrNoMemory result
+    ensures { Answers result
         (first_fault (pairs_fault (clock_pairs first.now)) (pairs_fault (clock_pairs second.now)))
         (λ n. n ≡ order_between (clock_of (clock_pairs first.now)) (clock_of (clock_pairs second.now))) }
 {
+    check_pairs(first)?;
+    check_pairs(second)?;
     let first = clock_of(alloc, first)?;
     let second = clock_of(alloc, second)?;
     Ok(number_of(first.compare(&second)))
@@ -64,7 +66,7 @@ fn number_of(order: ClockOrder) -> u64
 /// Merges two clocks, as [`Clock::merge`] does.
 ///
 /// Refused, in order: BadClock and ClockFull of the first and then of the second, ClockFull (over 32 nodes), NoMemory,
-/// which may replace each of these, SMALL.
+/// which may replace the last ClockFull, SMALL.
 #[unsafe(no_mangle)]
 #[tactic(auto, using(crate::proofs::CallLaws::gives_clock))]
 pub extern "C" fn antientropy_merge(
@@ -76,7 +78,8 @@ pub extern "C" fn antientropy_merge(
 ) -> u32
     ensures { GivesClock result (need.old, out.old) (need.new, out.new) (λ (r : Result Pairs Refusal).
         AnswersOrNoMemory r (merges_fault (clock_pairs first.now) (clock_pairs second.now))
-        (λ c. c ≡ merged (clock_of (clock_pairs first.now)) (clock_of (clock_pairs second.now)))) }
+        (λ c. c ≡ merged (clock_of (clock_pairs first.now)) (clock_of (clock_pairs second.now)))
+        × NoMemoryAfter (first_fault (pairs_fault (clock_pairs first.now)) (pairs_fault (clock_pairs second.now))) r) }
 {
     let told = merge(alloc, first, second);
     hand_clock(&told, out, need)
@@ -84,9 +87,13 @@ pub extern "C" fn antientropy_merge(
 
 /// Merges two clocks.
 fn merge(alloc: Global, first: &[Pair], second: &[Pair]) -> Result<Clock, Refusal>
-    ensures { AnswersOrNoMemory result (merges_fault (clock_pairs first.now) (clock_pairs second.now))
+    ensures answers { AnswersOrNoMemory result (merges_fault (clock_pairs first.now) (clock_pairs second.now))
         (λ c. c ≡ merged (clock_of (clock_pairs first.now)) (clock_of (clock_pairs second.now))) }
+    ensures early { NoMemoryAfter
+        (first_fault (pairs_fault (clock_pairs first.now)) (pairs_fault (clock_pairs second.now))) result }
 {
+    check_pairs(first)?;
+    check_pairs(second)?;
     let first = clock_of(alloc, first)?;
     let second = clock_of(alloc, second)?;
     first.merge(alloc, &second)

@@ -14,7 +14,7 @@ use crate::replica::Replica;
 use crate::sessions::tell_number;
 use range_state::RangeState;
 use std::alloc::Global;
-use vclock::Refusal;
+use vclock::{Refusal, check_key};
 
 /// Stores the greatest counter of a node in the clocks of the versions that the first `entries` entries of the journal
 /// accepted for a key: of all entries if there are fewer, and 0 if no clock has the node. Reads each of these entries.
@@ -43,10 +43,15 @@ pub extern "C" fn antientropy_top_counter(
     code(&told)
 }
 
-/// Returns the greatest counter of a node for a key, over the first entries. Refused: BadClock.
+/// Returns the greatest counter of a node for a key, over the first entries: 0 for a key that isn't 1 to 255 bytes long,
+/// of which no byte is read. Refused: BadClock.
 fn top_counter(state: &RangeState, node: u64, key: &[u8], entries: u64) -> Result<u64, Refusal>
     ensures { AnswersAtOnce result (node_fault node) (λ n. n ≡ top_counter (take entries state.now.entries) key.now node) }
 {
     let node = node_of(node)?;
-    Ok(state.journal().top_counter(node, key, entries))
+    let journal = state.journal();
+    match check_key(key) {
+        Ok(()) => Ok(journal.top_counter(node, key, entries)),
+        Err(_) => Ok(0),
+    }
 }

@@ -2,10 +2,10 @@
 ghost use Rattle.std.specs.Prelude.{◌≡◌, ℕ, ◌+◌, ◌-◌, ◌<◌, length, false, None, Result, MatchOption, ⊤};
 ghost use Rattle.std.specs.Option.{option_copied};
 ghost use Rattle.vclock.specs.Answer.{AnswersAtOnce};
-ghost use Rattle.vclock.specs.Outcome.{Does, DoesAtOnce, DoesOrNoMemory};
+ghost use Rattle.vclock.specs.Outcome.{Does, DoesAtOnce};
 ghost use Rattle.vclock.specs.declared.refusal.Refusal.{Refusal};
 ghost use Rattle.hint_store.specs.Counts.{counts_of};
-ghost use Rattle.hint_store.specs.Hints.{AreHints};
+ghost use Rattle.hint_store.specs.Hints.{AreHints, keep_fault};
 ghost use Rattle.antientropy_c.specs.Calls.{CallsOn};
 ghost use Rattle.antientropy_c.specs.Carried.{carried, named, last_number, number_fault, keep_at, next_number, settle_at, renew, restore_fault, restored};
 ghost use Rattle.antientropy_c.specs.Handoff.{hints_in, ShowsHints, owner_in, hint_key_in, hint_version_in};
@@ -20,12 +20,13 @@ use crate::carrier::Carrier;
 use crate::numbers::{EMPTY, HELD, NO_VERSION, code};
 use crate::output::copy_out;
 use crate::pair::{Pair, clock_of};
-use crate::puts::{kind_of, node_of};
+use crate::puts::{kind_of_parts, node_of};
 use crate::sessions::tell_number;
 use crate::versions::copy_pairs;
 use hint_store::{HintStore, Kept};
 use std::alloc::Global;
-use vclock::{Bytes, Format, Refusal, check_key};
+use vclock::limits::PENDING_HINTS_MAX;
+use vclock::{Bytes, Format, Refusal};
 use version_set::Version;
 
 /// The numbers of hints.
@@ -95,8 +96,8 @@ pub extern "C" fn antientropy_hints_free(alloc: Global, hints: &mut Carrier)
 ///
 /// Refused, in order: EMPTY; BadClock (the owner is 0 or over 65,535, or the pairs aren't a clock), ClockFull, BadValue
 /// (the kind is neither 0 nor 1); BadKey, BadValue (of format 2); HintsFull (the number would be over 2^64 - 1, 10,000
-/// hints are pending, or 2^32 - 1 were kept since the store was made or renewed), NoMemory, which may replace any cause
-/// but EMPTY. On error the hints and the stored number are unchanged.
+/// hints are pending, or 2^32 - 1 were kept since the store was made or renewed), NoMemory. On error the hints and the
+/// stored number are unchanged.
 #[unsafe(no_mangle)]
 #[tactic(auto, using(crate::proofs::CallLaws::empty, crate::proofs::HintCallLaws::held, crate::proofs::CallLaws::returns))]
 pub extern "C" fn antientropy_hint_keep(
@@ -111,7 +112,7 @@ pub extern "C" fn antientropy_hint_keep(
 ) -> u32
     ensures { CallsOn result (hints_in hints.old) (hints_in hints.new) (id.new ≡ id.old)
         (λ s t. Returns result (λ (r : Result ℕ Refusal).
-        DoesOrNoMemory r s t (keep_at s owner key.now (clock_pairs clock.now) kind value.now)
+        Does r s t (keep_at s owner key.now (clock_pairs clock.now) kind value.now)
         × TellsNumber r id.old id.new)) }
 {
     let Some(mut store) = hints.store.take(alloc) else {
@@ -143,19 +144,29 @@ fn keep(
     kind: u8,
     value: &[u8],
 ) -> Result<u64, Refusal>
-    ensures { DoesOrNoMemory result (carried before store.old) (carried before store.new)
+    ensures { Does result (carried before store.old) (carried before store.new)
         (keep_at (carried before store.old) owner key.now (clock_pairs clock.now) kind value.now) }
 {
     let owner = node_of(owner)?;
-    let clock = clock_of(alloc, clock)?;
-    let kind = kind_of(kind)?;
-    check_key(key)?;
-    kind.check_value(Format::Two, value)?;
+    let kind = kind_of_parts(Format::Two, key, clock, kind, value)?;
     last_number(store, before, 1)?;
+    check_room(store)?;
+    let clock = clock_of(alloc, clock)?;
     let key = Bytes::copy_of(alloc, key)?;
     let value = Bytes::copy_of(alloc, value)?;
     let id = store.keep(owner, key, Version { clock, kind, value })?;
     Ok(before + u64::from(id))
+}
+
+/// Tests that a store can keep one more hint. Refused: HintsFull (10,000 are pending, or 2^32 - 1 were kept).
+fn check_room(store: &HintStore) -> Result<(), Refusal>
+    ensures { AnswersAtOnce result (keep_fault store.now) (λ _. ⊤) }
+{
+    let kept = u64::from(store.delivered()) + u64::from(store.pending());
+    if store.pending() >= PENDING_HINTS_MAX || kept >= u64::from(u32::MAX) {
+        return Err(Refusal::HintsFull);
+    }
+    Ok(())
 }
 
 /// Returns the last number that was used. Refused: HintsFull (the number so many after it is over 2^64 - 1).

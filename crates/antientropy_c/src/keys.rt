@@ -1,12 +1,14 @@
 //! The keys of a leaf in order.
-ghost use Rattle.std.specs.Prelude.{◌≡◌, option_map};
+ghost use Rattle.std.specs.Prelude.{◌≡◌, ◌<◌, ◌≤◌, Some, IfSome, MatchOption, option_map};
 ghost use Rattle.row_bytes.specs.Rows.{is_before};
-ghost use Rattle.hash_tree.specs.Leaves.{AscendByKey};
+ghost use Rattle.hash_tree.specs.Leaves.{AscendByKey, rows_in_leaf};
+ghost use Rattle.range_state.specs.Rows.{rows_of};
+ghost use Rattle.range_state.specs.State.{leaf_count, leaf_in};
 ghost use Rattle.antientropy_c.specs.Calls.{Calls};
 ghost use Rattle.antientropy_c.specs.Hands.{HandsNothing};
-ghost use Rattle.antientropy_c.specs.Keys.{key_after, HandsKeyAfter};
+ghost use Rattle.antientropy_c.specs.Keys.{key_after, HandsKeyAfter, HandsKeyNext, Replaces};
 
-use crate::numbers::{EMPTY, NO_VERSION};
+use crate::numbers::{EMPTY, NO_VERSION, SMALL};
 use crate::output::copy_out;
 use crate::replica::Replica;
 use hash_tree::SharedLeaf;
@@ -44,13 +46,76 @@ pub extern "C" fn antientropy_key_after(
 fn show_key_after(state: &RangeState, leaf: u64, key: &[u8], out: &mut [u8], need: &mut u64) -> u32
     ensures { HandsKeyAfter state.now leaf key.now result (need.old, out.old) (need.new, out.new) }
 {
-    if leaf >= u64::from(leaf_count(state.config().format())) {
+    let Some(rows) = leaf_of(state, leaf) else {
         return Refusal::BadMessage.number() as u32;
-    }
-    match key_after(state.rows(leaf as u16), key) {
+    };
+    match key_after(rows, key) {
         Some(next) => copy_out(next, out, need),
         None => NO_VERSION,
     }
+}
+
+/// Puts the least key of a leaf above a key in that key's place: the first one, if the key that was seen has no byte. The
+/// key is the first `key_len` bytes of the room. Refused, in order: EMPTY, BadMessage (the tree has no such leaf), BadKey
+/// (the length is over the room's), NO_VERSION (no key follows), SMALL (the next key doesn't fit). On error the room and
+/// the length are unchanged.
+#[unsafe(no_mangle)]
+#[tactic(auto, using(crate::proofs::CallLaws::empty, crate::proofs::CallLaws::held))]
+pub extern "C" fn antientropy_key_next(
+    alloc: Global,
+    replica: &mut Replica,
+    leaf: u64,
+    key: &mut [u8],
+    key_len: &mut u64,
+) -> u32
+    ensures { Calls result replica.old replica.new (HandsNothing (key_len.old, key.old) (key_len.new, key.new)) (λ s t. (t ≡ s)
+        × HandsKeyNext s leaf result (key_len.old, key.old) (key_len.new, key.new)) }
+{
+    let Some(state) = replica.take(alloc) else {
+        return EMPTY;
+    };
+    let result = show_key_next(&state, leaf, key, key_len);
+    replica.hold(state);
+    result
+}
+
+/// Puts the least key of a leaf above a key in that key's place.
+fn show_key_next(state: &RangeState, leaf: u64, key: &mut [u8], key_len: &mut u64) -> u32
+    ensures { HandsKeyNext state.now leaf result (key_len.old, key.old) (key_len.new, key.new) }
+{
+    let Some(rows) = leaf_of(state, leaf) else {
+        return Refusal::BadMessage.number() as u32;
+    };
+    if *key_len > key.len() as u64 {
+        return Refusal::BadKey.number() as u32;
+    }
+    let seen = &key[..*key_len as usize];
+    match key_after(rows, seen) {
+        Some(next) => replace_key(next, key, key_len),
+        None => NO_VERSION,
+    }
+}
+
+/// Returns the rows of a leaf, or `None` if the tree has no such leaf.
+fn leaf_of(state: &RangeState, leaf: u64) -> Option<&SharedLeaf>
+    ensures rows { MatchOption result (leaf_count state.now.config ≤ leaf) (λ rows. (leaf < leaf_count state.now.config)
+        × (rows.now.rows ≡ rows_in_leaf (leaf_in state.now.config) leaf (rows_of state.now.entries))) }
+    ensures ascend { IfSome result (λ rows. AscendByKey rows.now.rows) }
+{
+    if leaf >= u64::from(leaf_count(state.config().format())) {
+        return None;
+    }
+    Some(state.rows(leaf as u16))
+}
+
+/// Copies a key to the front of the room and stores its length, if it fits. Returns 0 or SMALL.
+fn replace_key(next: &[u8], key: &mut [u8], key_len: &mut u64) -> u32
+    ensures { Replaces (Some next.now) result (key_len.old, key.old) (key_len.new, key.new) }
+{
+    if next.len() > key.len() {
+        return SMALL;
+    }
+    copy_out(next, key, key_len)
 }
 
 /// Returns the first key of a leaf above a key, if any. Of a run whose last key isn't above it, no other is read.

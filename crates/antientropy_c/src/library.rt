@@ -8,12 +8,12 @@ ghost use Rattle.antientropy_c.specs.Library.{name_numbered};
 use crate::output::copy_out;
 
 /// The version of the library: 10,000 times the major number, 100 times the minor one, and the patch.
-const VERSION: u32 = 10_000;
+const VERSION: u32 = 10_100;
 
-/// Returns the version of the library as one number: 10,000 for 1.0.0.
+/// Returns the version of the library as one number: 10,100 for 1.1.0.
 #[unsafe(no_mangle)]
 pub extern "C" fn antientropy_version() -> u32
-    ensures { result ≡ 10000 }
+    ensures { result ≡ 10100 }
 {
     VERSION
 }

@@ -1,5 +1,5 @@
 //! Rows of leaves: written from a snapshot, and loaded into a replica.
-ghost use Rattle.std.specs.Prelude.{◌≡◌, Result};
+ghost use Rattle.std.specs.Prelude.{◌≡◌, Some, None, Result, if◌then◌else◌};
 ghost use Rattle.std.specs.List.{flat_map};
 ghost use Rattle.vclock.specs.Answer.{Answers};
 ghost use Rattle.vclock.specs.Format.{format_of};
@@ -9,13 +9,15 @@ ghost use Rattle.row_bytes.specs.Rows.{row_text};
 ghost use Rattle.hash_tree.specs.Leaves.{rows_in_leaf};
 ghost use Rattle.snapshot.specs.RowMaps.{leaf_in};
 ghost use Rattle.snapshot.specs.Snapshots.{leaf_fault};
+ghost use Rattle.range_state.specs.FormatLoads.{newer_fault};
 ghost use Rattle.range_state.specs.Loads.{load_text};
 ghost use Rattle.range_state.specs.declared.state.loading.Loaded.{Loaded};
 ghost use Rattle.antientropy_c.specs.Calls.{Calls};
 ghost use Rattle.antientropy_c.specs.Hands.{HandsNothing, HandsOutRight};
-ghost use Rattle.antientropy_c.specs.Loads.{load_numbered, TellsLoaded};
+ghost use Rattle.antientropy_c.specs.Loads.{load_numbered, numbered_fault, TellsLoaded};
 ghost use Rattle.antientropy_c.specs.Numbers.{Returns};
 ghost use Rattle.antientropy_c.specs.Offers.{ShowsRows};
+ghost use Rattle.antientropy_c.specs.Puts.{NoMemoryAfter};
 
 use crate::numbers::{EMPTY, code};
 use crate::output::hand_out;
@@ -106,7 +108,7 @@ pub extern "C" fn antientropy_load(
 ///
 /// Refused, in order: EMPTY, BadRing (the format is neither 1 nor 2); then as `load_format` is: OtherFormat, RowBroken,
 /// OtherRange, Crowded, JournalFull, NoMemory. On error the replica is unchanged. After RowBroken the offset is stored;
-/// after any other refusal the result is unchanged. NoMemory may replace any cause but EMPTY.
+/// after any other refusal the result is unchanged. NoMemory may replace a cause from RowBroken on.
 #[unsafe(no_mangle)]
 #[tactic(auto, using(crate::proofs::CallLaws::empty, crate::proofs::CallLaws::held, crate::proofs::CallLaws::returns))]
 pub extern "C" fn antientropy_load_format(
@@ -118,7 +120,8 @@ pub extern "C" fn antientropy_load_format(
 ) -> u32
     ensures { Calls result replica.old replica.new (loaded.new ≡ loaded.old)
         (λ s t. Returns result (λ (r : Result Loaded Refusal).
-        DoesOrNoMemory r s t (load_numbered s (format_of format) rows.now) × TellsLoaded r loaded.old loaded.new)) }
+        DoesOrNoMemory r s t (load_numbered s (format_of format) rows.now)
+        × NoMemoryAfter (numbered_fault s (format_of format)) r × TellsLoaded r loaded.old loaded.new)) }
 {
     let Some(mut state) = replica.take(alloc) else {
         return EMPTY;
@@ -136,12 +139,26 @@ fn load_format(
     format: u64,
     rows: &[u8],
 ) -> Result<Loaded, Refusal>
-    ensures { DoesOrNoMemory result state.old state.new (load_numbered state.old (format_of format) rows.now) }
+    ensures does { DoesOrNoMemory result state.old state.new (load_numbered state.old (format_of format) rows.now) }
+    ensures early { NoMemoryAfter (numbered_fault state.old (format_of format)) result }
 {
     let Some(format) = Format::of_number(format) else {
         return Err(Refusal::BadRing);
     };
+    if is_newer(format, state.config().format()) {
+        return Err(Refusal::OtherFormat);
+    }
     state.load_format(alloc, 0, format, rows)
+}
+
+/// Returns true if a replica of a format can't load rows of another one, since that one is newer.
+fn is_newer(rows: Format, replica: Format) -> bool
+    ensures { newer_fault replica rows ≡ (if result then Some Refusal.OtherFormat else None) }
+{
+    match (rows, replica) {
+        (Format::Two, Format::One) => true,
+        (Format::One, _) | (Format::Two, Format::Two) => false,
+    }
 }
 
 /// Stores the counts of a load, or the offset of a broken field.

@@ -1,6 +1,7 @@
 //! Puts, and versions of other replicas.
-ghost use Rattle.std.specs.Prelude.{◌≡◌, ◌≤◌, Result, OnOk};
-ghost use Rattle.vclock.specs.Answer.{AnswersAtOnce};
+ghost use Rattle.std.specs.Prelude.{◌≡◌, ◌≤◌, None, Result, OnOk, IfOk};
+ghost use Rattle.vclock.specs.Answer.{AnswersAtOnce, first_fault};
+ghost use Rattle.vclock.specs.Clock.{pairs_fault};
 ghost use Rattle.vclock.specs.Outcome.{DoesOrNoMemory};
 ghost use Rattle.vclock.specs.declared.refusal.Refusal.{Refusal};
 ghost use Rattle.range_journal.specs.declared.journal.Entry.{Entry};
@@ -8,16 +9,16 @@ ghost use Rattle.antientropy_c.specs.Numbers.{Returns};
 ghost use Rattle.antientropy_c.specs.Calls.{Calls};
 ghost use Rattle.antientropy_c.specs.Pairs.{clock_pairs};
 ghost use Rattle.range_state.specs.declared.event.Accepted.{Accepted};
-ghost use Rattle.antientropy_c.specs.Puts.{node_fault, kind_fault, kind_numbered, put_at_by, put_at, put_read_at, accept_at, TellsPut, TellsAccepted};
+ghost use Rattle.antientropy_c.specs.Puts.{node_fault, kind_fault, kind_numbered, parts_fault, put_at_by, put_at, put_read_at, accept_at, NoMemoryAfter, TellsPut, TellsAccepted};
 
 use crate::numbers::{EMPTY, code};
-use crate::pair::{Pair, clock_of};
+use crate::pair::{Pair, check_pairs, clock_of};
 use crate::replica::Replica;
 use range_journal::Source;
 use range_state::{Accepted, ContextTest, RangeState, Receipt};
 use std::alloc::Global;
 use vclock::limits::NODE_MAX;
-use vclock::{Bytes, Refusal};
+use vclock::{Bytes, Format, Refusal, check_key};
 use version_set::{Kind, Version};
 
 /// The receipt of a put.
@@ -34,7 +35,8 @@ pub struct PutReceipt {
 ///
 /// Refused, in order: EMPTY; BadClock (the node is 0 or over 65,535, or the context isn't a clock), ClockFull (the
 /// context has over 32 pairs), BadValue (the kind is neither 0 nor 1); then as [`RangeState::put`] is. On error the
-/// replica and the receipt are unchanged. NoMemory may replace any cause but EMPTY.
+/// replica and the receipt are unchanged. The clock and the value are copied once the causes up to BadValue were tested,
+/// so NoMemory may replace a cause from OtherRange on.
 #[unsafe(no_mangle)]
 #[tactic(auto, using(crate::proofs::CallLaws::empty, crate::proofs::CallLaws::held, crate::proofs::CallLaws::returns))]
 pub extern "C" fn antientropy_put(
@@ -50,6 +52,8 @@ pub extern "C" fn antientropy_put(
     ensures { Calls result replica.old replica.new (receipt.new ≡ receipt.old)
         (λ s t. Returns result (λ (r : Result Entry Refusal).
         DoesOrNoMemory r s t (put_at s node key.now (clock_pairs context.now) kind value.now)
+        × NoMemoryAfter (first_fault (node_fault node)
+        (parts_fault s.config.format key.now (clock_pairs context.now) kind value.now)) r
         × TellsPut node r receipt.old receipt.new)) }
 {
     let Some(mut state) = replica.take(alloc) else {
@@ -67,7 +71,8 @@ pub extern "C" fn antientropy_put(
 ///
 /// Refused, in order: EMPTY; BadClock (the node is 0 or over 65,535, or the context isn't a clock), ClockFull (the
 /// context has over 32 pairs), BadValue (the kind is neither 0 nor 1); then as [`RangeState::put_read`] is. On error the
-/// replica and the receipt are unchanged. NoMemory may replace any cause but EMPTY.
+/// replica and the receipt are unchanged. The clock and the value are copied once the causes up to BadValue were tested,
+/// so NoMemory may replace a cause from OtherRange on.
 #[unsafe(no_mangle)]
 #[tactic(auto, using(crate::proofs::CallLaws::empty, crate::proofs::CallLaws::held, crate::proofs::CallLaws::returns))]
 pub extern "C" fn antientropy_put_read(
@@ -83,6 +88,8 @@ pub extern "C" fn antientropy_put_read(
     ensures { Calls result replica.old replica.new (receipt.new ≡ receipt.old)
         (λ s t. Returns result (λ (r : Result Entry Refusal).
         DoesOrNoMemory r s t (put_read_at s node key.now (clock_pairs context.now) kind value.now)
+        × NoMemoryAfter (first_fault (node_fault node)
+        (parts_fault s.config.format key.now (clock_pairs context.now) kind value.now)) r
         × TellsPut node r receipt.old receipt.new)) }
 {
     let Some(mut state) = replica.take(alloc) else {
@@ -108,11 +115,13 @@ fn put(
 ) -> Result<Receipt, Refusal>
     ensures does { DoesOrNoMemory result state.old state.new (put_at_by test state.old node key.now
         (clock_pairs context.now) kind value.now) }
+    ensures early { NoMemoryAfter (first_fault (node_fault node)
+        (parts_fault state.old.config.format key.now (clock_pairs context.now) kind value.now)) result }
     ensures node { OnOk result (node ≤ 65535) }
 {
     let node = node_of(node)?;
+    let kind = kind_of_parts(state.config().format(), key, context, kind, value)?;
     let context = clock_of(alloc, context)?;
-    let kind = kind_of(kind)?;
     let value = Bytes::copy_of(alloc, value)?;
     match test {
         ContextTest::Fresh => state.put(alloc, 0, node, key, &context, kind, value),
@@ -133,8 +142,8 @@ pub(crate) fn node_of(number: u64) -> Result<u16, Refusal>
 /// Accepts a version of another replica, as a copy. Stores 1 if it was accepted, and 0 if it was known.
 ///
 /// Refused, in order: EMPTY; BadClock (the pairs aren't a clock), ClockFull, BadValue (the kind is neither 0 nor 1);
-/// then as [`RangeState::accept`] is. On error the replica and the stored number are unchanged. NoMemory may replace
-/// any cause but EMPTY.
+/// then as [`RangeState::accept`] is. On error the replica and the stored number are unchanged. The clock and the value
+/// are copied once the causes up to BadValue were tested, so NoMemory may replace a cause from OtherRange on.
 #[unsafe(no_mangle)]
 #[tactic(auto, using(crate::proofs::CallLaws::empty, crate::proofs::CallLaws::held, crate::proofs::CallLaws::returns))]
 pub extern "C" fn antientropy_accept(
@@ -149,6 +158,7 @@ pub extern "C" fn antientropy_accept(
     ensures { Calls result replica.old replica.new (taken.new ≡ taken.old)
         (λ s t. Returns result (λ (r : Result Accepted Refusal).
         DoesOrNoMemory r s t (accept_at s key.now (clock_pairs clock.now) kind value.now)
+        × NoMemoryAfter (parts_fault s.config.format key.now (clock_pairs clock.now) kind value.now) r
         × TellsAccepted r taken.old taken.new)) }
 {
     let Some(mut state) = replica.take(alloc) else {
@@ -169,10 +179,12 @@ fn accept(
     kind: u8,
     value: &[u8],
 ) -> Result<Accepted, Refusal>
-    ensures { DoesOrNoMemory result state.old state.new (accept_at state.old key.now (clock_pairs clock.now) kind value.now) }
+    ensures does { DoesOrNoMemory result state.old state.new (accept_at state.old key.now (clock_pairs clock.now) kind value.now) }
+    ensures early { NoMemoryAfter
+        (parts_fault state.old.config.format key.now (clock_pairs clock.now) kind value.now) result }
 {
+    let kind = kind_of_parts(state.config().format(), key, clock, kind, value)?;
     let clock = clock_of(alloc, clock)?;
-    let kind = kind_of(kind)?;
     let value = Bytes::copy_of(alloc, value)?;
     let version = Version { clock, kind, value };
     state.accept(alloc, 0, Source::Copy, key, version)
@@ -202,8 +214,28 @@ fn tell_accepted(told: &Result<Accepted, Refusal>, taken: &mut u64)
     }
 }
 
+/// Tests the parts of a version and its key before any of them is copied or hashed, and returns the kind of its number.
+/// Refused, in order: BadClock and ClockFull (the pairs), BadValue (the kind), BadKey, BadValue (of the format).
+pub(crate) fn kind_of_parts(
+    format: Format,
+    key: &[u8],
+    clock: &[Pair],
+    kind: u8,
+    value: &[u8],
+) -> Result<Kind, Refusal>
+    ensures answers { AnswersAtOnce result (parts_fault format key.now (clock_pairs clock.now) kind value.now)
+        (λ k. k ≡ kind_numbered kind) }
+    ensures pairs { IfOk result (λ _. pairs_fault (clock_pairs clock.now) ≡ None) }
+{
+    check_pairs(clock)?;
+    let kind = kind_of(kind)?;
+    check_key(key)?;
+    kind.check_value(format, value)?;
+    Ok(kind)
+}
+
 /// Returns the kind of a number. Refused: BadValue (it is neither 0 nor 1).
-pub(crate) fn kind_of(kind: u8) -> Result<Kind, Refusal>
+fn kind_of(kind: u8) -> Result<Kind, Refusal>
     ensures { AnswersAtOnce result (kind_fault kind) (λ k. k ≡ kind_numbered kind) }
 {
     match kind {

@@ -8,7 +8,7 @@ use crate::numbers::{EMPTY, NO_VERSION};
 use crate::output::copy_out;
 use crate::pair::Pair;
 use crate::replica::Replica;
-use crate::versions::copy_pairs;
+use crate::versions::{copy_pairs, versions_of};
 use range_state::RangeState;
 use std::alloc::Global;
 
@@ -65,7 +65,7 @@ fn read(
     ensures { ReadsVersion (slice_get (held state.now.entries key.now) index) (length (held state.now.entries key.now))
         result reading.old reading.new (pairs.old, value.old) (pairs.new, value.new) }
 {
-    let versions = state.versions(key);
+    let versions = versions_of(state, key);
     let Some(version) = versions.get(index as usize) else {
         return NO_VERSION;
     };

@@ -10,6 +10,7 @@ ghost use Rattle.antientropy_c.specs.Shows.{row_shown};
 use crate::numbers::EMPTY;
 use crate::output::hand_out;
 use crate::replica::Replica;
+use crate::versions::versions_of;
 use hash_tree::Text;
 use range_state::RangeState;
 use row_bytes::{Row, write_row};
@@ -71,7 +72,7 @@ pub extern "C" fn antientropy_versions(
     let Some(state) = replica.take(alloc) else {
         return EMPTY;
     };
-    *count = state.versions(key).len() as u64;
+    *count = versions_of(&state, key).len() as u64;
     replica.hold(state);
     0
 }

@@ -1,17 +1,18 @@
 //! Sessions with other replicas.
-ghost use Rattle.std.specs.Prelude.{◌≡◌, ℕ, Result, Some, slice_get, ⊤};
+ghost use Rattle.std.specs.Prelude.{◌≡◌, ℕ, Result, Some, map, slice_get, ⊤};
 ghost use Rattle.vclock.specs.Answer.{AnswersAtOnce};
 ghost use Rattle.vclock.specs.Outcome.{DoesAtOnce};
 ghost use Rattle.vclock.specs.declared.refusal.Refusal.{Refusal};
+ghost use Rattle.sync_session.specs.TreeNodes.{as_node, contains_node};
 ghost use Rattle.range_state.specs.Sessions.{cancel_session, unknown_fault};
 ghost use Rattle.range_state.specs.declared.event.AnswerTaken.{AnswerTaken};
 ghost use Rattle.antientropy_c.specs.Numbers.{Returns};
 ghost use Rattle.antientropy_c.specs.Calls.{Calls, Reads};
-ghost use Rattle.antientropy_c.specs.Sessions.{Opens, OpensUnless, partner_fault, TellsNumber, TakesWith, TakesMessage, TellsTaken, number_of_state, session_seen};
+ghost use Rattle.antientropy_c.specs.Sessions.{Opens, OpensUnless, partner_fault, asked_fault, TellsNumber, TakesWith, TakesMessage, TellsTaken, number_of_state, session_seen};
 
 use crate::numbers::{EMPTY, code};
 use crate::replica::Replica;
-use hash_tree::hash;
+use hash_tree::{NodeAt, hash};
 use range_state::{AnswerTaken, RangeState, Record};
 use std::alloc::Global;
 use sync_session::SessionState;
@@ -182,7 +183,27 @@ fn take_answer(
     if offer != number {
         return Err(Refusal::BadMessage);
     }
+    check_asked(state, session, node)?;
     state.take_answer(alloc, 0, session, node, hash(text))
+}
+
+/// Tests that a session has a node outstanding, before a text is hashed for it. Refused, in order: UnknownSession,
+/// NotAsked.
+fn check_asked(state: &RangeState, session: u64, node: NodeAt) -> Result<(), Refusal>
+    ensures { AnswersAtOnce result (asked_fault state.now session (as_node node)) (λ _. ⊤) }
+{
+    let nodes = record_of(state, session)?.session().outstanding();
+    if !has(nodes, node) {
+        return Err(Refusal::NotAsked);
+    }
+    Ok(())
+}
+
+/// Returns true if some node of a list is equal to a node.
+fn has(nodes: &[NodeAt], node: NodeAt) -> bool
+    ensures { result ≡ contains_node (as_node node) (map as_node nodes.now) }
+{
+    nodes.iter().any(|other| node == *other)
 }
 
 /// Stores the receipt of an answer, if it was not refused.

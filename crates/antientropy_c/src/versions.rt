@@ -11,6 +11,21 @@ use crate::pair::Pair;
 use crate::replica::Replica;
 use range_state::RangeState;
 use std::alloc::Global;
+use vclock::check_key;
+use version_set::Version;
+
+/// Returns the versions that are held for a key, in the order of their texts. No version is held for a key that isn't 1
+/// to 255 bytes long: no byte of it is read.
+pub(crate) fn versions_of<'a>(state: &'a RangeState, key: &[u8]) -> &'a [Version]
+    ensures { result.now ≡ held state.now.entries key.now }
+{
+    // Called for its clause alone: each entry's key is 1 to 255 bytes long.
+    let _valid = state.journal();
+    match check_key(key) {
+        Ok(()) => state.versions(key),
+        Err(_) => &[],
+    }
+}
 
 /// Copies out the value of a version that is held for a key, by its index from 0, and stores its kind: 0 for a live
 /// version, 1 for a tombstone. Refused, in order: EMPTY, NO_VERSION, SMALL. The kind is stored even if the buffer is
@@ -50,7 +65,7 @@ fn show_value(
     ensures { ShowsValue (slice_get (held state.now.entries key.now) index) result kind.old kind.new
         (need.old, out.old) (need.new, out.new) }
 {
-    let versions = state.versions(key);
+    let versions = versions_of(state, key);
     if index >= versions.len() as u64 {
         return NO_VERSION;
     }
@@ -86,7 +101,7 @@ pub extern "C" fn antientropy_clock(
 fn show_clock(state: &RangeState, key: &[u8], index: u64, out: &mut [Pair], need: &mut u64) -> u32
     ensures { ShowsClock (slice_get (held state.now.entries key.now) index) result (need.old, out.old) (need.new, out.new) }
 {
-    let versions = state.versions(key);
+    let versions = versions_of(state, key);
     if index >= versions.len() as u64 {
         return NO_VERSION;
     }
