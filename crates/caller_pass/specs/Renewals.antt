@@ -1,5 +1,5 @@
 -- Renewed ranges: a range that was closed, and opened again with the versions held.
-use Rattle.std.specs.Prelude.{◌≡◌, ℕ, zero, suc, ◌<◌, ◌≤◌, ◌⊎◌, nat_eq, List, [], ◌∷◌, ◌++◌, length, vec_len, All, Some, if◌then◌else◌}
+use Rattle.std.specs.Prelude.{◌≡◌, ℕ, zero, suc, ◌<◌, ◌≤◌, ◌⊎◌, nat_eq, List, [], ◌∷◌, ◌++◌, length, vec_len, Some, None, if◌then◌else◌}
 use Rattle.vclock.specs.declared.refusal.Refusal.{Refusal}
 use Rattle.vclock.specs.declared.refusal.Refusal.TheVariants.{Unsettled, Stranger, NoMemory}
 use Rattle.range_journal.specs.declared.journal.Entry.{Entry}
@@ -8,7 +8,7 @@ use Rattle.range_state.specs.Renewals.{renewed_by, renew_fault}
 use Rattle.caller_pass.specs.declared.book.ReturnedPass.{ReturnedPass}
 use Rattle.caller_pass.specs.Passes.{PassView, new_pass}
 use Rattle.caller_pass.specs.Locks.{Locked}
-use Rattle.caller_pass.specs.Closings.{IsSettled, AllThere, SomeIsMissing, IsUnclosed}
+use Rattle.caller_pass.specs.Closings.{AllThere, SomeIsMissing, IsUnclosed}
 
 -- the pass of a seat of a renewed range: the carrier's has the carried entries as receipts, and has seen them all
 abbrev pub carried_pass : ℕ → List Entry → ℕ → PassView
@@ -27,10 +27,11 @@ renewed_in l seat limit = record { state = renewed_by l.state seat limit; book =
 abbrev pub pass_of : ReturnedPass → PassView
 pass_of p = record { seat = p.seat; seen = p.seen; share = vec_len p.receipts; receipts = p.receipts.items; readings = p.readings.items }
 
--- The refusal of a renewal, the first in order: a seat has no pass, or the range has no such seat; a pass and the
--- journal differ; the fault of the limit. NoMemory may replace a difference.
+-- The refusal of a renewal, the first in order: a seat has no pass, or the range has no such seat; the fault of the
+-- limit; a pass and the journal differ. A journal is replayed in memory for the readings, so NoMemory may replace a
+-- difference.
 abbrev pub IsUnrenewed : ℕ → State → ℕ → ℕ → List PassView → Refusal → Type 0
 IsUnrenewed seats s seat limit passes Stranger = SomeIsMissing seats passes ⊎ (seats ≤ seat)
-IsUnrenewed seats s seat limit passes (Unsettled at part place) = (seat < seats) × IsUnclosed seats s.entries passes (Unsettled at part place)
-IsUnrenewed seats s seat limit passes NoMemory = (seat < seats) × AllThere seats passes
-IsUnrenewed seats s seat limit passes e = (seat < seats) × AllThere seats passes × All (IsSettled s.entries) passes × (renew_fault s limit ≡ Some e)
+IsUnrenewed seats s seat limit passes (Unsettled at part place) = (seat < seats) × (renew_fault s limit ≡ None) × IsUnclosed seats s.entries passes (Unsettled at part place)
+IsUnrenewed seats s seat limit passes NoMemory = (seat < seats) × AllThere seats passes × (renew_fault s limit ≡ None)
+IsUnrenewed seats s seat limit passes e = (seat < seats) × AllThere seats passes × (renew_fault s limit ≡ Some e)

@@ -48,7 +48,7 @@ pub struct Unclosed<L: Ledger> {
     pub range: LockedRange<L>,
     /// The passes.
     pub passes: Vec<Pass<L>>,
-    /// The cause: Stranger, Unsettled or NoMemory; of a renewal also BadRing or JournalFull.
+    /// The cause: Stranger, Unsettled or NoMemory; of a renewal also BadRing or JournalFull, before Unsettled.
     pub refusal: Refusal,
 }
 
@@ -83,8 +83,8 @@ impl<L: Ledger> LockedRange<L> {
     }
 }
 
-/// Compares all passes with the journal.
-pub(crate) fn compare<L: Ledger>(
+/// Compares all passes with the journal, if each seat has a pass.
+fn compare<L: Ledger>(
     alloc: Global,
     state: &RangeState,
     seats: u16,
@@ -95,10 +95,34 @@ pub(crate) fn compare<L: Ledger>(
     ensures settled { OnOk result (All (IsSettled state.now.entries) passes.now.items) }
     ensures refused { IfErr result (IsUnclosed seats state.now.entries passes.now.items) }
 {
-    seats_below(passes);
+    check_seats(seats, passes)?;
+    compare_each(alloc, state, seats, passes)
+}
+
+/// Tests that each seat has a pass. Refused: Stranger.
+pub(crate) fn check_seats<L: Ledger>(seats: u16, passes: &Vec<Pass<L>>) -> Result<(), Refusal>
+    ensures there { OnOk result (AllThere seats passes.now.items) }
+    ensures refused { IfErr result (λ e. (e ≡ Refusal.Stranger) × SomeIsMissing seats passes.now.items) }
+{
     if !all_there(seats, passes) {
         return Err(Refusal::Stranger);
     }
+    Ok(())
+}
+
+/// Compares the pass of each seat with the journal.
+pub(crate) fn compare_each<L: Ledger>(
+    alloc: Global,
+    state: &RangeState,
+    seats: u16,
+    passes: &Vec<Pass<L>>,
+) -> Result<(), Refusal>
+    requires seats { seats ≡ L.parts }
+    requires there { AllThere seats passes.now.items }
+    ensures settled { OnOk result (All (IsSettled state.now.entries) passes.now.items) }
+    ensures refused { IfErr result (IsUnclosed seats state.now.entries passes.now.items) }
+{
+    seats_below(passes);
     for seat in 0..seats {
         match seat_differs(alloc, state, passes, seat) {
             Ok(None) => {}

@@ -8,7 +8,7 @@ ghost use Rattle.caller_pass.specs.Closings.{IsSettled, AllThere};
 ghost use Rattle.caller_pass.specs.Renewals.{carried_passes, renewed_in, pass_of, IsUnrenewed};
 
 use crate::book::{ReturnedPass, Room};
-use crate::close::{Unclosed, compare};
+use crate::close::{Unclosed, check_seats, compare_each};
 use crate::locked_range::LockedRange;
 use crate::pass::Pass;
 use range_journal::Entry;
@@ -41,8 +41,8 @@ impl<L: Ledger> LockedRange<L> {
     /// `RangeState::renewed` does, with new passes. The pass of `seat` has the carried entries as receipts, and has
     /// seen them; the others have none.
     ///
-    /// Refused, in order: Stranger (a seat has no pass, or the range has no such seat), Unsettled, BadRing (the limit),
-    /// JournalFull, NoMemory, which may replace Unsettled. On error range and passes are returned.
+    /// Refused, in order: Stranger (a seat has no pass, or the range has no such seat), BadRing (the limit),
+    /// JournalFull, Unsettled, NoMemory, which may replace Unsettled. On error range and passes are returned.
     pub fn renew(
         self,
         alloc: Global,
@@ -111,7 +111,7 @@ impl<L: Ledger> LockedRange<L> {
     }
 }
 
-/// Makes the parts of a renewed range, once each pass agrees with the journal.
+/// Makes the parts of a renewed range, once the limit was tested and each pass agrees with the journal.
 fn prepare<L: Ledger>(
     alloc: Global,
     state: &RangeState,
@@ -135,7 +135,9 @@ fn prepare<L: Ledger>(
     if seat >= seats {
         return Err(Refusal::Stranger);
     }
-    compare(alloc, state, seats, passes)?;
+    check_seats(seats, passes)?;
+    state.check_limit(limit)?;
+    compare_each(alloc, state, seats, passes)?;
     let state = state.renewed(alloc, seat, limit)?;
     let receipts = copy_all(alloc, state.journal().entries())?;
     let room = Room::new(alloc, seats, passes.len())?;

@@ -84,6 +84,10 @@ impl<'a, L: Ledger, G: Gate> Watch<'a, L, G> {
 
 impl<'a, L: Ledger, G: Gate> Gate for Watch<'a, L, G> {
     fn pass<R: Wait>(&self, rt: &R, step: Passed) {
+        // No call can change a text that was written, so a step here is one before the text is hashed.
+        if step == Passed::Written {
+            return;
+        }
         let mut progress = self.progress(rt);
         if step == Passed::Taken {
             progress.workers = self.settle(rt, &mut progress);

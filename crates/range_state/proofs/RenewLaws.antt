@@ -32,7 +32,7 @@ use Rattle.hash_tree.specs.Leaves.{Bucket, key_cmp, AscendByKey, rows_in_leaf, v
 use Rattle.hash_tree.specs.Texts.{IsTreeFor}
 use Rattle.hash_tree.proofs.LeafLaws.{versions_in-rows_at}
 use Rattle.range_state.specs.declared.«record».Record.{Record}
-use Rattle.range_state.specs.Config.{Config, checked, is_config}
+use Rattle.range_state.specs.Config.{Config, is_config}
 use Rattle.range_state.specs.Rows.{rows_of}
 use Rattle.range_state.specs.State.{State, leaf_in, leaf_count, tree_of, IsOwn, IsRight, IsFromPartner, AreLeaves}
 use Rattle.range_state.specs.Sessions.{offers_in, offers_of}
@@ -445,26 +445,16 @@ leaf_part s leaf within =
 
 -- ---- a new range
 
--- a limit that a range can have
-limit_of : (c d : Config) (limit : ℕ) → Some d ≡ checked (config_to c limit) → (d ≡ config_to c limit) × IsTrue (is_config (config_to c limit))
-limit_of c d limit is = by_config (is_config (config_to c limit)) is
-  where
-    by_config : (b : Bool) → Some d ≡ cond b (Some (config_to c limit)) None → (d ≡ config_to c limit) × (b ≡ true)
-    by_config true e = (cc, refl)
-    by_config false e = absurd (let no : Some d ≡ None = e in cc)
-
-pub limit_is : (c d : Config) (limit : ℕ) → Some d ≡ checked (config_to c limit) → d ≡ config_to c limit
-limit_is c d limit is = (limit_of c d limit is).0
-
 -- what a renewed range has
 pub renewed_range : (s now : State) (seat limit : ℕ) (config : Config) (entries : List Entry) (marks : List (Option (List ℕ))) (records : List Record) (leaves shared : List Bucket) → s ≡ now → IsRight s → AreLeaves s.config s.entries leaves
-    → Some config ≡ checked (config_to s.config limit) → entries ≡ copies_from 0 seat (held_offers now) → marks ≡ s.marks → records ≡ [] → shared ≡ leaves
+    → renew_fault now limit ≡ None → config ≡ config_to now.config limit → entries ≡ copies_from 0 seat (held_offers now) → marks ≡ s.marks → records ≡ [] → shared ≡ leaves
     → IsRight (record { config = config; entries = entries; marks = marks; records = records }) × AreLeaves config entries shared × (record { config = config; entries = entries; marks = marks; records = records } ≡ renewed_by now seat limit)
-renewed_range s now seat limit config entries marks records leaves shared view ok are fits copies same none whole =
-    let limited = limit_of s.config config limit fits in
+renewed_range s now seat limit config entries marks records leaves shared view ok are fits limited copies same none whole =
+    let fits_s : renew_fault s limit ≡ None = ap (λ (t : State). renew_fault t limit) view ∙ fits in
+    let config_is : config ≡ config_to s.config limit = limited ∙ ap (λ (t : State). config_to t.config limit) (sym view) in
     let es : entries ≡ copies_from 0 seat (held_offers s) = copies ∙ ap (λ (t : State). copies_from 0 seat (held_offers t)) (sym view) in
-    let back : record { config = config; entries = entries; marks = marks; records = records } ≡ renewed_by s seat limit = λ i. record { config = limited.0 i; entries = es i; marks = same i; records = none i } in (
-      subst IsRight (sym back) (renewed_right s seat limit ok limited.1),
+    let back : record { config = config; entries = entries; marks = marks; records = records } ≡ renewed_by s seat limit = λ i. record { config = config_is i; entries = es i; marks = same i; records = none i } in (
+      subst IsRight (sym back) (renewed_right s seat limit ok (limit_fits s limit fits_s)),
       subst (AreLeaves config entries) (sym whole) (subst (λ (t : State). AreLeaves t.config t.entries leaves) (sym back) (renewed_leaves s seat limit leaves are)),
       back ∙ ap (λ (t : State). renewed_by t seat limit) view,
     )

@@ -97,5 +97,17 @@ impl Job {
 pub fn run_job(job: Job) -> Hashed
     ensures { result ≡ job.text }
 {
-    hash(Text::from(job.into_text()))
+    run_job_passing(job, || {})
+}
+
+/// Runs a job as [`run_job`] does, and calls a function once the text is written and before it is hashed, so that a test
+/// can hold a worker there.
+pub fn run_job_passing<F: FnOnce()>(job: Job, pass: F) -> Hashed
+    requires { F.IsAlwaysCallable pass }
+    ensures text { result ≡ job.text }
+    ensures passed { F.post pass tt }
+{
+    let text = Text::from(job.into_text());
+    pass();
+    hash(text)
 }

@@ -15,4 +15,4 @@ pub mod job;
 mod source;
 
 pub use bulk::{hash_all, hash_here};
-pub use job::{Job, run_job};
+pub use job::{Job, run_job, run_job_passing};

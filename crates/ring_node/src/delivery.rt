@@ -3,7 +3,7 @@ ghost use Rattle.std.specs.Prelude.{◌≡◌, ◌≢◌, ◌⊎◌, ◌+◌, �
 ghost use Rattle.std.specs.Option.{option_map};
 ghost use Rattle.range_journal.specs.declared.journal.Source.{Source};
 ghost use Rattle.hint_store.specs.Hints.{delivery_by};
-ghost use Rattle.ring_node.specs.HintOutcomes.{taken_count, was_known};
+ghost use Rattle.ring_node.specs.HintOutcomes.{known_count, taken_count, was_known};
 ghost use Rattle.ring_node.specs.Gains.{Gains, GainsSome};
 
 use crate::hints::SharedHints;
@@ -43,6 +43,7 @@ impl DeliverReport {
     fn with(self, answered: HintOutcome) -> DeliverReport
         requires { self.delivered + self.known + self.kept < u64.MAX }
         ensures delivered { result.delivered ≡ self.delivered + taken_count answered }
+        ensures known { result.known ≡ self.known + known_count answered }
         ensures turns { result.delivered + result.known + result.kept ≡ self.delivered + self.known + self.kept + 1 }
     {
         let mut report = self;

@@ -4,7 +4,7 @@ ghost use Rattle.ring_node.specs.Steps.{step_number};
 
 use std::sync::Wait;
 
-/// A point of a worker's turn, at which it passes a gate.
+/// A point at which a worker, or a load, passes a gate.
 #[derive(Clone, Copy, Debug, PartialEq, Eq)]
 pub enum Step {
     /// A rehash worker took a job.
@@ -15,6 +15,10 @@ pub enum Step {
     Put,
     /// A storm's sync worker begins a round.
     Round,
+    /// A rehash worker wrote the text of its job, which it hashes next.
+    Written,
+    /// A load read its rows, for which it takes the lock next.
+    Read,
 }
 
 impl Step {
@@ -27,11 +31,13 @@ impl Step {
             Step::Hashed => 2,
             Step::Put => 3,
             Step::Round => 4,
+            Step::Written => 5,
+            Step::Read => 6,
         }
     }
 }
 
-/// A gate that a worker passes between its steps, holding no lock. It may make the worker wait.
+/// A gate that a worker, or a load, passes between its steps, holding no lock. It may wait there.
 pub trait Gate {
     /// Passes the gate after a step. At [`Step::Round`], passes it before the round.
     fn pass<R: Wait>(&self, rt: &R, step: Step);

@@ -17,6 +17,7 @@ ghost use Rattle.ring_node.specs.Gains.{Gains};
 ghost use Rattle.ring_node.specs.Moments.{FoundAtSomeMoment, ChangedAtSomeMoment};
 ghost use Rattle.ring_node.specs.Passes.{IsReceiptOf, HasReceiptOf, IsSent, IsPutRefusal, IsSentRefusal, IsReading, IsBehind};
 
+use crate::gate::{Gate, OpenGate, Step};
 use caller_pass::{Book, Closed, LockedRange, Pass, Renewed, ReturnedPass, Unclosed, Unread};
 use key_ring::HashedKey;
 use range_journal::Source;
@@ -34,7 +35,9 @@ use version_set::{Kind, Version, VersionSet};
 /// A node's replica of a range, that threads share: a [`LockedRange`] in a lock.
 ///
 /// Contracts see the node. A caller has a pass of the range's ledger, so a pass of another range doesn't compile here.
-/// No call holds two locks, and none hashes, encodes or waits for anything while it holds one.
+/// No call holds two locks, waits for anything while it holds one, or writes or hashes a node's text under it. Under the
+/// lock keys are hashed in three calls alone: those of a partner's new rows, of rows that are read again, and of all
+/// entries in a migration.
 ///
 /// ```
 /// let value = Bytes::copy_of(alloc, value)?;
@@ -70,7 +73,7 @@ pub struct NotClosed<L: Ledger> {
     pub range: SharedRange<L>,
     /// The passes.
     pub passes: Vec<Pass<L>>,
-    /// The cause: Stranger, Unsettled or NoMemory; of a renewal also BadRing or JournalFull.
+    /// The cause: Stranger, Unsettled or NoMemory; of a renewal also BadRing or JournalFull, before Unsettled.
     pub refusal: Refusal,
 }
 
@@ -265,8 +268,27 @@ impl<L: Ledger> SharedRange<L> {
         ensures moment { ChangedAtSomeMoment (IsLocked L.parts) (λ before after.
             DoesOrNoMemory result (before, pass.old) (after, pass.new) (load_text_in before pass.old text.now)) }
     {
+        self.load_rows_passing(rt, alloc, &OpenGate, pass, text)
+    }
+
+    /// Loads rows as [`SharedRange::load_rows`] does, and passes the gate once the rows are read ([`Step::Read`]), with
+    /// no lock held, so that a test can change the range there.
+    pub fn load_rows_passing<R: Wait, G: Gate>(
+        &self,
+        rt: &R,
+        alloc: Global,
+        gate: &G,
+        pass: &mut Pass<L>,
+        text: &[u8],
+    ) -> Result<Loaded, Refusal>
+        ensures reply { IfOk result (λ loaded. Gains pass.old pass.new Source.Copy loaded.taken) }
+        ensures same { OnErr result (pass.new ≡ pass.old) }
+        ensures moment { ChangedAtSomeMoment (IsLocked L.parts) (λ before after.
+            DoesOrNoMemory result (before, pass.old) (after, pass.new) (load_text_in before pass.old text.now)) }
+    {
         let config = self.config(rt);
         let rows = LeafRows::read(alloc, config, text)?;
+        gate.pass(rt, Step::Read);
         let mut range = self.range.lock(rt);
         if range.config() == config {
             range.load_read(alloc, pass, &rows)
@@ -350,7 +372,7 @@ impl<L: Ledger> SharedRange<L> {
     /// others have none. Takes no lock, since no other thread has the range any more.
     ///
     /// Refused as [`LockedRange::renew`] is, in order: Stranger (a seat has no pass, or the range has no such seat),
-    /// Unsettled, BadRing (the limit), JournalFull, NoMemory, which may replace Unsettled. On error range and passes
+    /// BadRing (the limit), JournalFull, Unsettled, NoMemory, which may replace Unsettled. On error range and passes
     /// are returned.
     pub fn renew(
         self,

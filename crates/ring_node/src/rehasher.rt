@@ -9,7 +9,7 @@ ghost use Rattle.ring_node.specs.Reports.{IsRehashReport};
 use crate::gate::{Gate, Step};
 use crate::range::SharedRange;
 use admission::Slot;
-use rehash::{Job, run_job};
+use rehash::{Job, run_job_passing};
 use std::alloc::Global;
 use std::sync::Wait;
 use std::sync::ledger::Ledger;
@@ -32,7 +32,7 @@ impl<L: Ledger> SharedRange<L> {
     ///
     /// A node's text is written and hashed with no lock held, so puts go on meanwhile. A digest that is too late is
     /// counted, and its node is hashed again in a later turn. The worker passes the gate after it took a job
-    /// ([`Step::Taken`]) and after it hashed the text ([`Step::Hashed`]), with no lock held.
+    /// ([`Step::Taken`]), wrote its text ([`Step::Written`]) and hashed it ([`Step::Hashed`]), with no lock held.
     ///
     /// Refused: NoMemory. On error the digests installed before stay.
     pub fn rehash_worker<R: Wait, C: Ledger, G: Gate>(
@@ -83,7 +83,7 @@ impl<L: Ledger> SharedRange<L> {
     fn hash<R: Wait, G: Gate>(&self, rt: &R, gate: &G, job: Job) -> bool {
         gate.pass(rt, Step::Taken);
         let node = job.node();
-        let hashed = run_job(job);
+        let hashed = run_job_passing(job, || gate.pass(rt, Step::Written));
         gate.pass(rt, Step::Hashed);
         let installed = self.range.lock(rt).install(node, &hashed);
         installed.is_ok()

@@ -1,10 +1,11 @@
 //! A new range that begins with the versions that a range holds.
-ghost use Rattle.std.specs.Prelude.{◌≡◌, ◌<◌, ◌≤◌, ◌^◌, [], ◌∷◌, length, None};
-ghost use Rattle.vclock.specs.Answer.{Answers};
+ghost use Rattle.std.specs.Prelude.{◌≡◌, ◌<◌, ◌≤◌, ◌^◌, ⊤, [], ◌∷◌, length, None};
+ghost use Rattle.vclock.specs.Answer.{Answers, AnswersAtOnce};
 ghost use Rattle.key_ring.specs.Places.{leaf_bits};
 ghost use Rattle.range_state.specs.Sessions.{offers_in, offers_of};
-ghost use Rattle.range_state.specs.Renewals.{copies_from, held_offers, renewed_by, short_fault, renew_fault, with_copies};
+ghost use Rattle.range_state.specs.Renewals.{config_to, copies_from, held_offers, renewed_by, renew_fault, with_copies};
 
+use crate::config::RangeConfig;
 use crate::state::RangeState;
 use hash_tree::SharedLeaf;
 use key_ring::leaf_count;
@@ -25,10 +26,8 @@ impl RangeState {
     pub fn renewed(&self, alloc: Global, seat: u16, limit: u64) -> Result<RangeState, Refusal>
         ensures { Answers result (renew_fault self.now limit) (λ range. range ≡ renewed_by self.now seat limit) }
     {
-        let Some(config) = self.config.with_limit(limit) else {
-            return Err(Refusal::BadRing);
-        };
-        let journal = self.held_journal(alloc, seat, limit)?;
+        let (config, count) = self.new_limit(limit)?;
+        let journal = self.held_journal(alloc, seat, limit, count)?;
         let leaves = self.leaves.share()?;
         let marks = self.marks.try_clone(alloc)?;
         let records = Vec::new(alloc);
@@ -41,14 +40,48 @@ impl RangeState {
         })
     }
 
-    /// Makes a journal with a limit, of the versions that are held, as copies by a seat. Refused, in order: JournalFull,
-    /// NoMemory.
-    fn held_journal(&self, alloc: Global, seat: u16, limit: u64) -> Result<Journal, Refusal>
-        ensures { Answers result (short_fault self.now limit)
+    /// Tests the limit of a renewal. Doesn't allocate.
+    ///
+    /// Refused, in order, as [`RangeState::renewed`] is: BadRing, JournalFull.
+    pub fn check_limit(&self, limit: u64) -> Result<(), Refusal>
+        ensures { AnswersAtOnce result (renew_fault self.now limit) (λ _. ⊤) }
+    {
+        self.new_limit(limit)?;
+        Ok(())
+    }
+
+    /// Returns the configuration of a new range with a limit, and the number of versions that are held. Refused, in
+    /// order: BadRing, JournalFull.
+    fn new_limit(&self, limit: u64) -> Result<(RangeConfig, u64), Refusal>
+        ensures { AnswersAtOnce result (renew_fault self.now limit) (λ new.
+            (new.0 ≡ config_to self.now.config limit) × (new.1 ≡ length (held_offers self.now))
+            × (new.1 ≤ limit)) }
+    {
+        let Some(config) = self.config.with_limit(limit) else {
+            return Err(Refusal::BadRing);
+        };
+        let count = self.held_count();
+        if count > limit {
+            return Err(Refusal::JournalFull);
+        }
+        Ok((config, count))
+    }
+
+    /// Makes a journal with a limit, of the versions that are held, as copies by a seat. Refused: NoMemory.
+    fn held_journal(
+        &self,
+        alloc: Global,
+        seat: u16,
+        limit: u64,
+        count: u64,
+    ) -> Result<Journal, Refusal>
+        requires count { count ≡ length (held_offers self.now) }
+        requires within { count ≤ limit }
+        ensures { Answers result None
             (λ journal. (journal.entries ≡ copies_from 0 seat (held_offers self.now)) × (journal.limit ≡ limit)) }
     {
         let mut journal = Journal::new(alloc, limit);
-        journal.reserve(self.held_count())?;
+        journal.reserve(count)?;
         self.append_held(&mut journal, seat)?;
         Ok(journal)
     }

@@ -1,6 +1,6 @@
 use Rattle.std.proofs.Common.{rules, ◌≡◌, sym, ◌∙◌}
 use Rattle.ring_node.proofs.LoadLaws.{gains_told, did_text}
-use Rattle.ring_node.proofs.range.SharedRange.load_rows.Goals as goal
+use Rattle.ring_node.proofs.range.SharedRange.load_rows_passing.Goals as goal
 
 pub returns-then-eq-clause-reply : goal.returns-then-eq-clause-reply
 returns-then-eq-clause-reply g c =
