@@ -93,7 +93,7 @@ enum {
     ANTIENTROPY_BAD_CLOCK = 1,        /* a node is 0, over 65,535 or there twice, or a counter is 0 */
     ANTIENTROPY_CLOCK_FULL = 2,       /* the clock would have more than 32 pairs */
     ANTIENTROPY_COUNTER_FULL = 3,     /* the counter to raise is 2^64 - 1 */
-    ANTIENTROPY_BAD_KEY = 4,          /* the key has no byte, or over 255 */
+    ANTIENTROPY_BAD_KEY = 4,          /* the key has no byte, or over 255; of key_next, more than the room */
     ANTIENTROPY_BAD_VALUE = 5,        /* too long; a tombstone with a value, or in format 1; or an unknown kind */
     ANTIENTROPY_STALE_CONTEXT = 6,    /* a held version has seen all of the new clock; of put_read, more of the node */
     ANTIENTROPY_CROWDED = 7,          /* the key would have over 64 versions */
