@@ -4,7 +4,7 @@
 use admission::Slot;
 use caller_pass::{LockedRange, Pass};
 use range_journal::Source;
-use range_state::{Accepted, Loaded, RangeCounts};
+use range_state::{Accepted, Loaded, RangeConfig, RangeCounts};
 use ring_node::{Gate, Link, OfferPool, RehashReport, SharedController, SharedRange, SyncReport};
 use snapshot::Snapshot;
 use std::alloc::Global;
@@ -67,6 +67,18 @@ pub fn load_rows<L: Ledger, R: Wait>(
     range.load_rows(rt, alloc, pass, text)
 }
 
+/// Loads rows of one leaf from their texts, and passes a gate between the two locks.
+pub fn load_passing<L: Ledger, G: Gate, R: Wait>(
+    rt: &R,
+    alloc: Global,
+    range: &SharedRange<L>,
+    gate: &G,
+    pass: &mut Pass<L>,
+    text: &[u8],
+) -> Result<Loaded, Refusal> {
+    range.load_rows_passing(rt, alloc, gate, pass, text)
+}
+
 /// Loads rows of one leaf into a locked range.
 pub fn load_locked<L: Ledger>(
     alloc: Global,
@@ -113,6 +125,11 @@ pub fn migrate<L: Ledger, R: Wait>(
     range: &SharedRange<L>,
 ) -> Result<(), Refusal> {
     range.migrate(rt, alloc)
+}
+
+/// Returns the configuration of a range.
+pub fn config<L: Ledger, R: Wait>(rt: &R, range: &SharedRange<L>) -> RangeConfig {
+    range.config(rt)
 }
 
 /// Makes a snapshot of a range.

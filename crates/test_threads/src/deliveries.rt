@@ -115,6 +115,46 @@ fn a_hint_that_its_owner_refuses_is_kept(rt: HostRuntime) -> Result<(), Fail> {
     run_node(&rt, rt.alloc(), 1, &test)
 }
 
+/// Five hints for node 1, whose range has the versions of `b` and `e`, and refuses the tombstone of `c`.
+struct FiveHints;
+
+impl NodeTest for FiveHints {
+    fn run<L: Ledger, C: Ledger, R: Threads + Wait + Sync>(
+        &self,
+        rt: &R,
+        alloc: Global,
+        node: &mut Node<L, C>,
+    ) -> Result<(), Fail> {
+        for key in [b"b".as_slice(), b"e"] {
+            let known = version(alloc, (2, 1), Kind::Live, b"x")?;
+            node.replica.copy(rt, alloc, key, known)?;
+        }
+        for key in [b"a".as_slice(), b"b", b"c", b"d", b"e"] {
+            let kind = if key == b"c".as_slice() {
+                Kind::Tombstone
+            } else {
+                Kind::Live
+            };
+            keep(rt, alloc, node, 1, key, kind)?;
+        }
+        expect_report(node.deliver(rt, alloc, 1)?, 2, 2, 1)?;
+        expect(
+            node.receipts() == 4,
+            "the pass gets the receipts of `a` and `d`",
+        )?;
+        expect(
+            node.pending(rt, alloc, 1, 0)? == Some(3) && node.pending(rt, alloc, 1, 3)?.is_none(),
+            "the refused hint alone is pending",
+        )?;
+        expect_report(node.deliver(rt, alloc, 1)?, 0, 0, 1)
+    }
+}
+
+#[test]
+fn five_hints_are_taken_known_or_kept(rt: HostRuntime) -> Result<(), Fail> {
+    run_node(&rt, rt.alloc(), 10, &FiveHints)
+}
+
 #[test]
 fn a_hint_of_another_node_is_a_strangers(rt: HostRuntime) -> Result<(), Fail> {
     let test = OneHint {

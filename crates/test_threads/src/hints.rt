@@ -14,21 +14,23 @@ use test_values::versions::version;
 use vclock::{Bytes, Refusal};
 use version_set::Kind;
 
-/// Returns true if node 2's answer that it journaled the version that node 1 has counted this number of times confirms
-/// the first hint.
+/// Returns true if node 2's answer that it journaled the version of that key that node 1 has counted this number of
+/// times confirms the hint of that id.
 fn is_confirmed<R: Wait>(
     rt: &R,
     alloc: Global,
     hints: &SharedHints,
+    id: u32,
+    key: &[u8],
     count: u64,
 ) -> Result<bool, Refusal> {
     let delivery = Delivery {
         owner: 2,
-        key: Bytes::copy_of(alloc, b"a")?,
+        key: Bytes::copy_of(alloc, key)?,
         version: version(alloc, (1, count), Kind::Live, b"x")?,
         known: false,
     };
-    match hints.confirm(rt, 1, delivery) {
+    match hints.confirm(rt, id, delivery) {
         Ok(()) => Ok(true),
         Err(Refusal::UnknownHint) => Ok(false),
         Err(other) => Err(other),
@@ -56,15 +58,15 @@ impl NodeTest for OneHint {
             "no other hint is pending",
         )?;
         expect(
-            !is_confirmed(rt, alloc, &node.hints, 2)?,
+            !is_confirmed(rt, alloc, &node.hints, 1, b"a", 2)?,
             "another version doesn't confirm it",
         )?;
         expect(
-            is_confirmed(rt, alloc, &node.hints, 1)?,
+            is_confirmed(rt, alloc, &node.hints, 1, b"a", 1)?,
             "its version confirms it",
         )?;
         expect(
-            !is_confirmed(rt, alloc, &node.hints, 1)?,
+            !is_confirmed(rt, alloc, &node.hints, 1, b"a", 1)?,
             "it isn't confirmed twice",
         )?;
         let found = node.pending(rt, alloc, 2, 0)?;
@@ -87,41 +89,60 @@ fn renew<R: Wait>(rt: &R, alloc: Global, hints: &mut SharedHints) -> Result<(), 
     hints.renew(rt, alloc)
 }
 
-/// Two hints for node 2, the first of which is delivered before they are numbered anew.
-struct TwoHints;
+/// Returns true if the pending hint of node 2 with the least id over `after` has the next id and this key.
+fn is_next<R: Wait>(
+    rt: &R,
+    alloc: Global,
+    hints: &SharedHints,
+    after: u32,
+    key: &[u8],
+) -> Result<bool, Refusal> {
+    match hints.next(rt, alloc, 2, after)? {
+        Some(hint) => Ok(hint.id == after.saturating_add(1) && hint.key.as_slice() == key),
+        None => Ok(false),
+    }
+}
 
-impl NodeTest for TwoHints {
+/// Five hints for node 2, the second of which is delivered before they are numbered anew.
+struct FiveHints;
+
+impl NodeTest for FiveHints {
     fn run<L: Ledger, C: Ledger, R: Threads + Wait + Sync>(
         &self,
         rt: &R,
         alloc: Global,
         node: &mut Node<L, C>,
     ) -> Result<(), Fail> {
-        let first = version(alloc, (1, 1), Kind::Live, b"x")?;
-        node.keep(rt, alloc, 2, b"a", first)?;
-        let second = version(alloc, (1, 2), Kind::Live, b"x")?;
-        node.keep(rt, alloc, 2, b"a", second)?;
+        for key in [b"a".as_slice(), b"b", b"c", b"d", b"e"] {
+            let hint = version(alloc, (1, 1), Kind::Live, b"x")?;
+            node.keep(rt, alloc, 2, key, hint)?;
+        }
         expect(
-            is_confirmed(rt, alloc, &node.hints, 1)?,
-            "the first hint is confirmed",
+            is_confirmed(rt, alloc, &node.hints, 2, b"b", 1)?,
+            "the second hint is confirmed",
         )?;
         let counts = count(rt, &node.hints);
         expect(
-            counts.pending == 1 && counts.delivered == 1,
-            "one hint is pending",
+            counts.pending == 4 && counts.delivered == 1,
+            "four hints are pending",
         )?;
         renew(rt, alloc, &mut node.hints)?;
         let counts = count(rt, &node.hints);
         expect(
-            counts.pending == 1 && counts.delivered == 0,
-            "one hint is left",
+            counts.pending == 4 && counts.delivered == 0,
+            "four hints are left",
         )?;
-        let found = node.pending(rt, alloc, 2, 0)?;
-        expect(found == Some(1), "it is the first")
+        for (after, key) in [(0, b"a".as_slice()), (1, b"c"), (2, b"d"), (3, b"e")] {
+            expect(
+                is_next(rt, alloc, &node.hints, after, key)?,
+                "they have the numbers from 1, in order",
+            )?;
+        }
+        Ok(())
     }
 }
 
 #[test]
 fn renewed_hints_are_numbered_from_1(rt: HostRuntime) -> Result<(), Fail> {
-    run_node(&rt, rt.alloc(), 1, &TwoHints)
+    run_node(&rt, rt.alloc(), 1, &FiveHints)
 }

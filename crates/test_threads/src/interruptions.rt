@@ -2,7 +2,7 @@
 ghost use Rattle.std.specs.Prelude.{◌≡◌};
 
 use crate::barrier::Barrier;
-use crate::calls::{migrate, put, sync};
+use crate::calls::{count, look, migrate, put, sync};
 use crate::nodes::{Node, Replica, TURNS, all_keys};
 use crate::outcomes::finished;
 use crate::partners::{Row, pool_of};
@@ -61,6 +61,8 @@ fn sync_held<L: Ledger, C: Ledger, R: Wait>(
 enum Deed {
     /// A put of `b`.
     Put,
+    /// A look at `a` and a count, of an open session.
+    Look,
     /// A migration to format 2.
     Migrate,
 }
@@ -76,6 +78,11 @@ impl Deed {
     ) -> Result<Option<u64>, Refusal> {
         match self {
             Deed::Put => Ok(Some(put(rt, alloc, range, pass, b"b", 0)?)),
+            Deed::Look => {
+                let is_absent = look(rt, alloc, range, b"a")?.is_empty();
+                let is_open = count(rt, range).open_sessions == 1;
+                Ok(if is_absent && is_open { None } else { Some(0) })
+            }
             Deed::Migrate => {
                 migrate(rt, alloc, range)?;
                 Ok(None)
@@ -168,6 +175,18 @@ fn a_write_passes_a_sync(rt: HostRuntime) -> Result<(), Fail> {
         done: Some(0),
         report: finished(3, 1),
         entries: 2,
+    };
+    let (blank, slots) = (Blank::new(2), Blank::new(1_024));
+    interrupt::<Brand, Brand, HostRuntime>(&rt, rt.alloc(), blank, slots, test)
+}
+
+#[test]
+fn a_look_passes_a_sync(rt: HostRuntime) -> Result<(), Fail> {
+    let test = Interrupted {
+        deed: Deed::Look,
+        done: None,
+        report: finished(3, 1),
+        entries: 1,
     };
     let (blank, slots) = (Blank::new(2), Blank::new(1_024));
     interrupt::<Brand, Brand, HostRuntime>(&rt, rt.alloc(), blank, slots, test)

@@ -1,16 +1,19 @@
 //! Rows that are loaded behind a lock.
 ghost use Rattle.std.specs.Prelude.{◌≡◌};
 
-use crate::calls::{count, load_locked, load_rows};
+use crate::calls::{count, load_locked, load_passing, load_rows, migrate};
 use crate::locked::Locked;
-use crate::nodes::{Replica, all_keys};
+use crate::nodes::{Node, Replica, all_keys};
+use crate::runs::{NodeTest, run_node};
 use range_state::Loaded;
+use ring_node::{Gate, SharedRange, Step};
 use std::alloc::Global;
 use std::marker::Brand;
 use std::process::Abort;
 use std::sync::Wait;
 use std::sync::ledger::{Blank, Ledger};
 use std::test::Fail;
+use std::thread::Threads;
 use test_values::checks::expect;
 use vclock::Refusal;
 
@@ -56,6 +59,49 @@ fn load_shared<L: Ledger, R: Wait>(rt: &R, alloc: Global, blank: Blank) -> Resul
 #[test]
 fn a_shared_range_loads_rows(rt: HostRuntime) -> Result<(), Fail> {
     load_shared::<Brand, HostRuntime>(&rt, rt.alloc(), Blank::new(2))
+}
+
+/// A gate at which a range is migrated to format 2 once rows are read.
+#[derive(Drop)]
+struct Migration<'a, L: Ledger> {
+    alloc: Global,
+    range: &'a SharedRange<L>,
+}
+
+impl<'a, L: Ledger> Gate for Migration<'a, L> {
+    fn pass<R: Wait>(&self, rt: &R, step: Step) {
+        if step == Step::Read {
+            let _ = migrate(rt, self.alloc, self.range);
+        }
+    }
+}
+
+/// A load of a row of format 1 that meets a migration, and one of the row of format 2 after it.
+struct LateLoad;
+
+impl NodeTest for LateLoad {
+    fn run<L: Ledger, C: Ledger, R: Threads + Wait + Sync>(
+        &self,
+        rt: &R,
+        alloc: Global,
+        node: &mut Node<L, C>,
+    ) -> Result<(), Fail> {
+        let Replica { range, passes, .. } = &mut node.replica;
+        let range: &SharedRange<L> = range;
+        let pass = passes.first_mut().ok_or("no pass")?;
+        let gate = Migration { alloc, range };
+        let late = load_passing(rt, alloc, range, &gate, pass, TWO_VERSIONS);
+        expect(
+            matches!(late, Err(Refusal::RowBroken(7))),
+            "the row is read again, in the range's new format",
+        )?;
+        expect_loaded(load_rows(rt, alloc, range, pass, TWO_VERSIONS_2), (2, 0))
+    }
+}
+
+#[test]
+fn a_load_meets_a_migration(rt: HostRuntime) -> Result<(), Fail> {
+    run_node(&rt, rt.alloc(), 10, &LateLoad)
 }
 
 /// Loads a row into a locked range for its seat 1.

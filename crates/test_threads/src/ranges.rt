@@ -1,7 +1,7 @@
 //! Calls of a shared range, in one thread.
 ghost use Rattle.std.specs.Prelude.{◌≡◌};
 
-use crate::calls::{copy, count, get, look, put, snapshot};
+use crate::calls::{config, copy, count, get, look, put, snapshot};
 use crate::nodes::{Replica, all_keys};
 use caller_pass::Pass;
 use ring_node::{NotClosed, SharedRange};
@@ -91,8 +91,13 @@ fn write_and_copy<L: Ledger, R: Wait>(
 }
 
 /// Expects that a range isn't closed without the pass of its second seat, and returns it with that pass.
-fn close_with_one<L: Ledger>(alloc: Global, replica: Replica<L>) -> Result<Replica<L>, Fail> {
+fn close_with_one<L: Ledger, R: Wait>(
+    rt: &R,
+    alloc: Global,
+    replica: Replica<L>,
+) -> Result<Replica<L>, Fail> {
     let (range, mut passes, offers) = replica.into_parts();
+    let before = (config(rt, &range), count(rt, &range));
     let second = passes.pop().ok_or("no pass")?;
     let Err(refused) = range.close(alloc, passes) else {
         return Err(Fail::from("closed without a pass"));
@@ -107,6 +112,10 @@ fn close_with_one<L: Ledger>(alloc: Global, replica: Replica<L>) -> Result<Repli
         is_stranger && passes.len() == 1,
         "it is refused as Stranger, with the pass",
     )?;
+    expect(
+        (config(rt, &range), count(rt, &range)) == before,
+        "the range is unchanged",
+    )?;
     passes.push(second)?;
     Ok(Replica {
         range,
@@ -119,10 +128,9 @@ fn close_with_one<L: Ledger>(alloc: Global, replica: Replica<L>) -> Result<Repli
 fn close_at_last<L: Ledger, R: Wait>(rt: &R, alloc: Global, blank: Blank) -> Result<(), Fail>
     requires ledger { (blank.name ≡ L.name) × (blank.parts ≡ L.parts) × (blank.parts ≡ 2) }
 {
-    let config = all_keys(10)?;
-    let mut replica = Replica::<L>::open(alloc, blank, 2, config)?;
+    let mut replica = Replica::<L>::open(alloc, blank, 2, all_keys(10)?)?;
     write_and_copy(rt, alloc, &mut replica)?;
-    let replica = close_with_one(alloc, replica)?;
+    let replica = close_with_one(rt, alloc, replica)?;
     let state = replica.close(alloc)?;
     expect(state.journal().len() == 2, "both passes close two entries")
 }

@@ -129,3 +129,16 @@ fn a_write_passes_a_rehash_at_step_2(rt: HostRuntime) -> Result<(), Fail> {
         Step::Hashed,
     )
 }
+
+#[test]
+fn a_write_passes_a_rehash_at_step_5(rt: HostRuntime) -> Result<(), Fail> {
+    let (first, second, slots) = (Blank::new(2), Blank::new(2), Blank::new(1_024));
+    put_at_a_gate::<Brand, Brand, Brand, HostRuntime>(
+        &rt,
+        rt.alloc(),
+        first,
+        second,
+        slots,
+        Step::Written,
+    )
+}

@@ -29,8 +29,9 @@ fn put_three<L: Ledger, R: Wait>(
     expect(last == 2, "there are three entries")
 }
 
-/// Expects that a range isn't renewed, for this cause, and returns it with its two passes.
-fn expect_refused<L: Ledger>(
+/// Expects that a range isn't renewed, for this cause, and returns it, unchanged, with its two passes.
+fn expect_refused<L: Ledger, R: Wait>(
+    rt: &R,
     alloc: Global,
     replica: Replica<L>,
     seat: u16,
@@ -38,6 +39,7 @@ fn expect_refused<L: Ledger>(
     cause: Refusal,
 ) -> Result<Replica<L>, Fail> {
     let (range, passes, offers) = replica.into_parts();
+    let before = count(rt, &range);
     let Err(refused) = range.renew(alloc, passes, seat, limit) else {
         return Err(Fail::from("renewed"));
     };
@@ -50,6 +52,7 @@ fn expect_refused<L: Ledger>(
         refusal.number() == cause.number() && passes.len() == 2,
         "it is refused for the cause, with both passes",
     )?;
+    expect(count(rt, &range) == before, "the range is unchanged")?;
     Ok(Replica {
         range,
         passes,
@@ -58,10 +61,15 @@ fn expect_refused<L: Ledger>(
 }
 
 /// Expects that a range isn't renewed for a seat or with a limit that it can't have.
-fn expect_no_renewal<L: Ledger>(alloc: Global, replica: Replica<L>) -> Result<Replica<L>, Fail> {
-    let replica = expect_refused(alloc, replica, 64, 5, Refusal::Stranger)?;
-    let replica = expect_refused(alloc, replica, 1, 0, Refusal::BadRing)?;
-    expect_refused(alloc, replica, 1, 1, Refusal::JournalFull)
+fn expect_no_renewal<L: Ledger, R: Wait>(
+    rt: &R,
+    alloc: Global,
+    replica: Replica<L>,
+) -> Result<Replica<L>, Fail> {
+    let replica = expect_refused(rt, alloc, replica, 64, 5, Refusal::Stranger)?;
+    let replica = expect_refused(rt, alloc, replica, 1, 0, Refusal::BadRing)?;
+    let replica = expect_refused(rt, alloc, replica, 1, 1_000_001, Refusal::BadRing)?;
+    expect_refused(rt, alloc, replica, 1, 1, Refusal::JournalFull)
 }
 
 /// Expects the passes of three puts at the first seat.
@@ -123,7 +131,8 @@ fn expect_read<L: Ledger, R: Wait>(
     expect(held.as_str() == version, "the version is held")
 }
 
-/// Expects a range of two entries, with the limit 5, that holds the last versions of `a` and `b`.
+/// Expects a range of two entries, with the limit 5 and the dirty nodes of before, that holds the last versions of `a`
+/// and `b`.
 fn expect_renewed<L: Ledger, R: Wait>(
     rt: &R,
     alloc: Global,
@@ -132,8 +141,8 @@ fn expect_renewed<L: Ledger, R: Wait>(
     let Replica { range, passes, .. } = replica;
     let counts = count(rt, range);
     expect(
-        counts.entries == 2 && counts.limit == 5,
-        "two versions are carried",
+        counts.entries == 2 && counts.limit == 5 && counts.dirty == 273,
+        "two versions are carried, in the same format",
     )?;
     expect_carried(passes)?;
     expect_read(rt, alloc, range, passes, b"a", "[(1, 2)] Live [120]\n")?;
@@ -147,7 +156,7 @@ fn renew_shared<L: Ledger, R: Wait>(rt: &R, alloc: Global, blank: Blank) -> Resu
     let config = all_keys(10)?;
     let mut replica = Replica::<L>::open(alloc, blank, 2, config)?;
     put_three(rt, alloc, &mut replica)?;
-    let replica = expect_no_renewal(alloc, replica)?;
+    let replica = expect_no_renewal(rt, alloc, replica)?;
     let mut replica = renew(alloc, replica)?;
     expect_renewed(rt, alloc, &mut replica)?;
     let state = replica.close(alloc)?;

@@ -76,7 +76,7 @@ impl Gate for Overlap {
                 self.puts.store(1, Ordering::SeqCst);
                 self.wait_for(&self.jobs);
             }
-            Step::Hashed | Step::Round => {}
+            Step::Hashed | Step::Round | Step::Written | Step::Read => {}
         }
     }
 }
@@ -178,7 +178,7 @@ impl<'a> Gate for Meeting<'a> {
                 }
             }
             Step::Round => self.hold_syncer(rt),
-            Step::Hashed => {}
+            Step::Hashed | Step::Written | Step::Read => {}
         }
     }
 }
