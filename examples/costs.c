@@ -1,6 +1,7 @@
 /* What calls cost. For ranges of 2,000 keys in no order, of 9 and of 36 bytes, in both formats, it prints how many
  * growths of memory a call makes, and the bytes that it asks for. With the word "instructions" it makes the calls whose
- * instructions callgrind counts: those in functions named `counted_..`, on a range with some 80 rows in a leaf.
+ * instructions callgrind counts: those in functions named `counted_..`, on a range with short values and some 230 rows
+ * in a leaf, so that a second search shows.
  *
  * It is linked with -Wl,--wrap=malloc,--wrap=realloc. check_c compares what it prints with costs.out. It ends with
  * status 1 if a call is refused. */
@@ -10,7 +11,8 @@
 #include <stdlib.h>
 #include <string.h>
 
-enum { KEYS = 2000, MANY_KEYS = 20000, VALUE = 100, OFFER = 7, MANY = 1000, ROOM = 1 << 16, LONG = 1 << 20, HEAD = 16 };
+enum { KEYS = 2000, MANY_KEYS = 60000, MANY = 1000, VALUE = 100, SHORT_VALUE = 8 };
+enum { OFFER = 7, ROOM = 1 << 16, LONG = 1 << 20, HEAD = 16 };
 
 /* A function whose instructions are counted: it isn't copied into its callers. */
 #define COUNTED __attribute__((noinline)) static void
@@ -42,7 +44,7 @@ static struct antientropy_receipt receipt;
 static const struct antientropy_pair clock_1 = {1, 1}, clock_2 = {1, 2};
 static uint8_t value[ANTIENTROPY_VALUE_MAX_2 + 1], out[ROOM], message[HEAD + LONG];
 static char keys[MANY_KEYS + MANY][40];
-static size_t key_len;
+static size_t key_len, value_len = VALUE;
 static uint8_t offer[ANTIENTROPY_OFFER_LEN];
 static uint64_t len, session;
 
@@ -90,7 +92,7 @@ static const uint8_t *key(uint32_t n)
 
 static uint32_t put(uint32_t n, const struct antientropy_pair *context, size_t pairs)
 {
-    return antientropy_put_read(&replica, 1, key(n), key_len, context, pairs, ANTIENTROPY_LIVE, value, VALUE,
+    return antientropy_put_read(&replica, 1, key(n), key_len, context, pairs, ANTIENTROPY_LIVE, value, value_len,
                                 &receipt);
 }
 
@@ -215,7 +217,8 @@ COUNTED counted_unasked(void)
 
 static void instructions(void)
 {
-    fill(1, 36, MANY_KEYS);
+    value_len = SHORT_VALUE;
+    fill(1, 9, MANY_KEYS);
     rehash();
     want("snapshot", antientropy_snapshot(&replica, &first), ANTIENTROPY_OK);
     make_offer();
