@@ -8,7 +8,8 @@ use std::marker::Model;
 use vclock::Format;
 
 /// A key with the first 64 bits of its MD5 digest (RFC 1321), which give its range and its leaf in either format. Only
-/// `new` computes them, so a call that takes a `HashedKey` needn't hash the key, and no key is hashed under a lock.
+/// `new` computes them, so a call that takes a `HashedKey` needn't hash the key: a caller hashes it before a lock is
+/// taken.
 ///
 /// ```
 /// let key = HashedKey::new(key);
