@@ -172,7 +172,7 @@ impl SharedCall {
             SharedCall::Next => "SharedHints::next",
             SharedCall::Deliver => "deliver",
             SharedCall::Renew => "SharedHints::renew",
-            SharedCall::Load => "SharedRange::load_rows",
+            SharedCall::Load => "SharedRange::load_rows and SharedRange::load_rows_passing",
             SharedCall::Migrate => "SharedRange::migrate",
         }
     }
