@@ -86,13 +86,13 @@ pub record FrontRun (b : Bucket) (key text : List ℕ) (versions : ℕ) (last af
 
 -- ---- reading a leaf's text row by row
 
--- the key of the last row, or else the key before them
+-- the key of the last row, or the key before them if there is no row
 abbrev pub end_key : List ℕ → List Row → List ℕ
 end_key last [] = last
 end_key last (r ∷ rows) = end_key r.key rows
 
--- The rows that were read from a body up to here, beside the own ones; and any rows that spell all of the text begin
--- with them.
+-- The rows that were read from a body up to here, compared with the local ones; any rows that spell all of the text
+-- begin with them.
 pub record OnTheWay (m : RowMap) (n : Node) (text body last rest : List ℕ) (others : List Row) (known : ℕ) : Type 0 where
   pub rows : List Row
   pub are : AreRows m.format rows
@@ -103,14 +103,14 @@ pub record OnTheWay (m : RowMap) (n : Node) (text body last rest : List ℕ) (ot
   pub only : (all : List Row) → AreSpelled m n text all → (more : List Row) × (all ≡ rows ++ more) × (rest ≡ flat_map (row_text m.format) more)
 
 -- A leaf's text was read up to here: its body is fewer than 2^64 bytes after its first byte, and others are the rows so
--- far that the own ones lack.
+-- far that aren't local.
 pub record IsReadTo (m : RowMap) (n : Node) (text last rest : List ℕ) (others : List Row) (known : ℕ) : Type 0 where
   pub body : List ℕ
   pub short : length body < 2 ^ 64
   pub text_is : text ≡ leaf_byte m.format ∷ body
   pub way : OnTheWay m n text body last rest others known
 
--- the text was read one row further, which the own rows lack; or to its end, and has no other such row
+-- the text was read up to one more row that isn't local; or to its end, and has no other such row
 abbrev pub StepsTo : RowMap → Node → List ℕ → ℕ → List Row → Option Row → List ℕ → List ℕ → ℕ → Type 0
 StepsTo m n text left others (Some r) last rest known = IsReadTo m n text last rest (others ++ r ∷ []) known × (length rest < left)
 StepsTo m n text left others None last rest known = IsReadTo m n text last rest others known × (rest ≡ [])

@@ -38,7 +38,7 @@ impl News {
     }
 }
 
-/// A place in the text of a leaf, up to which its rows were read beside those of the local snapshot.
+/// A place in the text of a leaf: the rows before it were compared with those of the local snapshot.
 #[derive(Clone, Copy)]
 pub struct NewsPlace<'a> {
     /// The key of the last row before the place: no bytes at the first row.

@@ -50,9 +50,9 @@ impl RangeState {
         self.rehash_by(&hash, alloc)
     }
 
-    /// Hashes at most `most` of the dirty nodes whose children are clean, from the root down, in the caller's thread, and
-    /// returns the number of nodes that are dirty then. A caller that repeats it until that is 0 can do other work
-    /// between.
+    /// Hashes at most `most` of the dirty nodes whose children are clean, in the order of their places, in the caller's
+    /// thread, and returns the number of nodes that are dirty then. So a new tree's leaves are first. A caller that
+    /// repeats it until that number is 0 can do other work between.
     ///
     /// Refused: NoMemory. Then the state is unchanged.
     pub fn rehash_some(&mut self, alloc: Global, most: usize) -> Result<usize, Refusal>
