@@ -17,6 +17,9 @@ pub const KEYS: u64 = 14;
 /// The maximum number of versions that are held for a key.
 const MOST_VERSIONS: usize = 64;
 
+/// The greatest limit of a journal.
+const MOST_ENTRIES: u64 = 1_000_000;
+
 /// The reason of a refusal.
 #[derive(Clone, Copy)]
 pub enum Fault {
@@ -37,6 +40,9 @@ pub enum Fault {
     LinkLost,
     Gone,
     BadMessage,
+    RowBroken,
+    Stranger,
+    BadRing,
 }
 
 impl Fault {
@@ -59,7 +65,10 @@ impl Fault {
             | (Fault::NotCanonical, Refusal::NotCanonical)
             | (Fault::LinkLost, Refusal::LinkLost)
             | (Fault::Gone, Refusal::Gone)
-            | (Fault::BadMessage, Refusal::BadMessage) => true,
+            | (Fault::BadMessage, Refusal::BadMessage)
+            | (Fault::RowBroken, Refusal::RowBroken(_))
+            | (Fault::Stranger, Refusal::Stranger)
+            | (Fault::BadRing, Refusal::BadRing) => true,
             _ => false,
         }
     }
@@ -113,6 +122,16 @@ impl PlainVersion {
     /// Returns true if the other's clock is later.
     fn is_below(&self, other: &PlainVersion) -> bool {
         self.is_at_most(other) && self.counters != other.counters
+    }
+
+    /// Returns true if its counter of a node, which is counted from 0, is greater than the other's.
+    fn has_more(&self, node: u8, other: &PlainVersion) -> bool {
+        for i in 0..NODES {
+            if i == usize::from(node) && self.counters[i] > other.counters[i] {
+                return true;
+            }
+        }
+        false
     }
 
     /// Returns true if it equals the other or is below it.
@@ -369,6 +388,17 @@ impl PlainRange {
         false
     }
 
+    /// Returns true if some version that is held has a greater counter of a node than a context.
+    fn has_more(&self, key: u64, node: u8, context: &PlainVersion) -> bool {
+        for entry in &self.entries {
+            let is_held = entry.key == key && !self.has_above(key, &entry.version);
+            if is_held && entry.version.has_more(node, context) {
+                return true;
+            }
+        }
+        false
+    }
+
     /// Returns true if a new version is one too many for its key, with the versions that would still be held.
     pub fn is_crowded_by(&self, key: u64, version: &PlainVersion) -> bool {
         let mut count = 0usize;
@@ -393,6 +423,19 @@ impl PlainRange {
             }
         }
         Ok(held)
+    }
+
+    /// Returns the reason why the range isn't renewed with a limit, if there is one.
+    pub fn renewal_fault(&self, alloc: Global, limit: u64) -> Result<Option<Fault>, Trouble> {
+        if limit == 0 || limit > MOST_ENTRIES {
+            return Ok(Some(Fault::BadRing));
+        }
+        let held = self.held_entries(alloc, 0)?.len() as u64;
+        Ok(if held > limit {
+            Some(Fault::JournalFull)
+        } else {
+            None
+        })
     }
 
     /// Returns the entries with which the range begins when it is renewed: one for each version held, as a copy, leaf by
@@ -463,13 +506,19 @@ impl PlainRange {
     }
 
     /// Returns the version that a put with this context makes at a node, which is counted from 0, or the reason of its
-    /// refusal.
-    pub fn put(&self, key: u64, node: u8, context: PlainVersion) -> Result<PlainVersion, Fault> {
+    /// refusal. If `is_read` is true, the context must have seen all that the node put.
+    pub fn put(
+        &self,
+        key: u64,
+        node: u8,
+        context: PlainVersion,
+        is_read: bool,
+    ) -> Result<PlainVersion, Fault> {
         if let Some(fault) = self.place_fault(key, &context) {
             return Err(fault);
         }
         let raised = raised(context, node).ok_or(Fault::CounterFull)?;
-        if self.has_seen(key, &raised) {
+        if self.has_seen(key, &raised) || (is_read && self.has_more(key, node, &context)) {
             return Err(Fault::StaleContext);
         }
         match self.room_fault(key, &raised) {

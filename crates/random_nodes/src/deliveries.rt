@@ -65,7 +65,7 @@ fn deliver_in<L: Ledger, M: Ledger, C: Ledger, R: Wait>(
     deliver(rt, alloc, slot, hints, range, pass, number, turns)
 }
 
-/// Delivers the pending hints of a carrier, by ascending number, and returns the report.
+/// Delivers the pending hints of a carrier for an owner, by ascending number, and returns the report.
 fn deliver_plainly(
     from: &mut Mirror,
     to: &mut Mirror,
@@ -79,7 +79,7 @@ fn deliver_plainly(
     };
     let mut used = 0u64;
     for hint in from.hints.iter_mut() {
-        if !hint.is_pending || used >= turns {
+        if hint.owner != to.number || !hint.is_pending || used >= turns {
             continue;
         }
         used = used.wrapping_add(1);
@@ -104,7 +104,7 @@ fn deliver_plainly(
     Ok(report)
 }
 
-/// Compares the hints that are pending at a carrier for their owner.
+/// Compares the hints that are pending at a carrier for an owner.
 pub(crate) fn check_pending<L: Ledger, R: Wait>(
     rt: &R,
     alloc: Global,
@@ -114,13 +114,14 @@ pub(crate) fn check_pending<L: Ledger, R: Wait>(
     let mirror = carrier.mirror().lock(rt);
     let mut after = 0u32;
     for (place, hint) in mirror.hints.iter().enumerate() {
-        if !hint.is_pending {
+        if hint.owner != owner || !hint.is_pending {
             continue;
         }
         let Some(found) = carrier.hints().next(rt, alloc, owner, after)? else {
             return Err(Trouble::Differs("the number of pending hints"));
         };
         let same = found.id as usize == place.wrapping_add(1)
+            && found.owner == owner
             && found.key.as_slice() == key_bytes(hint.key)
             && hint.version.is(&found.version);
         expect(same, "a pending hint")?;

@@ -1,7 +1,7 @@
-//! Runs lists of random steps that are done to two nodes, with their real workers, in one thread. At each point of a
-//! rehash worker, and before each call of a sync worker's link, the worker's gate may take the next steps of the list,
-//! three deep. So each list is one interleaving of whole nodes, which its seed repeats. All results and states are
-//! compared with a plain program written from the definitions.
+//! Runs lists of random steps that are done to three nodes, with their real workers, in one thread. At each point of a
+//! rehash worker, before each call of a sync worker's link, and before a load takes its lock, the gate may take the next
+//! steps of the list, three deep. So each list is one interleaving of whole nodes, which its seed repeats. All results
+//! and states are compared with a plain program written from the definitions.
 //!
 //! The words on the command line are the seed of the first list, the number of lists, and the number of steps of a list.
 //! The defaults are 0, 1,000 and 60.
@@ -13,6 +13,7 @@ mod forger;
 mod inner;
 mod lies;
 mod lists;
+mod loads;
 mod mirror;
 mod node;
 mod pairs;
@@ -20,6 +21,7 @@ mod partner;
 mod points;
 mod ranges;
 mod rehashes;
+mod renewals;
 mod schedule;
 mod slots;
 mod steps;

@@ -29,6 +29,7 @@ pub(crate) struct Published {
 /// A hint. The numbers of hints count from 1.
 #[derive(Clone, Copy)]
 pub(crate) struct PlainHint {
+    pub(crate) owner: u16,
     pub(crate) key: u64,
     pub(crate) version: PlainVersion,
     pub(crate) is_pending: bool,
@@ -41,7 +42,7 @@ struct Read {
     counters: [u64; NODES],
 }
 
-/// A node: its range, its sessions with the partner's trees, its offers, and the hints that it keeps for the other node.
+/// A node: its range, its sessions with the partners' trees, its offers, and the hints that it keeps for other nodes.
 pub(crate) struct Mirror {
     pub(crate) number: u16,
     /// The place of the node in clocks.
@@ -235,11 +236,13 @@ impl Mirror {
         }
     }
 
-    /// Begins anew with the versions held, as entries of a seat, without sessions.
-    pub(crate) fn renew(&mut self, alloc: Global, seat: u16) -> Result<(), Trouble> {
+    /// Begins anew with the versions held, as entries of a seat, without sessions; and with the hints that are pending.
+    pub(crate) fn renew(&mut self, alloc: Global, seat: u16, limit: u64) -> Result<(), Trouble> {
         self.plain.entries = self.plain.held_entries(alloc, seat)?;
+        self.plain.limit = limit;
         self.walks = Vec::new(alloc);
         self.partners = Vec::new(alloc);
+        self.hints.retain(|hint| hint.is_pending);
         Ok(())
     }
 }

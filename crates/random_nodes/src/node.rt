@@ -8,13 +8,11 @@ use crate::partner::format_number;
 use crate::ranges::config_of;
 use crate::steps::{Seen, Setup, Side, Written};
 use caller_pass::{Pass, open_passes};
-use hash_tree::NodeAt;
-use plain_model::leaves::Taken;
-use plain_model::plain::{Fault, PlainEntry, PlainRange, PlainVersion, are_equal, key_bytes};
-use plain_model::trees::{Tree, leaf_depth};
+use plain_model::plain::{Fault, KEYS, PlainEntry, PlainRange, PlainVersion, are_equal, key_bytes};
+use plain_model::trees::Tree;
 use plain_model::trouble::{Trouble, expect};
 use range_journal::Source;
-use range_state::{Loaded, RangeState, Receipt};
+use range_state::RangeState;
 use ring_node::{OfferPool, SharedHints, SharedRange};
 use snapshot::Snapshot;
 use std::alloc::Global;
@@ -56,6 +54,7 @@ impl<L: Ledger> Node<L> {
         let (at, limit) = match side {
             Side::One => (0u8, setup.limits[0]),
             Side::Two => (1u8, setup.limits[1]),
+            Side::Three => (2u8, setup.limits[2]),
         };
         let mut state = RangeState::new(alloc, config_of(setup.format, setup.part, limit)?)?;
         state.rehash_here(alloc)?;
@@ -154,6 +153,7 @@ impl<L: Ledger> Node<L> {
             seen,
             kind,
             value,
+            is_read,
         } = written;
         let mut mirror = self.mirror.lock(rt);
         let context = PlainVersion {
@@ -161,10 +161,16 @@ impl<L: Ledger> Node<L> {
             kind,
             value,
         };
-        let wanted = mirror.plain.put(key, mirror.at, context);
+        let wanted = mirror.plain.put(key, mirror.at, context, is_read);
         let held = mirror.plain.held(alloc, key)?;
         let mut pass = self.pass(seat)?.lock(rt);
-        let reply = put_in(rt, alloc, &self.range, &mut *pass, key, &context)?;
+        let (range, key_now) = (&self.range, key_bytes(key));
+        let (clock, sent) = (context.clock(alloc)?, context.value(alloc)?);
+        let reply = if is_read {
+            range.put_read(rt, alloc, &mut *pass, key_now, &clock, kind, sent)
+        } else {
+            range.put(rt, alloc, &mut *pass, key_now, &clock, kind, sent)
+        };
         mirror.check_put(seat, key, &reply, wanted, &held)?;
         self.check_counts(rt, &mirror)?;
         match wanted {
@@ -286,13 +292,30 @@ impl<L: Ledger> Node<L> {
         let mut mirror = self.mirror.lock(rt);
         self.range.migrate(rt, alloc)?;
         mirror.migrate();
-        let config = self.range.config(rt);
-        let same = config.format() == mirror.plain.format && config.limit() == mirror.plain.limit;
-        expect(same, "the configuration of a range")?;
+        self.check_config(rt, &mirror)?;
         self.check_counts(rt, &mirror)
     }
 
-    /// Keeps a hint for the other node.
+    /// Compares the configuration of the range.
+    fn check_config<R: Wait>(&self, rt: &R, mirror: &Mirror) -> Result<(), Trouble> {
+        let config = self.range.config(rt);
+        let same = config.format() == mirror.plain.format && config.limit() == mirror.plain.limit;
+        expect(same, "the configuration of a range")
+    }
+
+    /// Compares a range that was handed back, and the hints: what they show, and all keys.
+    pub(crate) fn check_all<R: Wait>(&self, rt: &R, alloc: Global) -> Result<(), Trouble> {
+        let mirror = self.mirror.lock(rt);
+        self.check_config(rt, &mirror)?;
+        self.check_hints(rt, &mirror)?;
+        drop(mirror);
+        for key in 0..KEYS {
+            self.look(rt, alloc, key)?;
+        }
+        Ok(())
+    }
+
+    /// Keeps a hint for another node.
     pub(crate) fn keep<R: Wait>(
         &self,
         rt: &R,
@@ -306,6 +329,7 @@ impl<L: Ledger> Node<L> {
         let sent = version.version(alloc)?;
         let id = self.hints.keep(rt, owner, bytes, sent)?;
         mirror.hints.push(PlainHint {
+            owner,
             key,
             version,
             is_pending: true,
@@ -326,38 +350,8 @@ impl<L: Ledger> Node<L> {
         expect(same, "the counts of hints")
     }
 
-    /// Loads the rows of the leaf of a key that the other node offers, if that has an offer in this node's format.
-    pub(crate) fn load<M: Ledger, R: Wait>(
-        &self,
-        rt: &R,
-        alloc: Global,
-        seat: u16,
-        other: &Node<M>,
-        key: u64,
-    ) -> Result<(), Trouble> {
-        let Some(tree) = other.newest(rt)? else {
-            return Ok(());
-        };
-        let mut mirror = self.mirror.lock(rt);
-        let format = mirror.plain.format;
-        let leaf = mirror.plain.leaf_of(key);
-        let Some(node) = NodeAt::new(leaf_depth(format), leaf) else {
-            return Ok(());
-        };
-        if tree.format() != format {
-            return Ok(());
-        }
-        let text = tree.text(alloc, node)?;
-        let wanted = mirror.plain.take_leaf(alloc, seat, &tree, leaf)?;
-        let mut pass = self.pass(seat)?.lock(rt);
-        let rows = text.get(1..).unwrap_or(&[]);
-        let reply = self.range.load_rows(rt, alloc, &mut *pass, rows);
-        check_loaded(&mut mirror, reply, wanted)?;
-        self.check_counts(rt, &mirror)
-    }
-
     /// Returns the tree of the newest offer.
-    fn newest<R: Wait>(&self, rt: &R) -> Result<Option<Arc<Tree, Global>>, Trouble> {
+    pub(crate) fn newest<R: Wait>(&self, rt: &R) -> Result<Option<Arc<Tree, Global>>, Trouble> {
         match self.mirror.lock(rt).published.last() {
             Some(published) => Ok(Some(Arc::try_clone(&published.tree)?)),
             None => Ok(None),
@@ -441,20 +435,6 @@ fn behind_locks<L: Ledger>(
     Ok(locked)
 }
 
-/// Puts a value or a tombstone with a clock as its context.
-fn put_in<L: Ledger, R: Wait>(
-    rt: &R,
-    alloc: Global,
-    range: &SharedRange<L>,
-    pass: &mut Pass<L>,
-    key: u64,
-    context: &PlainVersion,
-) -> Result<Result<Receipt, Refusal>, Trouble> {
-    let (clock, value) = (context.clock(alloc)?, context.value(alloc)?);
-    let key = key_bytes(key);
-    Ok(range.put(rt, alloc, pass, key, &clock, context.kind, value))
-}
-
 /// Reads a key.
 fn get_in<L: Ledger, R: Wait>(
     rt: &R,
@@ -501,29 +481,6 @@ fn check_reading<L: Ledger>(
         && reading.key.as_slice() == key_bytes(key)
         && are_equal(held, reading.versions.as_slice());
     expect(same, "a reading")
-}
-
-/// Compares the result of a load, and journals the new versions as copies.
-fn check_loaded(
-    mirror: &mut Mirror,
-    reply: Result<Loaded, Refusal>,
-    wanted: Result<Taken, Fault>,
-) -> Result<(), Trouble> {
-    match (reply, wanted) {
-        (Ok(loaded), Ok(taken)) => {
-            let same = loaded.taken == taken.news.len() as u64 && loaded.known == taken.known;
-            expect(same, "the versions that a load took")?;
-            for entry in &taken.news {
-                mirror.plain.entries.push(PlainEntry {
-                    source: Source::Copy,
-                    ..*entry
-                })?;
-            }
-            Ok(())
-        }
-        (Err(refusal), Err(fault)) => expect(fault.is(&refusal), "the refusal of a load"),
-        _ => Err(Trouble::Differs("whether a load is refused")),
-    }
 }
 
 impl<L: Ledger> Drop for Node<L> {

@@ -43,7 +43,7 @@ impl Schedule {
     pub(crate) fn take<R: Wait>(&self, rt: &R, depth: u16) -> Option<Step> {
         let mut place = self.place.lock(rt);
         let step = *self.steps.get(place.next)?;
-        let must_wait = depth > 0 && matches!(step.deed, Deed::Renew);
+        let must_wait = depth > 0 && matches!(step.deed, Deed::Renew(_));
         if must_wait || place.trouble.is_some() {
             return None;
         }

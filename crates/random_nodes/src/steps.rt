@@ -13,6 +13,27 @@ use version_set::Kind;
 pub(crate) enum Side {
     One,
     Two,
+    Three,
+}
+
+impl Side {
+    /// Draws a node.
+    fn draw(random: &mut Random) -> Side {
+        match random.below(3) {
+            0 => Side::One,
+            1 => Side::Two,
+            _ => Side::Three,
+        }
+    }
+
+    /// Draws another node.
+    fn draw_other(self, random: &mut Random) -> Side {
+        match (self, random.once_in(2)) {
+            (Side::Two, true) | (Side::Three, false) => Side::One,
+            (Side::Three, true) | (Side::One, false) => Side::Two,
+            (Side::One, true) | (Side::Two, false) => Side::Three,
+        }
+    }
 }
 
 /// The context of a put.
@@ -33,6 +54,17 @@ pub(crate) struct Written {
     pub(crate) seen: Seen,
     pub(crate) kind: Kind,
     pub(crate) value: Option<u8>,
+    /// True if the put is refused unless its context has seen all that the node put.
+    pub(crate) is_read: bool,
+}
+
+/// A range that is closed and opened again, or isn't.
+#[derive(Clone, Copy)]
+pub(crate) enum Renewal {
+    /// Renews the range at a seat. The limit remains if it is `None`. If that isn't refused, the hints are renewed too.
+    At { seat: u16, limit: Option<u64> },
+    /// Closes the range without its last pass, which is refused.
+    Short,
 }
 
 /// The deed of a step, at a node.
@@ -44,7 +76,7 @@ pub(crate) enum Deed {
     Copy(u64),
     /// Sends the node a version of other nodes.
     Accept { key: u64, version: PlainVersion },
-    /// Keeps a hint for the other node, with such a version.
+    /// Keeps a hint for the other node of the step, with such a version.
     Keep(u64),
     /// Delivers the other node's hints in this number of turns.
     Deliver(u64),
@@ -70,14 +102,16 @@ pub(crate) enum Deed {
     Adjust(u64),
     /// Brings the node down or up.
     Switch,
-    /// Closes the range and opens it again with the versions held. Done between other steps alone.
-    Renew,
+    /// Closes the range, or renews it. Done between other steps alone.
+    Renew(Renewal),
 }
 
 /// A step of a list.
 #[derive(Clone, Copy)]
 pub(crate) struct Step {
     pub(crate) side: Side,
+    /// The other node of a hint, a delivery, a load or a sync.
+    pub(crate) other: Side,
     pub(crate) deed: Deed,
     /// At a point of this step's worker a next step is taken with probability 1 in `pace`.
     pub(crate) pace: u64,
@@ -91,11 +125,12 @@ pub(crate) struct Step {
 pub(crate) struct Setup {
     pub(crate) format: Format,
     pub(crate) part: Part,
-    /// The limits of both journals.
-    pub(crate) limits: [u64; 2],
-    /// The number of versions that both nodes have of one key at first, each others.
+    /// The limits of the journals.
+    pub(crate) limits: [u64; 3],
+    /// The number of versions that each node has of one key at first: those of two nodes together, or of all three, may
+    /// be too many.
     pub(crate) crowd: u64,
-    /// True if both nodes sync to rest at the end. Otherwise they are reconciled after their close.
+    /// True if the nodes sync to rest at the end. Otherwise they are reconciled after their close.
     pub(crate) rests: bool,
 }
 
@@ -115,8 +150,12 @@ impl Setup {
         Setup {
             format,
             part,
-            limits: [random.limit(8), random.limit(8)],
-            crowd: if random.once_in(32) { 40 } else { 0 },
+            limits: [random.limit(8), random.limit(8), random.limit(8)],
+            crowd: match random.below(32) {
+                0 => 40,
+                1 => 25,
+                _ => 0,
+            },
             rests: random.once_in(2),
         }
     }
@@ -132,7 +171,8 @@ impl Setup {
         }
     }
 
-    /// Draws the steps of a list, in a quarter of the draws a whole round of a sync.
+    /// Draws the steps of a list: in a quarter of the draws a whole round of a sync, and rarely a load that a migration
+    /// overtakes.
     pub(crate) fn draw_steps(
         &self,
         alloc: Global,
@@ -141,20 +181,23 @@ impl Setup {
     ) -> Result<Vec<Step>, Refusal> {
         let mut steps = Vec::new(alloc);
         for _ in 0..count {
-            let (here, there) = if random.once_in(2) {
-                (Side::One, Side::Two)
-            } else {
-                (Side::Two, Side::One)
-            };
+            let here = Side::draw(random);
+            let there = here.draw_other(random);
             if random.once_in(4) {
-                steps.push(drawn(random, there, WHOLE))?;
-                steps.push(drawn(random, there, Deed::Publish(1)))?;
-                steps.push(drawn(random, here, WHOLE))?;
+                steps.push(drawn(random, (there, here), WHOLE))?;
+                steps.push(drawn(random, (there, here), Deed::Publish(1)))?;
+                steps.push(drawn(random, (here, there), WHOLE))?;
                 let deed = draw_sync(random);
-                steps.push(drawn(random, here, deed))?;
+                steps.push(drawn(random, (here, there), deed))?;
+            } else if random.once_in(250) {
+                steps.push(drawn(random, (there, here), WHOLE))?;
+                steps.push(drawn(random, (there, here), Deed::Publish(1)))?;
+                let deed = Deed::Load(self.key(random));
+                steps.push(drawn(random, (here, there), deed))?;
+                steps.push(drawn(random, (here, there), Deed::Migrate))?;
             } else {
                 let deed = self.draw_deed(random);
-                steps.push(drawn(random, here, deed))?;
+                steps.push(drawn(random, (here, there), deed))?;
             }
         }
         steps.truncate(count as usize);
@@ -198,6 +241,7 @@ impl Setup {
             seen,
             kind,
             value,
+            is_read: random.once_in(2),
         })
     }
 
@@ -205,9 +249,9 @@ impl Setup {
     fn draw_rare(&self, random: &mut Random) -> Deed {
         match random.below(16) {
             0 if random.once_in(2) => Deed::Migrate,
-            1..=2 => Deed::Renew,
-            3..=5 => Deed::Switch,
-            6..=8 => Deed::Adjust(random.below(40_000)),
+            1..=3 => Deed::Renew(draw_renewal(random)),
+            4..=6 => Deed::Switch,
+            7..=8 => Deed::Adjust(random.below(40_000)),
             9..=10 => Deed::Load(self.key(random)),
             11..=12 => Deed::Copy(random.below(40)),
             _ => Deed::Accept {
@@ -221,10 +265,11 @@ impl Setup {
 /// A rehash of the nodes that puts make dirty.
 const WHOLE: Deed = Deed::Rehash { skip: 0, turns: 40 };
 
-/// Returns a step, and draws its pace and its salt.
-fn drawn(random: &mut Random, side: Side, deed: Deed) -> Step {
+/// Returns a step at the first of two nodes, and draws its pace and its salt.
+fn drawn(random: &mut Random, (side, other): (Side, Side), deed: Deed) -> Step {
     Step {
         side,
+        other,
         deed,
         pace: pace(random),
         salt: random.below(u64::MAX),
@@ -254,6 +299,23 @@ fn draw_sync(random: &mut Random) -> Deed {
         1..=2 => Deed::Sync { turns, lies: 2 },
         3..=6 => Deed::Sync { turns, lies: 6 },
         _ => Deed::Sync { turns, lies: 0 },
+    }
+}
+
+/// Draws a renewal: with another limit, which may be refused, at a seat that the range doesn't have, or as it is; or a
+/// close that is refused.
+fn draw_renewal(random: &mut Random) -> Renewal {
+    let limit = match random.below(8) {
+        0 => Some(0),
+        1 => Some(1_000_001),
+        2 => Some(random.limit(2)),
+        _ => None,
+    };
+    match random.below(8) {
+        0 => Renewal::Short,
+        1 => Renewal::At { seat: 4, limit },
+        2 => Renewal::At { seat: 2, limit },
+        _ => Renewal::At { seat: 0, limit },
     }
 }
 
@@ -287,6 +349,7 @@ impl fmt::Display for Side {
         match self {
             Side::One => write!(f, "one"),
             Side::Two => write!(f, "two"),
+            Side::Three => write!(f, "three"),
         }
     }
 }
@@ -309,11 +372,13 @@ impl fmt::Display for Deed {
                     key,
                     seen,
                     kind,
+                    is_read,
                     ..
                 },
             ) => {
                 let what = if *kind == Kind::Live { "put" } else { "delete" };
-                write!(f, "{what} of key {key}, {seen}")
+                let test = if *is_read { ", checked" } else { "" };
+                write!(f, "{what} of key {key}, {seen}{test}")
             }
             Deed::Copy(back) => write!(f, "copy of the version made {back} versions ago"),
             Deed::Accept { key, .. } => write!(f, "copy of another version of key {key}"),
@@ -330,13 +395,33 @@ impl fmt::Display for Deed {
             Deed::Sample { after, micros } => write!(f, "sample {micros} after {after}"),
             Deed::Adjust(after) => write!(f, "adjust after {after}"),
             Deed::Switch => write!(f, "down or up"),
-            Deed::Renew => write!(f, "renew"),
+            Deed::Renew(renewal) => write!(f, "{renewal}"),
+        }
+    }
+}
+
+impl fmt::Display for Renewal {
+    fn fmt<W: fmt::Write>(&self, f: &mut fmt::Formatter<W>) -> fmt::Result {
+        match self {
+            Renewal::At {
+                seat,
+                limit: Some(limit),
+            } => write!(f, "renew at seat {seat}, limit {limit}"),
+            Renewal::At { seat, limit: None } => write!(f, "renew at seat {seat}"),
+            Renewal::Short => write!(f, "close without a pass"),
         }
     }
 }
 
 impl fmt::Display for Step {
     fn fmt<W: fmt::Write>(&self, f: &mut fmt::Formatter<W>) -> fmt::Result {
-        write!(f, "{}: {}, steps 1 in {}", self.side, self.deed, self.pace)
+        let Step {
+            side,
+            other,
+            deed,
+            pace,
+            ..
+        } = self;
+        write!(f, "{side} ({other}): {deed}, steps 1 in {pace}")
     }
 }

@@ -1,4 +1,4 @@
-//! Whole lists: from two new nodes to their close.
+//! Whole lists: from three new nodes to their close.
 ghost use Rattle.std.specs.Prelude.{◌≡◌, ◌<◌};
 
 use crate::deliveries::check_pending;
@@ -6,25 +6,48 @@ use crate::inner::Inner;
 use crate::node::{Made, Node, Parts, Rest};
 use crate::pairs::{Closed, check_equal, reconcile_both};
 use crate::ranges::Range;
+use crate::renewals::renewed;
 use crate::schedule::Schedule;
 use crate::slots::Slots;
-use crate::steps::{Deed, Setup, Side, Step};
+use crate::steps::{Deed, Renewal, Seen, Setup, Side, Step, Written};
 use crate::tally::Tally;
 use crate::world::World;
 use plain_model::draws::{LAST, crowd_version};
-use plain_model::plain::{KEYS, Part};
+use plain_model::plain::Part;
 use plain_model::trouble::{Trouble, expect};
-use ring_node::{Gate, OpenGate, RenewedRange};
+use ring_node::{Gate, OpenGate};
 use std::alloc::Global;
 use std::marker::Brand;
 use std::sync::Wait;
 use std::sync::ledger::{Blank, Ledger};
+use version_set::Kind;
 
 /// The limit of a journal that no list fills.
 const AMPLE: u64 = 1_000;
 
 /// More turns than any worker needs.
 const TURNS: u64 = 10_000;
+
+/// More versions of a key than two nodes may have without their being too many for a third.
+const MANY: usize = 21;
+
+/// A node with another one, for a step.
+type Pair = (Side, Side);
+
+/// The nodes, each with the next one.
+const ROUND: [Pair; 3] = [
+    (Side::One, Side::Two),
+    (Side::Two, Side::Three),
+    (Side::Three, Side::One),
+];
+
+/// Syncs after which all nodes have what each had: one takes from both others, and then they take from it.
+const SYNCS: [Pair; 4] = [
+    (Side::One, Side::Two),
+    (Side::One, Side::Three),
+    (Side::Two, Side::One),
+    (Side::Three, Side::One),
+];
 
 /// Runs a list, and returns its counts.
 pub(crate) fn run_list<R: Wait>(
@@ -33,31 +56,35 @@ pub(crate) fn run_list<R: Wait>(
     setup: &Setup,
     steps: Vec<Step>,
 ) -> Result<Tally, Trouble> {
-    let (one, two, slots) = (Blank::new(4), Blank::new(4), Blank::new(1_024));
-    run_in::<Brand, Brand, Brand, R>(rt, alloc, (one, two, slots), setup, steps)
+    let (one, two, three) = (Blank::new(4), Blank::new(4), Blank::new(4));
+    let blanks = (one, two, three, Blank::new(1_024));
+    run_in::<Brand, Brand, Brand, Brand, R>(rt, alloc, blanks, setup, steps)
 }
 
 /// Runs a list on ranges and slots with these ledgers.
-fn run_in<L: Ledger, M: Ledger, C: Ledger, R: Wait>(
+fn run_in<L: Ledger, M: Ledger, N: Ledger, C: Ledger, R: Wait>(
     rt: &R,
     alloc: Global,
-    blanks: (Blank, Blank, Blank),
+    blanks: (Blank, Blank, Blank, Blank),
     setup: &Setup,
     steps: Vec<Step>,
 ) -> Result<Tally, Trouble>
     requires one { (blanks.0.name ≡ L.name) × (blanks.0.parts ≡ L.parts) × (blanks.0.parts ≡ 4) }
     requires two { (blanks.1.name ≡ M.name) × (blanks.1.parts ≡ M.parts) × (blanks.1.parts ≡ 4) }
-    requires slots { (blanks.2.name ≡ C.name) × (blanks.2.parts ≡ C.parts) × (blanks.2.parts ≡ 1024) }
+    requires three { (blanks.2.name ≡ N.name) × (blanks.2.parts ≡ N.parts) × (blanks.2.parts ≡ 4) }
+    requires slots { (blanks.3.name ≡ C.name) × (blanks.3.parts ≡ C.parts) × (blanks.3.parts ≡ 1024) }
 {
-    let (first, second, slots) = blanks;
+    let (first, second, third, slots) = blanks;
     let one = Node::<L>::open(alloc, first, setup, Side::One)?;
     let two = Node::<M>::open(alloc, second, setup, Side::Two)?;
+    let three = Node::<N>::open(alloc, third, setup, Side::Three)?;
     let slots = Slots::<C>::new(alloc, slots)?;
     let lives = steps.len();
     let world = World {
         alloc,
         one,
         two,
+        three,
         slots,
         schedule: Schedule::new(alloc, steps),
     };
@@ -65,25 +92,33 @@ fn run_in<L: Ledger, M: Ledger, C: Ledger, R: Wait>(
     world.live(rt, lives, setup)
 }
 
-impl<L: Ledger, M: Ledger, C: Ledger> World<L, M, C> {
-    /// Gives both nodes many concurrent versions of a key, which are too many together.
+/// Returns the key of which a crowd has versions.
+fn crowded_key(setup: &Setup) -> u64 {
+    if setup.part == Part::Upper { 8 } else { 4 }
+}
+
+impl<L: Ledger, M: Ledger, N: Ledger, C: Ledger> World<L, M, N, C> {
+    /// Gives each node many concurrent versions of a key, which are too many together.
     fn crowd<R: Wait>(&self, rt: &R, setup: &Setup) -> Result<(), Trouble> {
-        let key = if setup.part == Part::Upper { 8 } else { 4 };
+        let key = crowded_key(setup);
+        let middle = LAST.saturating_sub(setup.crowd) / 2;
         for number in 0..setup.crowd {
             let version = crowd_version(number.min(LAST));
             self.one.copy(rt, self.alloc, 0, Made { key, version })?;
             let version = crowd_version(LAST.saturating_sub(number));
             self.two.copy(rt, self.alloc, 0, Made { key, version })?;
+            let version = crowd_version(middle.saturating_add(number).min(LAST));
+            self.three.copy(rt, self.alloc, 0, Made { key, version })?;
         }
         Ok(())
     }
 
-    /// Does all steps, with a renewal after each life, and closes both nodes.
+    /// Does all steps, with a renewal after each life, and closes all nodes.
     fn live<R: Wait>(self, rt: &R, lives: usize, setup: &Setup) -> Result<Tally, Trouble> {
         let mut world = self;
         for _ in 0..lives {
             match world.run_life(rt, lives)? {
-                Some(side) => world = world.renewed(rt, side)?,
+                Some((side, renewal)) => world = world.renewed(rt, side, renewal)?,
                 None => break,
             }
         }
@@ -93,14 +128,14 @@ impl<L: Ledger, M: Ledger, C: Ledger> World<L, M, C> {
         world.close(rt, setup.rests)
     }
 
-    /// Does steps up to the next renewal, and returns its node; or up to the last step.
-    fn run_life<R: Wait>(&self, rt: &R, steps: usize) -> Result<Option<Side>, Trouble> {
+    /// Does steps up to the next renewal, and returns its node and its kind; or up to the last step.
+    fn run_life<R: Wait>(&self, rt: &R, steps: usize) -> Result<Option<(Side, Renewal)>, Trouble> {
         for _ in 0..steps {
             let Some(step) = self.schedule.take(rt, 0) else {
                 break;
             };
-            if let Deed::Renew = step.deed {
-                return Ok(Some(step.side));
+            if let Deed::Renew(renewal) = step.deed {
+                return Ok(Some((step.side, renewal)));
             }
             self.run_deep(rt, &step);
             self.check(rt)?;
@@ -139,31 +174,40 @@ impl<L: Ledger, M: Ledger, C: Ledger> World<L, M, C> {
     }
 
     /// Renews the range of a node.
-    fn renewed<R: Wait>(self, rt: &R, side: Side) -> Result<World<L, M, C>, Trouble> {
+    fn renewed<R: Wait>(
+        self,
+        rt: &R,
+        side: Side,
+        renewal: Renewal,
+    ) -> Result<World<L, M, N, C>, Trouble> {
         let World {
             alloc,
             one,
             two,
+            three,
             slots,
             schedule,
         } = self;
-        let (one, two) = match side {
-            Side::One => (renewed(rt, alloc, one)?, two),
-            Side::Two => (one, renewed(rt, alloc, two)?),
+        let (one, two, three) = match side {
+            Side::One => (renewed(rt, alloc, one, renewal)?, two, three),
+            Side::Two => (one, renewed(rt, alloc, two, renewal)?, three),
+            Side::Three => (one, two, renewed(rt, alloc, three, renewal)?),
         };
         Ok(World {
             alloc,
             one,
             two,
+            three,
             slots,
             schedule,
         })
     }
 
-    /// Does a step at a node, with none at its points.
-    fn rest<R: Wait>(&self, rt: &R, side: Side, deed: Deed) -> Result<(), Trouble> {
+    /// Does a step at the first of two nodes, with none at its points.
+    fn rest<R: Wait>(&self, rt: &R, (side, other): Pair, deed: Deed) -> Result<(), Trouble> {
         let step = Step {
             side,
+            other,
             deed,
             pace: 1,
             salt: 0,
@@ -172,49 +216,56 @@ impl<L: Ledger, M: Ledger, C: Ledger> World<L, M, C> {
         self.check(rt)
     }
 
-    /// Brings both nodes up, delivers all hints, and syncs both ways twice. Then both hold what they held together, and
-    /// have equal roots, unless a sync is refused, since a key is crowded or a journal is full.
+    /// Brings all nodes up, delivers all hints, and syncs. Then all hold what they held together, and have equal roots,
+    /// unless a sync is refused, since a key is crowded or a journal is full.
     fn come_to_rest<R: Wait>(&self, rt: &R, setup: &Setup) -> Result<(), Trouble> {
-        for side in [Side::One, Side::Two] {
-            if self.is_down(rt, side) {
-                self.rest(rt, side, Deed::Switch)?;
+        for pair in ROUND {
+            if self.is_down(rt, pair.0) {
+                self.rest(rt, pair, Deed::Switch)?;
             }
         }
-        for side in [Side::One, Side::Two] {
-            self.rest(rt, side, Deed::Deliver(TURNS))?;
+        for (next, last) in ROUND {
+            self.rest(rt, (next, last), Deed::Deliver(TURNS))?;
+            self.rest(rt, (last, next), Deed::Deliver(TURNS))?;
         }
-        if self.one.format(rt) != self.two.format(rt) {
-            self.rest(rt, Side::One, Deed::Migrate)?;
-            self.rest(rt, Side::Two, Deed::Migrate)?;
+        if !self.has_one_format(rt) {
+            for pair in ROUND {
+                self.rest(rt, pair, Deed::Migrate)?;
+            }
         }
+        if setup.crowd > 0 {
+            for pair in ROUND {
+                self.rest(rt, pair, merge(crowded_key(setup)))?;
+            }
+        }
+        let is_due = self.may_refuse(rt, crowded_key(setup))?;
         let before = self.schedule.tally(rt).finished();
-        for _ in 0..2 {
-            self.refresh(rt, Side::One)?;
-            self.refresh(rt, Side::Two)?;
-            self.rest(rt, Side::One, PLAINLY)?;
-            self.refresh(rt, Side::One)?;
-            self.rest(rt, Side::Two, PLAINLY)?;
+        for (here, there) in SYNCS {
+            self.refresh(rt, (there, here))?;
+            self.refresh(rt, (here, there))?;
+            self.rest(rt, (here, there), PLAINLY)?;
         }
         let finished = self.schedule.tally(rt).finished().wrapping_sub(before);
         if finished < 4 {
-            let is_due = setup.crowd > 0 || setup.limits[0] < AMPLE || setup.limits[1] < AMPLE;
             return expect(is_due, "whether the last syncs finish");
         }
-        self.refresh(rt, Side::Two)?;
+        for pair in ROUND {
+            self.refresh(rt, pair)?;
+        }
         self.check_equal(rt)
     }
 
-    /// Hashes a node's dirty nodes, and publishes.
-    fn refresh<R: Wait>(&self, rt: &R, side: Side) -> Result<(), Trouble> {
+    /// Hashes the dirty nodes of the first of two nodes, and publishes.
+    fn refresh<R: Wait>(&self, rt: &R, pair: Pair) -> Result<(), Trouble> {
         self.rest(
             rt,
-            side,
+            pair,
             Deed::Rehash {
                 skip: 0,
                 turns: TURNS,
             },
         )?;
-        self.rest(rt, side, Deed::Publish(1))
+        self.rest(rt, pair, Deed::Publish(1))
     }
 
     /// Returns true if a node is down.
@@ -222,36 +273,71 @@ impl<L: Ledger, M: Ledger, C: Ledger> World<L, M, C> {
         match side {
             Side::One => self.one.is_down(rt),
             Side::Two => self.two.is_down(rt),
+            Side::Three => self.three.is_down(rt),
         }
     }
 
-    /// Compares both nodes with each other.
-    fn check_equal<R: Wait>(&self, rt: &R) -> Result<(), Trouble> {
-        let (one, two) = (self.one.mirror().lock(rt), self.two.mirror().lock(rt));
-        check_equal(self.alloc, &one, &two)?;
-        let (Some(first), Some(second)) = (one.published.last(), two.published.last()) else {
-            return Err(Trouble::Differs("the number of offers"));
-        };
-        expect(first.tree.root() == second.tree.root(), "the roots")
+    /// Returns true if all ranges have one format.
+    fn has_one_format<R: Wait>(&self, rt: &R) -> bool {
+        let format = self.one.format(rt);
+        format == self.two.format(rt) && format == self.three.format(rt)
     }
 
-    /// Closes both ranges, and returns the counts. Reconciles them if they aren't at rest.
+    /// Returns true if a sync may be refused: a journal has a small limit, or some node has many versions of a key.
+    fn may_refuse<R: Wait>(&self, rt: &R, key: u64) -> Result<bool, Trouble> {
+        Ok(
+            may_refuse(rt, self.alloc, &self.one, key)?
+                || may_refuse(rt, self.alloc, &self.two, key)?
+                || may_refuse(rt, self.alloc, &self.three, key)?,
+        )
+    }
+
+    /// Compares the nodes with each other.
+    fn check_equal<R: Wait>(&self, rt: &R) -> Result<(), Trouble> {
+        let one = self.one.mirror().lock(rt);
+        let (two, three) = (self.two.mirror().lock(rt), self.three.mirror().lock(rt));
+        check_equal(self.alloc, &one, &two)?;
+        check_equal(self.alloc, &one, &three)?;
+        let (Some(first), Some(second), Some(third)) = (
+            one.published.last(),
+            two.published.last(),
+            three.published.last(),
+        ) else {
+            return Err(Trouble::Differs("the number of offers"));
+        };
+        let root = first.tree.root();
+        expect(
+            root == second.tree.root() && root == third.tree.root(),
+            "the roots",
+        )
+    }
+
+    /// Closes the ranges, and returns the counts. Reconciles them if they aren't at rest.
     fn close<R: Wait>(self, rt: &R, rests: bool) -> Result<Tally, Trouble> {
         let tally = self.schedule.tally(rt);
-        check_pending(rt, self.alloc, &self.one, 2)?;
-        check_pending(rt, self.alloc, &self.two, 1)?;
+        for owner in 1..4u16 {
+            check_pending(rt, self.alloc, &self.one, owner)?;
+            check_pending(rt, self.alloc, &self.two, owner)?;
+            check_pending(rt, self.alloc, &self.three, owner)?;
+        }
         let World {
             alloc,
             one,
             two,
+            three,
             slots: _slots,
             schedule: _schedule,
         } = self;
-        let (mut one, mut two) = (close(alloc, one)?, close(alloc, two)?);
+        let mut one = close(alloc, one)?;
+        let mut two = close(alloc, two)?;
+        let mut three = close(alloc, three)?;
         one.check(alloc)?;
         two.check(alloc)?;
+        three.check(alloc)?;
         if !rests {
             reconcile_both(alloc, &mut one, &mut two)?;
+            reconcile_both(alloc, &mut two, &mut three)?;
+            reconcile_both(alloc, &mut three, &mut one)?;
         }
         Ok(tally)
     }
@@ -263,32 +349,27 @@ const PLAINLY: Deed = Deed::Sync {
     lies: 0,
 };
 
-/// Renews the range of a node, and looks at each key.
-fn renewed<L: Ledger, R: Wait>(rt: &R, alloc: Global, node: Node<L>) -> Result<Node<L>, Trouble> {
-    let (parts, mut rest) = node.into_parts(alloc)?;
-    let parts = renew_parts(alloc, parts, rest.mirror.plain.limit)?;
-    rest.mirror.renew(alloc, 0)?;
-    let node = Node::from_parts(alloc, parts, rest)?;
-    for key in 0..KEYS {
-        node.look(rt, alloc, key)?;
-    }
-    Ok(node)
+/// Returns the put of a value over all versions of a key that are held.
+fn merge(key: u64) -> Deed {
+    Deed::Put(Written {
+        key,
+        seen: Seen::Now,
+        kind: Kind::Live,
+        value: Some(b'x'),
+        is_read: true,
+    })
 }
 
-/// Renews a range with its limit. The pass of seat 0 gets the entries.
-fn renew_parts<L: Ledger>(alloc: Global, parts: Parts<L>, limit: u64) -> Result<Parts<L>, Trouble> {
-    let Parts { range, passes } = parts;
-    match range.renew(alloc, passes, 0, limit) {
-        Ok(renewed) => {
-            let RenewedRange {
-                range,
-                passes,
-                kept: _kept,
-            } = renewed;
-            Ok(Parts { range, passes })
-        }
-        Err(_) => Err(Trouble::Differs("whether a range is renewed")),
-    }
+/// Returns true if a node's journal has a small limit, or the node has many versions of a key.
+fn may_refuse<L: Ledger, R: Wait>(
+    rt: &R,
+    alloc: Global,
+    node: &Node<L>,
+    key: u64,
+) -> Result<bool, Trouble> {
+    let mirror = node.mirror().lock(rt);
+    let held = mirror.plain.held(alloc, key)?;
+    Ok(mirror.plain.limit < AMPLE || held.len() > MANY)
 }
 
 /// Closes the range of a node.

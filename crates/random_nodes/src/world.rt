@@ -1,6 +1,7 @@
-//! Two nodes with replicas of one range, and the steps that are done to them.
+//! Three nodes with replicas of one range, and the steps that are done to them.
 
 use crate::deliveries::deliver_hints;
+use crate::loads::run_load;
 use crate::node::{Made, Node};
 use crate::rehashes::run_rehash;
 use crate::schedule::Schedule;
@@ -14,22 +15,28 @@ use std::alloc::Global;
 use std::sync::Wait;
 use std::sync::ledger::Ledger;
 
-/// Two nodes, the slots of their workers, and the steps that are left.
+/// Three nodes, the slots of their workers, and the steps that are left.
 #[derive(Drop)]
-pub(crate) struct World<L: Ledger, M: Ledger, C: Ledger> {
+pub(crate) struct World<L: Ledger, M: Ledger, N: Ledger, C: Ledger> {
     pub(crate) alloc: Global,
     pub(crate) one: Node<L>,
     pub(crate) two: Node<M>,
+    pub(crate) three: Node<N>,
     pub(crate) slots: Slots<C>,
     pub(crate) schedule: Schedule,
 }
 
-impl<L: Ledger, M: Ledger, C: Ledger> World<L, M, C> {
+impl<L: Ledger, M: Ledger, N: Ledger, C: Ledger> World<L, M, N, C> {
     /// Does a step at a depth, which is the seat of its pass. At the points of its worker the gate takes other steps.
     pub(crate) fn run<G: Gate, R: Wait>(&self, rt: &R, depth: u16, step: &Step, gate: &G) {
-        let done = match step.side {
-            Side::One => self.run_at(rt, depth, step, gate, (&self.one, &self.two)),
-            Side::Two => self.run_at(rt, depth, step, gate, (&self.two, &self.one)),
+        let (one, two, three) = (&self.one, &self.two, &self.three);
+        let done = match (step.side, step.other) {
+            (Side::One, Side::Two) => self.run_at(rt, depth, step, gate, (one, two)),
+            (Side::One, _) => self.run_at(rt, depth, step, gate, (one, three)),
+            (Side::Two, Side::Three) => self.run_at(rt, depth, step, gate, (two, three)),
+            (Side::Two, _) => self.run_at(rt, depth, step, gate, (two, one)),
+            (Side::Three, Side::One) => self.run_at(rt, depth, step, gate, (three, one)),
+            (Side::Three, _) => self.run_at(rt, depth, step, gate, (three, two)),
         };
         self.schedule.note(rt, done);
         let right = self.slots.check(rt);
@@ -51,6 +58,7 @@ impl<L: Ledger, M: Ledger, C: Ledger> World<L, M, C> {
         match step.deed {
             Deed::Rehash { .. } | Deed::Sync { .. } | Deed::SyncForged { .. } | Deed::Deliver(_) =>
                 self.work(rt, depth, step, gate, (here, there)),
+            Deed::Load(key) => run_load(rt, self.alloc, (here, there), depth, gate, step, key),
             _ => self.call(rt, depth, step.deed, (here, there)),
         }
     }
@@ -133,7 +141,6 @@ impl<L: Ledger, M: Ledger, C: Ledger> World<L, M, C> {
             },
             Deed::Get(key) => here.get(rt, alloc, depth, key),
             Deed::Look(key) => here.look(rt, alloc, key),
-            Deed::Load(key) => here.load(rt, alloc, depth, there, key),
             Deed::Publish(times) => here.publish(rt, alloc, times),
             Deed::Migrate => here.migrate(rt, alloc),
             Deed::Sample { after, micros } => self.slots.sample(rt, after, micros),
@@ -152,6 +159,7 @@ impl<L: Ledger, M: Ledger, C: Ledger> World<L, M, C> {
             return Err(trouble);
         }
         self.one.check(rt)?;
-        self.two.check(rt)
+        self.two.check(rt)?;
+        self.three.check(rt)
     }
 }
