@@ -1,4 +1,4 @@
-"""A process of examples/sqlite_store.py, which tests drive by lines, and kill."""
+"""A process of examples/line_server.py, which tests drive by lines, and kill."""
 
 import json
 import os
@@ -8,8 +8,7 @@ import sys
 
 from tests.support import EXAMPLES, PACKAGE
 
-STORE = EXAMPLES / "sqlite_store.py"
-COMMAND = [sys.executable, "-S", STORE]
+COMMAND = [sys.executable, "-S", EXAMPLES / "line_server.py"]
 
 
 def environment(path):
