@@ -79,7 +79,7 @@ REFUSED = [
     ('["put", "", "62", []]', "BadKey"),
     ('["put", "61", "62", [[0, 1]]]', "BadClock"),
     ('["put", "61", "62", [[1, 1], [1, 2]]]', "BadClock"),
-    ('["accept", "61", [], "62"]', "BadClock"),
+    ('["accept", "61", [[70000, 1]], "62"]', "BadClock"),
     ('["entries", 9]', "NoVersion"),
     ('["serve", ["61"]]', "NoOffer"),
     ('["sync", 2, "61"]', "BadMessage"),
