@@ -152,6 +152,22 @@ class DoubtTest(StoreCase):
             self.restore()
         self.assertGreater(found, 5)
 
+    def test_a_page_in_the_middle_of_the_main_file(self):
+        """A new life has what is before it, and what is behind it."""
+        path, new = self.copy.with_name("pages.db"), self.copy.with_name("2.db")
+        SqliteStore.create(path, 1)
+        with closing(SqliteStore(path)) as store:
+            for n in range(100):
+                store.put(b"%d" % n, bytes(500))
+        middle = path.read_bytes().index(b"[[1, 1]]", path.stat().st_size // 2)
+        self.flip(path, middle // 4096 * 4096)
+        with self.assertRaisesRegex(Doubt, "the file is damaged"):
+            SqliteStore(path)
+        self.assertIn(SqliteStore.renumber(path, new, 2), range(85, 100))
+        with closing(SqliteStore(new)) as store:
+            for key in (b"0", b"99"):
+                self.assertEqual(store.get(key), [Version({1: 1}, bytes(500))])
+
     def test_the_note_is_missing_or_damaged(self):
         data = self.note.read_bytes()
         for damaged in (b"", data[:20], data[20:], bytes(len(data))):

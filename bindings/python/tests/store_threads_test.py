@@ -158,6 +158,24 @@ class ThreadsTest(StoreCase):
         self.assertTrue(sync.end().finished)
         self.assert_has_all(store, b"a", b"b")
 
+    def test_a_sync_that_ends_while_a_renewal_writes(self):
+        """What it has taken since then isn't in the new replica: it begins anew."""
+        store, asked, go = self.open(limit=1000), threading.Event(), threading.Event()
+        store.put(b"a", b"x")
+        sync = Later(self.sync, store, lambda: (asked.set(), go.wait(LONG)))
+        asked.wait(LONG)
+        disk, old = Disk(store), store._replica
+        renewal = Later(store.renew)
+        disk.is_waiting.wait(LONG)
+        go.set()
+        while old.count().entries < 301:
+            pass
+        sync.join(0.05)
+        disk.go.set()
+        renewal.end()
+        self.assertTrue(sync.end().finished)
+        self.assert_has_all(store, b"a")
+
     def test_renewals_at_each_answer(self):
         store, renewals = self.open(limit=1000), []
 
