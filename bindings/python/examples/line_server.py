@@ -11,6 +11,7 @@
 from __future__ import annotations
 
 import json
+import sqlite3
 import sys
 from contextlib import closing
 from pathlib import Path
@@ -159,28 +160,33 @@ def _read_asks(said: Any) -> List[bytes]:
     return [_read_bytes(ask) for ask in _read_list(said)]
 
 
-def main() -> None:
-    """Makes, serves or renumbers a store."""
-    call, path, *words = sys.argv[1:]
+def start(call: str, path: str, *words: str) -> Optional[SqliteStore]:
+    """Does what a command says. Returns the store, if it is to be served."""
     if call == "create":
         SqliteStore.create(Path(path), *map(int, words))
     elif call == "renumber":
         new, *numbers = words
         versions = SqliteStore.renumber(Path(path), Path(new), *map(int, numbers))
-        print(f"{versions} versions of {path} are in {new}")
+        print(f"{new} has {versions} versions of {path}")
+    elif call == "serve":
+        return SqliteStore(Path(path), *map(int, words))
     else:
-        serve(Path(path), *map(int, words))
+        raise ValueError(f"{call} isn't a command")
+    return None
 
 
-def serve(path: Path, *limit: int) -> None:
-    """Serves a store by standard input and output."""
-    sys.stdin.reconfigure(errors="replace")
+def main() -> None:
+    """Makes, renumbers or serves a store, or says in one line why it can't."""
+    sys.stdin.reconfigure(errors="replace")  # type: ignore[union-attr]
     try:
-        store = SqliteStore(path, *limit)
+        store = start(*sys.argv[1:])
     except Doubt as doubt:
-        sys.exit(f"{path} is in doubt, its number isn't used again: {doubt}")
-    with closing(store):
-        LineServer(store, iter(sys.stdin.readline, ""), sys.stdout).run()
+        sys.exit(f"{sys.argv[2]} is in doubt, and its number isn't used again: {doubt}")
+    except (OSError, ValueError, sqlite3.Error, antientropy.Refused) as error:
+        sys.exit(f"{sys.argv[2]}: {error}")
+    if store is not None:
+        with closing(store):
+            LineServer(store, iter(sys.stdin.readline, ""), sys.stdout).run()
 
 
 if __name__ == "__main__":

@@ -6,11 +6,13 @@ import os
 import random
 import time
 import unittest
+from contextlib import closing
+from pathlib import Path
 
 from antientropy import Replica
 
-from tests.store_case import StoreCase
-from tests.store_process import StoreProcess, create
+from tests.store_case import SqliteStore, StoreCase
+from tests.store_process import StoreProcess, run
 
 from line_server import LineServer
 
@@ -154,13 +156,21 @@ class ProcessTest(StoreCase):
         self.assertEqual(process.ask("get", "61"), [])
         self.assertEqual(process.end(), (0, ""))
 
-    def test_a_file_in_doubt(self):
-        path = self.path.with_name("2.db")
-        create(path, 2)
-        path.with_name("2.db-noted").unlink()
-        process = StoreProcess(path, 100)
-        said = f"{path} is in doubt, its number isn't used again: the note is missing\n"
-        self.assertEqual(process.end(), (1, said))
+    def test_starts_that_are_refused(self):
+        """The store says why in one line. A new life takes what is readable."""
+        with closing(SqliteStore(self.path)) as store:
+            store.put(b"a", b"x")
+        path, new = self.path, self.path.with_name("2.db")
+        Path(f"{path}-noted").unlink()
+        doubt = f"{path} is in doubt, and its number isn't used again: the note is missing\n"
+        for words, status, said in (
+            (["serve", path], 1, doubt),
+            (["create", path, "1"], 1, f"{path}: {path} is there\n"),
+            (["renumber", path, new, "1"], 1, f"{path}: 1 was used: {path} has it\n"),
+            (["renumber", path, new, "2"], 0, f"{new} has 1 versions of {path}\n"),
+            (["serve", new], 0, "2\n"),
+        ):
+            self.assertEqual(run(path, *words), (status, said))
 
 
 if __name__ == "__main__":

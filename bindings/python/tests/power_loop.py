@@ -75,7 +75,7 @@ class Loop:
         """Runs the store for a while, and kills it, even while it starts."""
         command = [sys.executable, "-B", "-m", "tests.power_loop", "serve", self.path]
         program = subprocess.Popen(command, env=self.power.environment(), stdout=subprocess.PIPE, cwd=PACKAGE)
-        timer = threading.Timer(self.chance.uniform(0.1, 1.5), program.kill)
+        timer = threading.Timer(self.chance.uniform(0.1, 0.8), program.kill)
         timer.start()
         with program.stdout:
             for line in program.stdout:
