@@ -1,267 +1,287 @@
-#!/usr/bin/env python3
 """A durable store: a replica whose journal is kept in SQLite, and which comes back from it under its node number.
 
-    sqlite_store.py create FILE NODE      makes the file of a node, whose number was never used
-    sqlite_store.py serve FILE [LIMIT]    answers requests, each a line of standard input, until that ends
+A call returns after all that it can show is in the file (`journal_file.py`), and on the disk: so whatever goes out is,
+answers, copies, hints and snapshots. Threads that wait for the disk share one transaction and one fsync. If that fails,
+the process ends, since its memory is ahead of the disk. A store starts on a full disk, and can be read there; a put
+that finds no room ends the process, and nothing is lost.
 
-Each entry of the journal is a row: its number, key, clock, kind and value. A call that accepts versions returns after
-the transaction with their rows, so whatever goes out is on the disk: answers, copies, hints and snapshots. If that
-transaction fails, the process ends, since its memory is ahead of the disk. A renewal replaces all rows in one
-transaction. A store that starts accepts the entries of its file by rising number, and then has the counters that it
-had. `serve` never makes a file: a node that lost its file would begin its counters anew, and needs another number.
+A store that starts accepts the entries of its file by rising place, and then has the counters that it had. The start
+raises `Doubt` if the file can't show that it has all that was acknowledged. Then `SqliteStore.renumber` goes on with
+what is readable, under a number that was never used. After a crash of the machine only a partner can show that the end
+of the file is lost. So sync from all partners that can be reached before the first put of a start.
 
-`tests/sqlite_store_test.py` kills the store by SIGKILL. That can't show a missing fsync: what a killed process has
-written, the kernel still has. Only a machine that loses its power shows it.
+`line_server.py` is a program with a store.
 """
 
 from __future__ import annotations
 
-import json
-import os
-import sqlite3
 import sys
 from contextlib import closing
 from pathlib import Path
-from threading import Lock
-from typing import Any, Callable, Dict, Iterable, Iterator, List, Optional, Sequence, TextIO, Tuple, TypeVar
+from threading import Condition, Lock
+from typing import Callable, Dict, Iterable, List, Optional, Sequence, TypeVar
 
 import antientropy
-from antientropy import ClockLike, Entry, Kind, Receipt, Replica, Snapshot, Synced, Version
+from antientropy import Clock, ClockLike, Entry, Receipt, Replica, Snapshot, Source, Synced, Version
+
+from journal_file import Doubt, JournalFile, salvage
 
 T = TypeVar("T")
 Reach = Callable[[List[bytes]], Sequence[Optional[bytes]]]
 
 _LIMIT = 1_000_000
 
-_TABLES = (
-    "CREATE TABLE node (number INTEGER, format INTEGER, bits INTEGER, range INTEGER)",
-    "CREATE TABLE entry (number INTEGER PRIMARY KEY, key BLOB, clock TEXT, kind INTEGER, value BLOB)",
-)
+#: A replica is renewed at so many sessions: at 1,024 it could open no more.
+_MOST_SESSIONS = 900
+
+#: Nodes that are hashed at once, so that other calls get in between.
+_HASHED_AT_ONCE = 64
 
 
 class SqliteStore:
-    """A replica of a node, with its journal in a file of SQLite.
+    """A replica of a node, with its journal in a file.
 
-    Several threads may use a store, but one process alone: a second one is refused as sqlite3.OperationalError. A call
-    waits until others have ended, so no reader sees a version before it is on the disk.
+    Several threads may use a store, but one process alone: a second one is refused as sqlite3.OperationalError. Before
+    the first put of a start, call `sync` for each partner that can be reached.
     """
 
     def __init__(self, path: Path, limit: int = _LIMIT) -> None:
-        self._lock = Lock()
-        self._database = _open(path, "rw")
-        self.node, format, bits, range = self._database.execute("SELECT * FROM node").fetchone()
-        self._replica = Replica(format, bits, range, limit)
+        """Starts the store. Raises Doubt, FileNotFoundError, or ValueError if more is held than the limit."""
+        self._turn = Condition(Lock())
+        #: True while a thread writes into the file. It doesn't have the lock then.
+        self._is_writing = False
+        self._file = JournalFile(path)
+        self.node = self._file.node
         self._limit = limit
-        #: Number of the first entry that isn't in the file.
-        self._next = self._load()
+        #: Greatest counter of the node for each key.
+        self._counters: Dict[bytes, int] = {}
+        #: Entries after the last renewal.
+        self._held = 0
+        try:
+            self._replica = Replica(*self._file.ring, max(limit, self._file.rows))
+            self._load()
+        except BaseException:
+            self._file.close()
+            raise
 
     @staticmethod
     def create(path: Path, node: int, format: int = 2, bits: int = 0, range: int = 0) -> None:
-        """Makes the file of a node, whose number was never used. Raises sqlite3.OperationalError if it is there."""
-        database = _open(path, "rwc")
-        database.execute("BEGIN")
-        for table in _TABLES:
-            database.execute(table)
-        database.execute("INSERT INTO node VALUES (?, ?, ?, ?)", (node, format, bits, range))
-        database.execute("COMMIT")
-        database.close()
-        folder = os.open(path.parent, os.O_RDONLY)
-        os.fsync(folder)
-        os.close(folder)
+        """Makes the files of a node, whose number was never used. Raises FileExistsError if one is there.
+
+        If it is killed, remove what it left.
+        """
+        with Replica(format, bits, range) as replica:
+            replica.top_counter(node, b"")  # raises BadClock if no node has such a number
+        JournalFile.create(path, node, (format, bits, range))
+
+    @classmethod
+    def renumber(cls, old: Path, new: Path, node: int, format: int = 2, bits: int = 0, range: int = 0) -> int:
+        """Makes a new file with what is readable of an old one, which is left. Returns the number of its versions.
+
+        The number of its node must be one that was never used. Raises ValueError if the old file has it. What isn't
+        readable comes back by syncs if a partner holds it.
+        """
+        used, entries = salvage(old)
+        if node in used:
+            raise ValueError(f"{node} was used: {old} has it")
+        cls.create(new, node, format, bits, range)
+        with closing(cls(new, max(_LIMIT, len(entries)))) as store:
+            return store._change(lambda replica: sum(_is_accepted(replica, *entry) for entry in entries))
 
     def put(self, key: bytes, value: Optional[bytes], context: ClockLike = ()) -> Receipt:
-        """Puts a value, or a tombstone for None, at the node. It returns after the version is on the disk.
+        """Puts a value, or a tombstone for None, at the node.
 
         Read the key before (docs/EMBEDDING_C.md, "A replica").
         """
         return self._change(lambda replica: replica.put(self.node, key, value, context))
 
     def accept(self, key: bytes, clock: ClockLike, value: Optional[bytes]) -> bool:
-        """Accepts a copy or a hint of another node. It returns after the version is on the disk."""
+        """Accepts a copy or a hint of another node. Returns False if it was known.
+
+        Raises Doubt if its counter of this node is greater than the store has for the key: the file has lost a put.
+        Then it is marked. Nothing is put or accepted any more, and later starts raise Doubt; reads go on.
+        """
         return self._change(lambda replica: replica.accept(key, clock, value))
 
     def sync(self, partner: int, offer: bytes, reach: Reach) -> Synced:
-        """Takes what a partner offers, as `Replica.sync` does. Other calls wait; a snapshot is served meanwhile."""
-        return self._change(lambda replica: replica.sync(partner, offer, reach))
+        """Takes what a partner offers, as `Replica.sync` does. Raises Doubt as `accept` does.
+
+        Other calls go on meanwhile. After a renewal by one of them the sync begins anew, and counts anew.
+        """
+        synced = None
+        while synced is None:
+            synced = self._sync_once(partner, offer, reach)
+        return synced
 
     def get(self, key: bytes) -> List[Version]:
         """Returns all versions held for a key."""
-        with self._lock:
-            return self._replica.get(key)
+        return self._read(lambda replica: replica.get(key))
 
     def entries(self, start: int = 0) -> List[Entry]:
         """Returns the entries from a number on: copies for other nodes, or hints. A renewal numbers them anew."""
-        with self._lock:
-            return list(self._replica.entries(start))
+        return self._read(lambda replica: list(replica.entries(start)))
 
     def snapshot(self) -> Snapshot:
         """Returns a snapshot of the rows now."""
-        with self._lock:
-            return self._replica.snapshot()
+        self._rehash()
+        return self._read(Replica.snapshot)
 
     def renew(self) -> None:
         """Drops the entries that others have replaced, from memory and from the file. Numbers begin again at 0."""
-        with self._lock:
+        with self._turn:
+            self._wait_for_writer()
+            self._file.check_doubt()
             self._renew()
 
     def close(self) -> None:
-        """Frees the memory, and closes the file."""
-        with self._lock:
+        """Frees the memory, and closes the file. Calls in progress are refused as Empty."""
+        with self._turn:
+            self._wait_for_writer()
             self._replica.close()
-            self._database.close()
+            self._file.close()
+
+    # ---- calls, and the disk
+
+    def _read(self, call: Callable[[Replica], T]) -> T:
+        with self._turn:
+            return self._durably(call)
 
     def _change(self, call: Callable[[Replica], T]) -> T:
-        """Makes a call that accepts versions: once more after a renewal, if the replica is full.
-
-        Even a sync that fails may have accepted some.
-        """
-        with self._lock:
+        """Makes a call that accepts versions. Raises Doubt before or after it."""
+        with self._turn:
+            self._prepare()
             try:
-                return call(self._replica)
-            except (antientropy.JournalFull, antientropy.SessionsFull):
-                self._renew()
-                return call(self._replica)
+                return self._durably(call)
             finally:
-                self._save()
+                self._file.check_doubt()
+
+    def _prepare(self) -> None:
+        """Makes room for new entries. Raises Doubt."""
+        self._file.check_doubt()
+        while self._is_renewal_due():
+            if self._is_writing:
+                self._turn.wait()
+            else:
+                self._renew()
+            self._file.check_doubt()
+
+    def _durably(self, call: Callable[[Replica], T]) -> T:
+        """Makes a call, and returns when the file has all that it can show. Refusals show something, too."""
+        try:
+            return call(self._replica)
+        finally:
+            self._save()
 
     def _save(self) -> None:
-        """Writes the new entries. Nothing of them may go out before it returns."""
-        self._write(self._replica.entries(self._next))
-        self._next = self._replica.count().entries
+        """Returns when the file has all entries of now. One of the threads that wait writes those of all."""
+        end = self._file.first + self._replica.count().entries
+        while self._file.end < end:
+            if self._is_writing:
+                self._turn.wait()
+            else:
+                self._write()
+
+    def _write(self) -> None:
+        """Writes the entries that the file lacks. Others may make calls meanwhile."""
+        replica = self._replica
+        self._is_writing = True
+        self._turn.release()
+        try:
+            entries = list(replica.entries(self._file.end - self._file.first))
+            self._file.write(self._file.first, entries, self._find_lost(entries))
+        finally:
+            self._turn.acquire()
+            self._is_writing = False
+            self._turn.notify_all()
+
+    def _wait_for_writer(self) -> None:
+        while self._is_writing:
+            self._turn.wait()
+
+    def _find_lost(self, entries: Iterable[Entry]) -> str:
+        """Notes the counters of new entries. Returns what is wrong if a copy shows that the file has lost a put."""
+        for entry in entries:
+            counter, before = entry.clock.get(self.node, 0), self._counters.get(entry.key, 0)
+            if counter > before and entry.source is not Source.PUT:
+                return f"a copy of a key has counter {counter} of node {self.node}, but the file has {before}"
+            if counter > before:
+                self._counters[entry.key] = counter
+        return ""
+
+    # ---- syncs
+
+    def _sync_once(self, partner: int, offer: bytes, reach: Reach) -> Optional[Synced]:
+        """Syncs without the lock. Returns None if the replica was renewed meanwhile, or has to be."""
+        self._rehash()
+        with self._turn:
+            self._prepare()
+            replica = self._replica
+        synced = None
+        try:
+            synced = replica.sync(partner, offer, reach)
+        except (antientropy.Empty, antientropy.JournalFull, antientropy.SessionsFull):
+            with self._turn:
+                if replica is self._replica and not self._is_renewal_due():
+                    raise
+        finally:
+            with self._turn:
+                self._save()
+                self._file.check_doubt()
+        return synced if replica is self._replica else None
+
+    def _rehash(self) -> None:
+        """Hashes what has no digest, a little at a time. It leaves the rest if others put faster."""
+        before = left = sys.maxsize
+        while 0 < left <= before:
+            before = left - 1
+            with self._turn:
+                left = self._replica.rehash_some(_HASHED_AT_ONCE)
+
+    # ---- renewals, and the start
+
+    def _is_renewal_due(self) -> bool:
+        """True near a limit, unless little is gained: a replica that is full of held versions isn't renewed again."""
+        count = self._replica.count()
+        grown = count.entries - self._held
+        is_near = 10 * count.entries >= 9 * self._limit and 20 * grown >= self._limit
+        return is_near or count.sessions >= _MOST_SESSIONS
 
     def _renew(self) -> None:
-        renewed = self._replica.renew(self._limit)
-        self._write(renewed.entries(), anew=True)
-        self._replica.close()
-        self._replica, self._next = renewed, renewed.count().entries
+        """Goes on with a new replica. No other thread writes meanwhile.
 
-    def _write(self, entries: Iterable[Entry], anew: bool = False) -> None:
-        """Writes entries in a transaction, in place of all others if `anew` is True. Ends the process if it fails."""
-        try:
-            self._database.execute("BEGIN")
-            if anew:
-                self._database.execute("DELETE FROM entry")
-            self._database.executemany("INSERT INTO entry VALUES (?, ?, ?, ?, ?)", map(_to_row, entries))
-            self._database.execute("COMMIT")
-        except BaseException as error:
-            print(f"the entries aren't on the disk: {error!r}", file=sys.stderr, flush=True)
-            os._exit(1)
+        A sync may bring the old one more versions until it is closed. Nobody sees these, and the sync takes them again.
+        """
+        old = self._replica
+        renewed = old.renew(self._limit)
+        first = self._file.first + old.count().entries
+        lost = self._find_lost(old.entries(self._file.end - self._file.first))
+        self._file.write(first, renewed.entries(), lost)
+        self._replica, self._held = renewed, renewed.count().entries
+        old.close()
+        self._turn.notify_all()
 
-    def _load(self) -> int:
-        """Accepts the entries of the file, and returns their number. An entry that was there is new each time."""
-        number = 0
-        for row in self._database.execute("SELECT * FROM entry ORDER BY number"):
-            found, *version = _from_row(row)
-            if found != number or not self._replica.accept(*version):
-                raise ValueError(f"entry {number} isn't in the file as it was: go on under a new node number")
-            number += 1
-        return number
+    def _load(self) -> None:
+        """Accepts the entries of the file, by rising place. An entry that was there is new each time."""
+        for place, key, clock, value in self._file.read():
+            if not _is_accepted(self._replica, key, clock, value):
+                raise Doubt(f"entry {place} doesn't follow from those before it")
+            self._counters[key] = max(self._counters.get(key, 0), clock.get(self.node, 0))
+        self._file.settle()
+        if self._file.rows > self._limit:
+            self._fit()
 
-
-def _open(path: Path, mode: str) -> sqlite3.Connection:
-    """Opens a file for this process alone. A commit returns after an fsync.
-
-    If a process was killed before its fsync, the file has a commit that isn't on the disk: a checkpoint syncs it.
-    """
-    place = f"{path.absolute().as_uri()}?mode={mode}"
-    database = sqlite3.connect(place, timeout=0, isolation_level=None, check_same_thread=False, uri=True)
-    database.execute("PRAGMA locking_mode = EXCLUSIVE")
-    database.execute("PRAGMA journal_mode = WAL")
-    database.execute("PRAGMA synchronous = FULL")
-    database.execute("PRAGMA wal_checkpoint(TRUNCATE)").fetchall()
-    return database
+    def _fit(self) -> None:
+        """Renews a replica that has more entries than the limit."""
+        with self._replica.renew(self._file.rows) as renewed:
+            held = renewed.count().entries
+        if held > self._limit:
+            raise ValueError(f"{held} versions are held, but the limit is {self._limit}")
+        self.renew()
 
 
-def _to_row(entry: Entry) -> Tuple[int, bytes, str, int, bytes]:
-    clock = json.dumps(list(entry.clock.items()))
-    return entry.number, entry.key, clock, int(entry.version.kind), entry.value or b""
-
-
-def _from_row(row: Tuple[int, bytes, str, int, bytes]) -> Tuple[int, bytes, ClockLike, Optional[bytes]]:
-    number, key, clock, kind, value = row
-    return number, key, json.loads(clock), None if kind == Kind.TOMBSTONE else value
-
-
-class LineServer:
-    """Answers requests by a store. A request is a line with a JSON list: the name of a call, and its arguments.
-
-    So is an answer a line of JSON. Bytes are in hexadecimal, clocks are lists of pairs. Within a sync it writes a list
-    of asks, and reads the list of the partner's answers.
-    """
-
-    def __init__(self, store: SqliteStore, lines: Iterator[str], output: TextIO) -> None:
-        self._store, self._lines, self._output = store, lines, output
-        self._offered: Optional[Snapshot] = None
-        self._offers = 0
-        self._calls: Dict[str, Callable[..., Any]] = {
-            "put": self._put, "get": self._get, "accept": self._accept, "offer": self._offer, "serve": self._serve,
-            "sync": self._sync, "entries": self._entries, "renew": store.renew,
-        }
-
-    def run(self) -> None:
-        """Answers until the lines end. The first line that it writes has the number of the node."""
-        self._say(self._store.node)
-        for line in self._lines:
-            call, *args = json.loads(line)
-            try:
-                said = self._calls[call](*args)
-            except antientropy.Refused as refused:
-                said = {"refused": refused.name}
-            self._say(said)
-
-    def _say(self, said: Any) -> None:
-        print(json.dumps(said), file=self._output, flush=True)
-
-    def _put(self, key: str, value: Optional[str], context: ClockLike) -> Receipt:
-        return self._store.put(bytes.fromhex(key), _from_hex(value), context)
-
-    def _get(self, key: str) -> List[Any]:
-        return [_to_json(version) for version in self._store.get(bytes.fromhex(key))]
-
-    def _accept(self, key: str, clock: ClockLike, value: Optional[str]) -> bool:
-        return self._store.accept(bytes.fromhex(key), clock, _from_hex(value))
-
-    def _entries(self, start: int) -> List[Any]:
-        return [[entry.number, entry.key.hex(), *_to_json(entry.version)] for entry in self._store.entries(start)]
-
-    def _offer(self) -> str:
-        """Offers a new snapshot in place of the last."""
-        if self._offered is not None:
-            self._offered.close()
-        self._offered = self._store.snapshot()
-        self._offers += 1
-        return self._offered.offer(self._offers).hex()
-
-    def _serve(self, asks: List[str]) -> List[str]:
-        """Answers asks for the last offer."""
-        assert self._offered is not None
-        return [self._offered.serve(self._offers, bytes.fromhex(ask)).hex() for ask in asks]
-
-    def _sync(self, partner: int, offer: str) -> int:
-        return self._store.sync(partner, bytes.fromhex(offer), self._reach).accepted
-
-    def _reach(self, asks: List[bytes]) -> List[Optional[bytes]]:
-        self._say([ask.hex() for ask in asks])
-        return [_from_hex(answer) for answer in json.loads(next(self._lines, "[]"))]
-
-
-def _to_json(version: Version) -> List[Any]:
-    return [list(version.clock.items()), None if version.value is None else version.value.hex()]
-
-
-def _from_hex(text: Optional[str]) -> Optional[bytes]:
-    return None if text is None else bytes.fromhex(text)
-
-
-def main() -> None:
-    """Makes or serves a store."""
-    call, path, *numbers = sys.argv[1:]
-    if call == "create":
-        SqliteStore.create(Path(path), *map(int, numbers))
-        return
-    with closing(SqliteStore(Path(path), *map(int, numbers))) as store:
-        LineServer(store, iter(sys.stdin.readline, ""), sys.stdout).run()
-
-
-if __name__ == "__main__":
-    main()
+def _is_accepted(replica: Replica, key: bytes, clock: Clock, value: Optional[bytes]) -> bool:
+    """True if a replica accepts an entry as new."""
+    try:
+        return replica.accept(key, clock, value)
+    except antientropy.Refused:
+        return False

@@ -3,46 +3,25 @@
 SIGKILL can't show a missing fsync: the kernel still has what a killed process has written.
 """
 
-import json
 import os
 import random
 import resource
-import shutil
 import signal
 import sqlite3
-import sys
 import tempfile
 import threading
 import time
 import unittest
-from contextlib import closing
 from pathlib import Path
 
 import antientropy
 from antientropy import Order, Replica, Version
 
+from tests.store_case import MEMORY, SqliteStore, StoreCase, rows_of
 from tests.store_process import Died, StoreProcess, create, sync
-from tests.support import EXAMPLES, reach
-
-sys.path.insert(0, str(EXAMPLES))
-from sqlite_store import SqliteStore  # noqa: E402
+from tests.support import reach
 
 KILLS, KEYS, LIMIT = 50, 12, 80
-
-#: A folder in memory, if the system has one: to a killed process it is as good as a disk.
-MEMORY = next(filter(os.path.isdir, ["/dev/shm"]), None)
-
-
-def rows_of(path):
-    """The entries on the disk, by number. A copy of the file is read, so that the store recovers its file itself."""
-    with tempfile.TemporaryDirectory() as folder:
-        for suffix in ("", "-wal"):
-            if Path(f"{path}{suffix}").exists():
-                shutil.copy(f"{path}{suffix}", folder)
-        database = sqlite3.connect(Path(folder) / path.name)
-        rows = database.execute("SELECT number, key, clock, kind, value FROM entry ORDER BY number").fetchall()
-        database.close()
-    return [(number, key, dict(json.loads(clock)), None if kind else value) for number, key, clock, kind, value in rows]
 
 
 class Ledger:
@@ -246,30 +225,15 @@ class KillTest(unittest.TestCase):
             self.assertGreaterEqual(known.get(key, 0), counter)
 
 
-class StoreTest(unittest.TestCase):
+class StoreTest(StoreCase):
     """A store in this process."""
-
-    def setUp(self):
-        folder = tempfile.TemporaryDirectory(dir=MEMORY)
-        self.addCleanup(folder.cleanup)
-        self.path = Path(folder.name) / "1.db"
-        SqliteStore.create(self.path, 1)
-
-    def open(self, limit=100):
-        store = SqliteStore(self.path, limit)
-        self.addCleanup(store.close)
-        return store
-
-    def reopened(self, store, limit=100):
-        store.close()
-        return self.open(limit)
 
     def test_versions_of_all_kinds(self):
         store = self.open()
         store.put(b"a", b"x")
         store.put(b"a", b"", {1: 1})
         store.put(b"b", None)
-        store.accept(b"c", {9: (1 << 64) - 1, 1: 1}, bytes(65536))
+        store.accept(b"c", {9: (1 << 64) - 1, 2: 1}, bytes(65536))
         held = [store.get(key) for key in (b"a", b"b", b"c")]
         store = self.reopened(store)
         self.assertEqual([store.get(key) for key in (b"a", b"b", b"c")], held)
@@ -279,8 +243,8 @@ class StoreTest(unittest.TestCase):
     def test_rows(self):
         store = self.open()
         store.put(b"a", b"x")
-        store.accept(b"b", [(2, 3), (1, 1)], None)
-        self.assertEqual(rows_of(self.path), [(0, b"a", {1: 1}, b"x"), (1, b"b", {1: 1, 2: 3}, None)])
+        store.accept(b"b", [(3, 3), (2, 1)], None)
+        self.assertEqual(rows_of(self.path), [(0, b"a", {1: 1}, b"x"), (1, b"b", {2: 1, 3: 3}, None)])
 
     def test_refused_calls_leave_no_row(self):
         store = self.open()
@@ -346,46 +310,48 @@ class StoreTest(unittest.TestCase):
 
     def test_a_lost_file_is_not_made_anew(self):
         lost = self.path.with_name("lost.db")
-        with self.assertRaises(sqlite3.OperationalError):
+        with self.assertRaises(FileNotFoundError):
             SqliteStore(lost)
         self.assertFalse(lost.exists())
 
     def test_a_file_is_made_once(self):
         self.open().put(b"a", b"x")
-        with self.assertRaises(sqlite3.OperationalError):
+        with self.assertRaises(FileExistsError):
             SqliteStore.create(self.path, 1)
         self.assertEqual(len(rows_of(self.path)), 1)
+
+    def test_numbers_that_no_node_has(self):
+        for node in (0, 65_536):
+            with self.assertRaises(antientropy.BadClock):
+                SqliteStore.create(self.path.with_name("other.db"), node)
+        self.assertEqual([path.name for path in self.path.parent.iterdir() if "other" in path.name], [])
 
     def test_a_file_has_one_store(self):
         self.open()
         with self.assertRaises(sqlite3.OperationalError):
             self.open()
 
-    def test_a_row_that_is_gone_or_changed(self):
-        changes = ["DELETE FROM entry WHERE number = 1", "UPDATE entry SET clock = '[[1, 1]]' WHERE number = 1"]
-        for change in changes:
-            with self.subTest(change):
-                path = self.path.with_name(f"{len(change)}.db")
-                SqliteStore.create(path, 1)
-                store = SqliteStore(path)
-                for n in range(3):
-                    store.put(b"a", b"x", {1: n} if n else {})
-                store.close()
-                with closing(sqlite3.connect(path)) as database, database:
-                    database.execute(change)
-                with self.assertRaisesRegex(ValueError, "entry 1 isn't"):
-                    SqliteStore(path)
-
     def test_too_many_rows_for_the_limit(self):
         store = self.open()
         for n in range(3):
             store.put(b"%d" % n, b"")
-        with self.assertRaises(antientropy.JournalFull):
+        with self.assertRaisesRegex(ValueError, "3 versions are held, but the limit is 2"):
             self.reopened(store, limit=2)
+        self.assertEqual(len(self.open(limit=3).entries()), 3)
+
+    def test_a_smaller_limit_for_what_is_held(self):
+        store = self.open()
+        for n in range(5):
+            store.put(b"a", b"%d" % n, {1: n} if n else {})
+        store = self.reopened(store, limit=2)
+        self.assertEqual(rows_of(self.path), [(0, b"a", {1: 5}, b"4")])
+        store.put(b"b", b"x")
+        with self.assertRaises(antientropy.JournalFull):
+            store.put(b"c", b"x")
 
     def test_a_commit_is_synced(self):
         """SQLite is asked for an fsync at each commit. Whether the disk obeys isn't tested."""
-        database = self.open()._database
+        database = self.open()._file._database
         self.assertEqual(database.execute("PRAGMA journal_mode").fetchone(), ("wal",))
         self.assertEqual(database.execute("PRAGMA synchronous").fetchone(), (2,))
 

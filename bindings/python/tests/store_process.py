@@ -1,4 +1,4 @@
-"""A process of examples/sqlite_store.py, which tests drive by lines, and kill."""
+"""A process of examples/line_server.py, which tests drive by lines, and kill."""
 
 import json
 import os
@@ -8,8 +8,7 @@ import sys
 
 from tests.support import EXAMPLES, PACKAGE
 
-STORE = EXAMPLES / "sqlite_store.py"
-COMMAND = [sys.executable, "-S", STORE]
+COMMAND = [sys.executable, "-S", EXAMPLES / "line_server.py"]
 
 
 def environment(path):
@@ -70,9 +69,16 @@ class StoreProcess:
         return self._process.returncode, errors
 
 
+def run(path, *words):
+    """Runs a command without input. Returns its status and what it wrote."""
+    pipes = {"stdin": subprocess.DEVNULL, "stdout": subprocess.PIPE, "stderr": subprocess.STDOUT}
+    done = subprocess.run([*COMMAND, *words], text=True, env=environment(path), **pipes)
+    return done.returncode, done.stdout
+
+
 def create(path, node):
     """Makes the file of a store."""
-    subprocess.run([*COMMAND, "create", path, str(node)], check=True, env=environment(path))
+    assert run(path, "create", path, str(node)) == (0, "")
 
 
 def sync(store, partner, node):

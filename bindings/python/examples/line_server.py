@@ -1,0 +1,193 @@
+#!/usr/bin/env python3
+"""A program with a durable store, which answers requests by lines.
+
+    line_server.py create FILE NODE [FORMAT BITS RANGE]          makes the file of a node, whose number was never used
+    line_server.py serve FILE [LIMIT]                            answers the lines of standard input, until that ends
+    line_server.py renumber OLD FILE NODE [FORMAT BITS RANGE]    makes a file of what is readable of an old one
+
+`serve` never makes a file: a node that lost its file would begin its counters anew, and needs another number.
+"""
+
+from __future__ import annotations
+
+import json
+import sqlite3
+import sys
+from contextlib import closing
+from pathlib import Path
+from typing import Any, Callable, Dict, Iterator, List, NamedTuple, Optional, TextIO, Tuple
+
+import antientropy
+from antientropy import Receipt, Snapshot, Version
+
+from sqlite_store import Doubt, SqliteStore
+
+Pairs = List[Tuple[int, int]]
+
+
+class Call(NamedTuple):
+    """A call that a line can name, with the functions that read its arguments."""
+
+    method: Callable[..., Any]
+    readers: Tuple[Callable[[Any], Any], ...]
+
+
+class LineServer:
+    """Answers requests by a store. A request is a line with a JSON list: the name of a call, and its arguments.
+
+    So is an answer a line of JSON. Bytes are in hexadecimal, clocks are lists of pairs. A call that isn't made is
+    answered by its cause, {"refused": "StaleContext"} say, or "BadLine" if the line isn't a request. Within a sync the
+    server writes a list of asks, and reads the list of the partner's answers: null for a missing one.
+    """
+
+    def __init__(self, store: SqliteStore, lines: Iterator[str], output: TextIO) -> None:
+        self._store, self._lines, self._output = store, lines, output
+        self._offered: Optional[Snapshot] = None
+        self._offers = 0
+        self._calls: Dict[str, Call] = {
+            "put": Call(self._put, (_read_bytes, _read_value, _read_clock)),
+            "get": Call(self._get, (_read_bytes,)),
+            "accept": Call(store.accept, (_read_bytes, _read_clock, _read_value)),
+            "offer": Call(self._offer, ()),
+            "serve": Call(self._serve, (_read_asks,)),
+            "sync": Call(self._sync, (_read_number, _read_bytes)),
+            "entries": Call(self._entries, (_read_number,)),
+            "renew": Call(store.renew, ()),
+        }
+
+    def run(self) -> None:
+        """Answers until the lines end. The first line that it writes has the number of the node."""
+        self._say(self._store.node)
+        for line in self._lines:
+            self._say(self._answer(line))
+
+    def _answer(self, line: str) -> Any:
+        try:
+            call, args = self._read_request(line)
+        except (ValueError, RecursionError):
+            return {"refused": "BadLine"}
+        try:
+            return call(*args)
+        except antientropy.Refused as refused:
+            return {"refused": refused.name}
+        except Doubt as doubt:
+            return {"refused": "Doubt", "why": str(doubt)}
+
+    def _read_request(self, line: str) -> Tuple[Callable[..., Any], List[Any]]:
+        """Returns a call with its arguments. Raises ValueError if the line has none."""
+        name, *args = _read_list(json.loads(line))
+        call = self._calls.get(_read_text(name))
+        if call is None or len(args) != len(call.readers):
+            raise ValueError("there is no such call")
+        return call.method, [read(arg) for read, arg in zip(call.readers, args)]
+
+    def _say(self, said: Any) -> None:
+        print(json.dumps(said), file=self._output, flush=True)
+
+    def _put(self, key: bytes, value: Optional[bytes], context: Pairs) -> Receipt:
+        return self._store.put(key, value, context)
+
+    def _get(self, key: bytes) -> List[Any]:
+        return [_to_json(version) for version in self._store.get(key)]
+
+    def _entries(self, start: int) -> List[Any]:
+        return [[entry.number, entry.key.hex(), *_to_json(entry.version)] for entry in self._store.entries(start)]
+
+    def _offer(self) -> str:
+        """Offers a new snapshot in place of the last."""
+        if self._offered is not None:
+            self._offered.close()
+        self._offered = self._store.snapshot()
+        self._offers += 1
+        return self._offered.offer(self._offers).hex()
+
+    def _serve(self, asks: List[bytes]) -> Any:
+        """Answers asks for the last offer."""
+        if self._offered is None:
+            return {"refused": "NoOffer"}
+        return [self._offered.serve(self._offers, ask).hex() for ask in asks]
+
+    def _sync(self, partner: int, offer: bytes) -> int:
+        return self._store.sync(partner, offer, self._reach).accepted
+
+    def _reach(self, asks: List[bytes]) -> List[Optional[bytes]]:
+        """Brings asks to the partner. A line that isn't a list of answers has none."""
+        self._say([ask.hex() for ask in asks])
+        try:
+            return [_read_value(answer) for answer in _read_list(json.loads(next(self._lines, "[]")))]
+        except (ValueError, RecursionError):
+            return []
+
+
+def _to_json(version: Version) -> List[Any]:
+    return [list(version.clock.items()), None if version.value is None else version.value.hex()]
+
+
+# ---- what a line has: each function raises ValueError if it isn't that
+
+
+def _read_list(said: Any) -> List[Any]:
+    if not isinstance(said, list):
+        raise ValueError("this isn't a list")
+    return said
+
+
+def _read_text(said: Any) -> str:
+    if not isinstance(said, str):
+        raise ValueError("this isn't a text")
+    return said
+
+
+def _read_bytes(said: Any) -> bytes:
+    return bytes.fromhex(_read_text(said))
+
+
+def _read_value(said: Any) -> Optional[bytes]:
+    return None if said is None else _read_bytes(said)
+
+
+def _read_number(said: Any) -> int:
+    if type(said) is not int or said < 0 or said >> 64:
+        raise ValueError("this isn't a number of 64 bits")
+    return said
+
+
+def _read_clock(said: Any) -> Pairs:
+    return [(_read_number(node), _read_number(counter)) for node, counter in map(_read_list, _read_list(said))]
+
+
+def _read_asks(said: Any) -> List[bytes]:
+    return [_read_bytes(ask) for ask in _read_list(said)]
+
+
+def start(call: str, path: str, *words: str) -> Optional[SqliteStore]:
+    """Does what a command says. Returns the store, if it is to be served."""
+    if call == "create":
+        SqliteStore.create(Path(path), *map(int, words))
+    elif call == "renumber":
+        new, *numbers = words
+        versions = SqliteStore.renumber(Path(path), Path(new), *map(int, numbers))
+        print(f"{new} has {versions} versions of {path}")
+    elif call == "serve":
+        return SqliteStore(Path(path), *map(int, words))
+    else:
+        raise ValueError(f"{call} isn't a command")
+    return None
+
+
+def main() -> None:
+    """Makes, renumbers or serves a store, or says in one line why it can't."""
+    sys.stdin.reconfigure(errors="replace")  # type: ignore[union-attr]
+    try:
+        store = start(*sys.argv[1:])
+    except Doubt as doubt:
+        sys.exit(f"{sys.argv[2]} is in doubt, and its number isn't used again: {doubt}")
+    except (OSError, ValueError, sqlite3.Error, antientropy.Refused) as error:
+        sys.exit(f"{sys.argv[2]}: {error}")
+    if store is not None:
+        with closing(store):
+            LineServer(store, iter(sys.stdin.readline, ""), sys.stdout).run()
+
+
+if __name__ == "__main__":
+    main()
