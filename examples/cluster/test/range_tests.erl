@@ -92,6 +92,19 @@ borrowed_test_() ->
         ?assertMatch({ok, [#{value := <<"other">>}]}, versions(key(1)))
     end).
 
+%% A range that ended while a process had its replica takes it back, and forgets what wasn't on the disk. It takes no
+%% harm from stray messages.
+lent_and_ended_test_() ->
+    room:test([], fun(_) ->
+        start(),
+        {ok, Replica} = cluster_range:borrow(?RANGE),
+        {ok, new} = antientropy:accept(Replica, key(1), #{clock => #{2 => 1}, value => <<"other">>}),
+        restart(),
+        ok = cluster_range:give_back(?RANGE, Replica, {all_of, 2}),
+        cluster_range_0 ! stray,
+        ?assertEqual({ok, []}, versions(key(1)))
+    end).
+
 %% The replica isn't renewed while a process syncs into it, and the next process has to wait.
 busy_test_() ->
     room:test([{limit, 40}], fun(_) ->
