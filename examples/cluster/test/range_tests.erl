@@ -202,6 +202,21 @@ forgotten_test_() ->
         ?assertEqual({ok, [], 0, 33}, cluster_range:own(?RANGE, key(2)))
     end).
 
+%% One such version is found among few and among many.
+forgotten_among_test_() ->
+    room:test([], fun(_) ->
+        Look = fun(Count, Counter) ->
+            {ok, Replica} = antientropy:new(cluster_ring:replica_options(?RANGE)),
+            [{ok, _} = antientropy:put(Replica, 33, key(Number), <<"value">>) || Number <- lists:seq(1, Count)],
+            Copy = fun(Number, With) -> #{clock => #{33 => With, 34 => Number}, value => <<"other">>} end,
+            [{ok, new} = antientropy:accept(Replica, key(Number), Copy(Number, 1)) || Number <- lists:seq(1, Count)],
+            {ok, new} = antientropy:accept(Replica, key(Count), Copy(Count + 1, Counter)),
+            {ok, Entries} = antientropy:entries(Replica, Count),
+            cluster_replica:forgotten(Replica, 33, Entries)
+        end,
+        ?assertEqual([false, true, false, true], [Look(Count, Counter) || Count <- [3, 100], Counter <- [1, 2]])
+    end).
+
 %% While the disk is full a range refuses what would change it, and shows nothing that isn't on the disk. Then it goes
 %% on. A start needs no room.
 no_room_test_() ->
