@@ -157,9 +157,9 @@ forgotten(Replica, Life, Entries) ->
         Many -> is_any_forgotten(Replica, Life, Many)
     end.
 
-is_forgotten(Replica, Life, #{number := Number, key := Key, clock := #{Life := Counter}}) ->
+is_forgotten(Replica, Life, #{number := Number, key := Key, clock := Clock}) ->
     {ok, Top} = antientropy:top_counter(Replica, Life, Key, Number),
-    Counter > Top.
+    maps:get(Life, Clock) > Top.
 
 %% Looks for one of many in one pass over the journal.
 is_any_forgotten(Replica, Life, [#{number := First} | _] = Many) ->
