@@ -158,8 +158,9 @@ forgotten(Replica, Life, Entries) ->
     end.
 
 is_forgotten(Replica, Life, #{number := Number, key := Key, clock := Clock}) ->
+    #{Life := Counter} = Clock,
     {ok, Top} = antientropy:top_counter(Replica, Life, Key, Number),
-    maps:get(Life, Clock) > Top.
+    Counter > Top.
 
 %% Looks for one of many in one pass over the journal.
 is_any_forgotten(Replica, Life, [#{number := First} | _] = Many) ->
