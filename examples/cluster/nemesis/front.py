@@ -96,10 +96,6 @@ class Front:
         """Starts a round of a node's repair, and waits for its end."""
         return self._json(place, "PUT", "/repair", {}) is not None
 
-    def faults(self, place: int, faults: dict) -> bool:
-        """Sets the faults of a node."""
-        return self._json(place, "PUT", "/faults", faults) is not None
-
     def close(self) -> None:
         for link in self._open.values():
             link.close()

@@ -130,7 +130,7 @@ class Power:
     # ---- power cuts, after the program has ended
 
     def cut(self, chance: Optional[random.Random] = None) -> Cut:
-        """Takes back what wasn't synced: all of it, or by chance the last part of it, and one write of each file in part.
+        """Takes back what wasn't synced: all of it, or by chance the end of it, with one write of each file in part.
 
         What is left is on the disk for good.
         """
@@ -258,7 +258,7 @@ def _take_back(file: int, record: Record) -> None:
 
 
 def _tear(file: int, record: Record, chance: Optional[random.Random], cut: Cut) -> None:
-    """Takes back one change of a file, or by chance its end alone. The file's new size may be on the disk before that."""
+    """Takes back one change of a file, or by chance its end alone. The new size may be there without it."""
     written = os.pread(file, record.count, record.at) if chance and record.kind == WRITTEN else b""
     _take_back(file, record)
     if not chance or not written or chance.random() < 0.3:

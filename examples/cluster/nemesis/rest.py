@@ -9,7 +9,7 @@ from typing import Dict, Optional
 
 from .front import Front
 from .log import Log
-from .nodes import PLACES
+from .places import PLACES
 
 #: Seconds between two looks.
 LOOK_S = 0.25
@@ -36,7 +36,7 @@ def is_at_rest(front: Front) -> bool:
     roots: Dict[int, set] = {}
     for place in PLACES:
         status = front.status(place)
-        if status is None or status["hints"]["pending"]:
+        if status is None or status["life"] is None or status["hints"]["pending"]:
             return False
         for it in status["ranges"]:
             roots.setdefault(it["range"], set()).add(it["root"])

@@ -91,19 +91,25 @@ class Bytes(PowerCase):
         self.assertEqual(self.held(), {"a": b"onetwo"})
 
     def test_overwritten_bytes_come_back(self):
-        self.run_program("synced('a', b'0123456789'); file = opened('a'); os.pwrite(file, b'abc', 3); os.write(file, b'xy')")
+        self.run_program(
+            "synced('a', b'0123456789'); file = opened('a'); os.pwrite(file, b'abc', 3); os.write(file, b'xy')"
+        )
         self.assertEqual(self.held(), {"a": b"xy2abc6789"})
         self.power.cut()
         self.assertEqual(self.held(), {"a": b"0123456789"})
 
     def test_parts_of_a_write_that_goes_beyond_the_end(self):
-        self.run_program("synced('a', b'0123'); file = opened('a'); os.lseek(file, 2, 0); os.writev(file, [b'ab', b'cd'])")
+        self.run_program(
+            "synced('a', b'0123'); file = opened('a'); os.lseek(file, 2, 0); os.writev(file, [b'ab', b'cd'])"
+        )
         self.assertEqual(self.held(), {"a": b"01abcd"})
         self.power.cut()
         self.assertEqual(self.held(), {"a": b"0123"})
 
     def test_what_was_cut_off_comes_back(self):
-        self.run_program("synced('a', b'0123456789'); file = opened('a'); os.ftruncate(file, 4); os.pwrite(file, b'x', 6)")
+        self.run_program(
+            "synced('a', b'0123456789'); file = opened('a'); os.ftruncate(file, 4); os.pwrite(file, b'x', 6)"
+        )
         self.assertEqual(self.held(), {"a": b"0123\0\0x"})
         self.power.cut()
         self.assertEqual(self.held(), {"a": b"0123456789"})
@@ -143,8 +149,10 @@ class Bytes(PowerCase):
         whole = b"".join(b"%d" % number * 9 for number in range(1, 9))
         seen = set()
         for seed in range(12):
-            self.run_program("synced('a', b''); file = opened('a', os.O_TRUNC)\n"
-                             "for n in range(1, 9): os.write(file, b'%d' % n * 9)")
+            self.run_program(
+                "synced('a', b''); file = opened('a', os.O_TRUNC)\n"
+                "for n in range(1, 9): os.write(file, b'%d' % n * 9)"
+            )
             self.assertEqual(self.held(), {"a": whole})
             self.power.cut(random.Random(seed))
             left = self.held()["a"].rstrip(b"\0")
@@ -162,7 +170,9 @@ class Bytes(PowerCase):
             "for n in range(300, 400): base.execute('INSERT INTO t VALUES (?)', (n,))\n"
         )
         self.power.cut()
-        said = self.run_program("base = sqlite3.connect('base'); print(*base.execute('SELECT count(*), max(n) FROM t').fetchone())")
+        said = self.run_program(
+            "base = sqlite3.connect('base'); print(*base.execute('SELECT count(*), max(n) FROM t').fetchone())"
+        )
         self.assertEqual(said, ["300", "299"])
 
 
@@ -352,19 +362,24 @@ class Faults(PowerCase):
 
     def test_what_is_removed_gives_room(self):
         self.power.fill(4)
-        said = self.run_program("os.write(opened('a'), b'0123'); os.unlink('a'); print(os.write(opened('b'), b'012345'))")
+        said = self.run_program(
+            "os.write(opened('a'), b'0123'); os.unlink('a'); print(os.write(opened('b'), b'012345'))"
+        )
         self.assertEqual(said, ["4"])
 
     def test_a_sync_that_fails(self):
         self.power.fail_syncs(1)
-        self.assertEqual(self.run_program("file = write('a', b'one'); refused(os.fsync, file); os.fsync(file); sync()"), ["EIO"])
+        said = self.run_program("file = write('a', b'one'); refused(os.fsync, file); os.fsync(file); sync()")
+        self.assertEqual(said, ["EIO"])
         self.power.cut()
         self.assertEqual(self.held(), {"a": b"one"})
 
     def test_syncs_that_all_fail(self):
         self.run_program("synced('a', b'')")
         self.power.fail_syncs()
-        said = self.run_program("file = write('a', b'one'); refused(os.fsync, file); refused(os.fdatasync, file); refused(sync)")
+        said = self.run_program(
+            "file = write('a', b'one'); refused(os.fsync, file); refused(os.fdatasync, file); refused(sync)"
+        )
         self.assertEqual(said, ["EIO", "EIO", "EIO"])
         self.assertEqual(self.power.counts().failed, 3)
         self.power.cut()
@@ -372,7 +387,9 @@ class Faults(PowerCase):
 
     def test_a_slow_sync_that_is_healed_at_once(self):
         self.power.slow_syncs(250)
-        child = self.begin("file = write('a', b'one'); os.fsync(file); print('done', flush=True); time.sleep(0.5); os.fsync(file)")
+        child = self.begin(
+            "file = write('a', b'one'); os.fsync(file); print('done', flush=True); time.sleep(0.5); os.fsync(file)"
+        )
         begun = time.monotonic()
         self.assertEqual(child.stdout.readline(), b"done\n")
         self.assertGreater(time.monotonic() - begun, 0.25)
