@@ -95,8 +95,7 @@ class Deeds:
             self.nodes.resume(place)
         self.links.heal()
         self.relieve()
-        self.nodes.start(self.nodes.down())
-        self.nodes.await_ready(PLACES)
+        self.nodes.bring_up()
         self._check_lost()
         if not self._may_lose and not self.is_over():
             self.clients.gate.rest()
@@ -147,6 +146,13 @@ class Deeds:
             self._lost.append((place, op, self.nodes.life(place)))
         self.wait(0.1, 0.5)
         self.restart()
+
+    def await_life(self, place: int) -> None:
+        """Waits a while until a node gives up the life that it had when its disk was lost."""
+        before = max((life for lost, _, life in self._lost if lost == place), default=0)
+        until = time.monotonic() + START_S
+        while self.nodes.life(place) <= before and time.monotonic() < until:
+            time.sleep(0.05)
 
     def _check_lost(self) -> None:
         """Expects that nodes whose disks were lost have a new life, or have all, and show what they kept aside."""

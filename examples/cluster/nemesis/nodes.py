@@ -31,6 +31,9 @@ PORTS_EACH = len(PLACES) + 2
 #: Seconds that a process may take to start, on a machine that is busy, and that epmd may take to end.
 START_S, END_S = 120.0, 5.0
 
+#: Seconds between two looks at processes that start.
+LOOK_S = 0.05
+
 
 class NoStart(Exception):
     """A build or a process that didn't start."""
@@ -128,18 +131,23 @@ class Nodes:
             self.life(place)
             self._nodes[place] = Node(place, [str(word) for word in words], environment, errors, self._log)
 
-    def await_ready(self, places: Sequence[int], most_s: float = START_S) -> None:
+    def await_ready(self, places: Sequence[int]) -> None:
         """Waits until nodes serve."""
-        until = time.monotonic() + most_s
+        until = time.monotonic() + START_S
         for place in places:
             node = self._nodes[place]
             if not node.await_ready(max(0.0, until - time.monotonic())):
                 how = "ended" if node.has_ended else "isn't ready"
                 raise NoStart(f"the node of place {place} {how}: see node-{place}.err")
 
-    def node(self, place: int) -> Node:
-        """Returns the process of a place."""
-        return self._nodes[place]
+    def bring_up(self) -> None:
+        """Starts all nodes that are down, and those that end by themselves again, until all serve."""
+        until = time.monotonic() + START_S
+        while self.down() or not all(_serves(node) for node in self._nodes.values()):
+            if time.monotonic() > until:
+                raise NoStart(f"only the places {self.up()} serve")
+            self.start(self.down())
+            time.sleep(LOOK_S)
 
     def life(self, place: int) -> int:
         """Returns the last life that a place had, 0 before the first."""

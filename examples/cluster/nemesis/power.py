@@ -36,6 +36,9 @@ HEAD = struct.Struct("=5q")
 CONTROL = struct.Struct("=6q")
 NO_FAULTS = (-1, 0, 0)
 
+#: Bytes that a disk writes at once.
+SECTOR = 512
+
 
 class Record(NamedTuple):
     """A change that was recorded before it was made."""
@@ -258,12 +261,18 @@ def _take_back(file: int, record: Record) -> None:
 
 
 def _tear(file: int, record: Record, chance: Optional[random.Random], cut: Cut) -> None:
-    """Takes back one change of a file, or by chance its end alone. The new size may be there without it."""
+    """Takes back one change of a file, or by chance its end alone. The new size may be there without it.
+
+    A sector that was there before is written whole or not at all.
+    """
     written = os.pread(file, record.count, record.at) if chance and record.kind == WRITTEN else b""
     _take_back(file, record)
     if not chance or not written or chance.random() < 0.3:
         return
     cut.torn += 1
-    os.pwrite(file, written[: chance.randrange(len(written))], record.at)
+    end = record.at + chance.randrange(len(written))
+    if end < record.size:
+        end = max(record.at, end - end % SECTOR)
+    os.pwrite(file, written[: end - record.at], record.at)
     if chance.random() < 0.3:
         os.ftruncate(file, max(record.size, record.at + len(written)))

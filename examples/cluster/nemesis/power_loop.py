@@ -89,8 +89,7 @@ def cut_until_done(nodes: Nodes, chance: random.Random, count: Count, log: Log) 
             time.sleep(chance.uniform(0.1, 1.5))
             nodes.cut(places, chance)
             cuts += 1
-        nodes.start(places)
-        nodes.await_ready(PLACES)
+        nodes.bring_up()
     log.write(op="quiet")
     return cuts
 

@@ -204,7 +204,8 @@ class Nemesis(Deeds):
     def _old(self) -> None:
         """Puts an old disk back, and asks its node at once to put again what it put since then.
 
-        Nothing is in progress then: what no other disk has yet can't be missed by anyone.
+        Its node may start cut off, and then nobody asks it for anything until it has links again. All is at rest when
+        it ends: what no other disk has yet can't be missed by anyone.
         """
         if not self.can_lose():
             return
@@ -219,9 +220,12 @@ class Nemesis(Deeds):
         probes = Probes(self.clients.directed, place, self.chance)
         probes.put()
         self.come_to_rest()
+        if self.chance.random() < 0.5:
+            self.cut_off(links.halves([place]), is_instant=True)
         self.lose(place, "old", lambda disk: damage.put_back(self._old_disk, disk))
+        self.links.heal()
         probes.put_again()
-        self.clients.gate.work()
+        self.await_life(place)
         probes.look()
 
     def _hints(self) -> None:

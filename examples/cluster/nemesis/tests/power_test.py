@@ -160,6 +160,12 @@ class Bytes(PowerCase):
             seen.add(len(left) % 9)
         self.assertGreater(len(seen), 3)
 
+    def test_a_sector_is_written_whole_or_not_at_all(self):
+        for seed in range(12):
+            self.run_program("synced('a', b'0' * 600); os.pwrite(opened('a'), b'1' * 20, 8)")
+            self.power.cut(random.Random(seed))
+            self.assertIn(self.held()["a"][8:28], (b"0" * 20, b"1" * 20))
+
     def test_a_database(self):
         self.run_program(
             "base = sqlite3.connect('base', isolation_level=None)\n"
@@ -198,6 +204,11 @@ class Names(PowerCase):
         self.power.cut()
         self.assertEqual(self.held(), {})
         self.assertEqual([it.name for it in self.folder.with_name("disk.shadow").iterdir()], ["control"])
+
+    def test_a_removed_file_whose_folder_was_not_synced(self):
+        self.run_program("os.mkdir('d'); sync(); synced('d/a', b'one'); sync('d'); os.unlink('d/a'); sync()")
+        self.power.cut()
+        self.assertEqual(self.held(), {"d/a": b"one"})
 
     def test_a_replaced_file_comes_back(self):
         self.run_program("synced('a', b'old'); os.fsync(write('b', b'new')); os.rename('b', 'a')")
