@@ -65,6 +65,11 @@ class Deeds:
         """Chooses places."""
         return self.chance.sample(PLACES, count)
 
+    def some_up(self, count: int) -> List[int]:
+        """Chooses places whose nodes serve, if there are so many; otherwise any."""
+        up = self.nodes.up()
+        return self.chance.sample(up if len(up) >= count else PLACES, count)
+
     # ---- messages
 
     def cut_off(self, drops: Sequence[links.Drop], is_instant: Optional[bool] = None) -> None:

@@ -75,7 +75,7 @@ class Nemesis(Deeds):
 
     def _pause(self) -> None:
         """Pauses a node, which is late with its answers then."""
-        place = self.chance.choice(self.nodes.up())
+        (place,) = self.some_up(1)
         self.nodes.pause(place)
         self.wait(1.0, 4.0)
         self.nodes.resume(place)
@@ -83,7 +83,7 @@ class Nemesis(Deeds):
 
     def _kill(self) -> None:
         """Kills one node or two, often while a slow disk keeps entries of a few keys waiting."""
-        places = self.chance.sample(self.nodes.up(), self.chance.choice((1, 1, 2)))
+        places = self.some_up(self.chance.choice((1, 1, 2)))
         self.strain(places)
         self.nodes.kill(places)
         self.relieve()
