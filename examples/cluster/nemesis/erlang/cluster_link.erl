@@ -14,7 +14,6 @@
 -export([serve/6]).
 
 -define(VARIABLE, "NEMESIS_LINKS").
--define(MOST_BYTES, 65536).
 
 -type ms() :: non_neg_integer().
 -type faults() :: #{
@@ -29,10 +28,10 @@
 call(Place, Module, Function, Arguments, LimitMs) ->
     Here = cluster_ring:here(),
     Until = erlang:monotonic_time(millisecond) + LimitMs,
-    pass(Here, Place, Until),
+    pass(faults(), Here, Place, Until),
     Served = [Here, Place, Module, Function, Arguments, LimitMs],
     Answer = erpc:call(cluster_ring:node_of(Place), ?MODULE, serve, Served, LimitMs),
-    pass(Place, Here, Until),
+    pass(faults(), Place, Here, Until),
     Answer.
 
 %% @private
@@ -40,15 +39,15 @@ call(Place, Module, Function, Arguments, LimitMs) ->
 -spec serve(cluster_ring:place(), cluster_ring:place(), module(), Function :: atom(), Arguments :: [term()], ms()) ->
     term().
 serve(From, Here, Module, Function, Arguments, LimitMs) ->
-    delay(From),
-    pass(From, Here, erlang:monotonic_time(millisecond) + LimitMs),
+    #{slow := Slow} = Faults = faults(),
+    delay(From, Slow),
+    pass(Faults, From, Here, erlang:monotonic_time(millisecond) + LimitMs),
     Answer = cluster_wire:serve(From, Module, Function, Arguments),
-    delay(Here),
+    delay(Here, Slow),
     Answer.
 
 %% Raises an error if messages from a place to another are dropped: when the call's time is over, or at once.
-pass(From, To, Until) ->
-    #{drop := Drops, instant := IsInstant} = faults(),
+pass(#{drop := Drops, instant := IsInstant}, From, To, Until) ->
     case {lists:member({From, To}, Drops), IsInstant} of
         {false, _} ->
             ok;
@@ -59,14 +58,16 @@ pass(From, To, Until) ->
             erlang:error({erpc, timeout})
     end.
 
-delay(Place) ->
-    #{slow := Slow} = faults(),
-    timer:sleep(maps:get(Place, Slow, 0)).
+delay(Place, Slow) ->
+    case Slow of
+        #{Place := Ms} -> timer:sleep(Ms);
+        _ -> ok
+    end.
 
-%% Returns the faults that the file has now: none without a file. What was read last is kept with what it means.
+%% Returns the faults that the file has now. What was read last is kept with what it means.
 -spec faults() -> faults().
 faults() ->
-    Text = read(os:getenv(?VARIABLE)),
+    {ok, Text} = prim_file:read_file(os:getenv(?VARIABLE)),
     case persistent_term:get(?MODULE, none) of
         {Text, Faults} ->
             Faults;
@@ -74,17 +75,6 @@ faults() ->
             Faults = lists:foldl(fun add/2, #{drop => [], slow => #{}, instant => false}, lines(Text)),
             persistent_term:put(?MODULE, {Text, Faults}),
             Faults
-    end.
-
-read(false) ->
-    <<>>;
-read(File) ->
-    {ok, Device} = file:open(File, [raw, read, binary]),
-    Read = file:read(Device, ?MOST_BYTES),
-    ok = file:close(Device),
-    case Read of
-        {ok, Text} -> Text;
-        eof -> <<>>
     end.
 
 lines(Text) ->
