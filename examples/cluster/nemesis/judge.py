@@ -161,6 +161,20 @@ def lives_are_used_once(case: Case) -> Iterator[Breach]:
             yield Breach(f"{mark} of {key} has a clock of a life that never began: {clock}", [line])
 
 
+def lives_end_with_a_loss(case: Case) -> Iterator[Breach]:
+    """A place has a new life only if its disk has lost something: no kill and no power cut ends a life."""
+    last: Dict[int, int] = {}
+    lossy: Set[int] = set()
+    for event in case.history.events:
+        if event.op in LOSSES:
+            lossy.add(event.place)
+        elif event.op == "life" and last.get(event.place) != event.life:
+            if event.place in last and event.place not in lossy:
+                yield Breach(f"the life {last[event.place]} ended, and its disk had lost nothing", [event.line])
+            last[event.place] = event.life
+            lossy.discard(event.place)
+
+
 def lost_lives_put_nothing(case: Case) -> Iterator[Breach]:
     """A life that ended since its disk was lost, damaged or old put nothing after that.
 
@@ -248,6 +262,7 @@ RULES: Tuple[Rule, ...] = (
     clocks_differ,
     replicas_are_equal,
     lives_are_used_once,
+    lives_end_with_a_loss,
     lost_lives_put_nothing,
     nodes_end_when_they_are_ended,
     what_was_expected_held,

@@ -10,6 +10,7 @@ PUT = "held values were put"
 CLOCKS = "clocks differ"
 EQUAL = "replicas are equal"
 LIVES = "lives are used once"
+END = "lives end with a loss"
 LOST = "lost lives put nothing"
 ENDS = "nodes end when they are ended"
 EXPECTED = "what was expected held"
@@ -201,11 +202,21 @@ class Lives(JudgeCase):
         self.assert_broken(self.run_with_lives(*events, last=65))
 
     def test_a_life_that_goes_on_after_another(self):
-        events = event("life", place=1, life=65), event("life", place=1, life=33)
+        loss = event("damage", place=1, life=33)
+        events = loss, event("life", place=1, life=65), loss, event("life", place=1, life=33)
         self.assert_broken(self.run_with_lives(*events), LIVES)
 
+    def test_a_life_that_ends_without_a_loss(self):
+        events = event("cut", place=1), event("damage", place=2, life=34), event("life", place=1, life=65)
+        self.assert_broken(self.run_with_lives(*events, last=65), END)
+
+    def test_two_lives_that_end_with_one_loss(self):
+        events = event("old", place=1, life=33), event("life", place=1, life=65), event("life", place=1, life=97)
+        self.assert_broken(self.run_with_lives(*events, last=97), END)
+
     def test_a_life_of_another_place(self):
-        self.assert_broken(self.run_with_lives(event("life", place=1, life=66), last=66), LIVES)
+        events = event("damage", place=1, life=33), event("life", place=1, life=66)
+        self.assert_broken(self.run_with_lives(*events, last=66), LIVES)
 
     def test_an_incarnation_that_counts_from_zero(self):
         run = Run()
@@ -215,8 +226,10 @@ class Lives(JudgeCase):
         self.assert_broken(run, LIVES)
 
     def test_the_last_incarnation(self):
-        self.assert_broken(self.run_with_lives(event("life", place=1, life=1 + 32 * 2047), last=1 + 32 * 2047))
-        self.assert_broken(self.run_with_lives(event("life", place=1, life=1 + 32 * 2048), last=1 + 32 * 2048), LIVES)
+        for incarnation, rules in ((2047, []), (2048, [LIVES])):
+            life = 1 + 32 * incarnation
+            events = event("damage", place=1, life=33), event("life", place=1, life=life)
+            self.assert_broken(self.run_with_lives(*events, last=life), *rules)
 
     def test_a_node_with_another_life(self):
         self.assert_broken(self.run_with_lives(last=65), LIVES)
