@@ -10,7 +10,7 @@ PUT = "held values were put"
 CLOCKS = "clocks differ"
 EQUAL = "replicas are equal"
 LIVES = "lives are used once"
-END = "lives end with a loss"
+ENDED = "lives end with a loss"
 LOST = "lost lives put nothing"
 ENDS = "nodes end when they are ended"
 EXPECTED = "what was expected held"
@@ -208,11 +208,11 @@ class Lives(JudgeCase):
 
     def test_a_life_that_ends_without_a_loss(self):
         events = event("cut", place=1), event("damage", place=2, life=34), event("life", place=1, life=65)
-        self.assert_broken(self.run_with_lives(*events, last=65), END)
+        self.assert_broken(self.run_with_lives(*events, last=65), ENDED)
 
     def test_two_lives_that_end_with_one_loss(self):
         events = event("old", place=1, life=33), event("life", place=1, life=65), event("life", place=1, life=97)
-        self.assert_broken(self.run_with_lives(*events, last=97), END)
+        self.assert_broken(self.run_with_lives(*events, last=97), ENDED)
 
     def test_a_life_of_another_place(self):
         events = event("damage", place=1, life=33), event("life", place=1, life=66)
@@ -364,7 +364,7 @@ class Reads(JudgeCase):
     def test_a_read_after_a_disk_was_damaged(self):
         self.assert_broken(self.lost(1.8, put(*MILK), get(t=2.0), everywhere=[MILK], op="damage"))
         self.assert_broken(self.lost(1.8, put(*MILK), get(t=2.0), everywhere=[MILK], op="old"))
-        self.assert_broken(self.lost(1.8, put(*MILK), get(t=2.0), everywhere=[MILK], op="cut"), READS)
+        self.assert_broken(self.lost(1.8, put(*MILK), get(t=2.0), everywhere=[MILK], op="cut"), ENDED, READS)
 
     def test_a_read_after_one_of_three_disks_was_lost(self):
         self.assert_broken(self.lost(1.8, put(*MILK, on=[1, 2, 3]), get(t=2.0), everywhere=[MILK]), READS)
