@@ -28,18 +28,49 @@ get(Key) ->
 %% @doc Returns the counts of this node, as they are written to JSON.
 -spec status() -> cluster_json:json().
 status() ->
-    #{rounds := Rounds, keys := Keys, bytes := Bytes} = cluster_repair:count(),
-    #{
+    Asides = [#{folder => text(Folder), why => text(Why)} || {Folder, Why} <- cluster_folder:asides()],
+    Status = #{
         place => cluster_ring:here(),
-        life => cluster_settings:life(),
-        ranges => [range_status(cluster_range:counts(Range)) || Range <- cluster_ring:held()],
-        hints => cluster_hints:count(),
-        slots => slots_status(cluster_slots:count()),
-        rounds => Rounds,
-        keys_repaired => Keys,
-        bytes_repaired => Bytes,
+        life => life(),
+        ready => cluster_life:is_ready(),
+        full => cluster_space:is_full(),
+        aside => Asides,
         down => cluster_wire:down()
-    }.
+    },
+    maps:merge(Status, status_of_store()).
+
+life() ->
+    case cluster_life:number() of
+        none -> null;
+        Number -> Number
+    end.
+
+text(String) ->
+    unicode:characters_to_binary(String).
+
+%% The counts of what runs as long as there is a life.
+status_of_store() ->
+    try
+        #{rounds := Rounds, keys := Keys, bytes := Bytes} = cluster_repair:count(),
+        #{
+            ranges => [range_status(cluster_range:counts(Range)) || Range <- cluster_ring:held()],
+            hints => cluster_hints:count(),
+            slots => slots_status(cluster_slots:count()),
+            rounds => Rounds,
+            keys_repaired => Keys,
+            bytes_repaired => Bytes
+        }
+    catch
+        exit:_ ->
+            #{
+                ranges => [],
+                hints => #{pending => 0, delivered => 0},
+                slots => #{target => 0, lent => 0, free => 0, p99_micros => null},
+                rounds => 0,
+                keys_repaired => 0,
+                bytes_repaired => 0
+            }
+    end.
 
 range_status(#{root := null} = Counts) -> Counts;
 range_status(#{root := Root} = Counts) -> Counts#{root := hex(Root)}.
@@ -89,7 +120,10 @@ table_row(Place, Status) ->
     } = Status,
     Entries = lists:sum([Count || #{entries := Count} <- Ranges]),
     Counts = [Place, Life, Entries, Rounds, Keys, Bytes, Pending, Delivered, Target],
-    [integer_to_list(Count) || Count <- Counts] ++ [lists:join($,, [integer_to_list(Other) || Other <- Down])].
+    [count_text(Count) || Count <- Counts] ++ [lists:join($,, [integer_to_list(Other) || Other <- Down])].
+
+count_text(null) -> "-";
+count_text(Count) -> integer_to_list(Count).
 
 table_line(Cells) ->
     [[io_lib:format("~11ts", [lists:flatten(Cell)]) || Cell <- Cells], $\n].
@@ -100,7 +134,7 @@ dump() ->
     #{pending := Pending} = cluster_hints:count(),
     #{
         place => cluster_ring:here(),
-        life => cluster_settings:life(),
+        life => life(),
         ranges => [range_dump(Range, cluster_range:dump(Range)) || Range <- cluster_ring:held()],
         pending => Pending
     }.

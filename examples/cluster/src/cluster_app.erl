@@ -2,21 +2,24 @@
 -module(cluster_app).
 -behaviour(application).
 
--export([boot/0]).
+-export([boot/0, refuse/1]).
 -export([start/2, stop/1]).
 
-%% @doc Starts the application, and the node ends with it. Prints `ready' when it serves.
+%% @doc Starts the application, and the node ends with it. {@link cluster_life} prints `ready' when it serves.
 -spec boot() -> ok.
 boot() ->
+    ok = cluster_report:install(),
     ok = lists:foreach(fun load/1, [inets, antientropy, cluster]),
-    case cluster_life:claim(cluster_settings:folder(), cluster_settings:life()) of
-        ok ->
-            {ok, _} = application:ensure_all_started(cluster, permanent),
-            io:put_chars("ready\n");
-        {error, Reason} ->
-            io:format(standard_error, "the node can't start: ~tp~n", [Reason]),
-            erlang:halt(1)
+    case application:ensure_all_started(cluster, permanent) of
+        {ok, _} -> ok;
+        {error, Reason} -> refuse(["the node can't start: ", cluster_report:text(Reason)])
     end.
+
+%% @doc Ends the node with a line that says why it doesn't start.
+-spec refuse(Why :: unicode:chardata()) -> no_return().
+refuse(Why) ->
+    io:format(standard_error, "~ts~n", [Why]),
+    erlang:halt(1).
 
 %% Loads the modules of an application, before many requests at once ask for them.
 load(Application) ->

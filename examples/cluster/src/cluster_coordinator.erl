@@ -16,38 +16,46 @@
 -type refused() :: {refused, Name :: atom()} | {perhaps, Name :: atom()}.
 %% A put that is refused by `perhaps' may have happened.
 
-%% @doc Puts a version of a key. Refused: `bad_key', what {@link cluster_range:put/4} refuses, `down' (no holder, or too
-%% few nodes, answered).
+%% @doc Puts a version of a key. Refused: `starting' (this node), `bad_key', what {@link cluster_range:put/4} refuses,
+%% `down' (no holder, or too few nodes, answered).
 -spec put(Key :: binary(), antientropy:value(), Context :: antientropy:clock_like()) -> {ok, stored()} | refused().
 put(Key, Value, Context) ->
     coordinate(Key, put_here, [Key, Value, Context]).
 
-%% @doc Returns the versions of a key. Refused: `bad_key', what {@link cluster_range:read/3} refuses, `down'.
+%% @doc Returns the versions of a key. Refused: `starting', `bad_key', what {@link cluster_range:read/4} refuses,
+%% `down'.
 -spec get(Key :: binary()) -> {ok, found()} | refused().
 get(Key) ->
     coordinate(Key, get_here, [Key]).
 
 %% Calls a function of this module at a holder of a key: this node, or the first that is up.
 coordinate(Key, Function, Arguments) ->
-    case cluster_ring:range(Key) of
-        {ok, Range} ->
+    case {cluster_life:is_ready(), cluster_ring:range(Key)} of
+        {true, {ok, Range}} ->
             Holders = cluster_ring:holders(Range),
             case lists:member(cluster_ring:here(), Holders) of
                 true -> apply(?MODULE, Function, [Range | Arguments]);
-                false -> hand_on(cluster_wire:up_first(Holders), Function, [Range | Arguments], refused)
+                false -> hand_on(cluster_wire:up_first(Holders), Function, [Range | Arguments], {refused, down})
             end;
-        {error, Name} ->
-            {refused, Name}
+        {true, {error, Name}} ->
+            {refused, Name};
+        {false, _} ->
+            {refused, starting}
     end.
 
-%% Hands a request on to the first holder that answers. One that doesn't answer in time may have done it.
-hand_on([], _, _, Refusal) ->
-    {Refusal, down};
-hand_on([Holder | Holders], Function, Arguments, Refusal) ->
+%% Hands a request on to the first holder that can do it. One that doesn't answer in time may have done it.
+hand_on([], _, _, Refused) ->
+    Refused;
+hand_on([Holder | Holders], Function, Arguments, {Refusal, _}) ->
     case cluster_wire:call(Holder, ?MODULE, Function, Arguments, ?CALLS_IN_A_ROW * cluster_wire:limit_ms()) of
-        {ok, {refused, Name}} -> {Refusal, Name};
-        {ok, Answer} -> Answer;
-        down -> hand_on(Holders, Function, Arguments, perhaps)
+        {ok, {refused, Name}} when Name =:= starting; Name =:= disk_full ->
+            hand_on(Holders, Function, Arguments, {Refusal, Name});
+        {ok, {refused, Name}} ->
+            {Refusal, Name};
+        {ok, Answer} ->
+            Answer;
+        down ->
+            hand_on(Holders, Function, Arguments, {perhaps, down})
     end.
 
 %% @private
@@ -56,13 +64,23 @@ hand_on([Holder | Holders], Function, Arguments, Refusal) ->
     {ok, stored()} | refused().
 put_here(Range, Key, Value, Context) ->
     Begun = erlang:monotonic_time(microsecond),
-    case cluster_range:put(Range, Key, Value, Context) of
+    Life = cluster_life:number(),
+    case cluster_life:is_ready() andalso cluster_range:put(Range, Key, Value, Context) of
         {ok, Version} ->
             Stored = spread(Range, Key, Version),
             ok = cluster_slots:sample(erlang:monotonic_time(microsecond) - Begun),
-            Stored;
+            unless_lost(Life, Stored);
         {error, Name} ->
-            {refused, Name}
+            {refused, Name};
+        false ->
+            {refused, starting}
+    end.
+
+%% Nothing is acknowledged under a life that was given up meanwhile.
+unless_lost(Life, Stored) ->
+    case cluster_life:number() of
+        Life -> Stored;
+        _ -> {perhaps, down}
     end.
 
 %% Copies a version to the other holders, all at once, and answers when enough nodes have it. The others go on.
@@ -79,10 +97,25 @@ spread(Range, Key, #{clock := Clock} = Version) ->
 
 %% Brings a version to a holder, otherwise to a carrier. Returns the place on whose disk it is.
 copy_or_hint(Range, Holder, Key, Version) ->
-    case cluster_wire:call(Holder, cluster_range, copies, [Range, [{Key, Version}]]) of
-        {ok, [{ok, _}]} -> {ok, Holder};
-        {ok, [{error, _}]} -> none;
+    case cluster_wire:call(Holder, cluster_range, copy, [Range, Key, Version]) of
+        {ok, {ok, new}} -> {ok, Holder};
+        {ok, {ok, {known, Row}}} -> known(Range, Holder, Key, Version, Row);
+        {ok, {error, disk_full}} -> hint(carriers(Range, Holder), Holder, Key, Version);
+        {ok, {error, _}} -> none;
         down -> hint(carriers(Range, Holder), Holder, Key, Version)
+    end.
+
+%% Judges a holder that says that it has a version already, by its row.
+known(Range, Holder, Key, Version, Row) ->
+    {ok, Own, Top, Life} = cluster_range:own(Range, Key),
+    case cluster_known:judge(Version, Row, Own, Life, Top) of
+        counts ->
+            {ok, Holder};
+        unseen ->
+            none;
+        forgotten ->
+            ok = cluster_life:lost(Life, "place " ++ integer_to_list(Holder) ++ " has a later version of this life"),
+            none
     end.
 
 %% The carriers for a holder: each holder has another one first.
@@ -107,25 +140,26 @@ hint([Carrier | Carriers], Holder, Key, Version) ->
 %% @doc Reads the rows of enough holders into this node's range, and returns the versions that it holds then.
 -spec get_here(cluster_ring:range(), Key :: binary()) -> {ok, found()} | refused().
 get_here(Range, Key) ->
+    case cluster_life:is_ready() of
+        true -> get_enough(Range, Key);
+        false -> {refused, starting}
+    end.
+
+%% The range of a new life may not count as one of R yet.
+get_enough(Range, Key) ->
     {_, R, _} = cluster_settings:quorums(),
     Read = fun(Holder) -> row(Range, Holder, Key) end,
-    IsEnough = fun(Rows) -> length(Rows) + 1 >= R end,
+    IsEnough = fun(Rows) -> length(Rows) >= R orelse (cluster_range:is_joined(Range) andalso length(Rows) + 1 >= R) end,
     Rows = gather(Read, cluster_ring:partners(Range), IsEnough),
-    case IsEnough(Rows) of
-        true -> read(Range, Key, Rows);
-        false -> {refused, down}
+    case cluster_range:read(Range, Key, Rows, R) of
+        {ok, Versions} -> {ok, #{coordinator => cluster_ring:here(), versions => Versions}};
+        {error, Name} -> {refused, Name}
     end.
 
 row(Range, Holder, Key) ->
     case cluster_wire:call(Holder, cluster_range, row, [Range, Key]) of
         {ok, {ok, Row}} -> {ok, Row};
         _ -> none
-    end.
-
-read(Range, Key, Rows) ->
-    case cluster_range:read(Range, Key, Rows) of
-        {ok, Versions} -> {ok, #{coordinator => cluster_ring:here(), versions => Versions}};
-        {error, Name} -> {refused, Name}
     end.
 
 %% Runs a function for several places at once, each in a process, and returns what those found that were first, until

@@ -24,6 +24,8 @@ wake(Owner) ->
 %% @private
 -spec init([]) -> {ok, state()}.
 init([]) ->
+    %% The processes that hand hints on end with this one: their numbers are of its life.
+    false = process_flag(trap_exit, true),
     {ok, _} = timer:send_interval(?EVERY_MS, wake_all),
     {ok, #{}}.
 
@@ -40,19 +42,21 @@ handle_info(wake_all, State) ->
     Up = cluster_ring:others() -- cluster_wire:down(),
     {noreply, lists:foldl(fun begin_one/2, State, Up)};
 handle_info({'DOWN', Monitor, process, _, _}, State) ->
-    {noreply, maps:remove(Monitor, State)}.
+    {noreply, maps:remove(Monitor, State)};
+handle_info(_, State) ->
+    {noreply, State}.
 
-%% Begins the hand-off to an owner, unless one is in progress.
+%% Begins the hand-off to an owner, unless one is in progress. A confirmation needs room on the disk.
 begin_one(Owner, State) ->
-    case lists:member(Owner, maps:values(State)) of
+    case lists:member(Owner, maps:values(State)) orelse cluster_space:is_full() of
         true -> State;
-        false -> State#{element(2, spawn_monitor(fun() -> hand_off(Owner, 0) end)) => Owner}
+        false -> State#{element(2, spawn_opt(fun() -> hand_off(Owner, 0) end, [link, monitor])) => Owner}
     end.
 
 %% Hands on the hints of an owner after a number, some at a time, until none is left or the owner is down.
 hand_off(Owner, After) ->
     case cluster_hints:pending(Owner, After, ?MOST_AT_ONCE) of
-        [] -> ok;
+        [] -> true;
         Hints -> hand_off_some(Owner, Hints)
     end.
 
@@ -62,11 +66,10 @@ hand_off_some(Owner, Hints) ->
     ok = cluster_slots:give_back(),
     case Delivered of
         {ok, Outcomes} ->
-            ok = cluster_hints:confirm(Outcomes),
             #{number := Last} = lists:last(Hints),
-            hand_off(Owner, Last);
+            cluster_hints:confirm(Outcomes) =:= ok andalso hand_off(Owner, Last);
         down ->
-            ok
+            false
     end.
 
 %% Delivers hints, and returns the outcome of each that the owner has on its disk.

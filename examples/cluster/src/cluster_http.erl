@@ -6,21 +6,35 @@
 
 -include_lib("inets/include/httpd.hrl").
 
+-define(TRIES, 40).
+-define(AGAIN_MS, 50).
+
 -type response() :: {Status :: 200..503, Headers :: [{atom() | string(), string()}], Body :: iodata()}.
 
-%% @doc Starts the server on 127.0.0.1.
+%% @doc Starts the server on 127.0.0.1. One that was killed takes a moment to leave its port.
 -spec start_link() -> {ok, pid()} | {error, term()}.
 start_link() ->
+    start_link(?TRIES).
+
+start_link(Tries) ->
+    case inets:start(httpd, options(), stand_alone) of
+        {error, _} when Tries > 1 ->
+            timer:sleep(?AGAIN_MS),
+            start_link(Tries - 1);
+        Started ->
+            Started
+    end.
+
+options() ->
     Folder = cluster_settings:folder(),
-    Options = [
+    [
         {bind_address, {127, 0, 0, 1}},
         {port, cluster_settings:http_port()},
         {server_name, "cluster"},
         {server_root, Folder},
         {document_root, Folder},
         {modules, [?MODULE]}
-    ],
-    inets:start(httpd, Options, stand_alone).
+    ].
 
 %% @private
 %% @doc Answers a request: a call of `inets'.
@@ -38,8 +52,7 @@ respond("PUT", "/keys/" ++ Key, Context, Value) -> put_key(key(Key), Value, Cont
 respond("DELETE", "/keys/" ++ Key, Context, _) -> put_key(key(Key), tombstone, Context);
 respond("GET", "/status", _, _) -> json(200, cluster:status());
 respond("GET", "/table", _, _) -> {200, [{content_type, "text/plain"}], cluster:table()};
-respond("GET", "/dump", _, _) -> json(200, cluster:dump());
-respond("PUT", "/faults", _, Body) -> set_faults(cluster_json:decode(Body));
+respond("GET", "/dump", _, _) -> dump();
 respond("PUT", "/repair", _, _) -> repair();
 respond(_, _, _, _) -> json(404, #{refused => <<"NoSuchPath">>}).
 
@@ -52,8 +65,18 @@ unescaped([Char | Rest]) -> [Char | unescaped(Rest)];
 unescaped([]) -> [].
 
 repair() ->
-    ok = cluster_repair:round(),
-    json(200, #{}).
+    unless_starting(fun() -> cluster_repair:round() end, fun(_) -> #{} end).
+
+dump() ->
+    unless_starting(fun cluster:dump/0, fun(Dump) -> Dump end).
+
+%% A node without a life has no store.
+unless_starting(Call, Members) ->
+    try
+        json(200, Members(Call()))
+    catch
+        exit:_ -> refusal({refused, starting})
+    end.
 
 %% ---- keys
 
@@ -104,22 +127,6 @@ versions(Versions, Context, Clock) ->
         [] -> add_headers([Context, Clock], json(404, #{}));
         _ -> add_headers([Context], json(300, #{siblings => cluster:versions(Versions)}))
     end.
-
-%% ---- faults
-
-set_faults({ok, Members}) when is_map(Members) ->
-    case maps:merge(#{<<"slow_ms">> => 0, <<"slow_disk_ms">> => 0}, Members) of
-        #{<<"drop">> := Drop, <<"slow_ms">> := SlowMs, <<"slow_disk_ms">> := SlowDiskMs} when
-            is_list(Drop), is_integer(SlowMs), SlowMs >= 0, is_integer(SlowDiskMs), SlowDiskMs >= 0
-        ->
-            Pairs = [{From, To} || [From, To] <- Drop],
-            ok = cluster_faults:set(#{drop => Pairs, slow_ms => SlowMs, slow_disk_ms => SlowDiskMs}),
-            json(200, #{});
-        _ ->
-            json(400, #{refused => <<"BadFaults">>})
-    end;
-set_faults(_) ->
-    json(400, #{refused => <<"BadFaults">>}).
 
 %% ---- responses
 

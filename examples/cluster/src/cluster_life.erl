@@ -1,35 +1,186 @@
-%% @doc The life of a disk: the number under which a node puts, in clocks.
+%% @doc The life of this node's disk, and the start and the end of all that needs one.
 %%
-%% Counters of a life must not go back. So a disk has one life, for good, and a node that starts with an empty disk gets
-%% a number that was never used (docs/EMBEDDING_C.md, "Restarts"). A clock has room for 32 numbers.
+%% Counters of a life must not go back (docs/EMBEDDING_C.md, "Restarts"). So a node that can't show that it has
+%% everything doesn't put under its old number: its files are kept aside, and it takes a new life. At a start the disk
+%% shows it ({@link cluster_folder}), and then the other places do, before the first put: the versions that they have
+%% of this life must not be later than those on the disk. If something that is lost is found later, the processes of
+%% {@link cluster_store} end, and start again with a new life.
 -module(cluster_life).
+-behaviour(gen_server).
 
--export([claim/2]).
+-export([start_link/0, phase/0, number/0, is_ready/0, lost/2, enter/1]).
+-export([init/1, handle_call/3, handle_cast/2, handle_continue/2, handle_info/2]).
 
--export_type([life/0]).
+-export_type([phase/0]).
 
--define(MOST, 20).
+-define(AGAIN_MS, 1000).
+%% Time in which a node that starts waits for others that start.
+-define(PATIENCE_MS, 5000).
+-define(LOOK_MS, 100).
 
--type life() :: 1..?MOST.
+-type phase() :: none | {starting | ready, cluster_lives:life()}.
+%% No life yet; a life whose ranges take what they lack; a life that serves clients.
 
-%% @doc Writes the life into an empty folder, or checks that the folder has it.
--spec claim(file:filename(), life()) -> ok | {error, {life, Why :: term()}}.
-claim(Folder, Life) when Life >= 1, Life =< ?MOST ->
-    ok = cluster_disk:make_folder(Folder),
-    File = filename:join(Folder, "life"),
-    Text = integer_to_binary(Life),
-    case {file:read_file(File), file:list_dir(Folder)} of
-        {{ok, Text}, _} -> ok;
-        {{ok, Other}, _} -> {error, {life, {of_this_disk, Other}}};
-        {{error, enoent}, {ok, Names}} -> claim_empty(File, Text, Names);
-        {{error, Reason}, _} -> {error, {life, Reason}}
+-record(state, {
+    %% The incarnation that an operator named, until a life has begun.
+    named :: pos_integer() | none,
+    starter :: {pid(), reference()} | undefined,
+    store :: reference() | undefined
+}).
+
+%% @doc Starts the process, which begins or goes on with a life.
+-spec start_link() -> {ok, pid()}.
+start_link() ->
+    {ok, _} = gen_server:start_link({local, ?MODULE}, ?MODULE, [], []).
+
+%% @doc Returns how far the start is.
+-spec phase() -> phase().
+phase() ->
+    persistent_term:get(?MODULE, none).
+
+%% @doc Returns this node's number in clocks, or `none'.
+-spec number() -> cluster_lives:life() | none.
+number() ->
+    case phase() of
+        {_, Number} -> Number;
+        none -> none
+    end.
+
+%% @doc Returns true if clients may put and get.
+-spec is_ready() -> boolean().
+is_ready() ->
+    case phase() of
+        {ready, _} -> true;
+        _ -> false
+    end.
+
+%% @doc Says that the disk of a life has lost something. At the return that life is given up, durably, and the processes
+%% of the store are about to end: the caller must not answer.
+-spec lost(cluster_lives:life(), Why :: string()) -> ok.
+lost(Life, Why) ->
+    gen_server:call(?MODULE, {lost, Life, Why}, infinity).
+
+%% @private
+%% @doc Enters a phase.
+-spec enter(phase()) -> ok.
+enter(Phase) ->
+    persistent_term:put(?MODULE, Phase).
+
+%% @private
+init([]) ->
+    ok = enter(none),
+    {ok, #state{named = cluster_settings:incarnation()}, {continue, begin_again}}.
+
+%% @private
+handle_call({lost, Life, Why}, _, State) ->
+    case number() of
+        Life ->
+            Stopped = without_starter(State),
+            ok = enter(none),
+            ok = cluster_folder:give_up(Why),
+            {reply, ok, Stopped, {continue, begin_again}};
+        _ ->
+            {reply, ok, State}
     end;
-claim(_, Life) ->
-    {error, {life, {out_of_range, Life}}}.
+handle_call({started, Store}, _, State) ->
+    {reply, ok, State#state{store = monitor(process, Store), named = none}};
+handle_call(_, _, State) ->
+    {reply, ok, State}.
 
-%% Writes the life if the folder has nothing but a claim that was cut off.
-claim_empty(File, Text, Names) ->
-    case Names -- ["life.new"] of
-        [] -> cluster_disk:replace(File, fun(Device) -> file:write(Device, Text) end);
-        Found -> {error, {life, {none_but, Found}}}
+%% @private
+handle_cast(_, State) ->
+    {noreply, State}.
+
+%% Ends the store, and starts it again. The starter's calls take time, and `lost' must not wait for them.
+%% @private
+handle_continue(begin_again, #state{store = Store, named = Named} = State) ->
+    Store =:= undefined orelse demonitor(Store, [flush]),
+    ok = cluster_store:stop(),
+    {noreply, State#state{store = undefined, starter = spawn_opt(fun() -> start(Named) end, [link, monitor])}}.
+
+%% @private
+handle_info({'DOWN', Store, process, _, _}, #state{store = Store} = State) ->
+    {stop, {shutdown, store_ended}, State};
+handle_info(_, State) ->
+    {noreply, State}.
+
+%% Ends the starter, if there is one, before its next step.
+without_starter(#state{starter = undefined} = State) ->
+    State;
+without_starter(#state{starter = {Starter, Monitor}} = State) ->
+    true = unlink(Starter),
+    true = exit(Starter, kill),
+    receive
+        {'DOWN', Monitor, process, _, _} -> State#state{starter = undefined}
+    end.
+
+%% ---- the start
+
+start(Named) ->
+    Life = cluster_lives:number(cluster_ring:here(), incarnation(cluster_folder:state(), Named)),
+    ok = enter({starting, Life}),
+    io:format("life ~b~n", [Life]),
+    {ok, Store} = cluster_store:start(),
+    ok = gen_server:call(?MODULE, {started, Store}, infinity),
+    ok = take_what_is_lacking(erlang:monotonic_time(millisecond) + ?PATIENCE_MS),
+    ok = check_for_a_later_life(Life),
+    ok = enter({ready, Life}),
+    io:format("ready~n").
+
+incarnation({whole, Incarnation}, _) ->
+    ok = cluster_folder:end_mark(),
+    Incarnation;
+incarnation(empty, Named) ->
+    ok = again_if_full(fun cluster_lives:begin_anew/0),
+    Incarnation = cluster_incarnation:take(Named),
+    ok = again_if_full(fun() -> cluster_folder:make(Incarnation) end),
+    Incarnation;
+incarnation({damaged, Why}, Named) ->
+    ok = cluster_folder:give_up(Why),
+    {ok, Aside} = again_if_full(fun cluster_folder:move_aside/0),
+    Kept = filename:join(cluster_settings:folder(), Aside),
+    Format = "the disk of place ~b is damaged: ~ts; it is kept in ~ts, and a new life begins~n",
+    io:format(standard_error, Format, [cluster_ring:here(), Why, Kept]),
+    incarnation(empty, Named);
+incarnation({refused, Why}, _) ->
+    cluster_app:refuse(Why).
+
+%% A new life needs room.
+again_if_full(Step) ->
+    case Step() of
+        Full when Full =:= full; Full =:= {error, disk_full} ->
+            ok = cluster_space:full(),
+            timer:sleep(?AGAIN_MS),
+            again_if_full(Step);
+        Done ->
+            Done
+    end.
+
+%% Takes what the places that answer have. Those that start now are waited for a little.
+take_what_is_lacking(Deadline) ->
+    Lacking = cluster_repair:round(),
+    IsLate = erlang:monotonic_time(millisecond) > Deadline,
+    case not IsLate andalso lists:any(fun is_starting/1, lists:usort([Place || {_, Place} <- Lacking])) of
+        true ->
+            timer:sleep(?LOOK_MS),
+            take_what_is_lacking(Deadline);
+        false ->
+            ok
+    end.
+
+is_starting(Place) ->
+    case cluster_wire:call(Place, ?MODULE, phase, []) of
+        {ok, {ready, _}} -> false;
+        {ok, _} -> true;
+        down -> false
+    end.
+
+%% A number isn't used after a later one: then this disk is an old one.
+check_for_a_later_life(Life) ->
+    Here = cluster_ring:here(),
+    Ask = fun(Place) -> cluster_wire:call(Place, cluster_lives, known, [Here]) end,
+    Known = [Known || {ok, {ok, Known}} <- lists:map(Ask, cluster_ring:others())],
+    case [Later || Later <- Known, cluster_lives:number(Here, Later) > Life] of
+        [] -> ok;
+        _ -> lost(Life, "a later life of this place has begun")
     end.

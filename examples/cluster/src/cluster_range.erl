@@ -4,19 +4,23 @@
 %% aren't in the log, the answer waits. When no other call waits in the mailbox, all these entries are logged, the log
 %% is synced once, and all answers that wait go out. This holds for reads and offers as well, and for the entries that a
 %% sync, which another process runs, adds meanwhile.
+%%
+%% If the disk is full, the replica is thrown away, and loaded again from the disk, so nothing is shown that isn't
+%% logged. Then calls that would change it are refused as `disk_full'.
+%%
+%% The range of a new life is *joining* until all other holders' versions are in it: until then its row isn't one of the
+%% R that a read has seen. The note in its manifest says so.
 -module(cluster_range).
 -behaviour(gen_server).
 
--export([start_link/1, put/4, copies/2, row/2, read/3, counts/1, dump/1]).
--export([rehash/1, offer/2, serve/4, borrow/1, give_back/1]).
--export([init/1, handle_call/3, handle_cast/2, handle_info/2]).
+-export([start_link/1, put/4, copies/2, copy/3, own/2, row/2, read/4, is_joined/1, counts/1, dump/1]).
+-export([rehash/1, offer/2, serve/4, borrow/1, give_back/3]).
+-export([init/1, handle_call/3, handle_cast/2, handle_info/2, format_status/1]).
 
 -export_type([counts/0, row/0]).
 
 %% Answers that wait at most for one sync of the log.
 -define(MOST_WAITING, 512).
-%% Nodes of the tree that are hashed at once, so that others may put meanwhile.
--define(REHASHED_AT_ONCE, 64).
 -define(MOST_SESSIONS, 900).
 
 -type counts() :: #{
@@ -25,58 +29,81 @@
     limit := pos_integer(),
     dirty := non_neg_integer(),
     sessions := non_neg_integer(),
+    joined := boolean(),
     root := binary() | null
 }.
 -type row() :: {Key :: binary(), [antientropy:version()]}.
+-type request() :: tuple() | atom().
 
 -record(state, {
     range :: cluster_ring:range(),
-    life :: cluster_life:life(),
-    folder :: file:filename(),
-    limit :: pos_integer(),
+    life :: cluster_lives:life(),
     replica :: antientropy:replica(),
     log :: cluster_log:log(),
     %% The number of the first entry that isn't in the log.
     logged :: non_neg_integer(),
     %% Entries logged since the last checkpoint, and the process that saves one now.
     since_checkpoint :: non_neg_integer(),
-    saver :: reference() | undefined,
+    saver :: pid() | undefined,
     %% Entries after the last renewal.
     held = 0 :: non_neg_integer(),
-    waiting = [] :: [{gen_server:from(), Answer :: term()}],
+    waiting = [] :: [{gen_server:from(), request(), Answer :: term()}],
     offers = 0 :: non_neg_integer(),
     offered = #{} :: #{cluster_ring:place() => {Number :: pos_integer(), antientropy_snapshot:snapshot()}},
     %% Processes that sync into the replica.
-    borrowers = #{} :: #{pid() => reference()}
+    borrowers = #{} :: #{pid() => reference()},
+    %% Holders whose versions aren't all in the range of a new life.
+    lacking :: [cluster_ring:place()]
 }).
 
 %% @doc Starts the process of a range, with what is on its disk.
--spec start_link(cluster_ring:range()) -> {ok, pid()}.
+-spec start_link(cluster_ring:range()) -> {ok, pid()} | {error, term()}.
 start_link(Range) ->
-    {ok, _} = gen_server:start_link({local, name(Range)}, ?MODULE, Range, []).
+    gen_server:start_link({local, name(Range)}, ?MODULE, Range, []).
 
-%% @doc Puts a version under this node's life, and returns it. Refused: what {@link antientropy:put/5} refuses.
+%% @doc Puts a version under this node's life, and returns it. Refused: `disk_full', `starting', what {@link
+%% antientropy:put/5} refuses.
 -spec put(cluster_ring:range(), Key :: binary(), antientropy:value(), antientropy:clock_like()) ->
     {ok, antientropy:version()} | antientropy:refused().
 put(Range, Key, Value, Context) ->
     call(Range, {put, Key, Value, Context}).
 
-%% @doc Accepts versions that another holder put, or that a carrier kept, and returns an outcome for each.
+%% @doc Accepts versions that a carrier kept, and returns an outcome for each. Refused: `disk_full', what {@link
+%% antientropy:accept/3} refuses.
 -spec copies(cluster_ring:range(), [{Key :: binary(), antientropy:version()}]) ->
     [{ok, new | known} | antientropy:refused()].
 copies(Range, Copies) ->
     call(Range, {copies, Copies}).
 
-%% @doc Returns the text of a key's row.
+%% @doc Accepts a version that its coordinator put. If it is known, the versions of its key are returned: they show the
+%% coordinator what covers it.
+-spec copy(cluster_ring:range(), Key :: binary(), antientropy:version()) ->
+    {ok, new | {known, [antientropy:version()]}} | antientropy:refused().
+copy(Range, Key, Version) ->
+    call(Range, {copy, Key, Version}).
+
+%% @doc Returns the versions of a key, the greatest counter of this life for it, and this life.
+-spec own(cluster_ring:range(), Key :: binary()) ->
+    {ok, [antientropy:version()], Top :: non_neg_integer(), cluster_lives:life()}.
+own(Range, Key) ->
+    call(Range, {own, Key}).
+
+%% @doc Returns the text of a key's row. Refused: `joining'.
 -spec row(cluster_ring:range(), Key :: binary()) -> {ok, Row :: binary()} | antientropy:refused().
 row(Range, Key) ->
     call(Range, {row, Key}).
 
-%% @doc Accepts rows of a key that other holders returned (read repair), and returns the versions held then.
--spec read(cluster_ring:range(), Key :: binary(), Rows :: [binary()]) ->
+%% @doc Accepts rows of a key that other holders returned (read repair), and returns the versions held then. A full disk
+%% doesn't take the rows, but they are in the result. Refused: `down' (with this one they are fewer than R).
+-spec read(cluster_ring:range(), Key :: binary(), Rows :: [binary()], R :: pos_integer()) ->
     {ok, [antientropy:version()]} | antientropy:refused().
-read(Range, Key, Rows) ->
-    call(Range, {read, Key, Rows}).
+read(Range, Key, Rows, R) ->
+    call(Range, {read, Key, Rows, R}).
+
+%% @doc Returns true if the range counts in reads.
+-spec is_joined(cluster_ring:range()) -> boolean().
+is_joined(Range) ->
+    persistent_term:get({?MODULE, Range}, false).
 
 %% @doc Returns an offer of the rows now, for a partner. They are kept until its next offer.
 -spec offer(cluster_ring:range(), Partner :: cluster_ring:place()) -> {ok, Offer :: binary()}.
@@ -93,21 +120,22 @@ serve(Range, Partner, Number, Asks) ->
         _ -> []
     end.
 
-%% @doc Returns the replica, into which this process may sync until it gives it back or ends. Refused: `busy' (a
-%% renewal waits for others that borrowed it).
--spec borrow(cluster_ring:range()) -> {ok, antientropy:replica()} | {error, busy}.
+%% @doc Returns the replica, into which this process may sync until it gives it back or ends. Refused: `disk_full',
+%% `busy' (a renewal waits for others that borrowed it).
+-spec borrow(cluster_ring:range()) -> {ok, antientropy:replica()} | {error, busy | disk_full}.
 borrow(Range) ->
     call(Range, borrow).
 
-%% @doc Gives the replica back, and returns after all that was accepted is on the disk.
--spec give_back(cluster_ring:range()) -> ok.
-give_back(Range) ->
-    call(Range, give_back).
+%% @doc Gives the replica back, and returns after all that was accepted is on the disk. It names the partner if all of
+%% its versions were taken.
+-spec give_back(cluster_ring:range(), antientropy:replica(), {all_of, cluster_ring:place()} | some) -> ok.
+give_back(Range, Replica, Taken) ->
+    call(Range, {give_back, Replica, Taken}).
 
 %% @doc Hashes what has no digest, a little at a time. The caller's process does it.
 -spec rehash(cluster_ring:range()) -> ok.
 rehash(Range) ->
-    rehash_replica(call(Range, replica)).
+    cluster_replica:rehash(call(Range, replica)).
 
 %% @doc Returns the counts of the range. The root is `null' if a node of the tree has no digest.
 -spec counts(cluster_ring:range()) -> counts().
@@ -125,28 +153,36 @@ call(Range, Request) ->
 
 %% @private
 init(Range) ->
-    Folder = filename:join(cluster_settings:folder(), "range-" ++ integer_to_list(Range)),
-    Limit = cluster_settings:limit(),
-    ok = cluster_disk:make_folder(Folder),
-    Accept = fun(Record, Replica) -> accept_again(Record, Replica, Limit) end,
-    {Log, Replica} = cluster_log:open(Folder, 0, Accept, cluster_checkpoint:load(Folder, Range, Limit)),
-    State = #state{
-        range = Range,
-        life = cluster_settings:life(),
-        folder = Folder,
-        limit = Limit,
-        replica = Replica,
-        log = Log,
-        logged = entries(Replica),
-        %% Maybe none of these is in a checkpoint. A node that starts often must not read an ever longer log.
-        since_checkpoint = entries(Replica)
-    },
-    {ok, renew_if_due(State)}.
+    ok = persistent_term:put({?MODULE, Range}, false),
+    Life = cluster_life:number(),
+    case load(Range, Life) of
+        {ok, State} ->
+            {ok, join_if_complete(renew_if_due(State))};
+        {damaged, Why} ->
+            %% (This process's supervisor waits for it, and maybe the life's process for the supervisor.)
+            _ = spawn(cluster_life, lost, [Life, Why]),
+            {stop, {shutdown, lost}}
+    end.
+
+load(Range, Life) ->
+    case cluster_replica:open(Range, Life) of
+        {ok, Log, Replica, Terms} ->
+            {ok, #state{
+                range = Range,
+                life = Life,
+                replica = Replica,
+                log = Log,
+                logged = cluster_replica:entries(Replica),
+                since_checkpoint = Terms,
+                lacking = [Partner || Partner <- cluster_ring:partners(Range), cluster_log:note(Log) =:= joining]
+            }};
+        Damaged ->
+            Damaged
+    end.
 
 %% @private
 handle_call(Request, From, State) ->
-    {Answer, #state{waiting = Waiting} = Next} = answer(Request, From, State),
-    wait(Next#state{waiting = [{From, Answer} | Waiting]}).
+    wait(with_answer(Request, From, cluster_space:is_full(), State)).
 
 %% @private
 handle_cast(_, State) ->
@@ -155,32 +191,71 @@ handle_cast(_, State) ->
 %% @private
 handle_info(timeout, State) ->
     {noreply, commit(State)};
-handle_info({'DOWN', Saver, process, _, normal}, #state{saver = Saver} = State) ->
-    wait(State#state{saver = undefined});
+handle_info({saved, Saver, Saved}, #state{saver = Saver} = State) ->
+    wait(adopt(Saved, State#state{saver = undefined}));
 handle_info({'DOWN', _, process, Borrower, _}, State) ->
-    wait(returned(Borrower, State)).
+    wait(returned(Borrower, State));
+handle_info(_, State) ->
+    wait(State).
+
+%% @private
+%% @doc Hides the state and the last message: they have values of clients.
+format_status(Status) ->
+    maps:map(fun(Key, Term) -> case Key of state -> hidden; message -> hidden; _ -> Term end end, Status).
 
 %% ---- answers
 
+%% Makes the answer to a request. While the disk is full, nothing may change.
+with_answer(Request, From, IsFull, State) ->
+    {Answer, #state{waiting = Waiting} = Next} =
+        case IsFull of
+            true -> answer_unchanged(Request, From, State);
+            false -> answer(Request, From, State)
+        end,
+    Next#state{waiting = [{From, Request, Answer} | Waiting]}.
+
+answer_unchanged({put, _, _, _}, _, State) ->
+    {{error, disk_full}, State};
+answer_unchanged({copies, Copies}, _, State) ->
+    {[{error, disk_full} || _ <- Copies], State};
+answer_unchanged({copy, _, _}, _, State) ->
+    {{error, disk_full}, State};
+answer_unchanged({read, Key, Rows, R}, _, #state{range = Range, replica = Replica} = State) ->
+    {read_enough(Rows, R, State, fun() -> cluster_replica:read_apart(Replica, Range, Key, Rows) end), State};
+answer_unchanged(borrow, _, State) ->
+    {{error, disk_full}, State};
+answer_unchanged(Request, From, State) ->
+    answer(Request, From, State).
+
 answer({put, Key, Value, Context}, _, #state{replica = Replica, life = Life} = State) ->
-    {put_version(Replica, Life, Key, Value, Context), State};
+    case cluster_life:is_ready() of
+        true -> {cluster_replica:put(Replica, Life, Key, Value, Context), State};
+        false -> {{error, starting}, State}
+    end;
 answer({copies, Copies}, _, #state{replica = Replica} = State) ->
     {[antientropy:accept(Replica, Key, Version) || {Key, Version} <- Copies], State};
+answer({copy, Key, Version}, _, #state{replica = Replica} = State) ->
+    {with_row(antientropy:accept(Replica, Key, Version), Replica, Key), State};
+answer({own, Key}, _, #state{replica = Replica, life = Life} = State) ->
+    {ok, Versions, Top} = cluster_replica:own(Replica, Life, Key),
+    {{ok, Versions, Top, Life}, State};
+answer({row, _}, _, #state{lacking = [_ | _]} = State) ->
+    {{error, joining}, State};
 answer({row, Key}, _, #state{replica = Replica} = State) ->
     {antientropy:row(Replica, Key), State};
-answer({read, Key, Rows}, _, #state{replica = Replica} = State) ->
-    {read_with(Replica, Key, Rows), State};
+answer({read, Key, Rows, R}, _, #state{replica = Replica} = State) ->
+    {read_enough(Rows, R, State, fun() -> cluster_replica:read(Replica, Key, Rows) end), State};
 answer({offer, Partner}, _, State) ->
     new_offer(Partner, State);
 answer({offered, Partner}, _, #state{offered = Offered} = State) ->
     {maps:get(Partner, Offered, none), State};
 answer(borrow, {Borrower, _}, State) ->
     lend(Borrower, State);
-answer(give_back, {Borrower, _}, State) ->
-    {ok, returned(Borrower, State)};
+answer({give_back, Replica, Taken}, {Borrower, _}, State) ->
+    {ok, taken(Replica, Taken, returned(Borrower, State))};
 answer(replica, _, #state{replica = Replica} = State) ->
     {Replica, State};
-answer(counts, _, #state{range = Range, replica = Replica} = State) ->
+answer(counts, _, #state{range = Range, replica = Replica, lacking = Lacking} = State) ->
     {ok, #{entries := Entries, limit := Limit, dirty := Dirty, sessions := Sessions}} = antientropy:count(Replica),
     {
         #{
@@ -189,7 +264,8 @@ answer(counts, _, #state{range = Range, replica = Replica} = State) ->
             limit => Limit,
             dirty => Dirty,
             sessions => Sessions,
-            root => clean_root(Replica)
+            joined => Lacking =:= [],
+            root => cluster_replica:root(Replica)
         },
         State
     };
@@ -198,31 +274,16 @@ answer(dump, _, #state{replica = Replica} = State) ->
     {ok, Keys} = antientropy:keys(Replica),
     {{Root, [{Key, element(2, antientropy:get(Replica, Key))} || Key <- Keys]}, State}.
 
-%% Puts a version, whose context may be pairs, and returns it.
-put_version(Replica, Life, Key, Value, Context) ->
-    case antientropy:merge([Context]) of
-        {ok, Clock} -> put_under(Replica, Life, Key, Value, Clock);
-        Refused -> Refused
-    end.
+with_row({ok, known}, Replica, Key) ->
+    {ok, Versions} = antientropy:get(Replica, Key),
+    {ok, {known, Versions}};
+with_row(Accepted, _, _) ->
+    Accepted.
 
-put_under(Replica, Life, Key, Value, Clock) ->
-    case antientropy:put(Replica, Life, Key, Value, Clock) of
-        {ok, #{counter := Counter}} -> {ok, #{clock => Clock#{Life => Counter}, value => Value}};
-        Refused -> Refused
-    end.
-
-%% Accepts rows, and returns the versions held then.
-read_with(Replica, Key, []) ->
-    antientropy:get(Replica, Key);
-read_with(Replica, Key, [Row | Rows]) ->
-    case load_other(Replica, Row, antientropy:row(Replica, Key)) of
-        {ok, _} -> read_with(Replica, Key, Rows);
-        Refused -> Refused
-    end.
-
-load_other(_, Row, {ok, Row}) -> {ok, same};
-load_other(Replica, Row, {ok, _}) -> antientropy:load_rows(Replica, Row);
-load_other(_, _, Refused) -> Refused.
+%% The range counts as one of R replicas unless it is joining, maybe since a new life began during the read.
+read_enough(Rows, R, #state{lacking = []}, Read) when length(Rows) + 1 >= R -> Read();
+read_enough(Rows, R, _, Read) when length(Rows) >= R -> Read();
+read_enough(_, _, _, _) -> {error, down}.
 
 new_offer(Partner, #state{replica = Replica, offers = Offers, offered = Offered} = State) ->
     {ok, Snapshot} = antientropy:snapshot(Replica),
@@ -234,22 +295,6 @@ new_offer(Partner, #state{replica = Replica, offers = Offers, offered = Offered}
 close_offered(Partner, Offered) ->
     case Offered of
         #{Partner := {_, Snapshot}} -> antientropy_snapshot:close(Snapshot);
-        _ -> ok
-    end.
-
-clean_root(Replica) ->
-    case antientropy:snapshot(Replica, #{rehash => false}) of
-        {ok, Snapshot} ->
-            {ok, Root} = antientropy_snapshot:root(Snapshot),
-            ok = antientropy_snapshot:close(Snapshot),
-            Root;
-        {error, dirty} ->
-            null
-    end.
-
-rehash_replica(Replica) ->
-    case antientropy:rehash_some(Replica, ?REHASHED_AT_ONCE) of
-        {ok, Left} when Left > 0 -> rehash_replica(Replica);
         _ -> ok
     end.
 
@@ -267,54 +312,109 @@ wait(#state{waiting = Waiting} = State) ->
     end.
 
 is_logged(#state{replica = Replica, logged = Logged}) ->
-    entries(Replica) =:= Logged.
+    cluster_replica:entries(Replica) =:= Logged.
 
-%% Logs all entries that aren't in the log, syncs it once, and answers all.
-commit(#state{replica = Replica, log = Log, logged = Logged, since_checkpoint = Since} = State) ->
+%% Logs all entries that aren't in the log, syncs it once, and answers all. Entries may show that the disk has lost
+%% something: then none is logged, and nobody gets an answer.
+commit(#state{range = Range, replica = Replica, life = Life, logged = Logged} = State) ->
     {ok, Entries} = antientropy:entries(Replica, Logged),
-    ok = cluster_log:write(Log, [{Key, Clock, Value} || #{key := Key, clock := Clock, value := Value} <- Entries]),
-    Count = length(Entries),
-    answer_all(State#state{logged = Logged + Count, since_checkpoint = Since + Count}).
+    case cluster_replica:forgotten(Replica, Life, Entries) of
+        false -> logged(log(Entries, State), length(Entries), State);
+        true -> lost("range-" ++ integer_to_list(Range) ++ ": another place has a later version of this life", State)
+    end.
+
+log(Entries, #state{log = Log}) ->
+    case cluster_lives:learn_from([Clock || #{clock := Clock} <- Entries]) of
+        ok -> cluster_log:write(Log, [{Key, Clock, Value} || #{key := Key, clock := Clock, value := Value} <- Entries]);
+        {error, disk_full} -> {full, Log}
+    end.
+
+logged({ok, Log}, Count, #state{logged = Logged, since_checkpoint = Since} = State) ->
+    answer_all(State#state{log = Log, logged = Logged + Count, since_checkpoint = Since + Count});
+logged({full, Log}, _, State) ->
+    ok = cluster_space:full(),
+    refuse_all(State#state{log = Log}).
+
+%% Throws the replica away, and what was made of it, and answers the calls that wait by what is on the disk.
+refuse_all(#state{range = Range, life = Life, log = Log, waiting = Waiting, offered = Offered} = State) ->
+    ok = cluster_log:close(Log),
+    ok = stop_saver(State),
+    [ok = antientropy_snapshot:close(Snapshot) || {_, Snapshot} <- maps:values(Offered)],
+    case load(Range, Life) of
+        {ok, Loaded} ->
+            #state{offers = Offers, borrowers = Borrowers} = State,
+            Again = fun({From, Request, _}, Before) -> with_answer(Request, From, true, Before) end,
+            answer_all(lists:foldr(Again, Loaded#state{offers = Offers, borrowers = Borrowers}, Waiting));
+        {damaged, Why} ->
+            lost(Why, State)
+    end.
+
+%% A file that the process has begun would be in the way of the next one.
+stop_saver(#state{saver = undefined}) ->
+    ok;
+stop_saver(#state{saver = Saver}) ->
+    Monitor = monitor(process, Saver),
+    true = unlink(Saver),
+    true = exit(Saver, kill),
+    receive
+        {'DOWN', Monitor, process, _, _} -> ok
+    end.
+
+%% Answers nobody, and waits for the end.
+-spec lost(Why :: string(), #state{}) -> no_return().
+lost(Why, #state{life = Life}) ->
+    ok = cluster_life:lost(Life, Why),
+    timer:sleep(infinity).
 
 %% Sends the answers, when everything in them is in the log.
 answer_all(#state{waiting = Waiting} = State) ->
-    [gen_server:reply(From, Answer) || {From, Answer} <- lists:reverse(Waiting)],
-    renew_if_due(checkpoint_if_due(State#state{waiting = []})).
-
-%% Accepts a record of the log. A log has more records than a journal may have entries, after renewals.
-accept_again({Key, Clock, Value} = Record, Replica, Limit) ->
-    case antientropy:accept(Replica, Key, #{clock => Clock, value => Value}) of
-        {ok, _} -> Replica;
-        {error, journal_full} -> accept_again(Record, renewed(Replica, Limit), Limit)
-    end.
-
-entries(Replica) ->
-    {ok, #{entries := Entries}} = antientropy:count(Replica),
-    Entries.
+    [gen_server:reply(From, Answer) || {From, _, Answer} <- lists:reverse(Waiting)],
+    join_if_complete(renew_if_due(checkpoint_if_due(State#state{waiting = []}))).
 
 %% ---- checkpoints
 
-%% Begins a new file of the log, and saves what the older ones have, in another process. Then it removes those.
 checkpoint_if_due(#state{saver = undefined, since_checkpoint = Since} = State) ->
-    case Since >= cluster_settings:checkpoint_entries() of
+    case Since >= cluster_settings:checkpoint_entries() andalso not cluster_space:is_full() of
         true -> checkpoint(State);
         false -> State
     end;
 checkpoint_if_due(State) ->
     State.
 
-checkpoint(#state{replica = Replica, folder = Folder, log = Log} = State) ->
+%% Begins a new file of the log, and saves what the older ones have, in another process. A sync may have added entries
+%% that aren't logged: then the next commit does it.
+checkpoint(#state{replica = Replica, log = Log, logged = Logged} = State) ->
     {ok, Snapshot} = antientropy:snapshot(Replica),
-    Begun = cluster_log:rotate(Log),
-    Save = fun() ->
-        ok = cluster_checkpoint:save(Folder, Snapshot),
-        ok = antientropy_snapshot:close(Snapshot),
-        ok = cluster_log:drop_older(Begun)
-    end,
-    {_, Saver} = spawn_opt(Save, [link, monitor]),
-    State#state{log = Begun, since_checkpoint = 0, saver = Saver}.
+    case antientropy_snapshot:info(Snapshot) of
+        {ok, #{entries := Logged}} ->
+            save(Snapshot, cluster_log:begin_file(Log), State);
+        {ok, _} ->
+            ok = antientropy_snapshot:close(Snapshot),
+            State
+    end.
 
-%% ---- renewals
+save(Snapshot, {ok, Log}, State) ->
+    Range = self(),
+    Save = fun() ->
+        Saved = cluster_checkpoint:save(cluster_log:checkpoint(Log), Snapshot),
+        ok = antientropy_snapshot:close(Snapshot),
+        Range ! {saved, self(), Saved}
+    end,
+    State#state{log = Log, since_checkpoint = 0, saver = spawn_link(Save)};
+save(Snapshot, {full, Log}, State) ->
+    ok = antientropy_snapshot:close(Snapshot),
+    ok = cluster_space:full(),
+    State#state{log = Log}.
+
+adopt({ok, Seal}, #state{log = Log} = State) ->
+    {Adopted, Next} = cluster_log:adopt(Log, Seal),
+    Adopted =:= ok orelse cluster_space:full(),
+    State#state{log = Next};
+adopt(full, State) ->
+    ok = cluster_space:full(),
+    State.
+
+%% ---- syncs and renewals
 
 lend(Borrower, #state{borrowers = Borrowers, replica = Replica} = State) ->
     case is_renewal_due(State) andalso map_size(Borrowers) > 0 of
@@ -322,31 +422,52 @@ lend(Borrower, #state{borrowers = Borrowers, replica = Replica} = State) ->
         false -> {{ok, Replica}, State#state{borrowers = Borrowers#{Borrower => monitor(process, Borrower)}}}
     end.
 
+%% A process may give back what it borrowed before this one started.
 returned(Borrower, #state{borrowers = Borrowers} = State) ->
-    {Monitor, Rest} = maps:take(Borrower, Borrowers),
-    true = demonitor(Monitor, [flush]),
-    State#state{borrowers = Rest}.
+    case maps:take(Borrower, Borrowers) of
+        {Monitor, Rest} ->
+            true = demonitor(Monitor, [flush]),
+            State#state{borrowers = Rest};
+        error ->
+            State
+    end.
+
+%% All that a partner had counts if it was taken into this replica.
+taken(Replica, {all_of, Partner}, #state{replica = Replica, lacking = Lacking} = State) ->
+    State#state{lacking = lists:delete(Partner, Lacking)};
+taken(_, _, State) ->
+    State.
+
+%% All versions of the other holders are in the log.
+join_if_complete(#state{range = Range, log = Log, lacking = []} = State) ->
+    case cluster_log:note(Log) =:= joined orelse cluster_space:is_full() orelse cluster_log:set_note(Log, joined) of
+        true ->
+            is_joined(Range) orelse persistent_term:put({?MODULE, Range}, true),
+            State;
+        {ok, Joined} ->
+            join_if_complete(State#state{log = Joined});
+        {full, _} ->
+            ok = cluster_space:full(),
+            State
+    end;
+join_if_complete(State) ->
+    State.
 
 %% Renews the replica, unless a process syncs into it: it would go on with the old one.
-renew_if_due(#state{borrowers = Borrowers, replica = Replica, limit = Limit} = State) ->
-    case map_size(Borrowers) =:= 0 andalso is_renewal_due(State) of
+renew_if_due(#state{borrowers = Borrowers, replica = Replica} = State) ->
+    case map_size(Borrowers) =:= 0 andalso is_logged(State) andalso is_renewal_due(State) of
         true ->
-            Renewed = renewed(Replica, Limit),
-            Entries = entries(Renewed),
+            Renewed = cluster_replica:renewed(Replica, cluster_settings:limit()),
+            Entries = cluster_replica:entries(Renewed),
             State#state{replica = Renewed, logged = Entries, held = Entries};
         false ->
             State
     end.
 
 %% A replica that is full of held versions isn't renewed again before it has a twentieth more.
-is_renewal_due(#state{replica = Replica, limit = Limit, held = Held}) ->
-    {ok, #{entries := Entries, sessions := Sessions}} = antientropy:count(Replica),
+is_renewal_due(#state{replica = Replica, held = Held}) ->
+    {ok, #{entries := Entries, limit := Limit, sessions := Sessions}} = antientropy:count(Replica),
     Sessions >= ?MOST_SESSIONS orelse (Entries * 10 >= Limit * 9 andalso (Entries - Held) * 20 >= Limit).
-
-renewed(Replica, Limit) ->
-    {ok, Renewed} = antientropy:renew(Replica, Limit),
-    ok = antientropy:close(Replica),
-    Renewed.
 
 name(Range) ->
     list_to_atom("cluster_range_" ++ integer_to_list(Range)).

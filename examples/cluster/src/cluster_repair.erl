@@ -27,8 +27,8 @@
 start_link() ->
     {ok, _} = gen_server:start_link({local, ?MODULE}, ?MODULE, [], []).
 
-%% @doc Runs a round now, and returns at its end.
--spec round() -> ok.
+%% @doc Runs a round now. Returns at its end the ranges and partners of which not all versions were taken.
+-spec round() -> [{cluster_ring:range(), cluster_ring:place()}].
 round() ->
     gen_server:call(?MODULE, round, infinity).
 
@@ -57,51 +57,61 @@ handle_info({timeout, Timer, round}, #state{timer = Timer} = State) ->
 handle_info({timeout, _, round}, State) ->
     {noreply, State};
 handle_info({'DOWN', Running, process, _, Reason}, #state{running = Running, waiting = Waiting} = State) ->
-    [gen_server:reply(From, ok) || From <- Waiting],
-    Ended = counted(Reason, State#state{running = undefined, waiting = []}),
-    {noreply, begin_if_asked(begin_later(Ended))}.
+    {Lacking, Ended} = ended(Reason, State#state{running = undefined, waiting = []}),
+    [gen_server:reply(From, Lacking) || From <- Waiting],
+    {noreply, begin_if_asked(begin_later(Ended))};
+handle_info(_, State) ->
+    {noreply, State}.
 
 begin_if_asked(#state{running = undefined, next = [_ | _]} = State) -> begin_round(State);
 begin_if_asked(State) -> State.
 
 begin_round(#state{next = Next} = State) ->
-    {_, Running} = spawn_monitor(fun() -> exit({pulled, pull_all()}) end),
+    {_, Running} = spawn_monitor(fun() -> exit(pull_all()) end),
     State#state{timer = undefined, running = Running, waiting = Next, next = []}.
 
 begin_later(State) ->
     State#state{timer = erlang:start_timer(cluster_settings:round_ms(), self(), round)}.
 
-counted({pulled, {MoreKeys, MoreBytes}}, #state{counts = Counts} = State) ->
+ended({pulled, MoreKeys, MoreBytes, Lacking}, #state{counts = Counts} = State) ->
     #{rounds := Rounds, keys := Keys, bytes := Bytes} = Counts,
-    State#state{counts = #{rounds => Rounds + 1, keys => Keys + MoreKeys, bytes => Bytes + MoreBytes}};
-counted(_, State) ->
-    State.
+    {Lacking, State#state{counts = #{rounds => Rounds + 1, keys => Keys + MoreKeys, bytes => Bytes + MoreBytes}}};
+ended(_, State) ->
+    {pulls(), State}.
 
 %% ---- a round
 
-%% Pulls each range from each other holder, as many at once as slots are lent. Returns the sums of keys and bytes.
-pull_all() ->
-    Pulls = [{Range, Partner} || Range <- cluster_ring:held(), Partner <- cluster_ring:partners(Range)],
-    Monitors = [element(2, spawn_monitor(fun() -> pull_admitted(Range, Partner) end)) || {Range, Partner} <- Pulls],
-    lists:foldl(fun add_pulled/2, {0, 0}, Monitors).
+%% All ranges, each with its other holders.
+pulls() ->
+    [{Range, Partner} || Range <- cluster_ring:held(), Partner <- cluster_ring:partners(Range)].
 
-add_pulled(Monitor, {Keys, Bytes}) ->
+%% Pulls each range from each other holder, as many at once as slots are lent. Returns the sums of keys and bytes, and
+%% what wasn't taken to the end.
+pull_all() ->
+    Begin = fun({Range, Partner} = Pull) -> {Pull, spawn_monitor(fun() -> pull_admitted(Range, Partner) end)} end,
+    lists:foldl(fun add_pulled/2, {pulled, 0, 0, []}, lists:map(Begin, pulls())).
+
+add_pulled({Pull, {_, Monitor}}, {pulled, Keys, Bytes, Lacking}) ->
     receive
-        {'DOWN', Monitor, process, _, {pulled, {MoreKeys, MoreBytes}}} -> {Keys + MoreKeys, Bytes + MoreBytes};
-        {'DOWN', Monitor, process, _, _} -> {Keys, Bytes}
+        {'DOWN', Monitor, process, _, {pulled, all, MoreKeys, MoreBytes}} ->
+            {pulled, Keys + MoreKeys, Bytes + MoreBytes, Lacking};
+        {'DOWN', Monitor, process, _, {pulled, some, MoreKeys, MoreBytes}} ->
+            {pulled, Keys + MoreKeys, Bytes + MoreBytes, [Pull | Lacking]};
+        {'DOWN', Monitor, process, _, _} ->
+            {pulled, Keys, Bytes, [Pull | Lacking]}
     end.
 
 -spec pull_admitted(cluster_ring:range(), cluster_ring:place()) -> no_return().
 pull_admitted(Range, Partner) ->
     ok = cluster_slots:lend(),
-    exit({pulled, pull(Range, Partner)}).
+    exit(pull(Range, Partner)).
 
-%% Takes what a partner has. Returns the numbers of versions and of bytes.
+%% Takes what a partner has. Returns whether that was all, and the numbers of versions and of bytes.
 pull(Range, Partner) ->
     ok = cluster_range:rehash(Range),
     case cluster_wire:call(Partner, cluster_range, offer, [Range, cluster_ring:here()]) of
         {ok, {ok, Offer}} -> pull_offered(Range, Partner, Offer, cluster_range:borrow(Range));
-        down -> {0, 0}
+        down -> {pulled, some, 0, 0}
     end.
 
 pull_offered(Range, Partner, Offer, {ok, Replica}) ->
@@ -109,14 +119,19 @@ pull_offered(Range, Partner, Offer, {ok, Replica}) ->
     {ok, #{number := Number}} = antientropy:read_offer(Offer),
     Reach = fun(Asks) -> reach(Range, Partner, Number, Asks, Bytes) end,
     %% It compares the roots, and opens a session if they differ. It passes leaves with a crowded key.
-    Synced = antientropy:sync(Replica, Partner, Offer, Reach, #{in_flight => ?ASKS_AT_ONCE, most_bad => 0}),
-    ok = cluster_range:give_back(Range),
-    {accepted(Synced), counters:get(Bytes, 1)};
-pull_offered(_, _, _, {error, busy}) ->
-    {0, 0}.
-
-accepted({ok, #{accepted := Accepted}}) -> Accepted;
-accepted({error, _}) -> 0.
+    case antientropy:sync(Replica, Partner, Offer, Reach, #{in_flight => ?ASKS_AT_ONCE, most_bad => 0}) of
+        {ok, #{accepted := Keys, state := finished, crowded := []}} ->
+            ok = cluster_range:give_back(Range, Replica, {all_of, Partner}),
+            {pulled, all, Keys, counters:get(Bytes, 1)};
+        {ok, #{accepted := Keys}} ->
+            ok = cluster_range:give_back(Range, Replica, some),
+            {pulled, some, Keys, counters:get(Bytes, 1)};
+        {error, _} ->
+            ok = cluster_range:give_back(Range, Replica, some),
+            {pulled, some, 0, counters:get(Bytes, 1)}
+    end;
+pull_offered(_, _, _, {error, _}) ->
+    {pulled, some, 0, 0}.
 
 %% Brings asks to a partner, and counts the bytes of its answers.
 reach(Range, Partner, Number, Asks, Bytes) ->

@@ -1,16 +1,16 @@
 %% @doc The settings of this node: the parameters of the application `cluster'.
 -module(cluster_settings).
 
--export([place/0, life/0, folder/0, http_port/0]).
+-export([place/0, incarnation/0, folder/0, http_port/0]).
 -export([places/0, quorums/0, limit/0, checkpoint_entries/0, round_ms/0, slots/0]).
 
 %% @doc Returns this node's place on the ring.
 -spec place() -> cluster_ring:place().
 place() -> value(place).
 
-%% @doc Returns this node's number in clocks.
--spec life() -> cluster_life:life().
-life() -> value(life).
+%% @doc Returns the incarnation that an operator names for a new life.
+-spec incarnation() -> pos_integer() | none.
+incarnation() -> value(incarnation).
 
 %% @doc Returns the folder of this node's files.
 -spec folder() -> file:filename().

@@ -79,13 +79,20 @@ handle_info(adjust, #state{slots = Slots} = State) ->
     {ok, Micros} = antientropy_slots:adjust(Slots, now_ms()),
     {noreply, State#state{p99_micros = Micros}};
 handle_info({'DOWN', _, process, Borrower, _}, State) ->
-    {noreply, returned(Borrower, State)}.
+    {noreply, returned(Borrower, State)};
+handle_info(_, State) ->
+    {noreply, State}.
 
+%% A process may give back what it borrowed before this one started.
 returned(Borrower, #state{slots = Slots, borrowers = Borrowers} = State) ->
-    {Monitor, Rest} = maps:take(Borrower, Borrowers),
-    true = demonitor(Monitor, [flush]),
-    ok = antientropy_slots:give_back(Slots),
-    State#state{borrowers = Rest}.
+    case maps:take(Borrower, Borrowers) of
+        {Monitor, Rest} ->
+            true = demonitor(Monitor, [flush]),
+            ok = antientropy_slots:give_back(Slots),
+            State#state{borrowers = Rest};
+        error ->
+            State
+    end.
 
 %% The time since the start of the node: Erlang's monotonic time may be negative.
 now_ms() ->

@@ -1,4 +1,4 @@
-%% @doc The one supervisor of a node. A process that ends abnormally starts again from its disk.
+%% @doc The supervisor of a node. {@link cluster_life} starts {@link cluster_store} below it.
 -module(cluster_sup).
 -behaviour(supervisor).
 
@@ -12,10 +12,8 @@ start_link() ->
 
 %% @private
 init([]) ->
-    Ranges = [child({cluster_range, Range}, cluster_range, [Range]) || Range <- cluster_ring:held()],
-    First = [child(Module, Module, []) || Module <- [cluster_wire, cluster_slots, cluster_hints]],
-    Last = [child(Module, Module, []) || Module <- [cluster_handoff, cluster_repair, cluster_http]],
-    {ok, {#{strategy => one_for_one, intensity => 5, period => 10}, First ++ Ranges ++ Last}}.
+    Modules = [cluster_space, cluster_lives, cluster_wire, cluster_http, cluster_life],
+    {ok, {#{strategy => one_for_one, intensity => 5, period => 10}, [child(Module) || Module <- Modules]}}.
 
-child(Id, Module, Arguments) ->
-    #{id => Id, start => {Module, start_link, Arguments}}.
+child(Module) ->
+    #{id => Module, start => {Module, start_link, []}}.

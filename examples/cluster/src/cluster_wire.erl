@@ -1,12 +1,12 @@
 %% @doc All messages between nodes: calls of a function at another place, over Erlang's distribution.
 %%
 %% A call has an answer in 500 milliseconds, or its place counts as down. So does that of a paused node, of which the
-%% distribution says nothing yet. Faults drop messages by direction, at both ends, and delay those that a node sends.
+%% distribution says nothing yet.
 -module(cluster_wire).
 -behaviour(gen_server).
 
 -export([start_link/0, call/4, call/5, limit_ms/0, down/0, up_first/1]).
--export([serve/5]).
+-export([serve/4]).
 -export([init/1, handle_call/3, handle_cast/2, handle_info/2]).
 
 -define(LIMIT_MS, 500).
@@ -34,7 +34,7 @@ call(Place, Module, Function, Arguments) ->
 call(Place, Module, Function, Arguments, LimitMs) ->
     Result =
         try
-            {ok, exchange(Place, Module, Function, Arguments, LimitMs)}
+            {ok, cluster_link:call(Place, Module, Function, Arguments, LimitMs)}
         catch
             error:{exception, Reason, Stack} ->
                 logger:error("a call of ~tp at place ~b failed: ~tp ~tp", [Module, Place, Reason, Stack]),
@@ -45,27 +45,12 @@ call(Place, Module, Function, Arguments, LimitMs) ->
     note(Place, Result),
     Result.
 
-exchange(Place, Module, Function, Arguments, LimitMs) ->
-    Here = cluster_ring:here(),
-    pass(Here, Place),
-    Served = [Here, cluster_faults:slow_ms(), Module, Function, Arguments],
-    Answer = erpc:call(cluster_ring:node_of(Place), ?MODULE, serve, Served, LimitMs),
-    pass(Place, Here),
-    Answer.
-
 %% @private
-%% @doc Serves a call of another place, after the delay of its messages.
--spec serve(cluster_ring:place(), SlowMs :: non_neg_integer(), module(), Function :: atom(), Arguments :: [term()]) ->
-    term().
-serve(From, SlowMs, Module, Function, Arguments) ->
+%% @doc Serves a call of another place.
+-spec serve(From :: cluster_ring:place(), module(), Function :: atom(), Arguments :: [term()]) -> term().
+serve(_, Module, Function, Arguments) ->
     is_started() orelse exit(starting),
-    timer:sleep(SlowMs),
-    Here = cluster_ring:here(),
-    pass(From, Here),
-    Answer = apply(Module, Function, Arguments),
-    timer:sleep(cluster_faults:slow_ms()),
-    pass(Here, From),
-    Answer.
+    apply(Module, Function, Arguments).
 
 %% A node is reached before its application has started.
 is_started() ->
@@ -81,13 +66,6 @@ down() ->
 up_first(Places) ->
     {Down, Up} = lists:partition(fun(Place) -> ets:member(?MODULE, Place) end, Places),
     Up ++ Down.
-
-%% Ends the process if messages from a place to another are dropped.
-pass(From, To) ->
-    case cluster_faults:is_dropped(From, To) of
-        true -> exit(dropped);
-        false -> ok
-    end.
 
 %% Notes that a place is down, or up again: then it gets its hints.
 note(Place, Result) ->
@@ -124,4 +102,6 @@ handle_info({nodeup, _}, none) ->
     {noreply, none};
 handle_info(call_again, none) ->
     [spawn(fun() -> call(Place, cluster_ring, here, []) end) || Place <- down()],
+    {noreply, none};
+handle_info(_, none) ->
     {noreply, none}.

@@ -1,0 +1,164 @@
+%% @doc What a range does with its replica: its start from the disk, puts, reads, and the test for what it has lost.
+-module(cluster_replica).
+
+-export([open/2, entries/1, renewed/2, root/1, rehash/1]).
+-export([put/5, own/3, read/3, read_apart/4, forgotten/3]).
+
+%% Nodes of the tree that are hashed at once, so that others may put meanwhile.
+-define(REHASHED_AT_ONCE, 64).
+%% Room for all that a disk may have.
+-define(NO_LIMIT, (1 bsl 32)).
+
+%% ---- the start
+
+%% @doc Opens the log of a range, and makes its replica. Returns the number of terms after the checkpoint, too. The node
+%% ends if the limit of the settings is smaller than what is held.
+-spec open(cluster_ring:range(), cluster_lives:life()) ->
+    {ok, cluster_log:log(), antientropy:replica(), Terms :: non_neg_integer()} | {damaged, Why :: string()}.
+open(Range, Life) ->
+    Limit = cluster_settings:limit(),
+    try
+        open(Range, Life, Limit)
+    catch
+        throw:journal_full -> refuse(Range, Life, Limit)
+    end.
+
+open(Range, Life, Limit) ->
+    Load = fun(File) -> {allowed(cluster_checkpoint:load(File, Range, Limit)), 0} end,
+    Add = fun(Term, {Replica, Terms}) -> {accept_again(Term, Replica, Limit), Terms + 1} end,
+    case cluster_log:open(cluster_folder:range(Range), cluster_folder:owner(Life, {range, Range}), Load, Add) of
+        {ok, Log, {Replica, Terms}} -> {ok, Log, Replica, Terms};
+        Damaged -> Damaged
+    end.
+
+allowed({ok, Replica}) -> Replica;
+allowed({error, journal_full}) -> throw(journal_full).
+
+%% Accepts a term of the log. A log has more terms than a journal may have entries, after renewals.
+accept_again({Key, Clock, Value}, Replica, Limit) ->
+    Accept = fun(Into) -> antientropy:accept(Into, Key, #{clock => Clock, value => Value}) end,
+    case Accept(Replica) of
+        {ok, _} ->
+            Replica;
+        {error, journal_full} ->
+            Renewed = renewed(Replica, Limit),
+            {ok, _} = allowed_to(Accept(Renewed)),
+            Renewed;
+        {error, _} ->
+            cluster_manifest:damaged("a record is refused")
+    end.
+
+allowed_to({error, journal_full}) -> throw(journal_full);
+allowed_to(Accepted) -> Accepted.
+
+-spec refuse(cluster_ring:range(), cluster_lives:life(), pos_integer()) -> no_return().
+refuse(Range, Life, Limit) ->
+    {ok, _, Replica, _} = open(Range, Life, ?NO_LIMIT),
+    Held = entries(renewed(Replica, ?NO_LIMIT)),
+    cluster_app:refuse(io_lib:format("the limit ~b is smaller than the ~b versions of range ~b", [Limit, Held, Range])).
+
+%% @doc Returns the number of entries.
+-spec entries(antientropy:replica()) -> non_neg_integer().
+entries(Replica) ->
+    {ok, #{entries := Entries}} = antientropy:count(Replica),
+    Entries.
+
+%% @doc Renews a replica.
+-spec renewed(antientropy:replica(), Limit :: pos_integer()) -> antientropy:replica().
+renewed(Replica, Limit) ->
+    {ok, Renewed} = antientropy:renew(Replica, Limit),
+    ok = antientropy:close(Replica),
+    Renewed.
+
+%% @doc Returns the digest of the root, or `null' if a node of the tree has no digest.
+-spec root(antientropy:replica()) -> binary() | null.
+root(Replica) ->
+    case antientropy:snapshot(Replica, #{rehash => false}) of
+        {ok, Snapshot} ->
+            {ok, Root} = antientropy_snapshot:root(Snapshot),
+            ok = antientropy_snapshot:close(Snapshot),
+            Root;
+        {error, dirty} ->
+            null
+    end.
+
+%% @doc Hashes what has no digest, a little at a time.
+-spec rehash(antientropy:replica()) -> ok.
+rehash(Replica) ->
+    case antientropy:rehash_some(Replica, ?REHASHED_AT_ONCE) of
+        {ok, Left} when Left > 0 -> rehash(Replica);
+        _ -> ok
+    end.
+
+%% ---- puts and reads
+
+%% @doc Puts a version, whose context may be pairs, and returns it.
+-spec put(antientropy:replica(), cluster_lives:life(), Key :: binary(), antientropy:value(), Context) ->
+    {ok, antientropy:version()} | antientropy:refused() when
+    Context :: antientropy:clock_like().
+put(Replica, Life, Key, Value, Context) ->
+    case antientropy:merge([Context]) of
+        {ok, Clock} -> put_under(Replica, Life, Key, Value, Clock);
+        Refused -> Refused
+    end.
+
+put_under(Replica, Life, Key, Value, Clock) ->
+    case antientropy:put(Replica, Life, Key, Value, Clock) of
+        {ok, #{counter := Counter}} -> {ok, #{clock => Clock#{Life => Counter}, value => Value}};
+        Refused -> Refused
+    end.
+
+%% @doc Returns the versions of a key, and the greatest counter of a life in what was ever accepted for it.
+-spec own(antientropy:replica(), cluster_lives:life(), Key :: binary()) ->
+    {ok, [antientropy:version()], Top :: non_neg_integer()}.
+own(Replica, Life, Key) ->
+    {ok, Versions} = antientropy:get(Replica, Key),
+    {ok, Top} = antientropy:top_counter(Replica, Life, Key),
+    {ok, Versions, Top}.
+
+%% @doc Accepts rows of a key, and returns the versions held then.
+-spec read(antientropy:replica(), Key :: binary(), Rows :: [binary()]) ->
+    {ok, [antientropy:version()]} | antientropy:refused() | {error, term()}.
+read(Replica, Key, []) ->
+    antientropy:get(Replica, Key);
+read(Replica, Key, [Row | Rows]) ->
+    case load_other(Replica, Row, antientropy:row(Replica, Key)) of
+        {ok, _} -> read(Replica, Key, Rows);
+        Refused -> Refused
+    end.
+
+load_other(_, Row, {ok, Row}) -> {ok, same};
+load_other(Replica, Row, {ok, _}) -> antientropy:load_rows(Replica, Row);
+load_other(_, _, Refused) -> Refused.
+
+%% @doc Returns what {@link read/3} does, and leaves the replica unchanged.
+-spec read_apart(antientropy:replica(), cluster_ring:range(), Key :: binary(), Rows :: [binary()]) ->
+    {ok, [antientropy:version()]} | antientropy:refused() | {error, term()}.
+read_apart(Replica, Range, Key, Rows) ->
+    case antientropy:row(Replica, Key) of
+        {ok, Row} ->
+            {ok, Scratch} = antientropy:new(cluster_ring:replica_options(Range)),
+            Read = read(Scratch, Key, [Row | Rows]),
+            ok = antientropy:close(Scratch),
+            Read;
+        Refused ->
+            Refused
+    end.
+
+%% @doc Looks among new entries for one that shows that the replica has forgotten something: a version of another
+%% replica whose clock has a greater counter of this life than all entries of its key before it. This node had made that
+%% version, and brought it to its disk, before anyone else had it.
+-spec forgotten(antientropy:replica(), cluster_lives:life(), [antientropy:entry()]) -> boolean().
+forgotten(Replica, Life, Entries) ->
+    lists:any(fun(Entry) -> is_forgotten(Replica, Life, Entry) end, Entries).
+
+is_forgotten(_, _, #{source := put}) ->
+    false;
+is_forgotten(Replica, Life, #{number := Number, key := Key, clock := Clock}) ->
+    case Clock of
+        #{Life := Counter} ->
+            {ok, Top} = antientropy:top_counter(Replica, Life, Key, Number),
+            Counter > Top;
+        _ ->
+            false
+    end.

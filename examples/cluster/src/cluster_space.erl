@@ -1,0 +1,90 @@
+%% @doc Room on the disk of this node. While it is full, the node is read-only.
+%%
+%% Whoever finds it full says so. Then a file of 1 MB is written and synced, and removed, again and again, until there
+%% is room for it.
+-module(cluster_space).
+-behaviour(gen_server).
+
+-export([start_link/0, is_full/0, full/0]).
+-export([init/1, handle_call/3, handle_cast/2, handle_info/2]).
+
+-define(AGAIN_MS, 1000).
+-define(PROBE, "probe.new").
+-define(PROBE_BYTES, (1 bsl 20)).
+
+%% @doc Starts the process that looks for room.
+-spec start_link() -> {ok, pid()}.
+start_link() ->
+    {ok, _} = gen_server:start_link({local, ?MODULE}, ?MODULE, [], []).
+
+%% @doc Returns true while the disk is full.
+-spec is_full() -> boolean().
+is_full() ->
+    persistent_term:get(?MODULE, false).
+
+%% @doc Says that a write found the disk full.
+-spec full() -> ok.
+full() ->
+    ok = persistent_term:put(?MODULE, true),
+    gen_server:cast(?MODULE, full).
+
+%% The state is `full' after the line that says so.
+%% @private
+init([]) ->
+    {ok, look(room)}.
+
+%% @private
+handle_call(_, _, State) ->
+    {reply, ok, State}.
+
+%% @private
+handle_cast(full, room) ->
+    {noreply, now_full()};
+handle_cast(_, State) ->
+    {noreply, State}.
+
+%% @private
+handle_info(look, State) ->
+    {noreply, look(State)};
+handle_info(_, State) ->
+    {noreply, State}.
+
+now_full() ->
+    ok = persistent_term:put(?MODULE, true),
+    io:format(standard_error, "the disk is full: place ~b is read-only until there is room~n", [cluster_ring:here()]),
+    look_again().
+
+look_again() ->
+    _ = erlang:send_after(?AGAIN_MS, self(), look),
+    full.
+
+look(State) ->
+    case {probe(filename:join(cluster_settings:folder(), ?PROBE)), State} of
+        {ok, room} ->
+            ok = persistent_term:put(?MODULE, false),
+            room;
+        {ok, full} ->
+            ok = persistent_term:put(?MODULE, false),
+            io:format(standard_error, "there is room on the disk of place ~b again~n", [cluster_ring:here()]),
+            room;
+        {full, room} ->
+            now_full();
+        {full, full} ->
+            look_again()
+    end.
+
+probe(File) ->
+    Probed = cluster_disk:full_or_done(File, write(File)),
+    ok = cluster_disk:remove(File),
+    Probed.
+
+write(File) ->
+    case file:open(File, [raw, write, binary]) of
+        {ok, Device} ->
+            Written = file:write(Device, <<0:(8 * ?PROBE_BYTES)>>),
+            Synced = file:sync(Device),
+            Closed = file:close(Device),
+            hd([Failed || {error, _} = Failed <- [Written, Synced, Closed]] ++ [ok]);
+        Failed ->
+            Failed
+    end.
