@@ -23,7 +23,7 @@ REST_S = 30.0
 MOST_LIVES = 28
 
 #: Seconds that a node may take to serve, or to end, after a fault of its disk, and between two looks.
-PATIENT_S, LOOK_S = 15.0, 0.2
+PATIENT_S, LOOK_S, LOOK_SOON_S = 15.0, 0.2, 0.05
 
 #: Seconds that an episode waits for nodes to serve: they may be cut off, and then they do only later.
 START_S = 3.0
@@ -92,7 +92,7 @@ class Deeds:
         self.nodes.start(self.nodes.down())
         until = time.monotonic() + START_S
         while len(self.nodes.up()) < len(PLACES) and time.monotonic() < until:
-            time.sleep(0.05)
+            time.sleep(LOOK_SOON_S)
 
     def heal(self) -> None:
         """Heals all, waits until all nodes serve, and after a lost disk lets the cluster come to rest."""
@@ -142,22 +142,30 @@ class Deeds:
         return self._may_lose and self.nodes.lives() < MOST_LIVES
 
     def lose(self, place: int, op: str, damage: Damage) -> None:
-        """Stops a node, does something to its disk, if one may be lost now, and starts it."""
+        """Kills a node, does something to its disk, if one may be lost now, and starts it.
+
+        Its power isn't cut: a last record that is damaged then looks like one that wasn't written to its end. Waits a
+        while until the node serves, or has given up its life: then it may need links to serve.
+        """
         if not self.can_lose():
             return
-        self.stop([place])
+        self.nodes.kill([place])
         if self.nodes.damage(place, op, damage):
             self._may_lose = False
             self._lost.append((place, op, self.nodes.life(place)))
-        self.wait(0.1, 0.5)
-        self.restart()
+        self.wait(0.1, 0.3)
+        asides = self.nodes.asides(place)
+        self.nodes.start(self.nodes.down())
+        until = time.monotonic() + START_S
+        while not (place in self.nodes.up() or self.nodes.asides(place) > asides) and time.monotonic() < until:
+            time.sleep(LOOK_SOON_S)
 
     def await_life(self, place: int) -> None:
         """Waits a while until a node gives up the life that it had when its disk was lost."""
         before = max((life for lost, _, life in self._lost if lost == place), default=0)
         until = time.monotonic() + START_S
         while self.nodes.life(place) <= before and time.monotonic() < until:
-            time.sleep(0.05)
+            time.sleep(LOOK_SOON_S)
 
     def _check_lost(self) -> None:
         """Expects that nodes whose disks were lost have a new life, or have all, and show what they kept aside."""

@@ -156,6 +156,10 @@ class Nodes:
             self._lives[place] = node.life
         return self._lives.get(place, 0)
 
+    def asides(self, place: int) -> int:
+        """Returns the number of lives whose disks a place has kept aside."""
+        return sum(1 for _ in self._disks[place].glob("aside-*"))
+
     def lives(self) -> int:
         """Returns the number of lives that all places have had."""
         return sum(incarnation_of(self.life(place)) for place in PLACES)

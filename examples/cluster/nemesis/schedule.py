@@ -2,15 +2,16 @@
 
 from __future__ import annotations
 
+import random
 import time
 from concurrent.futures import ThreadPoolExecutor
 from pathlib import Path
-from typing import Callable, Iterator
+from typing import Callable, Iterator, Optional
 
 from . import damage, links
 from .caller import BLIND
 from .clients import KEYS, Clients
-from .deeds import Damage, Deeds
+from .deeds import Deeds
 from .log import Log
 from .nodes import Nodes
 from .places import PLACES
@@ -53,8 +54,8 @@ class Nemesis(Deeds):
         deck += [self._destroy, self._carriers]
         if self.nodes.powers:
             deck += [self._power_cut, self._power_cut, self._power_cut, self._recovery, self._forget]
-            deck += [self._damage, self._damage, self._damage, self._alone, self._alone, self._old, self._hints]
-            deck += [self._full, self._failed_sync]
+            deck += [self._damage, self._damage, self._flipped, self._flipped, self._missing, self._missing]
+            deck += [self._old, self._old, self._hints, self._hints, self._full, self._failed_sync]
         while True:
             yield from self.chance.sample(deck, len(deck))
 
@@ -183,11 +184,31 @@ class Nemesis(Deeds):
 
     def _damage(self) -> None:
         """Flips a bit on a node's disk, or removes a file or a folder."""
-        self.lose(self.chance.choice(PLACES), "damage", self._some_damage())
+        deed, name = self.chance.choice(
+            (
+                (damage.flip, ""),
+                (damage.flip, "log"),
+                (damage.flip, "checkpoint"),
+                (damage.remove, ""),
+                (damage.remove, "log"),
+                (damage.remove, "checkpoint"),
+                (damage.remove_folder, ""),
+            )
+        )
+        self.lose(self.chance.choice(PLACES), "damage", lambda disk: deed(disk, self.chance, name))
         self.wait(0.5, 1.5)
 
-    def _alone(self) -> None:
-        """Damages a disk, and starts its node cut off: nobody can tell it what it has lost, and it is asked to put."""
+    def _flipped(self) -> None:
+        self._alone(damage.flip_each)
+
+    def _missing(self) -> None:
+        self._alone(damage.remove_each)
+
+    def _alone(self, deed: Callable[[Path, random.Random, str], Optional[str]]) -> None:
+        """Damages all logs of a node, and starts it cut off: nobody can tell it what it lost, and it's asked to put.
+
+        Its last puts are in the logs, and it mustn't use their clocks again.
+        """
         if not self.can_lose():
             return
         place = self.chance.choice(PLACES)
@@ -196,7 +217,7 @@ class Nemesis(Deeds):
         probes.put()
         self.clients.gate.work()
         self.cut_off(links.halves([place]), is_instant=True)
-        self.lose(place, "damage", self._some_damage())
+        self.lose(place, "damage", lambda disk: deed(disk, self.chance, "log."))
         probes.put_again()
         self.links.heal()
         probes.look()
@@ -220,7 +241,7 @@ class Nemesis(Deeds):
         probes = Probes(self.clients.directed, place, self.chance)
         probes.put()
         self.come_to_rest()
-        if self.chance.random() < 0.5:
+        if self.chance.random() < 0.7:
             self.cut_off(links.halves([place]), is_instant=True)
         self.lose(place, "old", lambda disk: damage.put_back(self._old_disk, disk))
         self.links.heal()
@@ -229,29 +250,14 @@ class Nemesis(Deeds):
         probes.look()
 
     def _hints(self) -> None:
-        """Cuts a node off until others have hints for it, and damages the hints of one of them."""
+        """Cuts a node off until others have hints for it, and damages the last hints of one of them."""
         owner = self.chance.choice(PLACES)
         self.cut_off(links.halves([owner]))
         self.wait(1.5, 3.0)
         pending = {place: self.status(place)["hints"]["pending"] for place in PLACES if place != owner}
         carrier = max(sorted(pending), key=pending.__getitem__)
-        self.lose(carrier, "damage", lambda disk: damage.flip(disk, self.chance, "hints/"))
+        self.lose(carrier, "damage", lambda disk: damage.flip_each(disk, self.chance, "hints/log."))
         self.wait(0.3, 1.0)
-
-    def _some_damage(self) -> Damage:
-        """Returns damage of a disk: most often of what its node must find by itself."""
-        deed, name = self.chance.choice(
-            (
-                (damage.flip, "log"),
-                (damage.flip, "log"),
-                (damage.flip, "checkpoint"),
-                (damage.flip, ""),
-                (damage.remove_file, "log"),
-                (damage.remove_file, ""),
-                (damage.remove_folder, ""),
-            )
-        )
-        return lambda disk: deed(disk, self.chance, name)
 
     # ---- full and failing disks
 

@@ -28,26 +28,15 @@
 call(Place, Module, Function, Arguments, LimitMs) ->
     Here = cluster_ring:here(),
     Until = erlang:monotonic_time(millisecond) + LimitMs,
-    pass(faults(), Here, Place, Until),
+    pass(Here, Place, Until),
     Served = [Here, Place, Module, Function, Arguments, LimitMs],
     Answer = erpc:call(cluster_ring:node_of(Place), ?MODULE, serve, Served, LimitMs),
-    pass(faults(), Place, Here, Until),
-    Answer.
-
-%% @private
-%% @doc Serves a call of another place. Its caller gives up before a call that was dropped here ends.
--spec serve(cluster_ring:place(), cluster_ring:place(), module(), Function :: atom(), Arguments :: [term()], ms()) ->
-    term().
-serve(From, Here, Module, Function, Arguments, LimitMs) ->
-    #{slow := Slow} = Faults = faults(),
-    delay(From, Slow),
-    pass(Faults, From, Here, erlang:monotonic_time(millisecond) + LimitMs),
-    Answer = cluster_wire:serve(From, Module, Function, Arguments),
-    delay(Here, Slow),
+    pass(Place, Here, Until),
     Answer.
 
 %% Raises an error if messages from a place to another are dropped: when the call's time is over, or at once.
-pass(#{drop := Drops, instant := IsInstant}, From, To, Until) ->
+pass(From, To, Until) ->
+    #{drop := Drops, instant := IsInstant} = faults(),
     case {lists:member({From, To}, Drops), IsInstant} of
         {false, _} ->
             ok;
@@ -56,6 +45,24 @@ pass(#{drop := Drops, instant := IsInstant}, From, To, Until) ->
         {true, false} ->
             timer:sleep(max(0, Until - erlang:monotonic_time(millisecond))),
             erlang:error({erpc, timeout})
+    end.
+
+%% @private
+%% @doc Serves a call of another place. It ends without an answer if the message is dropped: then its caller has given
+%% up, or learns it at once.
+-spec serve(cluster_ring:place(), cluster_ring:place(), module(), Function :: atom(), Arguments :: [term()], ms()) ->
+    term().
+serve(From, Here, Module, Function, Arguments, LimitMs) ->
+    #{drop := Drops, slow := Slow, instant := IsInstant} = faults(),
+    delay(From, Slow),
+    case lists:member({From, Here}, Drops) of
+        true ->
+            IsInstant orelse timer:sleep(LimitMs),
+            exit(dropped);
+        false ->
+            Answer = cluster_wire:serve(From, Module, Function, Arguments),
+            delay(Here, Slow),
+            Answer
     end.
 
 delay(Place, Slow) ->

@@ -53,13 +53,25 @@ class DamageCase(unittest.TestCase):
         self.assertEqual(self.changed(), {"hints/log.3": 1})
         self.assertRegex(said, r"^flipped bit [0-7] of byte [0-8] of 9 of hints/log.3$")
 
+    def test_a_bit_of_the_last_log_of_each_folder(self):
+        (self.disk / "range-0/log.2").write_bytes(b"c1-000009")
+        damage.flip_each(self.disk, random.Random(1), "log.")
+        self.assertEqual((self.disk / "range-0/log.1").read_bytes(), FILES["range-0/log.1"])
+        self.assertNotEqual((self.disk / "range-0/log.2").read_bytes(), b"c1-000009")
+        self.assertNotEqual((self.disk / "hints/log.3").read_bytes(), FILES["hints/log.3"])
+
+    def test_the_last_log_of_each_folder_is_removed(self):
+        said = damage.remove_each(self.disk, random.Random(1), "log.")
+        self.assertEqual(said, "removed hints/log.3 of 9 bytes; removed range-0/log.1 of 30 bytes")
+        self.assertEqual(set(FILES) - set(self.held()), {"hints/log.3", "range-0/log.1"})
+
     def test_no_such_file(self):
         self.assertIsNone(damage.flip(self.disk, random.Random(1), "checkpoint"))
-        self.assertIsNone(damage.remove_file(self.disk, random.Random(1), "checkpoint"))
+        self.assertIsNone(damage.remove(self.disk, random.Random(1), "checkpoint"))
         self.assertEqual(self.held(), FILES)
 
     def test_a_file_is_removed(self):
-        said = damage.remove_file(self.disk, random.Random(1), "manifest")
+        said = damage.remove(self.disk, random.Random(1), "manifest")
         self.assertEqual(said, "removed range-0/manifest of 8 bytes")
         self.assertEqual(set(FILES) - set(self.held()), {"range-0/manifest"})
 
