@@ -24,7 +24,7 @@
 -record(state, {
     %% The incarnation that an operator named, until a life has begun.
     named :: pos_integer() | none,
-    starter :: {pid(), reference()} | undefined,
+    starter :: pid() | undefined,
     store :: reference() | undefined
 }).
 
@@ -96,7 +96,7 @@ handle_cast(_, State) ->
 handle_continue(begin_again, #state{store = Store, named = Named} = State) ->
     Store =:= undefined orelse demonitor(Store, [flush]),
     ok = cluster_store:stop(),
-    {noreply, State#state{store = undefined, starter = spawn_opt(fun() -> start(Named) end, [link, monitor])}}.
+    {noreply, State#state{store = undefined, starter = spawn_link(fun() -> start(Named) end)}}.
 
 %% @private
 handle_info({'DOWN', Store, process, _, _}, #state{store = Store} = State) ->
@@ -104,14 +104,13 @@ handle_info({'DOWN', Store, process, _, _}, #state{store = Store} = State) ->
 handle_info(_, State) ->
     {noreply, State}.
 
-%% Ends the starter, if there is one, before its next step.
-without_starter(#state{starter = undefined} = State) ->
-    State;
-without_starter(#state{starter = {Starter, Monitor}} = State) ->
+%% Ends the starter before its next step, if it still runs.
+without_starter(#state{starter = Starter} = State) ->
+    Monitor = monitor(process, Starter),
     true = unlink(Starter),
     true = exit(Starter, kill),
     receive
-        {'DOWN', Monitor, process, _, _} -> State#state{starter = undefined}
+        {'DOWN', Monitor, process, _, _} -> State
     end.
 
 %% ---- the start
@@ -131,19 +130,27 @@ incarnation({whole, Incarnation}, _) ->
     ok = cluster_folder:end_mark(),
     Incarnation;
 incarnation(empty, Named) ->
-    ok = again_if_full(fun cluster_lives:begin_anew/0),
-    Incarnation = cluster_incarnation:take(Named),
-    ok = again_if_full(fun() -> cluster_folder:make(Incarnation) end),
+    Incarnation = new_incarnation(Named),
+    Incarnation =:= 1 orelse say("the disk of place ~b is empty: a new life begins", [cluster_ring:here()]),
     Incarnation;
 incarnation({damaged, Why}, Named) ->
     ok = cluster_folder:give_up(Why),
     {ok, Aside} = again_if_full(fun cluster_folder:move_aside/0),
     Kept = filename:join(cluster_settings:folder(), Aside),
-    Format = "the disk of place ~b is damaged: ~ts; it is kept in ~ts, and a new life begins~n",
-    io:format(standard_error, Format, [cluster_ring:here(), Why, Kept]),
-    incarnation(empty, Named);
+    Format = "the disk of place ~b is damaged: ~ts; it is kept in ~ts, and a new life begins",
+    ok = say(Format, [cluster_ring:here(), Why, Kept]),
+    new_incarnation(Named);
 incarnation({refused, Why}, _) ->
     cluster_app:refuse(Why).
+
+new_incarnation(Named) ->
+    ok = again_if_full(fun cluster_lives:begin_anew/0),
+    Incarnation = cluster_incarnation:take(Named),
+    ok = again_if_full(fun() -> cluster_folder:make(Incarnation) end),
+    Incarnation.
+
+say(Format, Arguments) ->
+    io:format(standard_error, Format ++ "~n", Arguments).
 
 %% A new life needs room.
 again_if_full(Step) ->

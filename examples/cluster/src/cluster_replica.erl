@@ -6,8 +6,8 @@
 
 %% Nodes of the tree that are hashed at once, so that others may put meanwhile.
 -define(REHASHED_AT_ONCE, 64).
-%% Room for all that a disk may have.
--define(NO_LIMIT, (1 bsl 32)).
+%% The greatest limit: room for all that a disk may have.
+-define(NO_LIMIT, 1000000).
 
 %% ---- the start
 

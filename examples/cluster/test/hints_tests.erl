@@ -3,6 +3,8 @@
 
 -include_lib("eunit/include/eunit.hrl").
 
+%% The number of the first hint.
+-define(FIRST, (1 bsl 40)).
 -define(VERSION, #{clock => #{2 => 1}, value => <<"value">>}).
 
 %% Pending hints are there after a restart, and confirmed ones aren't.
@@ -17,8 +19,8 @@ restart_test_() ->
         ?assertMatch([_], cluster_hints:pending(3, 0, 10))
     end).
 
-%% A renewal gives hints new numbers, and no old one names another hint: a confirmation by it does nothing. A restart
-%% has the new ones, and goes on above them.
+%% A renewal gives hints new numbers, and no old one names another hint: a confirmation by it does nothing. Numbers go
+%% on through renewals and restarts. Those of a life begin at its incarnation times 2^40.
 renewal_test_() ->
     room:test([], fun(Folder) ->
         start(),
@@ -26,17 +28,52 @@ renewal_test_() ->
         Hints = cluster_hints:pending(2, 0, 1000),
         ok = cluster_hints:confirm([{Number, new} || #{number := Number} <- Hints]),
         ?assertEqual(#{pending => 10, delivered => 1000}, cluster_hints:count()),
-        {ok, 1021} = cluster_hints:keep(3, key(1), ?VERSION),
-        ok = cluster_hints:confirm([{1, new}, {1001, new}]),
-        [#{number := 1011} | _] = Pending = cluster_hints:pending(2, 0, 20),
+        {ok, ?FIRST + 1020} = cluster_hints:keep(3, key(1), ?VERSION),
+        ok = cluster_hints:confirm([{?FIRST, new}, {?FIRST + 1000, new}]),
+        [#{number := ?FIRST + 1010} | _] = Pending = cluster_hints:pending(2, 0, 20),
         ?assertEqual(10, length(Pending)),
-        ok = cluster_hints:confirm([{1012, known}]),
+        ok = cluster_hints:confirm([{?FIRST + 1011, known}]),
         restart(),
         Left = cluster_hints:pending(2, 0, 20),
-        ?assertEqual([Hint || #{number := Number} = Hint <- Pending, Number =/= 1012], Left),
-        ?assertMatch([#{number := 1021}], cluster_hints:pending(3, 0, 20)),
-        {ok, 1022} = cluster_hints:keep(3, key(1), ?VERSION),
-        ?assertEqual(["2.log", "3.log", "pending"], lists:sort(filelib:wildcard("*", filename:join(Folder, "hints"))))
+        ?assertEqual([Hint || #{number := Number} = Hint <- Pending, Number =/= ?FIRST + 1011], Left),
+        ?assertMatch([#{number := ?FIRST + 1020}], cluster_hints:pending(3, 0, 20)),
+        {ok, ?FIRST + 1021} = cluster_hints:keep(3, key(1), ?VERSION),
+        Names = lists:sort(filelib:wildcard("*", filename:join(Folder, "hints"))),
+        ?assertEqual(["checkpoint.2", "log.2", "manifest", "synced"], Names)
+    end).
+
+%% A byte changed in a hint's value is damage, in the log and in the checkpoint.
+damage_test_() ->
+    room:test([], fun(Folder) ->
+        start(),
+        [{ok, _} = Kept || Kept <- keep_all(1010)],
+        ok = cluster_hints:confirm([{Number, new} || #{number := Number} <- cluster_hints:pending(2, 0, 1000)]),
+        {ok, _} = cluster_hints:keep(3, key(1), ?VERSION),
+        ok = room:kill(cluster_hints),
+        ?assertEqual({whole, 1}, cluster_folder:state()),
+        Files = [filename:join([Folder, "hints", Name]) || Name <- ["log.2", "checkpoint.2"]],
+        [?assertMatch({damaged, _}, changed(File)) || File <- Files]
+    end).
+
+changed(File) ->
+    {ok, Bytes} = file:read_file(File),
+    ok = file:write_file(File, binary:replace(Bytes, <<"value">>, <<"valve">>)),
+    State = cluster_folder:state(),
+    ok = file:write_file(File, Bytes),
+    State.
+
+%% A full disk refuses hints and confirmations, and still has what it had.
+no_room_test_() ->
+    room:full_test([], fun(_) ->
+        start(),
+        {ok, First} = cluster_hints:keep(2, <<"key">>, ?VERSION),
+        Large = #{clock => #{2 => 1}, value => binary:copy(<<"v">>, 60000)},
+        room:until(fun() -> cluster_hints:keep(3, <<"key">>, Large) =:= {error, disk_full} end),
+        ?assertEqual({error, disk_full}, cluster_hints:confirm([{First, new}])),
+        ?assertMatch([#{number := First}], cluster_hints:pending(2, 0, 10)),
+        Before = cluster_hints:count(),
+        restart(),
+        ?assertEqual(Before, cluster_hints:count())
     end).
 
 %% The 10,001st pending hint is refused.

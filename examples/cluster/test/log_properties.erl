@@ -7,7 +7,7 @@
 -import(proper_types, [binary/0, boolean/0, float/2, frequency/1, list/1, nat/0, non_empty/1, oneof/1]).
 
 -define(OWNER, {place, 1}).
--define(TESTS, 300).
+-define(TESTS, 200).
 
 %% @doc Returns true if all properties hold, in folders in this one.
 -spec check(file:filename()) -> boolean().
@@ -19,12 +19,13 @@ check(Room) ->
 %% none. Then the log goes on.
 after_a_crash(Room) ->
     Choices = {boolean(), float(0.0, 1.0), list(boolean()), binary(), boolean()},
-    proper:forall({list(step(plain())), oneof([write(plain()), begin_file, adopt, restart]), Choices}, fun({Steps, Last, Chosen}) ->
+    Last = oneof([write(plain()), begin_file, adopt, restart]),
+    proper:forall({list(step(plain())), Last, Choices}, fun({Steps, Call, Chosen}) ->
         in_folders(Room, fun(Folder, Crashed) ->
-            {Log, Acked} = run(Steps ++ [begin_file || Last =:= adopt], Folder),
+            {Log, Acked} = run(Steps ++ [begin_file || Call =:= adopt], Folder),
             Before = files(Folder),
-            {Done, All} = step(Last, {Log, Acked}),
-            Image = crash(Last, Before, files(Folder), Chosen),
+            {Done, All} = step(Call, {Log, Acked}),
+            Image = crash(Call, Before, files(Folder), Chosen),
             ok = cluster_log:close(Done),
             write_files(Crashed, Image),
             ok = cluster_log:check(Crashed, ?OWNER),
@@ -60,7 +61,9 @@ write(Term) -> {write, non_empty(list(Term))}.
 plain() -> oneof([nat(), binary()]).
 
 %% A client's value can look like a record. Behind a torn one it looks like damage, which is on the safe side.
-any_term() -> oneof([nat(), binary(), proper_types:bind(nat(), fun(Place) -> cluster_records:encode(Place, []) end, false)]).
+any_term() ->
+    Record = proper_types:bind(nat(), fun(Place) -> cluster_records:encode(Place, []) end, false),
+    oneof([nat(), binary(), Record]).
 
 run(Steps, Folder) ->
     ok = cluster_log:make(Folder, ?OWNER, note),
@@ -123,8 +126,8 @@ crash(_, Before, After, {IsDone, _, Some, Junk, _}) ->
     end.
 
 some(Files, Some) ->
-    Chosen = lists:zip(maps:to_list(Files), lists:sublist(Some ++ lists:duplicate(map_size(Files), true), map_size(Files))),
-    maps:from_list([File || {File, true} <- Chosen]).
+    Enough = Some ++ lists:duplicate(map_size(Files), true),
+    maps:from_list([File || {File, true} <- lists:zip(maps:to_list(Files), lists:sublist(Enough, map_size(Files)))]).
 
 %% ---- faults
 

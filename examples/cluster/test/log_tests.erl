@@ -1,69 +1,82 @@
-%% @doc The log when its file is damaged, as after a crash of the machine.
+%% @doc A log: its properties, what a crash leaves, and a full disk.
 -module(log_tests).
 
 -include_lib("eunit/include/eunit.hrl").
 
-%% A record that was cut in the middle isn't there, and neither is what follows. Later records are in a new file.
+-define(OWNER, owner).
+
+%% The properties of a log, if PropEr is installed.
+properties_test_() ->
+    room:test([{life, none}], fun(Folder) ->
+        code:ensure_loaded(proper) =:= {error, nofile} orelse ?assert(log_properties:check(room(Folder)))
+    end).
+
+%% A folder in memory, if there is one: thousands of syncs are slow on a disk.
+room(Folder) ->
+    case filelib:is_dir("/dev/shm") of
+        true -> "/dev/shm/" ++ filename:basename(Folder) ++ "-" ++ os:getpid();
+        false -> filename:join(Folder, "logs")
+    end.
+
+%% A record that was cut in the middle isn't there. The next one is in its place.
 cut_test_() ->
-    room:test([], fun(Folder) ->
-        write(Folder, [first, second, <<0:800>>]),
-        change(Folder, 1, fun(Bytes) -> binary:part(Bytes, 0, byte_size(Bytes) - 50) end),
-        ?assertEqual([first, second], write(Folder, [third])),
-        ?assertEqual([first, second, third], records(Folder))
+    room:test([{life, none}], fun(Folder) ->
+        Log = made(Folder),
+        {ok, First} = cluster_log:write(Log, [first]),
+        Synced = file:read_file(filename:join(Folder, "log/synced")),
+        {ok, Second} = cluster_log:write(First, [<<0:800>>]),
+        ok = cluster_log:close(Second),
+        change(Folder, "synced", fun(_) -> element(2, Synced) end),
+        change(Folder, "log.1", fun(Bytes) -> binary:part(Bytes, 0, byte_size(Bytes) - 50) end),
+        {Cut, [first]} = open(Folder),
+        {ok, Third} = cluster_log:write(Cut, [third]),
+        ok = cluster_log:close(Third),
+        ?assertMatch({_, [first, third]}, open(Folder))
     end).
 
-%% A record whose bytes have changed ends its file, and not the files after it.
-changed_test_() ->
-    room:test([], fun(Folder) ->
-        write(Folder, [first, <<"second">>, third]),
-        write(Folder, [fourth]),
-        change(Folder, 1, fun(Bytes) -> binary:replace(Bytes, <<"second">>, <<"sekond">>) end),
-        ?assertEqual([first, fourth], records(Folder))
+%% A larger group is in several records, all or none of it.
+group_test_() ->
+    room:test([{life, none}], fun(Folder) ->
+        {ok, Log} = cluster_log:write(made(Folder), lists:seq(1, 2500)),
+        ok = cluster_log:close(Log),
+        {_, Terms} = open(Folder),
+        ?assertEqual(lists:seq(1, 2500), Terms)
     end).
 
-%% A file that was made, and isn't a log yet, has no records.
-begun_test_() ->
-    room:test([], fun(Folder) ->
-        write(Folder, [first]),
-        ok = file:write_file(filename:join(Folder, "2.log"), <<>>),
-        ?assertEqual([first], write(Folder, [second])),
-        ?assertEqual([first, second], records(Folder))
-    end).
-
-%% Older files are removed after a rotation, and the reading may begin at a file's number.
-rotation_test_() ->
-    room:test([], fun(Folder) ->
-        {Log, []} = open(Folder),
-        ok = cluster_log:write(Log, [first]),
-        Begun = cluster_log:rotate(Log),
-        ok = cluster_log:write(Begun, [second]),
+%% A full disk has no part of a group, and takes others when there is room.
+full_test_() ->
+    room:full_test([{life, none}], fun(Folder) ->
+        {ok, Log} = cluster_log:write(made(Folder), [first]),
+        {full, Same} = cluster_log:write(Log, lists:duplicate(5000, <<0:8000>>)),
+        {full, Still} = cluster_log:write(Same, [<<0:(8 * 5000000)>>]),
+        {ok, More} = cluster_log:write(Still, [second]),
+        ok = cluster_log:close(More),
+        ?assertMatch({_, [first, second]}, open(Folder)),
+        ok = fill(Folder),
+        {Again, _} = open(Folder),
+        ?assertMatch({full, _}, cluster_log:write(Again, [<<0:80000>>])),
+        {full, Begun} = cluster_log:begin_file(Again),
         ok = cluster_log:close(Begun),
-        ?assertEqual([first, second], records(Folder)),
-        {After, [second]} = cluster_log:open(Folder, cluster_log:number(Begun), fun add/2, []),
-        ok = cluster_log:drop_older(After),
-        ok = cluster_log:close(After),
-        ?assertEqual([], records(Folder))
+        ok = file:delete(filename:join(Folder, "filler")),
+        ?assertMatch({_, [first, second]}, open(Folder))
     end).
 
-%% Writes records as a node does between two starts, and returns those that it read at the start.
-write(Folder, Records) ->
-    {Log, Read} = open(Folder),
-    ok = cluster_log:write(Log, Records),
-    ok = cluster_log:close(Log),
-    lists:reverse(Read).
+%% Takes all room.
+fill(Folder) ->
+    {error, enospc} = file:write_file(filename:join(Folder, "filler"), <<0:(8 * 5000000)>>),
+    ok.
 
-records(Folder) ->
-    {Log, Read} = open(Folder),
-    ok = cluster_log:close(Log),
-    lists:reverse(Read).
+made(Folder) ->
+    ok = cluster_log:make(filename:join(Folder, "log"), ?OWNER, note),
+    {Log, []} = open(Folder),
+    Log.
 
 open(Folder) ->
-    cluster_log:open(Folder, 0, fun add/2, []).
+    Add = fun(Term, Terms) -> [Term | Terms] end,
+    {ok, Log, Terms} = cluster_log:open(filename:join(Folder, "log"), ?OWNER, fun(none) -> [] end, Add),
+    {Log, lists:reverse(Terms)}.
 
-add(Record, Records) ->
-    [Record | Records].
-
-change(Folder, Number, Fun) ->
-    File = filename:join(Folder, integer_to_list(Number) ++ ".log"),
+change(Folder, Name, Fun) ->
+    File = filename:join([Folder, "log", Name]),
     {ok, Bytes} = file:read_file(File),
     ok = file:write_file(File, Fun(Bytes)).

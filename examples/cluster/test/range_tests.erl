@@ -14,9 +14,9 @@ restart_test_() ->
         restart(),
         ?assertEqual(Before, dump()),
         Key = key(1),
-        {ok, [#{clock := #{1 := 1} = Clock}]} = cluster_range:read(?RANGE, Key, []),
+        {ok, [#{clock := #{33 := 1} = Clock}]} = versions(Key),
         ?assertEqual({error, stale_context}, cluster_range:put(?RANGE, Key, <<"again">>, #{})),
-        ?assertMatch({ok, #{clock := #{1 := 2}}}, cluster_range:put(?RANGE, Key, <<"again">>, Clock))
+        ?assertMatch({ok, #{clock := #{33 := 2}}}, cluster_range:put(?RANGE, Key, <<"again">>, Clock))
     end).
 
 %% A put is refused if its client hasn't read this life's last put of the key, even if its clock would be new.
@@ -35,19 +35,15 @@ checkpoint_test_() ->
     room:test([{checkpoint_entries, 20}], fun(Folder) ->
         start(),
         [fill(From, From + 19) || From <- [1, 21, 41, 61, 81]],
-        room:until(fun() -> files(Folder) =:= ["checkpoint", "log"] end),
+        room:until(fun() -> kinds(Folder) =:= ["checkpoint", "log", "manifest", "synced"] end),
         Before = dump(),
         restart(),
         ?assertEqual(Before, dump())
     end).
 
 %% The kinds of files of the range.
-files(Folder) ->
-    Files = filelib:wildcard("range-0/*", Folder),
-    lists:sort([kind(filename:extension(File), File) || File <- Files]).
-
-kind(".log", _) -> "log";
-kind(_, File) -> filename:basename(File).
+kinds(Folder) ->
+    lists:sort([hd(string:split(filename:basename(File), ".")) || File <- filelib:wildcard("range-0/*", Folder)]).
 
 %% A crash may leave a checkpoint that was cut off: it has another name.
 unfinished_checkpoint_test_() ->
@@ -56,7 +52,7 @@ unfinished_checkpoint_test_() ->
         fill(1, 50),
         Before = dump(),
         ok = room:stop(cluster_range_0),
-        ok = file:write_file(filename:join(Folder, "range-0/checkpoint.new"), <<"antient">>),
+        ok = file:write_file(filename:join(Folder, "range-0/checkpoint.9.new"), <<"antient">>),
         start(),
         ?assertEqual(Before, dump())
     end).
@@ -73,7 +69,7 @@ renewal_test_() ->
         restart(),
         ?assertEqual(Before, dump()),
         put_again(key(1)),
-        ?assertMatch({ok, [#{clock := #{1 := 7}}]}, cluster_range:read(?RANGE, key(1), []))
+        ?assertMatch({ok, [#{clock := #{33 := 7}}]}, versions(key(1)))
     end).
 
 %% A range that is full of held versions refuses puts, and still serves what it has.
@@ -82,7 +78,7 @@ full_test_() ->
         start(),
         fill(1, 30),
         ?assertEqual({error, journal_full}, cluster_range:put(?RANGE, key(31), <<"value">>, #{})),
-        ?assertMatch({ok, [_]}, cluster_range:read(?RANGE, key(30), []))
+        ?assertMatch({ok, [_]}, versions(key(30)))
     end).
 
 %% After a process has given a replica back, everything that it accepted is on the disk.
@@ -91,9 +87,9 @@ borrowed_test_() ->
         start(),
         {ok, Replica} = cluster_range:borrow(?RANGE),
         {ok, new} = antientropy:accept(Replica, key(1), #{clock => #{2 => 1}, value => <<"other">>}),
-        ok = cluster_range:give_back(?RANGE),
+        ok = cluster_range:give_back(?RANGE, Replica, some),
         restart(),
-        ?assertMatch({ok, [#{value := <<"other">>}]}, cluster_range:read(?RANGE, key(1), []))
+        ?assertMatch({ok, [#{value := <<"other">>}]}, versions(key(1)))
     end).
 
 %% The replica isn't renewed while a process syncs into it, and the next process has to wait.
@@ -105,7 +101,7 @@ busy_test_() ->
         [put_again(key(1)) || _ <- lists:seq(1, 32)],
         ?assertMatch({ok, #{entries := 37}}, antientropy:count(Replica)),
         {error, busy} = call_elsewhere(fun() -> cluster_range:borrow(?RANGE) end),
-        ok = cluster_range:give_back(?RANGE),
+        ok = cluster_range:give_back(?RANGE, Replica, some),
         ?assertMatch(#{entries := 5}, cluster_range:counts(?RANGE)),
         ?assertEqual({error, empty}, antientropy:count(Replica))
     end).
@@ -122,7 +118,7 @@ sessions_test_() ->
         {ok, Replica} = cluster_range:borrow(?RANGE),
         [{ok, #{state := cancelled}} = sync(Replica, Offer) || _ <- lists:seq(1, 900)],
         ?assertMatch({ok, #{sessions := 900}}, antientropy:count(Replica)),
-        ok = cluster_range:give_back(?RANGE),
+        ok = cluster_range:give_back(?RANGE, Replica, some),
         ?assertMatch(#{sessions := 0}, cluster_range:counts(?RANGE)),
         ?assertEqual(Before, dump())
     end).
@@ -130,6 +126,104 @@ sessions_test_() ->
 %% Begins a sync with a partner that doesn't answer.
 sync(Replica, Offer) ->
     antientropy:sync(Replica, 2, Offer, fun(_) -> [] end, #{most_bad => 0}).
+
+%% The range of a new life doesn't count in reads until each other holder's versions are in it, also after a restart.
+joining_test_() ->
+    room:test([], fun(_) ->
+        start(),
+        Key = key(1),
+        {ok, Row} = row_of(#{clock => #{34 => 1}, value => <<"other">>}, Key),
+        ?assertEqual({error, joining}, cluster_range:row(?RANGE, Key)),
+        ?assertEqual({error, down}, cluster_range:read(?RANGE, Key, [Row], 2)),
+        ?assertMatch({ok, [_]}, cluster_range:read(?RANGE, Key, [Row, Row], 2)),
+        ok = take_all(2),
+        restart(),
+        ok = take_all(3),
+        ?assertNot(cluster_range:is_joined(?RANGE)),
+        ok = take_all(2),
+        ?assertMatch({ok, _}, cluster_range:row(?RANGE, Key)),
+        ?assertMatch({ok, [_]}, cluster_range:read(?RANGE, Key, [Row], 2)),
+        restart(),
+        ?assert(cluster_range:is_joined(?RANGE))
+    end).
+
+take_all(Partner) ->
+    {ok, Replica} = cluster_range:borrow(?RANGE),
+    cluster_range:give_back(?RANGE, Replica, {all_of, Partner}).
+
+row_of(Version, Key) ->
+    {ok, Replica} = antientropy:new(cluster_ring:replica_options(?RANGE)),
+    {ok, new} = antientropy:accept(Replica, Key, Version),
+    antientropy:row(Replica, Key).
+
+%% A holder that knows a version returns its row.
+known_test_() ->
+    room:test([], fun(_) ->
+        start(),
+        Version = #{clock => #{34 => 1}, value => <<"other">>},
+        ?assertEqual({ok, new}, cluster_range:copy(?RANGE, key(1), Version)),
+        ?assertEqual({ok, {known, [Version]}}, cluster_range:copy(?RANGE, key(1), Version)),
+        ?assertEqual([{ok, known}], cluster_range:copies(?RANGE, [{key(1), Version}])),
+        ?assertEqual({ok, [Version], 0, 33}, cluster_range:own(?RANGE, key(1)))
+    end).
+
+%% A version with a later counter of this life shows that the disk has lost something. Nobody gets an answer.
+forgotten_test_() ->
+    room:test([], fun(_) ->
+        start(),
+        {ok, #{clock := #{33 := 1} = Clock}} = cluster_range:put(?RANGE, key(1), <<"value">>, #{}),
+        [{ok, new}] = cluster_range:copies(?RANGE, [{key(1), #{clock => Clock#{34 => 1}, value => <<"other">>}}]),
+        true = register(cluster_life, self()),
+        Harmless = {key(2), #{clock => #{34 => 1}, value => <<"one">>}},
+        Later = {key(1), #{clock => #{33 => 2}, value => <<"two">>}},
+        {Caller, Monitor} = spawn_monitor(fun() -> cluster_range:copies(?RANGE, [Harmless, Later]) end),
+        receive
+            {'$gen_call', From, {lost, 33, _}} -> gen_server:reply(From, ok)
+        end,
+        true = unregister(cluster_life),
+        ok = room:kill(cluster_range_0),
+        receive
+            {'DOWN', Monitor, process, Caller, Reason} -> ?assertMatch({killed, _}, Reason)
+        end,
+        start(),
+        ?assertEqual({ok, [], 0, 33}, cluster_range:own(?RANGE, key(2)))
+    end).
+
+%% While the disk is full a range refuses what would change it, and shows nothing that isn't on the disk. Then it goes
+%% on. A start needs no room.
+no_room_test_() ->
+    room:full_test([], fun(_) ->
+        start(),
+        [ok = take_all(Partner) || Partner <- [2, 3]],
+        fill(1, 10),
+        Put = fun(Number) -> cluster_range:put(?RANGE, key(Number), binary:copy(<<"v">>, 60000), #{}) end,
+        Answers = room:all_at_once(fun(Number) -> {Number, Put(Number)} end, lists:seq(11, 99)),
+        Refused = [Number || {Number, {error, disk_full}} <- Answers],
+        ?assertEqual(89, length(Refused) + length([put || {_, {ok, _}} <- Answers])),
+        ?assert(cluster_space:is_full()),
+        Other = #{clock => #{34 => 1}, value => <<"other">>},
+        ?assertEqual({error, disk_full}, cluster_range:put(?RANGE, key(1), <<"value">>, #{})),
+        ?assertEqual({error, disk_full}, cluster_range:copy(?RANGE, key(1), Other)),
+        ?assertEqual({error, disk_full}, cluster_range:borrow(?RANGE)),
+        [?assertEqual({ok, []}, cluster_range:read(?RANGE, key(Number), [], 1)) || Number <- Refused],
+        {ok, Row} = row_of(Other, key(1)),
+        ?assertMatch({ok, [_, _]}, cluster_range:read(?RANGE, key(1), [Row], 2)),
+        ?assertMatch({ok, [_]}, cluster_range:read(?RANGE, key(1), [], 1)),
+        Before = dump(),
+        restart(),
+        ?assertEqual(Before, dump()),
+        ok = file:write_file(filename:join(cluster_settings:folder(), "filler"), <<>>)
+    end).
+
+%% A limit that is smaller than what is held is refused in one line with both numbers.
+limit_test_() ->
+    room:test([], fun(_) ->
+        start(),
+        fill(1, 45),
+        ok = room:kill(cluster_range_0),
+        Refused = room:elsewhere([{limit, 30}], "cluster_range:start_link(0)"),
+        ?assertEqual({1, "the limit 30 is smaller than the 45 versions of range 0\n"}, Refused)
+    end).
 
 start() ->
     {ok, Pid} = cluster_range:start_link(?RANGE),
@@ -149,8 +243,12 @@ fill(From, To) ->
     [{ok, _} = Answer || Answer <- room:all_at_once(Put, lists:seq(From, To))].
 
 put_again(Key) ->
-    {ok, [#{clock := Clock}]} = cluster_range:read(?RANGE, Key, []),
+    {ok, [#{clock := Clock}]} = versions(Key),
     {ok, _} = cluster_range:put(?RANGE, Key, <<"again">>, Clock).
+
+versions(Key) ->
+    {ok, Versions, _, _} = cluster_range:own(?RANGE, Key),
+    {ok, Versions}.
 
 call_elsewhere(Fun) ->
     {_, Monitor} = spawn_monitor(fun() -> exit({result, Fun()}) end),

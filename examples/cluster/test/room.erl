@@ -1,28 +1,58 @@
 %% @doc A folder for a test, and the settings of a node in it.
 -module(room).
 
--export([test/2, stop/1, kill/1, until/1, all_at_once/2, folder/1]).
+-export([test/2, full_test/2, stop/1, kill/1, until/1, all_at_once/2, folder/1, flip/1, elsewhere/2]).
 
 %% A disk may be slow.
 -define(SECONDS, 60).
 
-%% @doc Returns a test as the node of place 1, with an empty folder and these settings. It may start these processes.
-test(Settings, Test) ->
-    {timeout, ?SECONDS, fun() -> run(Settings, Test) end}.
+-define(LIFE, 33).
 
-run(Settings, Test) ->
+%% @doc Returns a test as the node of place 1 in its first life, with a new disk and these settings. It may start the
+%% range 0 and the hints. With the setting `{life, none}' the folder is empty.
+test(Settings, Test) ->
+    {timeout, ?SECONDS, fun() -> run(Settings, Test, fun(_) -> ok end, fun(_) -> ok end) end}.
+
+%% @doc Returns a test whose disk has 4 MB, or one that does nothing if a disk can't be made.
+full_test(Settings, Test) ->
+    Mount = fun(Folder) -> "" = os:cmd("mount -t tmpfs -o size=4m none " ++ Folder), ok end,
+    Unmount = fun(Folder) -> "" = os:cmd("umount -l " ++ Folder), ok end,
+    case can_mount() of
+        true -> {timeout, ?SECONDS, fun() -> run(Settings, Test, Mount, Unmount) end};
+        false -> []
+    end.
+
+can_mount() ->
+    Folder = folder("mount"),
+    ok = filelib:ensure_path(Folder),
+    os:cmd("mount -t tmpfs -o size=1m none " ++ Folder ++ " && umount " ++ Folder) =:= "".
+
+run(Settings, Test, Mount, Unmount) ->
     Folder = folder("room-" ++ integer_to_list(erlang:unique_integer([positive]))),
     ok = filelib:ensure_path(Folder),
+    ok = Mount(Folder),
     {ok, _} = application:ensure_all_started(antientropy),
     _ = application:load(cluster),
-    Defaults = [{place, 1}, {life, 1}, {folder, Folder}, {limit, 1000}, {checkpoint_entries, 1000}],
+    Defaults = [{place, 1}, {folder, Folder}, {limit, 1000}, {checkpoint_entries, 1000}],
     [ok = application:set_env(cluster, Name, Value) || {Name, Value} <- Defaults ++ Settings],
+    [{ok, _} = Module:start_link() || Module <- [cluster_space, cluster_lives]],
     try
+        ok = begin_life(proplists:get_value(life, Settings, ?LIFE)),
         Test(Folder)
     after
-        [ok = kill(Name) || Name <- [cluster_range_0, cluster_hints], whereis(Name) =/= undefined],
+        Names = [cluster_range_0, cluster_hints, cluster_life, cluster_lives, cluster_space],
+        [ok = kill(Name) || Name <- Names, whereis(Name) =/= undefined],
+        ok = Unmount(Folder),
         ok = file:del_dir_r(Folder)
     end.
+
+begin_life(none) ->
+    ok;
+begin_life(Life) ->
+    ok = cluster_lives:begin_anew(),
+    ok = cluster_lives:learn([{1, 1}]),
+    ok = cluster_folder:make(1),
+    cluster_life:enter({ready, Life}).
 
 %% @doc Ends a process as its supervisor does.
 stop(Name) ->
@@ -30,10 +60,12 @@ stop(Name) ->
 
 %% @doc Ends a process as a crash does: nothing is closed in order.
 kill(Name) ->
-    Monitor = monitor(process, Name),
-    exit(whereis(Name), kill),
+    Process = whereis(Name),
+    Monitor = monitor(process, Process),
+    true = unlink(Process),
+    exit(Process, kill),
     receive
-        {'DOWN', Monitor, process, _, killed} -> ok
+        {'DOWN', Monitor, process, _, _} -> ok
     end.
 
 %% @doc Returns when a condition is true.
@@ -60,3 +92,31 @@ all_at_once(Fun, Items) ->
 %% @doc Returns the path of a folder of this name.
 folder(Name) ->
     filename:join(os:getenv("CLUSTER_ROOM"), Name).
+
+%% @doc Flips a bit in the middle of a file.
+flip(File) ->
+    {ok, Bytes} = file:read_file(File),
+    Half = byte_size(Bytes) div 2,
+    <<Before:Half/binary, Byte, After/binary>> = Bytes,
+    ok = file:write_file(File, <<Before/binary, (Byte bxor 4), After/binary>>).
+
+%% @doc Runs an expression at another node with the folder and the settings of this test, and returns what it printed,
+%% and its status.
+elsewhere(Settings, Expression) ->
+    All = maps:merge(maps:from_list(application:get_all_env(cluster)), maps:from_list(Settings)),
+    Words = ["-cluster"] ++ lists:append([[atom_to_list(Name), quoted(Value)] || {Name, Value} <- maps:to_list(All)]),
+    Paths = ["-pa", filename:dirname(code:which(?MODULE))],
+    Begin = "application:load(cluster), {ok, _} = application:ensure_all_started(antientropy), "
+        "cluster_report:install(), cluster_space:start_link(), cluster_lives:start_link(), "
+        "cluster_life:enter({ready, 33}), ",
+    Run = ["-noinput"] ++ Paths ++ Words ++ ["-eval", Begin ++ Expression ++ ", halt(0)."],
+    Port = open_port({spawn_executable, os:find_executable("erl")}, [{args, Run}, exit_status, stderr_to_stdout]),
+    output(Port, "").
+
+quoted(Value) -> lists:flatten(io_lib:format("~0p", [Value])).
+
+output(Port, Output) ->
+    receive
+        {Port, {data, More}} -> output(Port, Output ++ More);
+        {Port, {exit_status, Status}} -> {Status, Output}
+    end.

@@ -32,8 +32,4 @@ context_test() ->
 json_test() ->
     Members = #{drop => [[1, 2], []], slow_ms => -7, text => <<"a\"\\\n">>, null => null},
     Text = iolist_to_binary(cluster_json:encode(Members)),
-    ?assertEqual(<<"{\"drop\":[[1,2],[]],\"null\":null,\"slow_ms\":-7,\"text\":\"a\\\"\\\\\\u000a\"}">>, Text),
-    Read = cluster_json:decode(<<" { \"drop\" : [ [1, 2] , [ ] ], \"slow_ms\":-7, \"text\": \"a\" }\n">>),
-    ?assertEqual({ok, #{<<"drop">> => [[1, 2], []], <<"slow_ms">> => -7, <<"text">> => <<"a">>}}, Read),
-    Bad = [<<>>, <<"{">>, <<"[1,]">>, <<"{\"a\"}">>, <<"{1:2}">>, <<"1 2">>, <<"\"\\n\"">>, <<"nul">>],
-    [?assertEqual({error, bad_json}, cluster_json:decode(Broken)) || Broken <- Bad].
+    ?assertEqual(<<"{\"drop\":[[1,2],[]],\"null\":null,\"slow_ms\":-7,\"text\":\"a\\\"\\\\\\u000a\"}">>, Text).
