@@ -27,6 +27,19 @@ def flip_each(disk: Path, chance: random.Random, name: str) -> Optional[str]:
     return "; ".join(_flip(disk, chance, path) for path in _last_of_each(disk, name)) or None
 
 
+def flip_values(disk: Path, chance: random.Random, name: str) -> Optional[str]:
+    """Flips one bit of each of the last values in the last file of this name in each folder."""
+    said = []
+    for path in _last_of_each(disk, name):
+        held = bytearray(path.read_bytes())
+        values = [it.start() for it in VALUE.finditer(held)][-LAST_VALUES:]
+        for at in values:
+            held[at + chance.randrange(VALUE_BYTES)] ^= 1 << chance.randrange(8)
+        path.write_bytes(held)
+        said.append(f"flipped a bit of each of {len(values)} values of {path.relative_to(disk)}")
+    return "; ".join(said) or None
+
+
 def remove(disk: Path, chance: random.Random, name: str) -> Optional[str]:
     """Removes a file."""
     files = _files(disk, name)

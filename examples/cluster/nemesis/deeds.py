@@ -48,6 +48,8 @@ class Deeds:
         self._lost: List[Tuple[int, str, int]] = []
         self._may_lose = True
         self._until = 0.0
+        #: False once the nodes don't all serve although nothing is in their way
+        self.has_healed = True
 
     def set_end(self, seconds: float) -> None:
         """Sets the time of the run."""
@@ -100,7 +102,10 @@ class Deeds:
             self.nodes.resume(place)
         self.links.heal()
         self.relieve()
-        self.nodes.bring_up()
+        self.has_healed = self.nodes.bring_up()
+        if not self.has_healed:
+            self.log.write(op="expect", what=f"all nodes serve, and not {self.nodes.up()} alone", met=False)
+            return
         self._check_lost()
         if not self._may_lose and not self.is_over():
             self.clients.gate.rest()

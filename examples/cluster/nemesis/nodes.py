@@ -31,6 +31,9 @@ PORTS_EACH = len(PLACES) + 2
 #: Seconds that a process may take to start, on a machine that is busy, and that epmd may take to end.
 START_S, END_S = 120.0, 5.0
 
+#: Seconds that all nodes may take to serve again.
+AGAIN_S = 60.0
+
 #: Seconds between two looks at processes that start.
 LOOK_S = 0.05
 
@@ -140,14 +143,18 @@ class Nodes:
                 how = "ended" if node.has_ended else "isn't ready"
                 raise NoStart(f"the node of place {place} {how}: see node-{place}.err")
 
-    def bring_up(self) -> None:
-        """Starts all nodes that are down, and those that end by themselves again, until all serve."""
-        until = time.monotonic() + START_S
+    def bring_up(self) -> bool:
+        """Starts all nodes that are down, and those that end by themselves again, until all serve.
+
+        Returns false if they don't all serve in time.
+        """
+        until = time.monotonic() + AGAIN_S
         while self.down() or not all(_serves(node) for node in self._nodes.values()):
             if time.monotonic() > until:
-                raise NoStart(f"only the places {self.up()} serve")
+                return False
             self.start(self.down())
             time.sleep(LOOK_S)
+        return True
 
     def life(self, place: int) -> int:
         """Returns the last life that a place had, 0 before the first."""

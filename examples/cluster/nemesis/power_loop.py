@@ -48,6 +48,10 @@ class Count:
         """Returns true once there are as many as wanted."""
         return self.acknowledged >= self._wanted
 
+    def end(self) -> None:
+        """Lets the writers end."""
+        self._wanted = 0
+
 
 class Writer(threading.Thread):
     """A client that puts its keys one over the other, and reads what was acknowledged at another place."""
@@ -89,7 +93,10 @@ def cut_until_done(nodes: Nodes, chance: random.Random, count: Count, log: Log) 
             time.sleep(chance.uniform(0.1, 1.5))
             nodes.cut(places, chance)
             cuts += 1
-        nodes.bring_up()
+        if not nodes.bring_up():
+            log.write(op="expect", what=f"all nodes serve, and not {nodes.up()} alone", met=False)
+            break
+    count.end()
     log.write(op="quiet")
     return cuts
 

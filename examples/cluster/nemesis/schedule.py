@@ -6,7 +6,7 @@ import random
 import time
 from concurrent.futures import ThreadPoolExecutor
 from pathlib import Path
-from typing import Callable, Iterator, Optional
+from typing import Callable, Iterator, Optional, Sequence
 
 from . import damage, links
 from .caller import BLIND
@@ -22,6 +22,9 @@ SLOWEST_DISK_MS = 400
 
 #: Bytes of room that a disk has at most before it's full.
 MOST_ROOM = 20_000
+
+
+Episode = Callable[[], None]
 
 
 class Nemesis(Deeds):
@@ -40,7 +43,7 @@ class Nemesis(Deeds):
         self.set_end(seconds)
         self.clients.gate.work()
         for episode in self._episodes():
-            if self.is_over():
+            if self.is_over() or not self.has_healed:
                 break
             self.log.write(op="episode", name=episode.__name__.strip("_"))
             episode()
@@ -48,16 +51,25 @@ class Nemesis(Deeds):
         self.clients.gate.rest()
         self.log.write(op="quiet")
 
-    def _episodes(self) -> Iterator[Callable[[], None]]:
-        """Returns episodes without end: all of them in a random order, then all in another."""
-        deck = [self._halves, self._one_way, self._bridge, self._pause, self._kill, self._slow, self._skew]
-        deck += [self._destroy, self._carriers]
+    def _episodes(self) -> Iterator[Episode]:
+        """Returns episodes without end: two of disks after each other one."""
+        others = self._in_rounds(
+            [self._halves, self._one_way, self._bridge, self._pause, self._kill, self._slow, self._skew]
+        )
+        disks = [self._destroy, self._carriers]
         if self.nodes.powers:
-            deck += [self._power_cut, self._power_cut, self._power_cut, self._recovery, self._forget]
-            deck += [self._damage, self._damage, self._flipped, self._flipped, self._missing, self._missing]
-            deck += [self._old, self._old, self._hints, self._hints, self._full, self._failed_sync]
+            disks += [self._power_cut, self._power_cut, self._recovery, self._forget, self._full, self._failed_sync]
+            disks += [self._damage, self._flipped, self._missing, self._old, self._hints]
+        of_disks = self._in_rounds(disks)
         while True:
-            yield from self.chance.sample(deck, len(deck))
+            yield next(others)
+            yield next(of_disks)
+            yield next(of_disks)
+
+    def _in_rounds(self, episodes: Sequence[Episode]) -> Iterator[Episode]:
+        """Returns episodes without end: all of them in a random order, then all in another."""
+        while True:
+            yield from self.chance.sample(episodes, len(episodes))
 
     # ---- messages and processes
 
@@ -256,7 +268,7 @@ class Nemesis(Deeds):
         self.wait(1.5, 3.0)
         pending = {place: self.status(place)["hints"]["pending"] for place in PLACES if place != owner}
         carrier = max(sorted(pending), key=pending.__getitem__)
-        self.lose(carrier, "damage", lambda disk: damage.flip_each(disk, self.chance, "hints/log."))
+        self.lose(carrier, "damage", lambda disk: damage.flip_values(disk, self.chance, "hints/log."))
         self.wait(0.3, 1.0)
 
     # ---- full and failing disks

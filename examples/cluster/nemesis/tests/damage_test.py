@@ -60,6 +60,11 @@ class DamageCase(unittest.TestCase):
         self.assertNotEqual((self.disk / "range-0/log.2").read_bytes(), b"c1-000009")
         self.assertNotEqual((self.disk / "hints/log.3").read_bytes(), FILES["hints/log.3"])
 
+    def test_a_bit_of_each_value(self):
+        said = damage.flip_values(self.disk, random.Random(1), "range-0/log.")
+        self.assertEqual(said, "flipped a bit of each of 2 values of range-0/log.1")
+        self.assertEqual(self.changed(), {"range-0/log.1": 2})
+
     def test_the_last_log_of_each_folder_is_removed(self):
         said = damage.remove_each(self.disk, random.Random(1), "log.")
         self.assertEqual(said, "removed hints/log.3 of 9 bytes; removed range-0/log.1 of 30 bytes")
