@@ -48,7 +48,7 @@ def work(given: argparse.Namespace, room: Path) -> int:
         build(given.library, out)
     watch = Watch()
     log = Log(logs / "nemesis.log", watch)
-    with Nodes(out, room, logs, log, SETTINGS, given.ports) as nodes:
+    with Nodes(out, room, logs, log, SETTINGS, given.ports, has_disk_faults=True) as nodes:
         if not nodes.powers:
             print("there is no C compiler: disks have no faults")
         nodes.begin()

@@ -53,7 +53,8 @@ def build(library: Path, out: Path) -> None:
 class Nodes:
     """The processes of a cluster with their disks, each known by its id.
 
-    Each node runs under the library of disk faults, if there is a C compiler. `links` has the faults of messages.
+    `links` has the faults of messages. If faults of disks are wanted and there is a C compiler, each node runs under
+    their library, and `powers` has them.
     """
 
     def __init__(
@@ -64,14 +65,14 @@ class Nodes:
         log: Log,
         settings: Optional[Dict[str, str]] = None,
         ports: Optional[int] = None,
+        has_disk_faults: bool = False,
     ) -> None:
         self._claim, self.base = _claim(ports)
         self._epmd_port = self.base + PORTS_EACH - 1
         self._out, self._logs, self._log = out, logs, log
         self.links = Links(room, log)
-        library = power.build(room)
+        library = power.build(room) if has_disk_faults else None
         self._disks = {place: room / "disks" / str(place) for place in PLACES}
-        #: The disks' faults: none without a C compiler
         self.powers: Dict[int, Power] = {}
         if library is not None:
             self.powers = {place: Power(library, disk) for place, disk in self._disks.items()}

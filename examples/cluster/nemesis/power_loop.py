@@ -126,7 +126,7 @@ def work(given: argparse.Namespace, room: Path) -> int:
         build(given.library, out)
     watch, count = Watch(), Count(given.puts)
     log = Log(logs / "nemesis.log", watch)
-    with Nodes(out, room, logs, log, SETTINGS, given.ports) as nodes:
+    with Nodes(out, room, logs, log, SETTINGS, given.ports, has_disk_faults=True) as nodes:
         if not nodes.powers:
             print("skipped: there is no C compiler\n0 passed, 0 failed")
             return 0
