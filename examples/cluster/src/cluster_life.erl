@@ -82,7 +82,7 @@ handle_call({lost, Life, Why}, _, State) ->
         _ ->
             {reply, ok, State}
     end;
-handle_call({started, Store}, _, State) ->
+handle_call({started, Store}, {Starter, _}, #state{starter = Starter} = State) ->
     {reply, ok, State#state{store = monitor(process, Store), named = none}};
 handle_call(_, _, State) ->
     {reply, ok, State}.

@@ -109,8 +109,13 @@ open_file(File) ->
         {error, Reason} -> cluster_disk:failed(File, Reason)
     end.
 
-note_if_behind(#log{place = Synced}, Synced) -> ok;
-note_if_behind(#log{folder = Folder} = Log, _) -> cluster_disk:done(path(Folder, "synced"), note_synced(Log)).
+note_if_behind(#log{place = Synced}, Synced) ->
+    ok;
+note_if_behind(#log{folder = Folder} = Log, _) ->
+    case note_synced(Log) of
+        ok -> ok;
+        full -> cluster_disk:failed(path(Folder, "synced"), enospc)
+    end.
 
 %% Reads a manifest, and all that it says must be there.
 read(Folder, Owner, Load, Fun) ->

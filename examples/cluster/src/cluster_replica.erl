@@ -6,6 +6,8 @@
 
 %% Nodes of the tree that are hashed at once, so that others may put meanwhile.
 -define(REHASHED_AT_ONCE, 64).
+%% Scans of the journal for single entries: one pass for all costs more, and not more for more of them.
+-define(MOST_SCANS, 32).
 %% The greatest limit: room for all that a disk may have.
 -define(NO_LIMIT, 1000000).
 
@@ -150,15 +152,27 @@ read_apart(Replica, Range, Key, Rows) ->
 %% version, and brought it to its disk, before anyone else had it.
 -spec forgotten(antientropy:replica(), cluster_lives:life(), [antientropy:entry()]) -> boolean().
 forgotten(Replica, Life, Entries) ->
-    lists:any(fun(Entry) -> is_forgotten(Replica, Life, Entry) end, Entries).
-
-is_forgotten(_, _, #{source := put}) ->
-    false;
-is_forgotten(Replica, Life, #{number := Number, key := Key, clock := Clock}) ->
-    case Clock of
-        #{Life := Counter} ->
-            {ok, Top} = antientropy:top_counter(Replica, Life, Key, Number),
-            Counter > Top;
-        _ ->
-            false
+    case [Entry || #{source := Source, clock := #{Life := _}} = Entry <- Entries, Source =/= put] of
+        Some when length(Some) =< ?MOST_SCANS -> lists:any(fun(Entry) -> is_forgotten(Replica, Life, Entry) end, Some);
+        Many -> is_any_forgotten(Replica, Life, Many)
     end.
+
+is_forgotten(Replica, Life, #{number := Number, key := Key, clock := #{Life := Counter}}) ->
+    {ok, Top} = antientropy:top_counter(Replica, Life, Key, Number),
+    Counter > Top.
+
+%% Looks for one of many in one pass over the journal.
+is_any_forgotten(Replica, Life, [#{number := First} | _] = Many) ->
+    Look = fun(#{number := Number, key := Key, clock := Clock, source := Source}, {Tops, IsForgotten}) ->
+        case Tops of
+            #{Key := Top} ->
+                Counter = maps:get(Life, Clock, 0),
+                IsLater = Number >= First andalso Source =/= put andalso Counter > Top,
+                {Tops#{Key := max(Top, Counter)}, IsForgotten orelse IsLater};
+            _ ->
+                {Tops, IsForgotten}
+        end
+    end,
+    Tops = maps:from_list([{Key, 0} || #{key := Key} <- Many]),
+    {ok, {_, IsForgotten}} = antientropy:fold_entries(Look, {Tops, false}, Replica, 0),
+    IsForgotten.

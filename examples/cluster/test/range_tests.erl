@@ -92,6 +92,19 @@ borrowed_test_() ->
         ?assertMatch({ok, [#{value := <<"other">>}]}, versions(key(1)))
     end).
 
+%% A range that ended while a process had its replica takes it back, and forgets what wasn't on the disk. It takes no
+%% harm from stray messages.
+lent_and_ended_test_() ->
+    room:test([], fun(_) ->
+        start(),
+        {ok, Replica} = cluster_range:borrow(?RANGE),
+        {ok, new} = antientropy:accept(Replica, key(1), #{clock => #{2 => 1}, value => <<"other">>}),
+        restart(),
+        ok = cluster_range:give_back(?RANGE, Replica, {all_of, 2}),
+        cluster_range_0 ! stray,
+        ?assertEqual({ok, []}, versions(key(1)))
+    end).
+
 %% The replica isn't renewed while a process syncs into it, and the next process has to wait.
 busy_test_() ->
     room:test([{limit, 40}], fun(_) ->
@@ -187,6 +200,21 @@ forgotten_test_() ->
         end,
         start(),
         ?assertEqual({ok, [], 0, 33}, cluster_range:own(?RANGE, key(2)))
+    end).
+
+%% One such version is found among few and among many.
+forgotten_among_test_() ->
+    room:test([], fun(_) ->
+        Look = fun(Count, Counter) ->
+            {ok, Replica} = antientropy:new(cluster_ring:replica_options(?RANGE)),
+            [{ok, _} = antientropy:put(Replica, 33, key(Number), <<"value">>) || Number <- lists:seq(1, Count)],
+            Copy = fun(Number, With) -> #{clock => #{33 => With, 34 => Number}, value => <<"other">>} end,
+            [{ok, new} = antientropy:accept(Replica, key(Number), Copy(Number, 1)) || Number <- lists:seq(1, Count)],
+            {ok, new} = antientropy:accept(Replica, key(Count), Copy(Count + 1, Counter)),
+            {ok, Entries} = antientropy:entries(Replica, Count),
+            cluster_replica:forgotten(Replica, 33, Entries)
+        end,
+        ?assertEqual([false, true, false, true], [Look(Count, Counter) || Count <- [3, 100], Counter <- [1, 2]])
     end).
 
 %% While the disk is full a range refuses what would change it, and shows nothing that isn't on the disk. Then it goes
