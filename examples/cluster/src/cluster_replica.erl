@@ -157,7 +157,8 @@ forgotten(Replica, Life, Entries) ->
         Many -> is_any_forgotten(Replica, Life, Many)
     end.
 
-is_forgotten(Replica, Life, #{number := Number, key := Key, clock := #{Life := Counter}}) ->
+is_forgotten(Replica, Life, #{number := Number, key := Key, clock := Clock}) ->
+    #{Life := Counter} = Clock,
     {ok, Top} = antientropy:top_counter(Replica, Life, Key, Number),
     Counter > Top.
 
