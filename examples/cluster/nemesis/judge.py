@@ -138,20 +138,25 @@ def replicas_are_equal(case: Case) -> Iterator[Breach]:
 
 
 def lives_are_used_once(case: Case) -> Iterator[Breach]:
-    """A life's number is its place's, and is begun once: a place goes on under it, or has a greater one.
+    """A life's number is its place's, and is begun once: a start goes on under it, or has a greater one.
 
     An empty disk has a new life. In the end each node has the last life of its place, and no clock has another one.
     """
     last: Dict[int, int] = {}
     begun: Set[int] = set()
     emptied: Set[int] = set()
+    may_go_on: Set[int] = set()
     for event in case.history.events:
-        if event.op == "destroy":
+        if event.op == "start" and event.place not in emptied:
+            may_go_on.add(event.place)
+        elif event.op == "destroy":
             emptied.add(event.place)
+            may_go_on.discard(event.place)
         elif event.op == "life":
-            yield from _begins(event, last.get(event.place, 0), event.place in emptied)
+            yield from _begins(event, last.get(event.place, 0), event.place in may_go_on)
             last[event.place] = event.life
             begun.add(event.life)
+            may_go_on.discard(event.place)
             emptied.discard(event.place)
     for dump in case.history.dumps.values():
         if last.get(dump.place) != dump.life:
@@ -328,14 +333,14 @@ def report(verdict: Dict[str, List[Breach]]) -> int:
     return failed
 
 
-def _begins(event: Event, last: int, is_empty: bool) -> Iterator[Breach]:
+def _begins(event: Event, last: int, may_go_on: bool) -> Iterator[Breach]:
     """Returns what is wrong with the life that a node has begun, or goes on with."""
     incarnation, place = divmod(event.life, INCARNATION)
     if place != event.place or not 1 <= incarnation <= MOST_INCARNATIONS:
         yield Breach(f"the life {event.life} isn't one of place {event.place}", [event.line])
     elif event.life < last:
         yield Breach(f"place {event.place} went back from the life {last} to {event.life}", [event.line])
-    elif event.life == last and is_empty:
+    elif event.life == last and not may_go_on:
         yield Breach(f"the life {event.life} began twice", [event.line])
 
 

@@ -5,7 +5,7 @@ from __future__ import annotations
 import random
 from concurrent.futures import ThreadPoolExecutor
 from dataclasses import dataclass
-from typing import Callable, List, Sequence
+from typing import Callable, List, Optional, Sequence, Tuple
 
 from .caller import BLIND, Caller, Context, context_of
 from .clients import KEYS
@@ -51,8 +51,13 @@ class Probes:
         self._each(self._put)
 
     def put_again(self) -> None:
-        """Puts each key with all contexts that its client had before."""
-        self._each(self._put_again)
+        """Puts each key with all contexts that its client had before, the oldest first."""
+        self._each(lambda probe: [self._put_with(probe, context) for context in probe.contexts])
+
+    def put_on(self) -> None:
+        """Reads each key at the place, and puts it there with all contexts that its client had, the newest first."""
+        self._each(lambda probe: probe.caller.get(self._place, probe.key))
+        self._each(lambda probe: [self._put_with(probe, context) for context in reversed(probe.contexts)])
 
     def look(self) -> None:
         """Reads each key at all places."""
@@ -60,13 +65,12 @@ class Probes:
 
     def _put(self, probe: Probe) -> None:
         for _ in range(PUTS):
-            _, covers = probe.caller.put(self._place, probe.key, probe.contexts[-1])
+            _, covers = self._put_with(probe, probe.contexts[-1])
             if covers is not None:
                 probe.contexts.append(covers)
 
-    def _put_again(self, probe: Probe) -> None:
-        for context in probe.contexts:
-            probe.caller.put(self._place, probe.key, context)
+    def _put_with(self, probe: Probe, context: Context) -> Tuple[int, Optional[Context]]:
+        return probe.caller.put(self._place, probe.key, context)
 
     def _each(self, deed: Callable[[Probe], object]) -> None:
         if self._probes:

@@ -232,6 +232,7 @@ class Nemesis(Deeds):
         self.lose(place, "damage", lambda disk: deed(disk, self.chance, "log."))
         probes.put_again()
         self.links.heal()
+        probes.put_on()
         probes.look()
 
     def _old(self) -> None:

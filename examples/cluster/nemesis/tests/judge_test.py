@@ -197,8 +197,16 @@ class Lives(JudgeCase):
         events = event("destroy", place=1, life=33), event("life", place=1, life=33)
         self.assert_broken(Run(events=events), LIVES)
 
+    def test_a_life_that_begins_twice_after_a_start(self):
+        start, destroy = event("start", place=1), event("destroy", place=1, life=33)
+        self.assert_broken(Run(events=[destroy, start, event("life", place=1, life=33)]), LIVES)
+        self.assert_broken(Run(events=[start, destroy, start, event("life", place=1, life=33)]), LIVES)
+
+    def test_a_life_that_begins_twice_in_one_process(self):
+        self.assert_broken(Run(events=[event("life", place=1, life=33)]), LIVES)
+
     def test_a_new_life(self):
-        events = event("destroy", place=1, life=33), event("life", place=1, life=65)
+        events = event("destroy", place=1, life=33), event("start", place=1), event("life", place=1, life=65)
         self.assert_broken(self.run_with_lives(*events, last=65))
 
     def test_a_life_that_goes_on_after_another(self):
@@ -242,7 +250,7 @@ class Lost(JudgeCase):
     """Place 1 loses something of its disk at the time 5. Then it goes on with a life."""
 
     def lost(self, *clients, everywhere, life=65, op="damage"):
-        events = event(op, 5.0, place=1, life=33), event("life", 5.5, place=1, life=life)
+        events = event(op, 5.0, place=1, life=33), event("start", 5.2, place=1), event("life", 5.5, place=1, life=life)
         run = Run(*clients, everywhere=everywhere, events=events)
         run.dumps[1]["life"] = life
         return run
