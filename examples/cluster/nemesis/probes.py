@@ -55,9 +55,8 @@ class Probes:
         self._each(lambda probe: [self._put_with(probe, context) for context in probe.contexts])
 
     def put_on(self) -> None:
-        """Reads each key at the place, and puts it there with all contexts that its client had, the newest first."""
-        self._each(lambda probe: probe.caller.get(self._place, probe.key))
-        self._each(lambda probe: [self._put_with(probe, context) for context in reversed(probe.contexts)])
+        """Puts each key once more over its last version."""
+        self._each(lambda probe: self._put_with(probe, probe.contexts[-1]))
 
     def look(self) -> None:
         """Reads each key at all places."""

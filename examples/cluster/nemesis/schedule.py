@@ -59,7 +59,7 @@ class Nemesis(Deeds):
         disks = [self._destroy, self._carriers]
         if self.nodes.powers:
             disks += [self._power_cut, self._power_cut, self._recovery, self._forget, self._full, self._failed_sync]
-            disks += [self._damage, self._flipped, self._missing, self._old, self._hints]
+            disks += [self._flipped, self._flipped, self._missing, self._missing, self._damage, self._old, self._hints]
         of_disks = self._in_rounds(disks)
         while True:
             yield next(others)
