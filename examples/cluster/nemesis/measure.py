@@ -81,7 +81,6 @@ class Measure:
         self._nodes.kill(SIDE[:1])
         self._nodes.damage(SIDE[0], "destroy", damage.empty)
         self._nodes.start(SIDE[:1])
-        self._nodes.await_ready(SIDE[:1])
 
     def _phase(self, name: str, seconds: float) -> None:
         begin = self._log.now()
