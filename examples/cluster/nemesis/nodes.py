@@ -11,7 +11,7 @@ import socket
 import subprocess
 import time
 from pathlib import Path
-from typing import Callable, Dict, List, Optional, Sequence, Tuple
+from typing import Callable, Dict, List, Optional, Pattern, Sequence, Tuple
 
 from . import power
 from .front import HOST
@@ -221,6 +221,10 @@ class Nodes:
     def paused(self) -> List[int]:
         """Returns the places whose nodes are paused."""
         return sorted(self._paused)
+
+    def have_printed(self, pattern: Pattern[bytes]) -> bool:
+        """Returns true if a node has printed something to its errors."""
+        return any(pattern.search(path.read_bytes()) for path in self._logs.glob("node-*.err"))
 
     def _kill(self, places: Sequence[int]) -> None:
         running = [self._nodes[place] for place in places if place in self._nodes]

@@ -49,6 +49,8 @@ class Nemesis(Deeds):
             episode()
             self.heal()
         self.clients.gate.rest()
+        is_secret = not self.nodes.have_printed(damage.VALUE)
+        self.log.write(op="expect", what="no node prints a value of a client", met=is_secret)
         self.log.write(op="quiet")
 
     def _episodes(self) -> Iterator[Episode]:
