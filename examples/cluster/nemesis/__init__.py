@@ -2,7 +2,9 @@
 
     python3 -m nemesis --seed 7 --seconds 180 --library FOLDER --keep LOGS
     python3 -m nemesis.judge LOGS
+    python3 -m nemesis.power_loop --puts 10000 --library FOLDER
 
-`schedule` chooses the faults by the seed and `faults` does them; `nodes` has the processes, `clients` the clients.
-`history` and `judge` import none of these: they know a run by its logs.
+`schedule` has the episodes and chooses among them by the seed; `deeds`, `damage`, `links` and `power` do what they say.
+`nodes` has the processes, `clients` the clients. `history` and `judge` import none of these: they know a run by its
+logs. `power` can be used alone, for the disk of any program.
 """

@@ -10,8 +10,6 @@ from pathlib import Path
 
 from . import figures, judge, program, rest
 from .clients import Clients
-from .faults import Faults
-from .front import Front
 from .history import read
 from .log import Log, Watch
 from .nodes import Nodes, build
@@ -50,19 +48,21 @@ def work(given: argparse.Namespace, room: Path) -> int:
         build(given.library, out)
     watch = Watch()
     log = Log(logs / "nemesis.log", watch)
-    with Nodes(out, room / "disks", logs, log, SETTINGS, given.ports) as nodes:
+    with Nodes(out, room, logs, log, SETTINGS, given.ports, has_disk_faults=True) as nodes:
+        if not nodes.powers:
+            print("there is no C compiler: disks have no faults")
         nodes.begin()
         with figures.Counts(nodes.base, Log(logs / "status.log", watch)) as counts:
             with Clients(given.clients, given.seed, nodes.base, logs, watch) as clients:
                 begin = watch.now()
-                links = Faults(Front(nodes.base), log)
-                Nemesis(given.seed, nodes, links, clients, log).run(given.seconds)
+                Nemesis(given.seed, nodes, clients, log, room).run(given.seconds)
                 quiet = watch.now()
             took = rest.end(nodes.base, log, REST_S)
             sums = counts.look()
         rest.dump(nodes.base, logs)
+        lives = nodes.lives()
     figures.show(figures.requests(logs), begin, quiet, f"seed {given.seed}")
-    print(f"lives {nodes.lives}, " + ", ".join(f"{name.replace('_', ' ')} {count}" for name, count in sums.items()))
+    print(f"lives {lives}, " + ", ".join(f"{name.replace('_', ' ')} {count}" for name, count in sums.items()))
     print("the cluster didn't come to rest" if took is None else f"at rest after {took:.1f} s")
     verdict = judge.judge(read(logs))
     if any(verdict.values()) and not given.keep:

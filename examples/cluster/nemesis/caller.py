@@ -45,7 +45,7 @@ class Caller:
             answer = self._front.delete(place, key, context[0])
         else:
             answer = self._front.put(place, key, value, context[0])
-        told = answer.json() if answer.status == 200 else {}
+        told = answer.json() if answer.status in (200, 503) else {}
         self._log.write(
             t=begin,
             end=self._log.now(),
@@ -57,9 +57,9 @@ class Caller:
             place=place,
             by=answer.headers.get("x-place"),
             status=answer.status,
-            **{name: told[name] for name in ("clock", "on") if name in told},
+            **{name: told[name] for name in ("clock", "on", "refused", "perhaps") if name in told},
         )
-        if not told:
+        if answer.status != 200:
             return answer.status, None
         return answer.status, (told["context"], (f"tombstone {told['clock']}" if value is None else value,))
 

@@ -13,7 +13,7 @@ from typing import Deque, Dict, Sequence, Tuple
 
 from .caller import BLIND, Caller, Context, context_of
 from .log import Log, Watch
-from .nodes import PLACES
+from .places import PLACES
 
 KEYS = tuple(f"k{number:03}" for number in range(150))
 

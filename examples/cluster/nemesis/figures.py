@@ -10,7 +10,7 @@ from typing import Dict, List, NamedTuple
 
 from .front import Front
 from .log import Log
-from .nodes import PLACES
+from .places import PLACES
 
 #: Counts of a node's status that go up from 0 in each process.
 COUNTS = ("rounds", "keys_repaired", "bytes_repaired", "delivered")

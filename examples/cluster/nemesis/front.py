@@ -96,10 +96,6 @@ class Front:
         """Starts a round of a node's repair, and waits for its end."""
         return self._json(place, "PUT", "/repair", {}) is not None
 
-    def faults(self, place: int, faults: dict) -> bool:
-        """Sets the faults of a node."""
-        return self._json(place, "PUT", "/faults", faults) is not None
-
     def close(self) -> None:
         for link in self._open.values():
             link.close()
@@ -129,11 +125,16 @@ def _versions(answer: Answer) -> Tuple[List[str], List[str]]:
         return [_mark(it) for it in siblings], [it["clock"] for it in siblings]
     clocks = [clock for clock in answer.headers.get("x-clock", "").split(";") if clock]
     if answer.status == 200:
-        return [answer.body.decode()], clocks
+        return [_text(answer.body)], clocks
     return [TOMBSTONE + clock for clock in clocks], clocks
 
 
 def _mark(sibling: dict) -> str:
     if sibling["kind"] == "tombstone":
         return TOMBSTONE + sibling["clock"]
-    return base64.b64decode(sibling["value"]).decode()
+    return _text(base64.b64decode(sibling["value"]))
+
+
+def _text(value: bytes) -> str:
+    """Returns a value as text. One that a client didn't put may have any bytes."""
+    return value.decode(errors="backslashreplace")

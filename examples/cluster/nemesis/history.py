@@ -6,6 +6,7 @@ A version is known by its mark: its value, or `tombstone CLOCK`. The values of a
 from __future__ import annotations
 
 import base64
+import functools
 import json
 from dataclasses import dataclass, field
 from pathlib import Path
@@ -13,8 +14,9 @@ from typing import Dict, Iterator, List, Optional, Tuple
 
 TOMBSTONE = "tombstone "
 
-#: Statuses of a put that was refused, and so happened nowhere.
+#: Statuses of a put that was refused, and so happened nowhere; and names with which a node refuses all puts.
 REFUSED = (400, 409)
+REFUSES_ALL = ("Starting", "DiskFull")
 
 
 class BadLog(Exception):
@@ -56,6 +58,8 @@ class Write:
     status: int
     clock: str
     on: Tuple[int, ...]
+    #: The name of a refusal, if the put certainly wasn't done then
+    refused: str
 
     @property
     def acknowledged(self) -> bool:
@@ -67,7 +71,7 @@ class Write:
 
     @property
     def may_have_happened(self) -> bool:
-        return self.status not in REFUSED
+        return self.status not in REFUSED and self.refused not in REFUSES_ALL
 
 
 @dataclass(frozen=True)
@@ -83,14 +87,18 @@ class Get:
 
 @dataclass(frozen=True)
 class Event:
-    """A deed of the nemesis."""
+    """A deed of the nemesis, or what a node said."""
 
     line: Line
     at: float
     op: str
     place: int
     life: int
-    disk: str
+    #: How a process ended: a signal is negative
+    status: int
+    #: What was expected, and whether it held
+    what: str
+    met: bool
 
 
 @dataclass(frozen=True)
@@ -150,10 +158,11 @@ def read(folder: Path) -> History:
     return history
 
 
-def clock_pairs(clock: str) -> List[Tuple[int, int]]:
-    """Returns the lives and counters of a clock's text, `7:3,9:1`."""
+@functools.lru_cache(maxsize=None)
+def clock_pairs(clock: str) -> Tuple[Tuple[int, int], ...]:
+    """Returns the lives and counters of a clock's text, `67:3,34:1`."""
     pairs = (pair.split(":") for pair in clock.split(",") if pair)
-    return sorted((int(life), int(counter)) for life, counter in pairs)
+    return tuple(sorted((int(life), int(counter)) for life, counter in pairs))
 
 
 def _lines(path: Path) -> Iterator[Tuple[Line, dict]]:
@@ -182,6 +191,7 @@ def _write(line: Line, data: dict) -> Write:
         data["status"],
         clock,
         tuple(data.get("on", ())),
+        "" if data.get("perhaps") else data.get("refused", ""),
     )
 
 
@@ -191,8 +201,8 @@ def _get(line: Line, data: dict) -> Get:
 
 
 def _event(line: Line, data: dict) -> Event:
-    place, life = data.get("place", 0), data.get("life", 0)
-    return Event(line, data["t"], data["op"], place, life, data.get("disk", ""))
+    place, life, status = data.get("place", 0), data.get("life", 0), data.get("status", 0)
+    return Event(line, data["t"], data["op"], place, life, status, data.get("what", ""), data.get("met", True))
 
 
 def _dump(line: Line, data: dict) -> Dump:

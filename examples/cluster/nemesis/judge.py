@@ -8,17 +8,22 @@ aren't asked for that: a counter that was used twice hides a loss from clocks. T
 
 from __future__ import annotations
 
+import signal
 import sys
 from dataclasses import dataclass
 from pathlib import Path
-from typing import Callable, Dict, Iterator, List, Optional, Sequence, Set, Tuple
+from typing import Callable, Dict, Iterable, Iterator, List, Optional, Sequence, Set, Tuple
 
-from .history import TOMBSTONE, BadLog, Get, History, Line, Replica, Write, clock_pairs, read
+from .history import TOMBSTONE, BadLog, Event, Get, History, Line, Replica, Write, clock_pairs, read
 from .overwrites import Overwrites
+from .places import INCARNATION, MOST_INCARNATIONS
 
 #: Replicas of a range, answers of a read, and nodes of a put: those that the cluster promises.
 COPIES, READS, WRITES = 3, 2, 2
 MOST_SHOWN = 5
+
+#: What the nemesis does to disks that takes something away.
+LOSSES = ("destroy", "damage", "old")
 
 
 @dataclass(frozen=True)
@@ -49,6 +54,12 @@ class Case:
             for replica in replicas:
                 for key in replica.rows:
                     self.ranges.setdefault(key, set()).add(number)
+        #: What happened to disks that had more than they have now
+        self.losses = [event for event in history.events if event.op in LOSSES]
+        #: The clocks under which each version of a key was seen
+        self.versions: Dict[str, Dict[str, Set[str]]] = {}
+        for key, mark, clock, _ in self.seen():
+            self.versions.setdefault(key, {}).setdefault(mark, set()).add(clock)
         self.overwrites = {
             key: Overwrites(self.writes.get(key, ()), self.gets.get(key, ()))
             for key in {*self.writes, *self.gets, *self.ranges}
@@ -127,25 +138,84 @@ def replicas_are_equal(case: Case) -> Iterator[Breach]:
 
 
 def lives_are_used_once(case: Case) -> Iterator[Breach]:
-    """A clock number is used for one life, the one that the nemesis began under it."""
-    lives: Dict[int, int] = {}
+    """A life's number is its place's, and is begun once: a start goes on under it, or has a greater one.
+
+    An empty disk has a new life. In the end each node has the last life of its place, and no clock has another one.
+    """
+    last: Dict[int, int] = {}
     begun: Set[int] = set()
+    emptied: Set[int] = set()
+    may_go_on: Set[int] = set()
     for event in case.history.events:
-        if event.op == "start" and event.disk == "new":
-            if event.life in begun:
-                yield Breach(f"the life {event.life} began twice", [event.line])
-            begun.add(event.life)
-            lives[event.place] = event.life
-        elif event.op == "start" and lives.get(event.place) != event.life:
-            yield Breach(f"the life {event.life} went on at place {event.place} without its disk", [event.line])
+        if event.op == "start" and event.place not in emptied:
+            may_go_on.add(event.place)
         elif event.op == "destroy":
-            lives.pop(event.place, None)
+            emptied.add(event.place)
+            may_go_on.discard(event.place)
+        elif event.op == "life":
+            yield from _begins(event, last.get(event.place, 0), event.place in may_go_on)
+            last[event.place] = event.life
+            begun.add(event.life)
+            may_go_on.discard(event.place)
+            emptied.discard(event.place)
     for dump in case.history.dumps.values():
-        if lives.get(dump.place) != dump.life:
+        if last.get(dump.place) != dump.life:
             yield Breach(f"place {dump.place} has the life {dump.life}", [_short(dump.line)])
     for key, mark, clock, line in case.seen():
         if any(life not in begun for life, _ in clock_pairs(clock)):
             yield Breach(f"{mark} of {key} has a clock of a life that never began: {clock}", [line])
+
+
+def lives_end_with_a_loss(case: Case) -> Iterator[Breach]:
+    """A place has a new life only if its disk has lost something: no kill and no power cut ends a life."""
+    last: Dict[int, int] = {}
+    lossy: Set[int] = set()
+    for event in case.history.events:
+        if event.op in LOSSES:
+            lossy.add(event.place)
+        elif event.op == "life" and last.get(event.place) != event.life:
+            if event.place in last and event.place not in lossy:
+                yield Breach(f"the life {last[event.place]} ended, and its disk had lost nothing", [event.line])
+            last[event.place] = event.life
+            lossy.discard(event.place)
+
+
+def lost_lives_put_nothing(case: Case) -> Iterator[Breach]:
+    """A life that ended since its disk was lost, damaged or old put nothing after that.
+
+    Such a put began then, and has a counter of this life above all that the key had before. A tombstone whose clock no
+    client was told may be from before.
+    """
+    for loss in case.losses:
+        if not _has_ended(case, loss):
+            continue
+        for key, versions in case.versions.items():
+            begins = {it.mark: it.begin for it in case.writes.get(key, ())}
+            later = {mark for mark in versions if begins.get(mark, 0.0) > loss.at}
+            top = max((_counter(versions[mark], loss.life) for mark in versions if mark not in later), default=0)
+            for mark in later:
+                if _counter(versions[mark], loss.life) > top:
+                    what = f"the life {loss.life} put {mark} of {key} after its disk was lost"
+                    yield Breach(what, [loss.line, *(it.line for it in case.writes[key] if it.mark == mark)])
+
+
+def nodes_end_when_they_are_ended(case: Case) -> Iterator[Breach]:
+    """A node ends when it's killed, or when a sync of its disk fails."""
+    failing: Set[int] = set()
+    for event in case.history.events:
+        if event.op == "start":
+            failing.discard(event.place)
+        elif event.op == "failing":
+            failing.add(event.place)
+        elif event.op == "end" and event.status != -signal.SIGKILL and event.place not in failing:
+            yield Breach(f"the node of place {event.place} ended by itself", [event.line])
+
+
+def what_was_expected_held(case: Case) -> Iterator[Breach]:
+    """What the nemesis expected of a node after a fault of its disk held in time."""
+    for event in case.history.events:
+        if event.op == "expect" and not event.met:
+            yield Breach(f"it isn't so that {event.what}", [event.line])
 
 
 def puts_are_on_two_nodes(case: Case) -> Iterator[Breach]:
@@ -170,7 +240,8 @@ def reads_see_what_was_acknowledged(case: Case) -> Iterator[Breach]:
 def run_came_to_rest(case: Case) -> Iterator[Breach]:
     """In the end each place was dumped, no hint was pending, and each range was at its three places."""
     places = sorted({event.place for event in case.history.events if event.op == "start"})
-    last = case.history.events[-1] if case.history.events else None
+    deeds = [event for event in case.history.events if event.op not in ("life", "ready", "end")]
+    last = deeds[-1] if deeds else None
     if last is None or last.op != "settled":
         yield Breach("the cluster didn't settle", [last.line] if last else [])
     for place in places:
@@ -196,6 +267,10 @@ RULES: Tuple[Rule, ...] = (
     clocks_differ,
     replicas_are_equal,
     lives_are_used_once,
+    lives_end_with_a_loss,
+    lost_lives_put_nothing,
+    nodes_end_when_they_are_ended,
+    what_was_expected_held,
     puts_are_on_two_nodes,
     reads_see_what_was_acknowledged,
 )
@@ -210,7 +285,7 @@ class _Required:
     def __init__(self, case: Case, key: str) -> None:
         self._overwrites = case.overwrites[key]
         self._replicas = {replica.place for replica in case.replicas_of(key)}
-        self._destroyed = [event for event in case.history.events if event.op == "destroy"]
+        self._losses = case.losses
         writes = (it for it in case.writes.get(key, ()) if it.acknowledged and it.mark is not None)
         self._next = sorted(writes, key=lambda it: it.end, reverse=True)
         self._current: List[Write] = []
@@ -231,8 +306,8 @@ class _Required:
         self._current.append(write)
 
     def _disks(self, write: Write, until: float) -> Set[int]:
-        """Returns the replicas that have a put, less those whose disks were destroyed since it began."""
-        lost = {event.place for event in self._destroyed if write.begin <= event.at <= until}
+        """Returns the replicas that have a put, less those whose disks lost something since it began."""
+        lost = {event.place for event in self._losses if write.begin <= event.at <= until}
         return self._replicas.intersection(write.on) - lost
 
 
@@ -256,6 +331,29 @@ def report(verdict: Dict[str, List[Breach]]) -> int:
     failed = sum(1 for breaches in verdict.values() if breaches)
     print(f"{len(verdict) - failed} passed, {failed} failed")
     return failed
+
+
+def _begins(event: Event, last: int, may_go_on: bool) -> Iterator[Breach]:
+    """Returns what is wrong with the life that a node has begun, or goes on with."""
+    incarnation, place = divmod(event.life, INCARNATION)
+    if place != event.place or not 1 <= incarnation <= MOST_INCARNATIONS:
+        yield Breach(f"the life {event.life} isn't one of place {event.place}", [event.line])
+    elif event.life < last:
+        yield Breach(f"place {event.place} went back from the life {last} to {event.life}", [event.line])
+    elif event.life == last and not may_go_on:
+        yield Breach(f"the life {event.life} began twice", [event.line])
+
+
+def _has_ended(case: Case, loss: Event) -> bool:
+    """Returns true if the next lives of a place, until its next loss, show that it gave up the life that it had."""
+    later = [it for it in case.history.events if it.place == loss.place and it.at > loss.at]
+    until = next((it.at for it in later if it.op in LOSSES), float("inf"))
+    return any(it.op == "life" and it.life != loss.life for it in later if it.at < until)
+
+
+def _counter(clocks: Iterable[str], life: int) -> int:
+    """Returns the greatest counter of a life in clocks."""
+    return max((counter for clock in clocks for it, counter in clock_pairs(clock) if it == life), default=0)
 
 
 def _differ(a: Replica, b: Replica, key: str) -> bool:

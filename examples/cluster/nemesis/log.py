@@ -1,8 +1,9 @@
-"""A log of a run: lines of JSON, one writer a file."""
+"""A log of a run: lines of JSON."""
 
 from __future__ import annotations
 
 import json
+import threading
 import time
 from pathlib import Path
 from typing import Any
@@ -24,6 +25,7 @@ class Log:
     def __init__(self, path: Path, watch: Watch) -> None:
         self._file = path.open("w", encoding="utf-8", buffering=1)
         self._watch = watch
+        self._lock = threading.Lock()
 
     def now(self) -> float:
         """Returns the time of the run."""
@@ -31,8 +33,10 @@ class Log:
 
     def write(self, **members: Any) -> None:
         """Appends a line, with the time if it has none."""
-        line = members if "t" in members else {"t": self.now(), **members}
-        self._file.write(json.dumps(line) + "\n")
+        with self._lock:
+            line = members if "t" in members else {"t": self.now(), **members}
+            if not self._file.closed:
+                self._file.write(json.dumps(line) + "\n")
 
     def close(self) -> None:
         self._file.close()

@@ -15,12 +15,12 @@ from concurrent.futures import ThreadPoolExecutor
 from pathlib import Path
 from typing import List, Tuple
 
-from . import faults, figures, program
+from . import damage, figures, links, program
 from .clients import Clients
-from .faults import Faults
 from .front import Front
 from .log import Log, Watch
-from .nodes import PLACES, Nodes, build
+from .nodes import Nodes, build
+from .places import PLACES
 from .rest import settle
 
 SIDE = (1, 2)
@@ -37,7 +37,7 @@ class Measure:
 
     def __init__(self, nodes: Nodes, clients: Clients, log: Log, counts: figures.Counts) -> None:
         self._nodes, self._gate, self._log, self._counts = nodes, clients.gate, log, counts
-        self._links = Faults(Front(nodes.base), log)
+        self._links = nodes.links
         self.phases: List[Phase] = []
 
     def run(self, seconds: float, partition_s: float) -> None:
@@ -47,7 +47,7 @@ class Measure:
         self._phase("no faults", seconds)
         self._cut()
         self._phase("a partition", partition_s)
-        self._links.heal(PLACES)
+        self._links.heal()
         self._phase("its repair", seconds)
         self._lose_disk()
         self._phase("a lost disk", seconds)
@@ -57,7 +57,7 @@ class Measure:
         self._gate.work()
         time.sleep(partition_s)
         self._gate.rest()
-        self._links.heal(PLACES)
+        self._links.heal()
         self._repair(f"a partition of {partition_s:.0f} s")
         self._lose_disk()
         self._repair("a lost disk")
@@ -75,10 +75,11 @@ class Measure:
             list(fillers.map(fill, range(FILLERS)))
 
     def _cut(self) -> None:
-        self._links.partition(faults.halves(SIDE), PLACES)
+        self._links.partition(links.halves(SIDE))
 
     def _lose_disk(self) -> None:
-        self._nodes.destroy(SIDE[0])
+        self._nodes.kill(SIDE[:1])
+        self._nodes.damage(SIDE[0], "destroy", damage.empty)
         self._nodes.start(SIDE[:1])
 
     def _phase(self, name: str, seconds: float) -> None:
@@ -119,7 +120,7 @@ def work(given: argparse.Namespace, room: Path) -> int:
     watch = Watch()
     log = Log(room / "nemesis.log", watch)
     settings = {"CLUSTER_ADMISSION": "off"} if given.no_admission else {}
-    with Nodes(room / "out", room / "disks", room, log, settings, given.ports) as nodes:
+    with Nodes(room / "out", room, room, log, settings, given.ports) as nodes:
         nodes.begin()
         with figures.Counts(nodes.base, Log(room / "status.log", watch)) as counts:
             with Clients(given.clients, 1, nodes.base, room, watch) as clients:

@@ -3,32 +3,39 @@
 from __future__ import annotations
 
 import os
+import random
 import secrets
-import select
 import shutil
 import signal
 import socket
 import subprocess
 import time
 from pathlib import Path
-from typing import Dict, List, Optional, Sequence, Tuple
+from typing import Callable, Dict, List, Optional, Pattern, Sequence, Tuple
 
+from . import power
 from .front import HOST
+from .links import Links
 from .log import Log
+from .node import Node
+from .places import PLACES, incarnation_of
+from .power import Power
 
 EXAMPLE = Path(__file__).resolve().parents[1]
-PLACES = (1, 2, 3, 4, 5)
-
-#: A clock has at most 32 lives.
-MOST_LIVES = 20
 
 #: A cluster listens on a few ports in a row: those of HTTP are the first plus the place, and that of epmd is the last.
 #: It claims them by a socket that is bound to the first.
 PORTS = range(20000, 30000)
 PORTS_EACH = len(PLACES) + 2
 
-#: Seconds that a process may take to start, on a machine that is busy, and to end.
+#: Seconds that a process may take to start, on a machine that is busy, and that epmd may take to end.
 START_S, END_S = 120.0, 5.0
+
+#: Seconds that all nodes may take to serve again.
+AGAIN_S = 60.0
+
+#: Seconds between two looks at processes that start.
+LOOK_S = 0.05
 
 
 class NoStart(Exception):
@@ -44,31 +51,42 @@ def build(library: Path, out: Path) -> None:
 
 
 class Nodes:
-    """The processes of a cluster, each known by its id. A node is started again under its life while its disk lasts."""
+    """The processes of a cluster with their disks, each known by its id.
+
+    `links` has the faults of messages. If faults of disks are wanted and there is a C compiler, each node runs under
+    their library, and `powers` has them.
+    """
 
     def __init__(
         self,
         out: Path,
-        disks: Path,
+        room: Path,
         logs: Path,
         log: Log,
         settings: Optional[Dict[str, str]] = None,
         ports: Optional[int] = None,
+        has_disk_faults: bool = False,
     ) -> None:
         self._claim, self.base = _claim(ports)
         self._epmd_port = self.base + PORTS_EACH - 1
-        self._out, self._disks, self._logs, self._log = out, disks, logs, log
+        self._out, self._logs, self._log = out, logs, log
+        self.links = Links(room, log)
+        library = power.build(room) if has_disk_faults else None
+        self._disks = {place: room / "disks" / str(place) for place in PLACES}
+        self.powers: Dict[int, Power] = {}
+        if library is not None:
+            self.powers = {place: Power(library, disk) for place, disk in self._disks.items()}
         self._environment = {
             **os.environ,
+            **self.links.environment(),
             "ERL_EPMD_PORT": str(self._epmd_port),
             "CLUSTER_COOKIE": secrets.token_hex(16),
             **(settings or {}),
         }
         self._epmd: Optional[subprocess.Popen] = None
-        self._nodes: Dict[int, subprocess.Popen] = {}
-        self._paused: set = set()
+        self._nodes: Dict[int, Node] = {}
         self._lives: Dict[int, int] = {}
-        self.lives = 0
+        self._paused: set = set()
 
     def __enter__(self) -> "Nodes":
         return self
@@ -77,7 +95,7 @@ class Nodes:
         self.end()
 
     def begin(self) -> None:
-        """Starts epmd and all nodes, which get the lives from 1 on."""
+        """Starts epmd and all nodes, and waits until they serve."""
         self._epmd = subprocess.Popen(
             ["epmd", "-port", str(self._epmd_port), "-address", HOST],
             stdin=subprocess.DEVNULL,
@@ -87,99 +105,138 @@ class Nodes:
         )
         _await_port(self._epmd_port)
         self.start(PLACES)
+        self.await_ready(PLACES)
 
     def end(self) -> None:
         """Ends all that it started."""
         before = signal.signal(signal.SIGINT, signal.SIG_IGN)
         try:
             for node in self._nodes.values():
-                node.kill()
+                node.process.kill()
+            for node in self._nodes.values():
+                node.end()
             if self._epmd is not None:
                 self._epmd.terminate()
-            for process in [*self._nodes.values(), *([self._epmd] if self._epmd else [])]:
-                _await_end(process)
+                _await_end(self._epmd)
             self._claim.close()
         finally:
             signal.signal(signal.SIGINT, before)
 
     def start(self, places: Sequence[int]) -> None:
-        """Starts nodes, and waits until they serve. A place without a disk gets the next life."""
-        started = [(place, self._start(place)) for place in places]
-        for place, node in started:
-            self._await_ready(place, node)
+        """Starts nodes. One with a new disk serves once all others have answered it."""
+        for place in places:
+            self._disks[place].mkdir(parents=True, exist_ok=True)
+            self._log.write(op="start", place=place)
+            words = [EXAMPLE / "node", self._out, place, self._disks[place], self.base]
+            environment = self._environment
+            if place in self.powers:
+                environment = self.powers[place].environment(environment)
+            errors = self._logs / f"node-{place}.err"
+            self.life(place)
+            self._nodes[place] = Node(place, [str(word) for word in words], environment, errors, self._log)
+
+    def await_ready(self, places: Sequence[int]) -> None:
+        """Waits until nodes serve."""
+        until = time.monotonic() + START_S
+        for place in places:
+            node = self._nodes[place]
+            if not node.await_ready(max(0.0, until - time.monotonic())):
+                how = "ended" if node.has_ended else "isn't ready"
+                raise NoStart(f"the node of place {place} {how}: see node-{place}.err")
+
+    def bring_up(self) -> bool:
+        """Starts all nodes that are down, and those that end by themselves again, until all serve.
+
+        Returns false if they don't all serve in time.
+        """
+        until = time.monotonic() + AGAIN_S
+        while self.down() or not all(_serves(node) for node in self._nodes.values()):
+            if time.monotonic() > until:
+                return False
+            self.start(self.down())
+            time.sleep(LOOK_S)
+        return True
+
+    def life(self, place: int) -> int:
+        """Returns the last life that a place had, 0 before the first."""
+        node = self._nodes.get(place)
+        if node is not None and node.life is not None:
+            self._lives[place] = node.life
+        return self._lives.get(place, 0)
+
+    def asides(self, place: int) -> int:
+        """Returns the number of lives whose disks a place has kept aside."""
+        return sum(1 for _ in self._disks[place].glob("aside-*"))
+
+    def lives(self) -> int:
+        """Returns the number of lives that all places have had."""
+        return sum(incarnation_of(self.life(place)) for place in PLACES)
 
     def up(self) -> List[int]:
-        """Returns the places whose nodes are running and not paused."""
-        return [place for place in PLACES if place in self._nodes and place not in self._paused]
+        """Returns the places whose nodes serve and aren't paused."""
+        return [it for it, node in sorted(self._nodes.items()) if _serves(node) and it not in self._paused]
+
+    def running(self) -> List[int]:
+        """Returns the places with a process, whether it serves or not."""
+        return [place for place, node in sorted(self._nodes.items()) if not node.has_ended]
 
     def down(self) -> List[int]:
         """Returns the places without a process."""
-        return [place for place in PLACES if place not in self._nodes]
+        return [place for place in PLACES if place not in self.running()]
 
-    def kill(self, place: int) -> None:
-        """Kills a node. Its disk stays."""
-        self._log.write(op="kill", place=place, life=self._lives[place])
-        self._kill(place)
+    def kill(self, places: Sequence[int]) -> None:
+        """Kills nodes, all at once. What they wrote stays."""
+        for place in places:
+            self._log.write(op="kill", place=place)
+        self._kill(places)
 
-    def destroy(self, place: int) -> None:
-        """Kills a node and removes its disk."""
-        self._log.write(op="destroy", place=place, life=self._lives[place])
-        self._kill(place)
-        shutil.rmtree(self._disks / str(place))
-        del self._lives[place]
+    def cut(self, places: Sequence[int], chance: random.Random) -> None:
+        """Cuts the power of nodes, all at once: what they didn't sync is gone, or a part of it."""
+        self._kill(places)
+        for place in places:
+            taken = self.powers[place].cut(chance if chance.random() < 0.5 else None)
+            self._log.write(op="cut", place=place, **vars(taken))
+
+    def damage(self, place: int, op: str, deed: Callable[[Path], Optional[str]]) -> bool:
+        """Does something to the disk of a node that isn't running. Returns false if there was nothing to do it to."""
+        what = deed(self._disks[place])
+        if place in self.powers:
+            self.powers[place].keep()
+        if what is not None:
+            self._log.write(op=op, place=place, life=self.life(place), what=what)
+        return what is not None
 
     def pause(self, place: int) -> None:
         """Stops a node, which then neither answers nor is down."""
         self._log.write(op="pause", place=place)
-        self._nodes[place].send_signal(signal.SIGSTOP)
+        self._nodes[place].send(signal.SIGSTOP)
         self._paused.add(place)
 
     def resume(self, place: int) -> None:
         """Lets a paused node go on."""
         self._log.write(op="resume", place=place)
-        self._nodes[place].send_signal(signal.SIGCONT)
+        self._nodes[place].send(signal.SIGCONT)
         self._paused.discard(place)
 
     def paused(self) -> List[int]:
         """Returns the places whose nodes are paused."""
         return sorted(self._paused)
 
-    def _kill(self, place: int) -> None:
-        node = self._nodes.pop(place)
-        self._paused.discard(place)
-        node.kill()
-        _await_end(node)
+    def have_printed(self, pattern: Pattern[bytes]) -> bool:
+        """Returns true if a node has printed something to its errors."""
+        return any(pattern.search(path.read_bytes()) for path in self._logs.glob("node-*.err"))
 
-    def _start(self, place: int) -> subprocess.Popen:
-        disk = "kept" if place in self._lives else "new"
-        if disk == "new":
-            self.lives += 1
-            self._lives[place] = self.lives
-        life, folder = self._lives[place], self._disks / str(place)
-        folder.mkdir(parents=True, exist_ok=True)
-        self._log.write(op="start", place=place, life=life, disk=disk)
-        words = [EXAMPLE / "node", self._out, place, life, folder, self.base]
-        with (self._logs / f"node-{place}.err").open("ab") as errors:
-            node = subprocess.Popen(
-                [str(word) for word in words],
-                stdin=subprocess.DEVNULL,
-                stdout=subprocess.PIPE,
-                stderr=errors,
-                start_new_session=True,
-                env=self._environment,
-            )
-        self._nodes[place] = node
-        return node
+    def _kill(self, places: Sequence[int]) -> None:
+        running = [self._nodes[place] for place in places if place in self._nodes]
+        for node in running:
+            node.process.kill()
+        for node in running:
+            node.end()
+        self._paused.difference_update(places)
 
-    def _await_ready(self, place: int, node: subprocess.Popen) -> None:
-        """Waits for the line `ready` of a node."""
-        said, until = b"", time.monotonic() + START_S
-        while b"ready" not in said:
-            readable, _, _ = select.select([node.stdout], [], [], max(0.0, until - time.monotonic()))
-            more = os.read(node.stdout.fileno(), 4096) if readable else b""
-            if not more:
-                raise NoStart(f"the node of place {place} didn't start: see node-{place}.err")
-            said += more
+
+def _serves(node: Node) -> bool:
+    return node.is_ready and not node.has_ended
 
 
 def _claim(first: Optional[int]) -> Tuple[socket.socket, int]:
@@ -228,5 +285,3 @@ def _await_end(process: subprocess.Popen) -> None:
     except subprocess.TimeoutExpired:
         process.kill()
         process.wait()
-    if process.stdout is not None:
-        process.stdout.close()

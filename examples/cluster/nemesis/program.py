@@ -9,7 +9,6 @@ import tempfile
 from pathlib import Path
 from typing import Callable
 
-from .faults import NotSet
 from .history import BadLog
 from .nodes import NoStart
 
@@ -20,7 +19,7 @@ def run(work: Callable[[Path], int]) -> int:
     room = Path(tempfile.mkdtemp(prefix="cluster-"))
     try:
         return work(room)
-    except (NoStart, NotSet, BadLog) as fault:
+    except (NoStart, BadLog) as fault:
         print(f"FAILED: {fault}\n0 passed, 1 failed")
         return 1
     except KeyboardInterrupt:

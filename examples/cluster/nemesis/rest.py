@@ -9,7 +9,10 @@ from typing import Dict, Optional
 
 from .front import Front
 from .log import Log
-from .nodes import PLACES
+from .places import PLACES
+
+#: Replicas of a range.
+COPIES = 3
 
 #: Seconds between two looks.
 LOOK_S = 0.25
@@ -33,14 +36,14 @@ def settle(base: int, most_s: float) -> Optional[float]:
 
 def is_at_rest(front: Front) -> bool:
     """Returns true if all nodes are up, replicas have equal roots, and no hint is pending."""
-    roots: Dict[int, set] = {}
+    roots: Dict[int, list] = {}
     for place in PLACES:
         status = front.status(place)
-        if status is None or status["hints"]["pending"]:
+        if status is None or status["life"] is None or status["hints"]["pending"]:
             return False
         for it in status["ranges"]:
-            roots.setdefault(it["range"], set()).add(it["root"])
-    return all(len(found) == 1 and None not in found for found in roots.values())
+            roots.setdefault(it["range"], []).append(it["root"])
+    return bool(roots) and all(found == found[:1] * COPIES and None not in found for found in roots.values())
 
 
 def dump(base: int, logs: Path) -> None:

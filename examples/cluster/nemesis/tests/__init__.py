@@ -1,1 +1,1 @@
-"""Tests of the judge on written logs."""
+"""Tests of the judge on written logs, of damage, and of power cuts."""

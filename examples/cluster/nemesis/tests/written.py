@@ -1,6 +1,6 @@
 """Small logs, written by hand.
 
-They are of five places that begin with the lives 1 to 5. The key `k` is in range 0, at the places 1 to 3.
+They are of five places that begin with the lives 33 to 37. The key `k` is in range 0, at the places 1 to 3.
 """
 
 import base64
@@ -11,6 +11,8 @@ from pathlib import Path
 from nemesis import history, judge
 
 PLACES = (1, 2, 3, 4, 5)
+#: The number of a place's first life, less the place
+FIRST = 32
 HOLDERS = {0: (1, 2, 3), 1: (2, 3, 4), 2: (3, 4, 5), 3: (4, 5, 1)}
 
 
@@ -47,8 +49,9 @@ class Run:
     def __init__(self, *clients, everywhere=(), at=None, events=()):
         """`everywhere` are the versions that each replica holds of `k`, and `at` those of some places instead."""
         self.client = list(clients)
-        starts = [event("start", 0.0, place=place, life=place, disk="new") for place in PLACES]
-        self.nemesis = [*starts, *events, event("settled", 9.0)]
+        starts = [event("start", 0.0, place=place) for place in PLACES]
+        lives = [event("life", 0.0, place=place, life=FIRST + place) for place in PLACES]
+        self.nemesis = [*starts, *lives, *events, event("settled", 9.0)]
         rows = {place: held(*everywhere) for place in PLACES}
         rows.update({place: held(*versions) for place, versions in (at or {}).items()})
         self.dumps = {place: _dump(place, rows[place]) for place in PLACES}
@@ -78,7 +81,7 @@ def _dump(place, row):
         if place in places:
             rows = [{"key": _encode("k"), "versions": row}] if number == 0 and row else []
             ranges.append({"range": number, "root": f"root of {rows}", "rows": rows})
-    return {"place": place, "life": place, "ranges": ranges, "pending": 0}
+    return {"place": place, "life": FIRST + place, "ranges": ranges, "pending": 0}
 
 
 def _version(mark, clock):

@@ -1,0 +1,219 @@
+"""What the episodes of a nemesis are made of: each deed is logged, and one that would lose too much isn't done."""
+
+from __future__ import annotations
+
+import random
+import threading
+import time
+from pathlib import Path
+from typing import Callable, List, Optional, Sequence, Tuple
+
+from . import links
+from .clients import KEYS, Clients
+from .front import PATIENCE_S, Front
+from .log import Log
+from .nodes import Nodes
+from .places import PLACES
+from .rest import settle
+
+#: Seconds that the cluster may take to come to rest between two lost disks.
+REST_S = 30.0
+
+#: Lives of all places after which no disk is lost any more: a key's clock has room for 32, and each life may put it.
+MOST_LIVES = 28
+
+#: Seconds that a node may take to serve, or to end, after a fault of its disk, and between two looks.
+PATIENT_S, LOOK_S, LOOK_SOON_S = 15.0, 0.2, 0.05
+
+#: Seconds that an episode waits for nodes to serve: they may be cut off, and then they do only later.
+START_S = 3.0
+
+#: Keys that are read at a node whose disk is full.
+READ = 5
+
+#: Does something to a disk, and returns what, or None if there was nothing to do it to.
+Damage = Callable[[Path], Optional[str]]
+
+
+class Deeds:
+    """The deeds of a nemesis, by chance.
+
+    At most one disk is lost, damaged or old at a time: the cluster must have come to rest since the one before.
+    """
+
+    def __init__(self, seed: int, nodes: Nodes, clients: Clients, log: Log) -> None:
+        self.chance = random.Random(seed)
+        self.nodes, self.links, self.clients, self.log = nodes, nodes.links, clients, log
+        self._front = Front(nodes.base)
+        self._lost: List[Tuple[int, str, int]] = []
+        self._may_lose = True
+        self._until = 0.0
+        #: False once the nodes don't all serve although nothing is in their way
+        self.has_healed = True
+
+    def set_end(self, seconds: float) -> None:
+        """Sets the time of the run."""
+        self._until = time.monotonic() + seconds
+
+    def is_over(self) -> bool:
+        """Returns true once the run's time is over."""
+        return time.monotonic() >= self._until
+
+    def wait(self, least_s: float, most_s: float) -> None:
+        """Waits a time by chance, but not beyond the end of the run."""
+        time.sleep(max(0.0, min(self.chance.uniform(least_s, most_s), self._until - time.monotonic())))
+
+    def some(self, count: int) -> List[int]:
+        """Chooses places."""
+        return self.chance.sample(PLACES, count)
+
+    def some_up(self, count: int) -> List[int]:
+        """Chooses places whose nodes serve, if there are so many; otherwise any."""
+        up = self.nodes.up()
+        return self.chance.sample(up if len(up) >= count else PLACES, count)
+
+    # ---- messages
+
+    def cut_off(self, drops: Sequence[links.Drop], is_instant: Optional[bool] = None) -> None:
+        """Drops messages, by silence or at once."""
+        if is_instant is None:
+            is_instant = self.chance.random() < 0.5
+        self.links.partition(drops, is_instant)
+
+    # ---- processes
+
+    def stop(self, places: Sequence[int]) -> None:
+        """Kills nodes, or cuts their power."""
+        if self.nodes.powers and self.chance.random() < 0.5:
+            self.nodes.cut(places, self.chance)
+        else:
+            self.nodes.kill(places)
+
+    def restart(self) -> None:
+        """Starts the nodes that are down, and waits a while until they serve."""
+        self.nodes.start(self.nodes.down())
+        until = time.monotonic() + START_S
+        while len(self.nodes.up()) < len(PLACES) and time.monotonic() < until:
+            time.sleep(LOOK_SOON_S)
+
+    def heal(self) -> None:
+        """Heals all, waits until all nodes serve, and after a lost disk lets the cluster come to rest."""
+        for place in self.nodes.paused():
+            self.nodes.resume(place)
+        self.links.heal()
+        self.relieve()
+        self.has_healed = self.nodes.bring_up()
+        if not self.has_healed:
+            self.log.write(op="expect", what=f"all nodes serve, and not {self.nodes.up()} alone", met=False)
+            return
+        self._check_lost()
+        if not self._may_lose and not self.is_over():
+            self.clients.gate.rest()
+            self.log.write(op="rest")
+            self._may_lose = settle(self.nodes.base, min(REST_S, self._until - time.monotonic())) is not None
+            self.log.write(op="work", settled=self._may_lose)
+        else:
+            self.wait(0.2, 1.0)
+        self.clients.gate.work()
+
+    def come_to_rest(self) -> None:
+        """Waits until all replicas are equal and no hint is pending, but not for long."""
+        settle(self.nodes.base, PATIENT_S)
+
+    # ---- disks
+
+    def strain(self, places: Sequence[int]) -> None:
+        """Often lets slow syncs keep entries of a few keys waiting."""
+        if self.chance.random() < 0.7:
+            self.clients.load.skew(self.chance.sample(KEYS, 3), places)
+            for place in places:
+                self.slow_disk(place, self.chance.choice((100, 250, 400)))
+            self.wait(0.5, 1.5)
+
+    def slow_disk(self, place: int, delay_ms: int) -> None:
+        """Delays each sync of a node."""
+        if self.nodes.powers:
+            self.log.write(op="slow", place=place, slow_disk_ms=delay_ms)
+            self.nodes.powers[place].slow_syncs(delay_ms)
+
+    def relieve(self) -> None:
+        """Ends all faults of disks, and the skew of the load."""
+        self.clients.load.skew()
+        for power in self.nodes.powers.values():
+            power.heal()
+
+    def can_lose(self) -> bool:
+        """Returns true if a disk may be lost now: no other one is, and clocks have room for another life."""
+        return self._may_lose and self.nodes.lives() < MOST_LIVES
+
+    def lose(self, place: int, op: str, damage: Damage) -> None:
+        """Kills a node, does something to its disk, if one may be lost now, and starts it.
+
+        Its power isn't cut: a last record that is damaged then looks like one that wasn't written to its end. Waits a
+        while until the node serves, or has given up its life: then it may need links to serve.
+        """
+        if not self.can_lose():
+            return
+        self.nodes.kill([place])
+        if self.nodes.damage(place, op, damage):
+            self._may_lose = False
+            self._lost.append((place, op, self.nodes.life(place)))
+        self.wait(0.1, 0.3)
+        asides = self.nodes.asides(place)
+        self.nodes.start(self.nodes.down())
+        until = time.monotonic() + START_S
+        while not (place in self.nodes.up() or self.nodes.asides(place) > asides) and time.monotonic() < until:
+            time.sleep(LOOK_SOON_S)
+
+    def await_life(self, place: int) -> None:
+        """Waits a while until a node gives up the life that it had when its disk was lost."""
+        before = max((life for lost, _, life in self._lost if lost == place), default=0)
+        until = time.monotonic() + START_S
+        while self.nodes.life(place) <= before and time.monotonic() < until:
+            time.sleep(LOOK_SOON_S)
+
+    def _check_lost(self) -> None:
+        """Expects that nodes whose disks were lost have a new life, or have all, and show what they kept aside."""
+        for place, op, before in self._lost:
+            life = self.nodes.life(place)
+            if op == "destroy":
+                self.log.write(op="expect", what=f"place {place} with an empty disk has a new life", met=life > before)
+            elif life > before:
+                self.expect(f"place {place} shows what it kept aside", lambda it=place: bool(self.status(it)["aside"]))
+        self._lost.clear()
+
+    # ---- what must hold meanwhile
+
+    def expect(self, what: str, holds: Callable[[], bool]) -> None:
+        """Waits until something holds, and logs whether it did."""
+        until = time.monotonic() + PATIENT_S
+        while not holds():
+            if time.monotonic() > until:
+                self.log.write(op="expect", what=what, met=False)
+                return
+            time.sleep(LOOK_S)
+        self.log.write(op="expect", what=what, met=True)
+
+    def status(self, place: int) -> dict:
+        """Returns what a node says of itself; of one that doesn't answer, that it has nothing and is full."""
+        return self._front.status(place) or {"hints": {"pending": 0}, "aside": [], "full": True}
+
+    def reads(self, place: int) -> bool:
+        """Returns true if a node answers gets."""
+        gets = (self._front.get(place, key) for key in self.chance.sample(KEYS, READ))
+        return all(found.answer.status in (200, 300, 404) for found in gets)
+
+    def sync_neighbours(self, place: int) -> None:
+        """Lets the two nodes that hold most ranges of a place start a round, and waits until one has ended it."""
+        ended = threading.Event()
+
+        def repair(neighbour: int) -> None:
+            front = Front(self.nodes.base)
+            front.repair(neighbour)
+            front.close()
+            ended.set()
+
+        for step in (-1, 1):
+            neighbour = (place - 1 + step) % len(PLACES) + 1
+            threading.Thread(target=repair, args=(neighbour,), daemon=True).start()
+        ended.wait(PATIENCE_S)
