@@ -148,7 +148,7 @@ class Bytes(PowerCase):
     def test_a_part_of_what_was_not_synced(self):
         whole = b"".join(b"%d" % number * 9 for number in range(1, 9))
         seen = set()
-        for seed in range(12):
+        for seed in range(8):
             self.run_program(
                 "synced('a', b''); file = opened('a', os.O_TRUNC)\n"
                 "for n in range(1, 9): os.write(file, b'%d' % n * 9)"
@@ -161,7 +161,7 @@ class Bytes(PowerCase):
         self.assertGreater(len(seen), 3)
 
     def test_a_sector_is_written_whole_or_not_at_all(self):
-        for seed in range(12):
+        for seed in range(6):
             self.run_program("synced('a', b'0' * 600); os.pwrite(opened('a'), b'1' * 20, 8)")
             self.power.cut(random.Random(seed))
             self.assertIn(self.held()["a"][8:28], (b"0" * 20, b"1" * 20))
@@ -332,7 +332,7 @@ for deed, *words in DEEDS:
         return (deed,) if deed == "sync_names" else (deed, name, *more.get(deed, ()))
 
     def test_changes_by_chance(self):
-        for seed in range(8):
+        for seed in range(5):
             chance, model = random.Random(seed), Model()
             for _ in range(2):
                 deeds = []
