@@ -1,4 +1,4 @@
-"""Runs the nemesis, and judges the run. The last line is `N passed, M failed`."""
+"""Runs the nemesis, and judges the run. The logs of a bad run are kept. The last line is `N passed, M failed`."""
 
 from __future__ import annotations
 
@@ -28,14 +28,7 @@ def words() -> argparse.Namespace:
     parser.add_argument("--seed", type=int, default=1, help="chooses the faults and the clients' deeds")
     parser.add_argument("--seconds", type=float, default=30, help="time under faults")
     parser.add_argument("--clients", type=int, default=8)
-    parser.add_argument("--library", type=Path, help="folder of the C library, made by ./build-c")
-    parser.add_argument("--out", type=Path, help="folder of a cluster that is built already")
-    parser.add_argument("--keep", type=Path, metavar="LOGS", help="folder for the logs; a bad run's are kept anyway")
-    parser.add_argument("--ports", type=int, metavar="FIRST", help="first of seven ports; free ones if it's omitted")
-    given = parser.parse_args()
-    if not given.library and not given.out:
-        parser.error("--library or --out is wanted")
-    return given
+    return program.parse(parser)
 
 
 def work(given: argparse.Namespace, room: Path) -> int:

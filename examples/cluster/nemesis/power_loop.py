@@ -105,17 +105,10 @@ def words() -> argparse.Namespace:
     """Reads the command's words."""
     form = argparse.RawDescriptionHelpFormatter
     parser = argparse.ArgumentParser(prog="python3 -m nemesis.power_loop", description=__doc__, formatter_class=form)
-    parser.add_argument("--library", type=Path, help="folder of the C library, made by ./build-c")
-    parser.add_argument("--out", type=Path, help="folder of a cluster that is built already")
     parser.add_argument("--puts", type=int, default=10_000, help="puts that must be acknowledged")
     parser.add_argument("--writers", type=int, default=6)
     parser.add_argument("--seed", type=int, default=1)
-    parser.add_argument("--keep", type=Path, metavar="LOGS", help="folder for the logs")
-    parser.add_argument("--ports", type=int, metavar="FIRST", help="first of seven ports; free ones if it's omitted")
-    given = parser.parse_args()
-    if not given.library and not given.out:
-        parser.error("--library or --out is wanted")
-    return given
+    return program.parse(parser)
 
 
 def work(given: argparse.Namespace, room: Path) -> int:

@@ -1,7 +1,8 @@
-"""What the programs share: a temporary folder, and an end in order."""
+"""What the programs share: some words of their commands, a temporary folder, and an end in order."""
 
 from __future__ import annotations
 
+import argparse
 import shutil
 import signal
 import sys
@@ -11,6 +12,18 @@ from typing import Callable
 
 from .history import BadLog
 from .nodes import NoStart
+
+
+def parse(parser: argparse.ArgumentParser) -> argparse.Namespace:
+    """Reads a command's words, with those that all programs have."""
+    parser.add_argument("--library", type=Path, help="folder of the C library, made by ./build-c")
+    parser.add_argument("--out", type=Path, help="folder of a cluster that is built already")
+    parser.add_argument("--keep", type=Path, metavar="LOGS", help="folder for the logs")
+    parser.add_argument("--ports", type=int, metavar="FIRST", help="first of seven ports; free ones if it's omitted")
+    given = parser.parse_args()
+    if not given.library and not given.out:
+        parser.error("--library or --out is wanted")
+    return given
 
 
 def run(work: Callable[[Path], int]) -> int:
