@@ -1,5 +1,5 @@
 -- Making the places of a path dirty, one after another.
-use Rattle.std.proofs.Common.{◌≡◌, ℕ, zero, suc, ◌+◌, ◌-◌, ◌/◌, ◌^◌, ◌<◌, ◌≤◌, cond, eqb, ◌||◌, Option, Some, None, List, [], ◌∷◌, length, set, refl, sym, ap, ◌∙◌, arith, inl, inr}
+use Rattle.std.proofs.Common.{◌≡◌, ℕ, zero, suc, ◌+◌, ◌-◌, ◌/◌, ◌^◌, ◌<◌, cond, eqb, ◌||◌, Option, Some, None, List, [], ◌∷◌, length, set, refl, sym, ap, ◌∙◌, arith, inl, inr}
 use Rattle.std.proofs.Math.Nat.{pow-succ'}
 use Rattle.std.specs.Prelude.{map, MatchOption}
 use Rattle.std.specs.List.{list_any, range_with_len}
@@ -9,7 +9,7 @@ use Rattle.std.proofs.lemmas.List.FromFn.{get_or-map-range_with_len, length-map-
 use Rattle.vclock.specs.declared.format.Format.{Format}
 use Rattle.tree_nodes.proofs.PlaceLaws.{Digests}
 use Rattle.tree_nodes.specs.declared.node.NodeAt.{NodeAt}
-use Rattle.tree_nodes.specs.Nodes.{tree_depth, node_count, place_at, path_of, kept_digest, dirtied}
+use Rattle.tree_nodes.specs.Nodes.{tree_depth, place_at, path_of, kept_digest, dirtied}
 
 -- the digests with some places dirty
 unfoldable pub cleared : List ℕ → Digests → Digests
@@ -78,33 +78,6 @@ path_step depth index (Some n) within up = longer_path depth index n.depth n.ind
 pub path_shorter : (depth index : ℕ) (above : Option NodeAt) → MatchOption above (depth ≡ 0) (λ (n : NodeAt). (n.depth + 1 ≡ depth) × (n.index ≡ index / 16)) → steps_left above < depth + 1
 path_shorter depth index None root = omega arith
 path_shorter depth index (Some n) up = omega (arith, up.0)
-
--- The digests on the way: making dirty the places that are left is what is wanted.
-pub record IsClearing (format : Format) (leaf : ℕ) (start : Digests) (next : Option NodeAt) (digests : Digests) : Type 0 where
-  pub path : cleared (path_left next) digests ≡ dirtied format leaf start
-  pub all : length digests ≡ node_count format
-  pub inside : steps_left next ≤ suc (tree_depth format)
-
--- At first the leaf's path is left.
-pub clearing_begins : (format : Format) (leaf : ℕ) (start : Digests) (node : NodeAt) → node.depth ≡ tree_depth format → node.index ≡ leaf → length start ≡ node_count format → IsClearing format leaf start (Some node) start
-clearing_begins format leaf start node deep at all = record {
-  path = (λ i. cleared (path_of (deep i) (at i)) start) ∙ sym (dirtied_is format leaf start);
-  all = all;
-  inside = omega (arith, deep);
-}
-
--- Then that of the node above.
-pub clearing_goes_on : (format : Format) (leaf : ℕ) (start : Digests) (node : NodeAt) (above : Option NodeAt) (digests : Digests) → IsClearing format leaf start (Some node) digests
-    → MatchOption above (node.depth ≡ 0) (λ (n : NodeAt). (n.depth + 1 ≡ node.depth) × (n.index ≡ node.index / 16)) → IsClearing format leaf start above (set digests (place_at node.depth node.index) None)
-clearing_goes_on format leaf start node above digests before up = record {
-  path = cleared_first (place_at node.depth node.index) (path_left above) digests ∙ ap (λ (places : List ℕ). cleared places digests) (path_step node.depth node.index above node.within up) ∙ before.path;
-  all = simp length-set before.all;
-  inside = omega (arith, path_shorter node.depth node.index above up, before.inside);
-}
-
--- At last nothing is left.
-pub clearing_done : (format : Format) (leaf : ℕ) (start : Digests) (digests : Digests) → IsClearing format leaf start None digests → digests ≡ dirtied format leaf start
-clearing_done format leaf start digests before = sym (cleared_none digests) ∙ before.path
 
 -- The node above another has an index of its depth.
 pub parent_within : (depth index : ℕ) → 0 < depth → index < 16 ^ depth → index / 16 < 16 ^ (depth - 1)

@@ -41,6 +41,11 @@ pub node_count_is : (format : Format) → node_count format ≡ nodes_above (suc
 node_count_is One = refl
 node_count_is Two = refl
 
+-- A tree has 4,369 nodes at most.
+pub few_nodes : (format : Format) → node_count format ≤ 4369
+few_nodes One = omega arith
+few_nodes Two = omega arith
+
 -- A tree has the nodes down to its depth.
 pub place_within : (format : Format) (depth index : ℕ) → depth ≤ tree_depth format → index < 16 ^ depth → place_at depth index < node_count format
 place_within format depth index deep within = omega (arith, node_count_is format, above_below depth (suc (tree_depth format)) (omega arith))

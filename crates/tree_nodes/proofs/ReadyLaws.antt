@@ -1,12 +1,12 @@
 -- Which nodes can be hashed, and what the digests of a clean tree are.
-use Rattle.std.proofs.Common.{◌≡◌, ℕ, zero, suc, ◌+◌, ◌*◌, ◌-◌, ◌<◌, ◌≤◌, Bool, true, false, cond, is_some, is_none, Option, Some, None, List, [], ◌∷◌, length, drop, refl, sym, ap, subst, ◌∙◌, arith, inl, inr}
+use Rattle.std.proofs.Common.{◌≡◌, ℕ, zero, suc, ◌+◌, ◌*◌, ◌-◌, ◌/◌, ◌%◌, ◌<◌, ◌≤◌, Bool, ◌&&◌, true, false, cond, is_some, is_none, Option, Some, None, List, [], ◌∷◌, length, drop, refl, sym, ap, subst, ◌∙◌, arith, inl, inr}
 use Rattle.std.specs.List.{filter, range_with_len}
-use Rattle.std.proofs.lemmas.Bool.{both_ways, cases_eq, cases_Bool, cond-true, cond-false, and_from, and_parts}
+use Rattle.std.proofs.lemmas.Bool.{both_ways, cases_eq, cases_lt, cases_Bool, cond-true, cond-false, and_from, and_parts}
 use Rattle.std.proofs.lemmas.List.{get_or_default, length-take, length-drop}
 use Rattle.std.proofs.lemmas.List.Sums.{list_all-from_AllPass}
-use Rattle.tree_nodes.specs.Nodes.{kept_digest, children_of, are_clean, is_ready, ready_from}
+use Rattle.tree_nodes.specs.Nodes.{kept_digest, children_of, are_clean, is_ready, ready_from, AreCleanBelow}
 use Rattle.tree_nodes.proofs.PlaceLaws.{Digests}
-use Rattle.tree_nodes.proofs.TreeLaws.{child_at}
+use Rattle.tree_nodes.proofs.TreeLaws.{child_at, none_some}
 
 -- ---- the numbers of a range that pass a test
 
@@ -41,7 +41,20 @@ first_passes p (suc n) from x xs e =
           (later.0, omega arith, omega arith)
     ]
 
+few_pass : (p : ℕ → Bool) (n from : ℕ) → length (filter p (range_with_len from n)) ≤ n
+few_pass p zero from = omega arith
+few_pass p (suc n) from =
+    let rest = filter p (range_with_len (from + 1) n) in
+    elim (cases_Bool (p from)) [
+      | inl passes ↦ omega (arith, few_pass p n (from + 1), ap (λ (xs : List ℕ). length xs) (cond-true (p from) (from ∷ rest) rest passes))
+      | inr fails ↦ omega (arith, few_pass p n (from + 1), ap (λ (xs : List ℕ). length xs) (cond-false (p from) (from ∷ rest) rest fails))
+    ]
+
 -- ---- nodes that can be hashed
+
+-- There are no more than nodes.
+pub ready_few : (digests : Digests) → length (ready_from digests 0) ≤ length digests
+ready_few digests = omega (arith, few_pass (is_ready digests) (length digests - 0) 0)
 
 -- The first place of those from a place on, and the others.
 pub ready_step : (digests : Digests) (place : ℕ) → place < length digests → ready_from digests place ≡ cond (is_ready digests place) (place ∷ ready_from digests (place + 1)) (ready_from digests (place + 1))
@@ -58,6 +71,66 @@ pub ready_past : (digests : Digests) (from : ℕ) → length digests ≤ from �
 ready_past digests from past =
     let none : length digests - from ≡ 0 = omega arith in
     ap (λ (n : ℕ). filter (is_ready digests) (range_with_len from n)) none
+
+-- A node that can't be hashed is passed.
+pub ready_pass : (digests : Digests) (place : ℕ) → place < length digests → is_ready digests place ≡ false → ready_from digests place ≡ ready_from digests (place + 1)
+ready_pass digests place within not = ready_step digests place within ∙ cond-false (is_ready digests place) (place ∷ ready_from digests (place + 1)) (ready_from digests (place + 1)) not
+
+-- a clean node can't be hashed
+clean_not_ready : (o : Option (List ℕ)) (b : Bool) → is_some o ≡ true → (is_none o && b) ≡ false
+clean_not_ready None b clean = absurd (cc)
+clean_not_ready (Some d) b clean = refl
+
+-- A dirty node with clean children can be hashed.
+pub can_be_hashed : (digests : Digests) (place : ℕ) → is_some (kept_digest digests place) ≡ false → are_clean (children_of digests place) ≡ true → is_ready digests place ≡ true
+can_be_hashed digests place dirty clean = and_from (is_none (kept_digest digests place)) (are_clean (children_of digests place)) (none (kept_digest digests place) dirty) clean
+  where
+    none : (o : Option (List ℕ)) → is_some o ≡ false → is_none o ≡ true
+    none None e = refl
+    none (Some d) e = absurd (cc)
+
+-- A node with a dirty child can't.
+pub dirty_child : (digests : Digests) (place : ℕ) → are_clean (children_of digests place) ≡ false → is_ready digests place ≡ false
+dirty_child digests place dirty = either (is_none (kept_digest digests place)) (are_clean (children_of digests place)) dirty
+  where
+    either : (a b : Bool) → b ≡ false → (a && b) ≡ false
+    either true b e = e
+    either false b e = refl
+
+-- from the one that was found on, the nodes that can be hashed
+abbrev pub ready_at : Digests → Option ℕ → List ℕ
+ready_at digests None = []
+ready_at digests (Some place) = place ∷ ready_from digests (place + 1)
+
+-- Clean nodes are passed.
+pub ready_skip : (digests : Digests) (n place : ℕ) → ((k : ℕ) → place ≤ k → k < place + n → k < length digests → is_some (kept_digest digests k) ≡ true) → ready_from digests place ≡ ready_from digests (place + n)
+ready_skip digests zero place clean =
+    let same : place ≡ place + 0 = omega arith in
+    ap (ready_from digests) same
+ready_skip digests (suc n) place clean = elim (cases_lt place (length digests)) [
+  | inr past ↦ ready_past digests place past ∙ sym (ready_past digests (place + suc n) (omega arith))
+  | inl within ↦
+      let not = clean_not_ready (kept_digest digests place) (are_clean (children_of digests place)) (clean place (omega arith) (omega arith) within) in
+      let same : place + 1 + n ≡ place + suc n = omega arith in
+      ready_pass digests place within not ∙ ready_skip digests n (place + 1) (λ k least most inside. clean k (omega arith) (omega arith) inside) ∙ ap (ready_from digests) same
+]
+
+-- The child of a clean node is clean.
+pub child_clean : (digests : Digests) (place j : ℕ) → AreCleanBelow digests → j < 16 → 16 * place + 1 + j < length digests → is_some (kept_digest digests place) ≡ true → is_some (kept_digest digests (16 * place + 1 + j)) ≡ true
+unfolding AreCleanBelow
+child_clean digests place j below less within clean = some (kept_digest digests (16 * place + 1 + j)) (λ dirty. none_some (kept_digest digests place) (below place j less within dirty) clean)
+  where
+    some : (o : Option (List ℕ)) → (o ≡ None → ⊥) → is_some o ≡ true
+    some None h = absurd (h refl)
+    some (Some d) h = refl
+
+-- The children of clean nodes in a row are clean nodes in a row.
+pub children_clean : (digests : Digests) (first past : ℕ) → AreCleanBelow digests → ((k : ℕ) → first ≤ k → k < past → k < length digests → is_some (kept_digest digests k) ≡ true)
+    → (k : ℕ) → 16 * first + 1 ≤ k → k < 16 * past + 1 → k < length digests → is_some (kept_digest digests k) ≡ true
+children_clean digests first past below clean zero least most within = absurd (omega arith)
+children_clean digests first past below clean (suc k) least most within =
+    let is : 16 * (k / 16) + 1 + k % 16 ≡ suc k = omega arith in
+    subst (λ (i : ℕ). is_some (kept_digest digests i) ≡ true) is (child_clean digests (k / 16) (k % 16) below (omega arith) (omega arith) (clean (k / 16) (omega arith) (omega arith) (omega arith)))
 
 -- The first of the nodes that can be hashed can be hashed.
 pub ready_is : (digests : Digests) (from place : ℕ) (rest : List ℕ) → ready_from digests from ≡ place ∷ rest → (is_ready digests place ≡ true) × (from ≤ place) × (place < length digests)

@@ -14,7 +14,7 @@ no_digest = None
 pub some_none : (d : List ℕ) → no_digest ≡ Some d → ⊥
 some_none d e = cc
 
-none_some : (o : Option (List ℕ)) → o ≡ None → is_some o ≡ true → ⊥
+pub none_some : (o : Option (List ℕ)) → o ≡ None → is_some o ≡ true → ⊥
 none_some o e h = cc
 
 -- ---- digests with a path made dirty

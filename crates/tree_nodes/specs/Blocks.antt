@@ -2,7 +2,7 @@
 use Rattle.std.specs.Prelude.{◌≡◌, ℕ, ◌+◌, ◌*◌, ◌<◌, List, [], length, map, slice_index_or, Option, Some, None, MatchOption, ⊤}
 use Rattle.std.specs.List.{AllByRecursion, flat_map}
 use Rattle.vclock.specs.declared.format.Format.{Format}
-use Rattle.tree_nodes.specs.Nodes.{kept_digest, IsTree}
+use Rattle.tree_nodes.specs.Nodes.{kept_digest, dirty_count, IsTree}
 
 -- the elements of all blocks, in order
 abbrev pub joined : {X : Type 0} → List (List X) → List X
@@ -22,8 +22,9 @@ pub record AreCopies (digests : List (Option (List ℕ))) (blocks : List (Option
   pub all : length digests ≡ 16 * length blocks + 1
   pub each : (place : ℕ) → MatchOption (slice_index_or blocks place None) ⊤ (IsCopy digests place)
 
--- the digests of a tree, with blocks that copy some of them, and maybe a copy of all
-pub record AreMarks (format : Format) (digests : List (Option (List ℕ))) (blocks : List (Option (List (List ℕ)))) (all : Option (List (List ℕ))) : Type 0 where
+-- the digests of a tree and the number of its clean nodes, with blocks that copy some digests, and maybe a copy of all
+pub record AreMarks (format : Format) (digests : List (Option (List ℕ))) (clean : ℕ) (blocks : List (Option (List (List ℕ)))) (all : Option (List (List ℕ))) : Type 0 where
   pub tree : IsTree (record { format = format; digests = digests })
+  pub counted : clean + dirty_count digests ≡ length digests
   pub copies : AreCopies digests blocks
   pub whole : MatchOption all ⊤ (λ ds. map Some ds ≡ digests)

@@ -1,13 +1,12 @@
 //! Copies of the digests of siblings, which marks share with the digests that were taken of them.
 ghost use Rattle.std.specs.Prelude.{◌≡◌, ◌+◌, ◌*◌, ◌<◌, ◌≤◌, ◌^◌, ℕ, List, Option, Some, None, ⊤, IsTrue, MatchOption, length, map, drop, replicate, slice_set};
 ghost use Rattle.vclock.specs.Answer.{Answers};
-ghost use Rattle.tree_nodes.specs.Nodes.{tree_depth, nodes_above, node_count, are_clean, dirtied};
+ghost use Rattle.tree_nodes.specs.Nodes.{node_count, are_clean};
 ghost use Rattle.tree_nodes.specs.Blocks.{joined, AreOf, IsCopy, AreCopies};
 
 use crate::digest::Digest;
 use crate::digest_block::DigestBlock;
-use crate::marks::{children_at, clean_digests, parent_of};
-use crate::node::{NodeAt, tree_depth};
+use crate::ready::{children_at, clean_digests};
 use crate::shared_digests::block_count;
 use std::alloc::Global;
 use vclock::{Format, Refusal};
@@ -48,28 +47,11 @@ fn share_copy(copy: &Option<DigestBlock>) -> Result<Option<DigestBlock>, Refusal
     }
 }
 
-/// Drops the copies of the blocks that have a leaf or a node above it.
-pub(crate) fn drop_path(format: Format, leaf: u16, blocks: &mut [Option<DigestBlock>])
-    requires leaf { leaf < 16 ^ tree_depth format }
-    requires all { 16 * length blocks.old + 1 ≡ node_count format }
-    ensures { (digests : List (Option (List ℕ))) → AreCopies digests blocks.old
-        → AreCopies (dirtied format leaf digests) blocks.new }
-{
-    let mut next = parent_of(NodeAt {
-        depth: tree_depth(format),
-        index: leaf,
-    });
-    while let Some(node) = next {
-        blocks[node.place()] = None;
-        next = parent_of(node);
-    }
-}
-
 /// Drops the copy of the block that has the node at a place. The root is in no block.
 pub(crate) fn drop_block(place: usize, blocks: &mut [Option<DigestBlock>])
     requires { place < 16 * length blocks.old + 1 }
-    ensures { (digests : List (Option (List ℕ))) (d : List ℕ) → AreCopies digests blocks.old
-        → AreCopies (slice_set digests place (Some d)) blocks.new }
+    ensures { (digests : List (Option (List ℕ))) (digest : Option (List ℕ)) → AreCopies digests blocks.old
+        → AreCopies (slice_set digests place digest) blocks.new }
 {
     if let Some(before) = place.checked_sub(1) {
         blocks[before / 16] = None;

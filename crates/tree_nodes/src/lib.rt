@@ -20,6 +20,7 @@ pub mod digest;
 mod digest_block;
 pub mod marks;
 pub mod node;
+mod ready;
 pub mod shared_digests;
 pub mod text;
 

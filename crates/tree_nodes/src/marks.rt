@@ -1,12 +1,14 @@
 //! The clean nodes of a tree, and their digests.
 ghost use Rattle.std.specs.Prelude.{◌≡◌, ◌+◌, ◌/◌, ◌<◌, ◌≤◌, ◌^◌, ◌∷◌, [], length, Option, Some, None, map, replicate, slice_set, false, if◌then◌else◌, IsTrue, MatchOption};
 ghost use Rattle.vclock.specs.Answer.{Answers};
-ghost use Rattle.tree_nodes.specs.Nodes.{tree_depth, nodes_above, node_count, place_at, kept_digest, children_of, are_clean, is_ready, ready_from, dirtied, dirty_count, IsTree};
+ghost use Rattle.tree_nodes.specs.Nodes.{tree_depth, node_count, place_at, kept_digest, children_of, are_clean, ready_from, dirtied, dirty_count, IsTree};
+ghost use Rattle.tree_nodes.specs.Blocks.{AreCopies};
 
-use crate::copies::{drop_block, drop_path, fill_blocks, no_blocks, share_blocks, share_copies};
+use crate::copies::{drop_block, fill_blocks, no_blocks, share_blocks, share_copies};
 use crate::digest::Digest;
 use crate::digest_block::DigestBlock;
 use crate::node::{NodeAt, tree_depth};
+use crate::ready::{children_at, clean_digests, first_ready, node_of};
 use crate::shared_digests::SharedDigests;
 use std::alloc::Global;
 use std::marker::Model;
@@ -14,10 +16,12 @@ use vclock::{Format, Refusal};
 
 /// The digests of the clean nodes of a tree. The other nodes are dirty and have no digest. A new version makes its leaf
 /// and all nodes above it dirty, and a rehash makes them clean from the leaves up, so the children of a clean node are
-/// clean. Beside its digests stand copies of some of them, in blocks, which `keep_digests` makes and a change drops.
+/// clean. It counts them. Beside the digests it has copies of some of them, in blocks, which `keep_digests` makes and a
+/// change drops.
 pub struct Marks {
     format: Format,
     digests: Vec<Option<Digest>>,
+    clean: usize,
     blocks: Vec<Option<DigestBlock>>,
     whole: Option<SharedDigests>,
 }
@@ -30,7 +34,7 @@ impl Model for Marks {
 
     ghost view = { λ m. record { format = m.format; digests = m.digests.items } };
 
-    ghost invariant = { λ m. AreMarks m.format m.digests.items m.blocks.items m.whole };
+    ghost invariant = { λ m. AreMarks m.format m.digests.items m.clean m.blocks.items m.whole };
 }
 
 impl Marks {
@@ -47,6 +51,7 @@ impl Marks {
         Ok(Marks {
             format,
             digests,
+            clean: 0,
             blocks: no_blocks(alloc, format)?,
             whole: None,
         })
@@ -59,6 +64,7 @@ impl Marks {
         Ok(Marks {
             format: self.format,
             digests: copy_digests(alloc, &self.digests)?,
+            clean: self.clean,
             blocks: share_copies(alloc, &self.blocks)?,
             whole: share_whole(&self.whole)?,
         })
@@ -93,35 +99,30 @@ impl Marks {
             (λ node. ready_from self.now.digests from
             ≡ place_at node.depth node.index ∷ ready_from self.now.digests (place_at node.depth node.index + 1)) }
     {
-        for place in from..self.digests.len() {
-            if is_ready(&self.digests, place) {
-                return Some(node_of(place));
-            }
+        match first_ready(&self.digests, from) {
+            Some(place) => Some(node_of(place)),
+            None => None,
         }
-        None
     }
 
     /// Counts the nodes that can be hashed. Doesn't allocate.
     pub fn ready_count(&self) -> usize
         ensures { result ≡ length (ready_from self.now.digests 0) }
     {
-        let mut count = 0;
-        for place in 0..self.digests.len() {
-            if is_ready(&self.digests, place) {
-                count += 1;
-            }
+        let mut found = 0;
+        let mut next = first_ready(&self.digests, 0);
+        while let Some(place) = next {
+            found += 1;
+            next = first_ready(&self.digests, place + 1);
         }
-        count
+        found
     }
 
-    /// Counts the dirty nodes. Doesn't allocate.
+    /// Returns the number of dirty nodes. Doesn't allocate.
     pub fn dirty_count(&self) -> usize
         ensures { result ≡ dirty_count self.now.digests }
     {
-        self.digests
-            .iter()
-            .filter(|digest| digest.is_none())
-            .count()
+        self.digests.len() - self.clean
     }
 
     /// Returns the digests of all nodes, by place. Shares the copies of blocks. Refused, in order: Dirty (some node has
@@ -184,8 +185,7 @@ impl Marks {
         ensures path { self.new ≡ record self.old { digests = dirtied self.old.format leaf self.old.digests } }
         ensures valid { IsTree self.new }
     {
-        dirty_up(self.format, leaf, &mut self.digests);
-        drop_path(self.format, leaf, &mut self.blocks);
+        self.clean -= dirty_up(self.format, leaf, &mut self.digests, &mut self.blocks);
         self.whole = None;
     }
 
@@ -198,6 +198,7 @@ impl Marks {
         ensures valid { IsTree self.new }
     {
         let place = node.place();
+        self.clean += usize::from(self.digests[place].is_none());
         self.digests[place] = Some(digest);
         drop_block(place, &mut self.blocks);
         self.whole = None;
@@ -235,82 +236,41 @@ fn share_whole(whole: &Option<SharedDigests>) -> Result<Option<SharedDigests>, R
     }
 }
 
-/// Returns the children of the node at a place. A leaf has no children.
-pub(crate) fn children_at(digests: &[Option<Digest>], place: usize) -> &[Option<Digest>]
-    requires { place < 2 ^ 32 }
-    ensures { result.now ≡ children_of digests.now place }
-{
-    let first = (16 * place + 1).min(digests.len());
-    let behind = &digests[first..];
-    &behind[..behind.len().min(16)]
-}
-
-/// Returns 16 digests, if all are there.
-pub(crate) fn clean_digests(nodes: &[Option<Digest>]) -> Option<[Digest; 16]>
-    requires { length nodes.now ≡ 16 }
-    ensures { MatchOption result (are_clean nodes.now ≡ false) (λ digests. nodes.now ≡ map Some digests) }
-{
-    let mut digests = [[0; 32]; 16];
-    for j in 0..16usize {
-        match nodes[j] {
-            Some(digest) => digests[j] = digest,
-            None => return None,
-        }
-    }
-    Some(digests)
-}
-
-/// Returns true if the node at a place can be hashed.
-fn is_ready(digests: &[Option<Digest>], place: usize) -> bool
-    requires small { place < 2 ^ 32 }
-    requires has { place < length digests.now }
-    ensures { result ≡ is_ready digests.now place }
-{
-    digests[place].is_none() && are_clean(children_at(digests, place))
-}
-
-/// Returns true if all these nodes are clean.
-fn are_clean(digests: &[Option<Digest>]) -> bool
-    ensures { result ≡ are_clean digests.now }
-{
-    digests.iter().all(|digest| digest.is_some())
-}
-
-/// Returns the node at a place.
-fn node_of(place: usize) -> NodeAt
-    requires { place < nodes_above 4 }
-    ensures { place_at result.depth result.index ≡ place }
-{
-    let (depth, before) = match place {
-        0 => (0, 0),
-        1..=16 => (1, 1),
-        17..=272 => (2, 17),
-        _ => (3, 273),
-    };
-    NodeAt {
-        depth,
-        index: (place - before) as u16,
-    }
-}
-
-/// Makes a leaf and every node above it dirty.
-fn dirty_up(format: Format, leaf: u16, digests: &mut [Option<Digest>])
+/// Makes a leaf and every node above it dirty, and drops the copies that have one of them. Returns the number of those
+/// that were clean. The nodes above a dirty node are dirty.
+fn dirty_up(
+    format: Format,
+    leaf: u16,
+    digests: &mut [Option<Digest>],
+    blocks: &mut [Option<DigestBlock>],
+) -> usize
     requires leaf { leaf < 16 ^ tree_depth format }
-    requires all { length digests.old ≡ node_count format }
-    ensures { digests.new ≡ dirtied format leaf digests.old }
+    requires tree { IsTree (record { format = format; digests = digests.old }) }
+    requires copies { AreCopies digests.old blocks.old }
+    ensures path { digests.new ≡ dirtied format leaf digests.old }
+    ensures copies { AreCopies digests.new blocks.new }
+    ensures count { dirty_count digests.new ≡ dirty_count digests.old + result }
 {
+    let mut count = 0;
     let mut next = Some(NodeAt {
         depth: tree_depth(format),
         index: leaf,
     });
     while let Some(node) = next {
-        digests[node.place()] = None;
+        let place = node.place();
+        if digests[place].is_none() {
+            return count;
+        }
+        digests[place] = None;
+        drop_block(place, blocks);
+        count += 1;
         next = parent_of(node);
     }
+    count
 }
 
 /// Returns the node above a node, or `None` for the root.
-pub(crate) fn parent_of(node: NodeAt) -> Option<NodeAt>
+fn parent_of(node: NodeAt) -> Option<NodeAt>
     ensures { MatchOption result (node.depth ≡ 0) (λ n. (n.depth + 1 ≡ node.depth) × (n.index ≡ node.index / 16)) }
 {
     if node.depth == 0 {
@@ -328,6 +288,7 @@ impl Drop for Marks {
         let Marks {
             format: _format,
             digests: _digests,
+            clean: _clean,
             blocks: _blocks,
             whole: _whole,
         } = self;

@@ -1,5 +1,5 @@
 use Rattle.std.proofs.Common.{◌≡◌, map, take, Some, length}
-use Rattle.tree_nodes.proofs.marks.clean_digests.Given as goal
+use Rattle.tree_nodes.proofs.ready.clean_digests.Given as goal
 
 abbrev pub invariant-loop-j : goal.invariant-loop-j
 invariant-loop-j l = record {
