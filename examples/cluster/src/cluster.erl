@@ -4,24 +4,24 @@
 -export([put/2, put/3, delete/2, get/1, status/0, status_of_all/0, table/0, json/0, dump/0, versions/1]).
 
 %% @doc Puts a value of a key that the client hasn't read: see {@link put/3}.
--spec put(Key :: binary(), antientropy:value()) -> {ok, cluster_coordinator:stored()} | cluster_coordinator:refused().
+-spec put(Key :: binary(), antientropy:value()) -> {ok, cluster_coordinator:stored()} | cluster_refusal:refused().
 put(Key, Value) ->
     put(Key, Value, #{}).
 
 %% @doc Puts a value of a key. The context is the merged clock of all versions that the client has read.
 -spec put(Key :: binary(), antientropy:value(), Context :: antientropy:clock_like()) ->
-    {ok, cluster_coordinator:stored()} | cluster_coordinator:refused().
+    {ok, cluster_coordinator:stored()} | cluster_refusal:refused().
 put(Key, Value, Context) ->
     cluster_coordinator:put(Key, Value, Context).
 
 %% @doc Deletes a key: puts a tombstone.
 -spec delete(Key :: binary(), Context :: antientropy:clock_like()) ->
-    {ok, cluster_coordinator:stored()} | cluster_coordinator:refused().
+    {ok, cluster_coordinator:stored()} | cluster_refusal:refused().
 delete(Key, Context) ->
     cluster_coordinator:put(Key, tombstone, Context).
 
 %% @doc Returns the versions of a key. Several are concurrent.
--spec get(Key :: binary()) -> {ok, cluster_coordinator:found()} | cluster_coordinator:refused().
+-spec get(Key :: binary()) -> {ok, cluster_coordinator:found()} | cluster_refusal:refused().
 get(Key) ->
     cluster_coordinator:get(Key).
 
@@ -35,7 +35,8 @@ status() ->
         ready => cluster_life:is_ready(),
         full => cluster_space:is_full(),
         aside => Asides,
-        down => cluster_wire:down()
+        down => cluster_wire:down(),
+        requests => cluster_requests:counts()
     },
     maps:merge(Status, status_of_store()).
 
@@ -64,7 +65,7 @@ status_of_store() ->
         exit:_ ->
             #{
                 ranges => [],
-                hints => #{pending => 0, delivered => 0},
+                hints => #{pending => 0, delivered => 0, bytes => 0},
                 slots => #{target => 0, lent => 0, free => 0, p99_micros => null},
                 rounds => 0,
                 keys_repaired => 0,

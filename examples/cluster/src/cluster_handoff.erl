@@ -8,8 +8,8 @@
 -define(EVERY_MS, 1000).
 -define(MOST_AT_ONCE, 100).
 
-%% The processes that hand hints on, each with its owner.
--type state() :: #{reference() => cluster_ring:place()}.
+%% The processes that hand hints on, each with the owner and the range of its hints.
+-type state() :: #{reference() => cluster_hints:name()}.
 
 %% @doc Starts the process of the hand-offs.
 -spec start_link() -> {ok, pid()}.
@@ -35,60 +35,52 @@ handle_call(_, _, State) ->
 
 %% @private
 handle_cast({wake, Owner}, State) ->
-    {noreply, begin_one(Owner, State)}.
+    {noreply, begin_for([Owner], State)}.
 
 %% @private
 handle_info(wake_all, State) ->
-    Up = cluster_ring:others() -- cluster_wire:down(),
-    {noreply, lists:foldl(fun begin_one/2, State, Up)};
+    {noreply, begin_for(cluster_ring:others() -- cluster_wire:down(), State)};
 handle_info({'DOWN', Monitor, process, _, _}, State) ->
     {noreply, maps:remove(Monitor, State)};
 handle_info(_, State) ->
     {noreply, State}.
 
-%% Begins the hand-off to an owner, unless one is in progress. A confirmation needs room on the disk.
-begin_one(Owner, State) ->
-    case lists:member(Owner, maps:values(State)) orelse cluster_space:is_full() of
-        true -> State;
-        false -> State#{element(2, spawn_opt(fun() -> hand_off(Owner, 0) end, [link, monitor])) => Owner}
+%% Begins the hand-offs to some owners that aren't in progress. A confirmation needs room on the disk.
+begin_for(Owners, State) ->
+    case cluster_settings:is_handoff_on() andalso not cluster_space:is_full() of
+        true ->
+            Waiting = [Name || {Owner, _} = Name <- cluster_hints:waiting(), lists:member(Owner, Owners)],
+            lists:foldl(fun begin_one/2, State, Waiting -- maps:values(State));
+        false ->
+            State
     end.
 
-%% Hands on the hints of an owner after a number, some at a time, until none is left or the owner is down.
-hand_off(Owner, After) ->
-    case cluster_hints:pending(Owner, After, ?MOST_AT_ONCE) of
+begin_one(Name, State) ->
+    State#{element(2, spawn_opt(fun() -> hand_off(Name, 0) end, [link, monitor])) => Name}.
+
+%% Hands on the hints of a queue after a number, some at a time, until none is left or the owner is down.
+hand_off({Owner, Range} = Name, After) ->
+    case cluster_hints:pending(Owner, Range, After, ?MOST_AT_ONCE) of
         [] -> true;
-        Hints -> hand_off_some(Owner, Hints)
+        Hints -> hand_off_some(Name, Hints)
     end.
 
-hand_off_some(Owner, Hints) ->
+hand_off_some({Owner, Range} = Name, Hints) ->
     ok = cluster_slots:lend(),
-    Delivered = deliver(Owner, Hints),
+    Delivered = deliver(Name, Hints),
     ok = cluster_slots:give_back(),
     case Delivered of
         {ok, Outcomes} ->
             #{number := Last} = lists:last(Hints),
-            cluster_hints:confirm(Outcomes) =:= ok andalso hand_off(Owner, Last);
+            cluster_hints:confirm(Owner, Range, Outcomes) =:= ok andalso hand_off(Name, Last);
         down ->
             false
     end.
 
 %% Delivers hints, and returns the outcome of each that the owner has on its disk.
-deliver(Owner, Hints) ->
-    ByRange = maps:to_list(maps:groups_from_list(fun range/1, Hints)),
-    deliver_ranges(Owner, ByRange, []).
-
-deliver_ranges(_, [], Outcomes) ->
-    {ok, Outcomes};
-deliver_ranges(Owner, [{Range, Hints} | ByRange], Outcomes) ->
+deliver({Owner, Range}, Hints) ->
     Copies = [{Key, maps:with([clock, value], Hint)} || #{key := Key} = Hint <- Hints],
     case cluster_wire:call(Owner, cluster_range, copies, [Range, Copies]) of
-        {ok, Answers} ->
-            Accepted = [{Number, Outcome} || {#{number := Number}, {ok, Outcome}} <- lists:zip(Hints, Answers)],
-            deliver_ranges(Owner, ByRange, Accepted ++ Outcomes);
-        down ->
-            down
+        {ok, Answers} -> {ok, [{Number, Outcome} || {#{number := Number}, {ok, Outcome}} <- lists:zip(Hints, Answers)]};
+        down -> down
     end.
-
-range(#{key := Key}) ->
-    {ok, Range} = cluster_ring:range(Key),
-    Range.

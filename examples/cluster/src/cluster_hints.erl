@@ -1,36 +1,39 @@
 %% @doc The hints that this node carries for places that are down (the Dynamo paper of 2007, section 4.6).
 %%
-%% Each hint that is kept or confirmed is in a log, which is synced before the answer: all that wait are synced at once.
-%% After some deliveries a checkpoint gets the pending hints, so neither the log nor the memory grows for good.
+%% There is a queue for each owner and range ({@link cluster_hint_queue}), which takes as many bytes as the settings
+%% say: one range of a place that is down for long doesn't take the room of others.
 %%
-%% Numbers of hints go on through renewals, restarts and lives, so none names two hints: those of a life begin at its
-%% incarnation times 2^40.
+%% Each hint that is kept or confirmed is in a log, which is synced before the answer: all that wait are synced at once.
+%% After as many deliveries as hints are pending, and at least 1,000, a checkpoint gets the pending hints. So the disk
+%% has a small multiple of the pending bytes at most, and neither it nor the memory grows for good.
+%%
+%% Numbers of a queue's hints go on through checkpoints, restarts and lives, so none names two of its hints: those of a
+%% life begin at its incarnation times 2^40.
 -module(cluster_hints).
 -behaviour(gen_server).
 
--export([start_link/0, keep/3, confirm/1, pending/3, count/0]).
+-export([start_link/0, keep/4, confirm/3, pending/4, waiting/0, count/0]).
 -export([init/1, handle_call/3, handle_cast/2, handle_info/2, format_status/1]).
 
 -define(MOST_WAITING, 512).
-%% Delivered hints after which the store is renewed.
--define(MOST_DELIVERED, 1000).
+%% Deliveries before a checkpoint at least.
+-define(LEAST_DELIVERED, 1000).
 
--export_type([outcome/0]).
+-export_type([name/0]).
 
--type outcome() :: {Number :: pos_integer(), new | known}.
--type record() :: {keep, cluster_ring:place(), Key :: binary(), antientropy:version_like()} | {confirm, outcome()}.
+-type name() :: {Owner :: cluster_ring:place(), cluster_ring:range()}.
+-type record() :: {keep, name(), cluster_hint_queue:kept()} | {confirm, name(), cluster_hint_queue:outcome()}.
+-type queues() :: #{name() => cluster_hint_queue:queue()}.
 -type request() :: tuple() | atom().
 
 -record(state, {
     life :: cluster_lives:life(),
-    hints :: antientropy_hints:hints(),
+    queues :: queues(),
     log :: cluster_log:log(),
     %% Records that aren't in the log, and answers that wait for them, both the last first.
     records = [] :: [record()],
     waiting = [] :: [{gen_server:from(), request(), Answer :: term()}],
-    %% The number of the store's first hint, which was delivered or is pending, and hints that were delivered before the
-    %% last renewal.
-    first :: pos_integer(),
+    %% Hints that were delivered before the last checkpoint.
     delivered = 0 :: non_neg_integer()
 }).
 
@@ -39,29 +42,35 @@
 start_link() ->
     gen_server:start_link({local, ?MODULE}, ?MODULE, [], []).
 
-%% @doc Keeps a version for its owner. Refused: `disk_full', what {@link antientropy_hints:keep/4} refuses, above all
-%% `hints_full'.
--spec keep(Owner :: cluster_ring:place(), Key :: binary(), antientropy:version()) ->
+%% @doc Keeps a version of a range for its owner. Refused: `disk_full', what {@link cluster_hint_queue:keep/4} refuses,
+%% above all `hints_full'.
+-spec keep(Owner :: cluster_ring:place(), cluster_ring:range(), Key :: binary(), antientropy:version()) ->
     {ok, Number :: pos_integer()} | antientropy:refused().
-keep(Owner, Key, Version) ->
-    gen_server:call(?MODULE, {keep, Owner, Key, Version}, infinity).
+keep(Owner, Range, Key, Version) ->
+    gen_server:call(?MODULE, {keep, {Owner, Range}, {Key, Version}}, infinity).
 
-%% @doc Ends the wait of hints that {@link pending/3} returned, after their owner has them on its disk. Refused:
+%% @doc Ends the wait of hints that {@link pending/4} returned, after their owner has them on its disk. Refused:
 %% `disk_full'.
 %%
-%% A number from before a renewal names no hint: the hint has another one then, and is delivered again.
--spec confirm([outcome()]) -> ok | {error, disk_full}.
-confirm(Outcomes) ->
-    gen_server:call(?MODULE, {confirm, Outcomes}, infinity).
+%% A number from before a checkpoint names no hint: the hint has another one then, and is delivered again.
+-spec confirm(Owner :: cluster_ring:place(), cluster_ring:range(), [cluster_hint_queue:outcome()]) ->
+    ok | {error, disk_full}.
+confirm(Owner, Range, Outcomes) ->
+    gen_server:call(?MODULE, {confirm, {Owner, Range}, Outcomes}, infinity).
 
-%% @doc Returns the first pending hints of an owner after a number, at most `Most'.
--spec pending(Owner :: cluster_ring:place(), After :: non_neg_integer(), Most :: pos_integer()) ->
-    [antientropy_hints:hint()].
-pending(Owner, After, Most) ->
-    gen_server:call(?MODULE, {pending, Owner, After, Most}, infinity).
+%% @doc Returns the first pending hints for an owner and a range after a number, at most `Most'.
+-spec pending(Owner :: cluster_ring:place(), cluster_ring:range(), After, Most) -> [antientropy_hints:hint()] when
+    After :: non_neg_integer(), Most :: pos_integer().
+pending(Owner, Range, After, Most) ->
+    gen_server:call(?MODULE, {pending, {Owner, Range}, After, Most}, infinity).
 
-%% @doc Returns the counts of pending hints, and of hints that were delivered since the start.
--spec count() -> #{pending := non_neg_integer(), delivered := non_neg_integer()}.
+%% @doc Returns the owners and ranges for which hints are pending.
+-spec waiting() -> [name()].
+waiting() ->
+    gen_server:call(?MODULE, waiting, infinity).
+
+%% @doc Returns the counts of pending hints and of their bytes, and of hints that were delivered since the start.
+-spec count() -> cluster_hint_queue:counts().
 count() ->
     gen_server:call(?MODULE, count, infinity).
 
@@ -78,31 +87,46 @@ init([]) ->
     end.
 
 load(Life) ->
-    Load = fun(File) -> load_checkpoint(File, Life) end,
-    case cluster_log:open(cluster_folder:hints(), cluster_folder:owner(Life, hints), Load, fun apply_again/2) of
-        {ok, Log, {Hints, First}} -> {ok, #state{life = Life, hints = Hints, log = Log, first = First}};
+    Apply = fun(Record, Queues) -> apply_again(Record, Life, Queues) end,
+    case cluster_log:open(cluster_folder:hints(), cluster_folder:owner(Life, hints), fun load_checkpoint/1, Apply) of
+        {ok, Log, Queues} -> {ok, #state{life = Life, queues = Queues, log = Log}};
         Damaged -> Damaged
     end.
 
-load_checkpoint(none, Life) ->
-    First = cluster_lives:incarnation(Life) bsl 40,
-    {ok, Hints} = antientropy_hints:restore(First),
-    {Hints, First};
-load_checkpoint(File, _) ->
+load_checkpoint(none) ->
+    #{};
+load_checkpoint(File) ->
     {ok, Saved} = file:read_file(File),
-    {First, Kept} = binary_to_term(Saved),
-    {ok, Hints} = antientropy_hints:restore(First),
-    lists:foldl(fun apply_again/2, {Hints, First}, Kept).
+    maps:map(fun load_queue/2, binary_to_term(Saved)).
 
-%% Repeats what a record says. Numbers of hints are counted up from the store's first, so they are those of the first
+load_queue({Owner, _}, {First, Kept}) ->
+    lists:foldl(fun keep_again/2, cluster_hint_queue:new(Owner, First), Kept).
+
+%% Repeats what a record says. Numbers of hints are counted up from the queue's first, so they are those of the first
 %% time.
-apply_again({keep, Owner, Key, Version}, {Hints, _} = Loaded) ->
-    repeated(antientropy_hints:keep(Hints, Owner, Key, Version), Loaded);
-apply_again({confirm, Outcome}, {Hints, _} = Loaded) ->
-    repeated(confirm_one(Hints, Outcome), Loaded).
+apply_again({keep, Name, Kept}, Life, Queues) ->
+    Queues#{Name => keep_again(Kept, queue(Name, Life, Queues))};
+apply_again({confirm, Name, Outcome}, _, Queues) ->
+    case Queues of
+        #{Name := Queue} -> Queues#{Name := repeated(cluster_hint_queue:confirm(Queue, Outcome))};
+        _ -> cluster_manifest:damaged("a record is refused")
+    end.
 
-repeated({error, _}, _) -> cluster_manifest:damaged("a record is refused");
-repeated(_, Loaded) -> Loaded.
+keep_again({Key, Version}, Queue) ->
+    case cluster_hint_queue:keep(Queue, Key, Version, infinity) of
+        {ok, _, Kept} -> Kept;
+        {error, _} -> cluster_manifest:damaged("a record is refused")
+    end.
+
+repeated({ok, Queue}) -> Queue;
+repeated({error, _}) -> cluster_manifest:damaged("a record is refused").
+
+%% Returns the queue of an owner and a range. The first hint of a life has a number that no earlier life used.
+queue({Owner, _} = Name, Life, Queues) ->
+    case Queues of
+        #{Name := Queue} -> Queue;
+        _ -> cluster_hint_queue:new(Owner, cluster_lives:incarnation(Life) bsl 40)
+    end.
 
 %% @private
 handle_call(Request, From, State) ->
@@ -134,37 +158,47 @@ with_answer(Request, From, IsFull, State) ->
         end,
     Next#state{waiting = [{From, Request, Answer} | Waiting]}.
 
-is_change({keep, _, _, _}) -> true;
-is_change({confirm, _}) -> true;
+is_change({keep, _, _}) -> true;
+is_change({confirm, _, _}) -> true;
 is_change(_) -> false.
 
-answer({keep, Owner, Key, Version}, #state{hints = Hints, records = Records} = State) ->
-    case antientropy_hints:keep(Hints, Owner, Key, Version) of
-        {ok, _} = Kept -> {Kept, State#state{records = [{keep, Owner, Key, Version} | Records]}};
-        Refused -> {Refused, State}
+answer({keep, Name, {Key, Version} = Kept}, #state{life = Life, queues = Queues, records = Records} = State) ->
+    case cluster_hint_queue:keep(queue(Name, Life, Queues), Key, Version, cluster_settings:hint_bytes()) of
+        {ok, Number, Queue} ->
+            {{ok, Number}, State#state{queues = Queues#{Name => Queue}, records = [{keep, Name, Kept} | Records]}};
+        Refused ->
+            {Refused, State}
     end;
-answer({confirm, Outcomes}, #state{hints = Hints, records = Records} = State) ->
-    Confirmed = [{confirm, Outcome} || Outcome <- Outcomes, confirm_one(Hints, Outcome) =:= ok],
-    {ok, State#state{records = lists:reverse(Confirmed, Records)}};
-answer({pending, Owner, After, Most}, #state{hints = Hints} = State) ->
-    {first_pending(Hints, Owner, After, Most), State};
-answer(count, #state{hints = Hints, delivered = Before} = State) ->
-    {ok, #{pending := Pending, delivered := Delivered}} = antientropy_hints:count(Hints),
-    {#{pending => Pending, delivered => Before + Delivered}, State}.
+answer({confirm, Name, Outcomes}, State) ->
+    {ok, lists:foldl(fun(Outcome, Before) -> confirmed(Name, Outcome, Before) end, State, Outcomes)};
+answer({pending, Name, After, Most}, #state{queues = Queues} = State) ->
+    {[Hint || #{Name := Queue} <- [Queues], Hint <- cluster_hint_queue:pending(Queue, After, Most)], State};
+answer(waiting, #state{queues = Queues} = State) ->
+    {[Name || {Name, Queue} <- maps:to_list(Queues), pending_in(Queue) > 0], State};
+answer(count, #state{delivered = Before} = State) ->
+    #{delivered := Delivered} = Counts = counts(State),
+    {Counts#{delivered := Before + Delivered}, State}.
 
-confirm_one(Hints, {Number, Outcome}) ->
-    antientropy_hints:confirm(Hints, Number, Outcome).
-
-first_pending(_, _, _, 0) ->
-    [];
-first_pending(Hints, Owner, After, Most) ->
-    case antientropy_hints:next(Hints, Owner, After) of
-        {ok, Number} ->
-            {ok, Hint} = antientropy_hints:hint(Hints, Number),
-            [Hint | first_pending(Hints, Owner, Number, Most - 1)];
-        {error, no_version} ->
-            []
+confirmed(Name, Outcome, #state{queues = Queues, records = Records} = State) ->
+    case Queues of
+        #{Name := Queue} ->
+            case cluster_hint_queue:confirm(Queue, Outcome) of
+                {ok, Next} ->
+                    State#state{queues = Queues#{Name := Next}, records = [{confirm, Name, Outcome} | Records]};
+                {error, unknown_hint} ->
+                    State
+            end;
+        _ ->
+            State
     end.
+
+pending_in(Queue) ->
+    maps:get(pending, cluster_hint_queue:counts(Queue)).
+
+%% The sums over all queues.
+counts(#state{queues = Queues}) ->
+    Add = fun(_, Queue, Sum) -> maps:merge_with(fun(_, A, B) -> A + B end, Sum, cluster_hint_queue:counts(Queue)) end,
+    maps:fold(Add, #{pending => 0, delivered => 0, bytes => 0}, Queues).
 
 %% ---- the log
 
@@ -178,7 +212,7 @@ wait(State) ->
 %% Logs all records, syncs the log once, and answers all.
 commit(#state{log = Log, records = Records} = State) ->
     case cluster_log:write(Log, lists:reverse(Records)) of
-        {ok, Written} -> renew_if_due(answer_all(State#state{log = Written, records = []}));
+        {ok, Written} -> checkpoint_if_due(answer_all(State#state{log = Written, records = []}));
         {full, Same} -> refuse_all(State#state{log = Same})
     end.
 
@@ -191,10 +225,10 @@ refuse_all(#state{waiting = Waiting} = State) ->
     Again = fun({From, Request, _}, Before) -> with_answer(Request, From, true, Before) end,
     answer_all(lists:foldr(Again, reloaded(State), Waiting)).
 
-reloaded(#state{life = Life, hints = Hints, log = Log, delivered = Delivered}) ->
+reloaded(#state{life = Life, queues = Queues, log = Log, delivered = Delivered}) ->
     ok = cluster_space:full(),
     ok = cluster_log:close(Log),
-    ok = antientropy_hints:close(Hints),
+    ok = lists:foreach(fun cluster_hint_queue:close/1, maps:values(Queues)),
     case load(Life) of
         {ok, Loaded} ->
             Loaded#state{delivered = Delivered};
@@ -203,34 +237,31 @@ reloaded(#state{life = Life, hints = Hints, log = Log, delivered = Delivered}) -
             timer:sleep(infinity)
     end.
 
-%% ---- renewals
+%% ---- checkpoints
 
-renew_if_due(#state{hints = Hints} = State) ->
-    {ok, #{delivered := Delivered}} = antientropy_hints:count(Hints),
-    case Delivered >= ?MOST_DELIVERED andalso not cluster_space:is_full() of
-        true -> renew(Delivered, State);
+checkpoint_if_due(State) ->
+    #{pending := Pending, delivered := Delivered} = counts(State),
+    case Delivered >= max(?LEAST_DELIVERED, Pending) andalso not cluster_space:is_full() of
+        true -> checkpoint(Delivered, State);
         false -> State
     end.
 
-%% Drops the delivered hints. A checkpoint gets the pending ones with the number of the first, which is the one after
-%% the last that was used. Without room for it, they keep their numbers.
-renew(Delivered, #state{hints = Hints, log = Log, first = Before} = State) ->
-    {ok, #{pending := Pending}} = antientropy_hints:count(Hints),
-    First = Before + Delivered + Pending,
-    ok = antientropy_hints:renew(Hints),
-    Kept = [kept(antientropy_hints:hint(Hints, Number)) || Number <- lists:seq(First, First + Pending - 1)],
-    case checkpoint(cluster_log:begin_file(Log), term_to_binary({First, Kept})) of
-        {ok, Next} -> State#state{log = Next, first = First, delivered = State#state.delivered + Delivered};
-        {full, Next} -> reloaded(State#state{log = Next})
+%% Drops the delivered hints. A checkpoint gets the pending ones of each queue, and the number of the first, which is
+%% the one after the last that was used. Without room for it, they keep their numbers.
+checkpoint(Delivered, #state{queues = Queues, log = Log, delivered = Before} = State) ->
+    Kept = maps:map(fun(_, Queue) -> cluster_hint_queue:kept(Queue) end, Queues),
+    case save(cluster_log:begin_file(Log), term_to_binary(Kept)) of
+        {ok, Next} ->
+            Renewed = maps:map(fun(_, Queue) -> cluster_hint_queue:renewed(Queue) end, Queues),
+            State#state{log = Next, queues = Renewed, delivered = Before + Delivered};
+        {full, Next} ->
+            reloaded(State#state{log = Next})
     end.
 
-checkpoint({ok, Log}, Saved) ->
+save({ok, Log}, Saved) ->
     case cluster_log:save(cluster_log:checkpoint(Log), fun(Device) -> file:write(Device, Saved) end) of
         {ok, Seal} -> cluster_log:adopt(Log, Seal);
         full -> {full, Log}
     end;
-checkpoint(Full, _) ->
+save(Full, _) ->
     Full.
-
-kept({ok, #{owner := Owner, key := Key, clock := Clock, value := Value}}) ->
-    {keep, Owner, Key, #{clock => Clock, value => Value}}.

@@ -81,14 +81,14 @@ unless_starting(Call, Members) ->
 %% ---- keys
 
 get_key(Key) ->
-    case outcome(fun() -> cluster_coordinator:get(Key) end) of
+    case outcome(fun() -> cluster_coordinator:get(Key) end, {refused, down}) of
         {ok, #{coordinator := Place, versions := Versions}} -> from(Place, versions(Versions));
         Refused -> refused(Refused)
     end.
 
 put_key(Key, Value, ContextText) ->
     case cluster_clock:read_context(ContextText) of
-        {ok, Context} -> stored(outcome(fun() -> cluster_coordinator:put(Key, Value, Context) end));
+        {ok, Context} -> stored(outcome(fun() -> cluster_coordinator:put(Key, Value, Context) end, {perhaps, down}));
         {error, Name} -> refused({refused, Name})
     end.
 
@@ -98,12 +98,12 @@ stored({ok, #{coordinator := Place, clock := Clock, on := On}}) ->
 stored(Refused) ->
     refused(Refused).
 
-%% Returns the outcome of a request. A process of this node that doesn't answer leaves it open.
-outcome(Request) ->
+%% Returns the outcome of a request, or this one if a process of this node ends.
+outcome(Request, IfEnded) ->
     try
         Request()
     catch
-        exit:_ -> {perhaps, down}
+        exit:_ -> IfEnded
     end.
 
 %% Returns the response with the versions of a key.
@@ -130,19 +130,18 @@ versions(Versions, Context, Clock) ->
 
 %% ---- responses
 
-refused(Refused) -> from(cluster_ring:here(), refusal(Refused)).
+refused(Refused) ->
+    ok = cluster_requests:count(Refused),
+    from(cluster_ring:here(), refusal(Refused)).
 
-refusal({refused, Name}) -> json(status(Name), #{refused => camel_case(Name)});
-refusal({perhaps, Name}) -> json(503, #{refused => camel_case(Name), perhaps => true}).
+refusal({refused, Name}) -> json(status(Name), #{refused => cluster_refusal:text(Name)});
+refusal({perhaps, Name}) -> json(503, #{refused => cluster_refusal:text(Name), perhaps => true});
+refusal({perhaps, Name, For}) -> json(503, #{refused => cluster_refusal:text(Name), perhaps => true, for => For}).
 
 status(stale_context) -> 409;
 status(Name) when Name =:= bad_key; Name =:= bad_value; Name =:= bad_clock; Name =:= bad_context -> 400;
 status(Name) when Name =:= clock_full; Name =:= counter_full -> 400;
 status(_) -> 503.
-
-%% Returns the name of a cause as docs/FORMATS.md writes it.
-camel_case(Name) ->
-    << <<(string:titlecase(Word))/binary>> || Word <- string:lexemes(atom_to_binary(Name), "_") >>.
 
 json(Status, Members) ->
     {Status, [{content_type, "application/json"}], [cluster_json:encode(Members), "\n"]}.

@@ -27,7 +27,7 @@ judge(#{clock := Clock, value := Value}, Row, Own, Life, Top) ->
     case {IsLater, Same} of
         {true, _} -> forgotten;
         {false, [Value]} -> counts;
-        {false, [_]} -> forgotten;
+        {false, [_ | _]} -> forgotten;
         {false, []} -> judge_covers(Covers =/= [] andalso lists:all(IsAccepted, Covers))
     end.
 

@@ -13,7 +13,8 @@
 -module(cluster_range).
 -behaviour(gen_server).
 
--export([start_link/1, put/4, copies/2, copy/3, own/2, row/2, read/4, is_joined/1, counts/1, dump/1]).
+-export([start_link/1, put/4, copies/2, copy/3, own/2, row/2, read/4, take_row/3, counts/1, dump/1]).
+-export([is_joined/1, unchecked/1]).
 -export([rehash/1, offer/2, serve/4, borrow/1, give_back/3]).
 -export([init/1, handle_call/3, handle_cast/2, handle_info/2, format_status/1]).
 
@@ -52,8 +53,10 @@
     offered = #{} :: #{cluster_ring:place() => {Number :: pos_integer(), antientropy_snapshot:snapshot()}},
     %% Processes that sync into the replica.
     borrowers = #{} :: #{pid() => reference()},
-    %% Holders whose versions aren't all in the range of a new life.
-    lacking :: [cluster_ring:place()]
+    %% Holders whose versions aren't all in the range of a new life, and those of which all weren't taken yet since this
+    %% process began.
+    lacking :: [cluster_ring:place()],
+    unchecked :: [cluster_ring:place()]
 }).
 
 %% @doc Starts the process of a range, with what is on its disk.
@@ -62,7 +65,7 @@ start_link(Range) ->
     gen_server:start_link({local, name(Range)}, ?MODULE, Range, []).
 
 %% @doc Puts a version under this node's life, and returns it. Refused: `disk_full', `starting', what {@link
-%% antientropy:put/5} refuses.
+%% antientropy:put/5} refuses. (`journal_full': also a key that isn't held, if the range is nearly full.)
 -spec put(cluster_ring:range(), Key :: binary(), antientropy:value(), antientropy:clock_like()) ->
     {ok, antientropy:version()} | antientropy:refused().
 put(Range, Key, Value, Context) ->
@@ -75,8 +78,8 @@ put(Range, Key, Value, Context) ->
 copies(Range, Copies) ->
     call(Range, {copies, Copies}).
 
-%% @doc Accepts a version that its coordinator put. If it is known, the versions of its key are returned: they show the
-%% coordinator what covers it.
+%% @doc Accepts a version that its coordinator put. If it is known, or its clock is that of another value, the versions
+%% of its key are returned: they show the coordinator what it has forgotten.
 -spec copy(cluster_ring:range(), Key :: binary(), antientropy:version()) ->
     {ok, new | {known, [antientropy:version()]}} | antientropy:refused().
 copy(Range, Key, Version) ->
@@ -93,12 +96,24 @@ own(Range, Key) ->
 row(Range, Key) ->
     call(Range, {row, Key}).
 
-%% @doc Accepts rows of a key that other holders returned (read repair), and returns the versions held then. A full disk
-%% doesn't take the rows, but they are in the result. Refused: `down' (with this one they are fewer than R).
+%% @doc Accepts rows of a key that other holders returned, and returns the versions held then, and their row. A full
+%% disk doesn't take the rows, but they are in the result. Refused: `down' (with this one they are fewer than R).
 -spec read(cluster_ring:range(), Key :: binary(), Rows :: [binary()], R :: pos_integer()) ->
-    {ok, [antientropy:version()]} | antientropy:refused().
+    {ok, [antientropy:version()], Row :: binary()} | antientropy:refused().
 read(Range, Key, Rows, R) ->
     call(Range, {read, Key, Rows, R}).
+
+%% @doc Accepts a row of a key that another holder has, and returns the row held then. Refused: `disk_full', what {@link
+%% antientropy:load_rows/2} refuses.
+-spec take_row(cluster_ring:range(), Key :: binary(), Row :: binary()) -> {ok, Row :: binary()} | {error, term()}.
+take_row(Range, Key, Row) ->
+    call(Range, {take_row, Key, Row}).
+
+%% @doc Returns the other holders that may still show that this disk has lost something: not all that they have was
+%% taken since the start.
+-spec unchecked(cluster_ring:range()) -> [cluster_ring:place()].
+unchecked(Range) ->
+    persistent_term:get({?MODULE, unchecked, Range}, cluster_ring:partners(Range)).
 
 %% @doc Returns true if the range counts in reads.
 -spec is_joined(cluster_ring:range()) -> boolean().
@@ -154,6 +169,7 @@ call(Range, Request) ->
 %% @private
 init(Range) ->
     ok = persistent_term:put({?MODULE, Range}, false),
+    ok = persistent_term:put({?MODULE, unchecked, Range}, cluster_ring:partners(Range)),
     Life = cluster_life:number(),
     case load(Range, Life) of
         {ok, State} ->
@@ -174,7 +190,8 @@ load(Range, Life) ->
                 log = Log,
                 logged = cluster_replica:entries(Replica),
                 since_checkpoint = Terms,
-                lacking = [Partner || Partner <- cluster_ring:partners(Range), cluster_log:note(Log) =:= joining]
+                lacking = [Partner || Partner <- cluster_ring:partners(Range), cluster_log:note(Log) =:= joining],
+                unchecked = cluster_ring:partners(Range)
             }};
         Damaged ->
             Damaged
@@ -182,7 +199,8 @@ load(Range, Life) ->
 
 %% @private
 handle_call(Request, From, State) ->
-    wait(with_answer(Request, From, cluster_space:is_full(), State)).
+    Next = with_room(State),
+    wait(with_answer(Request, From, cluster_space:is_full(), Next)).
 
 %% @private
 handle_cast(_, State) ->
@@ -222,20 +240,23 @@ answer_unchanged({copy, _, _}, _, State) ->
     {{error, disk_full}, State};
 answer_unchanged({read, Key, Rows, R}, _, #state{range = Range, replica = Replica} = State) ->
     {read_enough(Rows, R, State, fun() -> cluster_replica:read_apart(Replica, Range, Key, Rows) end), State};
+answer_unchanged({take_row, _, _}, _, State) ->
+    {{error, disk_full}, State};
 answer_unchanged(borrow, _, State) ->
     {{error, disk_full}, State};
 answer_unchanged(Request, From, State) ->
     answer(Request, From, State).
 
 answer({put, Key, Value, Context}, _, #state{replica = Replica, life = Life} = State) ->
-    case cluster_life:is_ready() of
-        true -> {cluster_replica:put(Replica, Life, Key, Value, Context), State};
-        false -> {{error, starting}, State}
+    case {cluster_life:is_ready(), is_nearly_full(State) andalso antientropy:count_versions(Replica, Key)} of
+        {true, {ok, 0}} -> {{error, journal_full}, State};
+        {true, _} -> {cluster_replica:put(Replica, Life, Key, Value, Context), State};
+        {false, _} -> {{error, starting}, State}
     end;
 answer({copies, Copies}, _, #state{replica = Replica} = State) ->
     {[antientropy:accept(Replica, Key, Version) || {Key, Version} <- Copies], State};
 answer({copy, Key, Version}, _, #state{replica = Replica} = State) ->
-    {with_row(antientropy:accept(Replica, Key, Version), Replica, Key), State};
+    {copied(Replica, Key, Version), State};
 answer({own, Key}, _, #state{replica = Replica, life = Life} = State) ->
     {ok, Versions, Top} = cluster_replica:own(Replica, Life, Key),
     {{ok, Versions, Top, Life}, State};
@@ -245,6 +266,8 @@ answer({row, Key}, _, #state{replica = Replica} = State) ->
     {antientropy:row(Replica, Key), State};
 answer({read, Key, Rows, R}, _, #state{replica = Replica} = State) ->
     {read_enough(Rows, R, State, fun() -> cluster_replica:read(Replica, Key, Rows) end), State};
+answer({take_row, Key, Row}, _, #state{replica = Replica} = State) ->
+    {taken_row(cluster_replica:read(Replica, Key, [Row])), State};
 answer({offer, Partner}, _, State) ->
     new_offer(Partner, State);
 answer({offered, Partner}, _, #state{offered = Offered} = State) ->
@@ -274,16 +297,24 @@ answer(dump, _, #state{replica = Replica} = State) ->
     {ok, Keys} = antientropy:keys(Replica),
     {{Root, [{Key, element(2, antientropy:get(Replica, Key))} || Key <- Keys]}, State}.
 
-with_row({ok, known}, Replica, Key) ->
+%% The replica would take another value under a clock that it holds as a concurrent version.
+copied(Replica, Key, #{clock := Clock, value := Value} = Version) ->
     {ok, Versions} = antientropy:get(Replica, Key),
-    {ok, {known, Versions}};
-with_row(Accepted, _, _) ->
-    Accepted.
+    case [Held || #{clock := Other, value := Held} <- Versions, Other =:= Clock, Held =/= Value] of
+        [] -> with_versions(antientropy:accept(Replica, Key, Version), Versions);
+        _ -> {ok, {known, Versions}}
+    end.
+
+with_versions({ok, known}, Versions) -> {ok, {known, Versions}};
+with_versions(Accepted, _) -> Accepted.
 
 %% The range counts as one of R replicas unless it is joining, maybe since a new life began during the read.
 read_enough(Rows, R, #state{lacking = []}, Read) when length(Rows) + 1 >= R -> Read();
 read_enough(Rows, R, _, Read) when length(Rows) >= R -> Read();
 read_enough(_, _, _, _) -> {error, down}.
+
+taken_row({ok, _, Row}) -> {ok, Row};
+taken_row(Refused) -> Refused.
 
 new_offer(Partner, #state{replica = Replica, offers = Offers, offered = Offered} = State) ->
     {ok, Snapshot} = antientropy:snapshot(Replica),
@@ -434,9 +465,19 @@ returned(Borrower, #state{borrowers = Borrowers} = State) ->
 
 %% All that a partner had counts if it was taken into this replica.
 taken(Replica, {all_of, Partner}, #state{replica = Replica, lacking = Lacking} = State) ->
-    State#state{lacking = lists:delete(Partner, Lacking)};
+    checked(Partner, State#state{lacking = lists:delete(Partner, Lacking)});
 taken(_, _, State) ->
     State.
+
+checked(Partner, #state{range = Range, unchecked = Unchecked} = State) ->
+    case lists:member(Partner, Unchecked) of
+        true ->
+            Left = lists:delete(Partner, Unchecked),
+            ok = persistent_term:put({?MODULE, unchecked, Range}, Left),
+            State#state{unchecked = Left};
+        false ->
+            State
+    end.
 
 %% All versions of the other holders are in the log.
 join_if_complete(#state{range = Range, log = Log, lacking = []} = State) ->
@@ -464,10 +505,23 @@ renew_if_due(#state{borrowers = Borrowers, replica = Replica} = State) ->
             State
     end.
 
-%% A replica that is full of held versions isn't renewed again before it has a twentieth more.
+%% At nine tenths of the limit, once half of the room that the last renewal left is used.
 is_renewal_due(#state{replica = Replica, held = Held}) ->
     {ok, #{entries := Entries, limit := Limit, sessions := Sessions}} = antientropy:count(Replica),
-    Sessions >= ?MOST_SESSIONS orelse (Entries * 10 >= Limit * 9 andalso (Entries - Held) * 20 >= Limit).
+    IsHalfUsed = Entries > Held andalso (Entries - Held) * 2 >= Limit - Held,
+    Sessions >= ?MOST_SESSIONS orelse (Entries * 10 >= Limit * 9 andalso IsHalfUsed).
+
+%% From 95 percent on, the rest is for puts and deletes of the keys that are held: renewals make it free again.
+is_nearly_full(#state{held = Held}) ->
+    Held * 20 >= cluster_settings:limit() * 19.
+
+%% Logs and answers all that waits if the journal has no room: then it can be renewed.
+with_room(#state{replica = Replica} = State) ->
+    {ok, #{entries := Entries, limit := Limit}} = antientropy:count(Replica),
+    case Entries < Limit orelse is_logged(State) of
+        true -> State;
+        false -> commit(State)
+    end.
 
 name(Range) ->
     list_to_atom("cluster_range_" ++ integer_to_list(Range)).

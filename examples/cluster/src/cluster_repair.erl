@@ -53,7 +53,10 @@ handle_cast(_, State) ->
 
 %% @private
 handle_info({timeout, Timer, round}, #state{timer = Timer} = State) ->
-    {noreply, begin_round(State)};
+    case cluster_settings:is_repair_on() orelse is_unchecked() of
+        true -> {noreply, begin_round(State)};
+        false -> {noreply, begin_later(State)}
+    end;
 handle_info({timeout, _, round}, State) ->
     {noreply, State};
 handle_info({'DOWN', Running, process, _, Reason}, #state{running = Running, waiting = Waiting} = State) ->
@@ -62,6 +65,10 @@ handle_info({'DOWN', Running, process, _, Reason}, #state{running = Running, wai
     {noreply, begin_if_asked(begin_later(Ended))};
 handle_info(_, State) ->
     {noreply, State}.
+
+%% After a start each range takes what the others have, and joins.
+is_unchecked() ->
+    lists:any(fun(Range) -> cluster_range:unchecked(Range) =/= [] end, cluster_ring:held()).
 
 begin_if_asked(#state{running = undefined, next = [_ | _]} = State) -> begin_round(State);
 begin_if_asked(State) -> State.

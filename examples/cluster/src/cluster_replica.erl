@@ -118,24 +118,30 @@ own(Replica, Life, Key) ->
     {ok, Top} = antientropy:top_counter(Replica, Life, Key),
     {ok, Versions, Top}.
 
-%% @doc Accepts rows of a key, and returns the versions held then.
+%% @doc Accepts rows of a key, and returns the versions and the row held then.
 -spec read(antientropy:replica(), Key :: binary(), Rows :: [binary()]) ->
-    {ok, [antientropy:version()]} | antientropy:refused() | {error, term()}.
-read(Replica, Key, []) ->
-    antientropy:get(Replica, Key);
-read(Replica, Key, [Row | Rows]) ->
-    case load_other(Replica, Row, antientropy:row(Replica, Key)) of
-        {ok, _} -> read(Replica, Key, Rows);
+    {ok, [antientropy:version()], Row :: binary()} | antientropy:refused() | {error, term()}.
+read(Replica, Key, Rows) ->
+    case antientropy:row(Replica, Key) of
+        {ok, Row} -> read(Replica, Key, Row, lists:usort(Rows) -- [Row]);
         Refused -> Refused
     end.
 
-load_other(_, Row, {ok, Row}) -> {ok, same};
-load_other(Replica, Row, {ok, _}) -> antientropy:load_rows(Replica, Row);
-load_other(_, _, Refused) -> Refused.
+read(Replica, Key, Row, []) ->
+    {ok, Versions} = antientropy:get(Replica, Key),
+    {ok, Versions, Row};
+read(Replica, Key, _, [Other | Others]) ->
+    case antientropy:load_rows(Replica, Other) of
+        {ok, _} ->
+            {ok, Row} = antientropy:row(Replica, Key),
+            read(Replica, Key, Row, Others -- [Row]);
+        Refused ->
+            Refused
+    end.
 
 %% @doc Returns what {@link read/3} does, and leaves the replica unchanged.
 -spec read_apart(antientropy:replica(), cluster_ring:range(), Key :: binary(), Rows :: [binary()]) ->
-    {ok, [antientropy:version()]} | antientropy:refused() | {error, term()}.
+    {ok, [antientropy:version()], Row :: binary()} | antientropy:refused() | {error, term()}.
 read_apart(Replica, Range, Key, Rows) ->
     case antientropy:row(Replica, Key) of
         {ok, Row} ->

@@ -2,7 +2,7 @@
 -module(cluster_slots).
 -behaviour(gen_server).
 
--export([start_link/0, lend/0, give_back/0, sample/1, count/0]).
+-export([start_link/0, lend/0, give_back/0, sample/1, count/0, holders/0]).
 -export([init/1, handle_call/3, handle_cast/2, handle_info/2]).
 
 -define(ADJUST_MS, 1000).
@@ -51,6 +51,11 @@ sample(Micros) ->
 count() ->
     gen_server:call(?MODULE, count, infinity).
 
+%% @doc Returns the processes that have a slot now.
+-spec holders() -> [pid()].
+holders() ->
+    gen_server:call(?MODULE, holders, infinity).
+
 %% @private
 init({Floor, Ceiling, ThresholdMicros}) ->
     {ok, Slots} = antientropy_slots:new(Floor, Ceiling, ThresholdMicros),
@@ -65,6 +70,8 @@ handle_call(lend, {Borrower, _}, #state{slots = Slots, borrowers = Borrowers} = 
     end;
 handle_call(give_back, {Borrower, _}, State) ->
     {reply, ok, returned(Borrower, State)};
+handle_call(holders, _, #state{borrowers = Borrowers} = State) ->
+    {reply, maps:keys(Borrowers), State};
 handle_call(count, _, #state{slots = Slots, p99_micros = Micros} = State) ->
     {ok, Counts} = antientropy_slots:count(Slots),
     {reply, Counts#{p99_micros => Micros}, State}.

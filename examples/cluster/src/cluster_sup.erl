@@ -12,7 +12,11 @@ start_link() ->
 
 %% @private
 init([]) ->
-    Modules = [cluster_space, cluster_lives, cluster_wire, cluster_http, cluster_life],
+    %% (This process owns them: they last as long as the node.)
+    ok = cluster_patience:begin_table(),
+    ok = cluster_requests:begin_table(),
+    ok = cluster_rows:begin_counter(),
+    Modules = [cluster_space, cluster_lives, cluster_claims, cluster_wire, cluster_http, cluster_life],
     {ok, {#{strategy => one_for_one, intensity => 5, period => 10}, [child(Module) || Module <- Modules]}}.
 
 child(Module) ->

@@ -5,7 +5,7 @@
 -module(cluster_wire).
 -behaviour(gen_server).
 
--export([start_link/0, call/4, call/5, limit_ms/0, down/0, up_first/1]).
+-export([start_link/0, call/4, call/5, limit_ms/0, down/0, is_up/1, up_first/1]).
 -export([serve/4]).
 -export([init/1, handle_call/3, handle_cast/2, handle_info/2]).
 
@@ -32,6 +32,7 @@ call(Place, Module, Function, Arguments) ->
 -spec call(cluster_ring:place(), module(), Function :: atom(), Arguments :: [term()], LimitMs :: pos_integer()) ->
     {ok, Result :: term()} | down.
 call(Place, Module, Function, Arguments, LimitMs) ->
+    Begun = erlang:monotonic_time(microsecond),
     Result =
         try
             {ok, cluster_link:call(Place, Module, Function, Arguments, LimitMs)}
@@ -43,6 +44,8 @@ call(Place, Module, Function, Arguments, LimitMs) ->
                 down
         end,
     note(Place, Result),
+    Result =:= down orelse
+        cluster_patience:note(Place, {Module, Function}, erlang:monotonic_time(microsecond) - Begun),
     Result.
 
 %% @private
@@ -61,10 +64,15 @@ is_started() ->
 down() ->
     lists:sort([Place || {Place} <- ets:tab2list(?MODULE)]).
 
+%% @doc Returns false if the place's last call had no answer, or its node is down.
+-spec is_up(cluster_ring:place()) -> boolean().
+is_up(Place) ->
+    not ets:member(?MODULE, Place).
+
 %% @doc Returns places with those that are down at the end.
 -spec up_first([cluster_ring:place()]) -> [cluster_ring:place()].
 up_first(Places) ->
-    {Down, Up} = lists:partition(fun(Place) -> ets:member(?MODULE, Place) end, Places),
+    {Up, Down} = lists:partition(fun is_up/1, Places),
     Up ++ Down.
 
 %% Notes that a place is down, or up again: then it gets its hints.

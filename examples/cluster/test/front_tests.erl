@@ -12,15 +12,13 @@
 starting_test_() ->
     room:test([{life, none}, {http_port, free_port()}], fun(_) ->
         ok = cluster_life:enter(none),
-        {ok, _} = cluster_wire:start_link(),
         Supervisor = started(),
         ?assertEqual(?STARTING, request(get, {url("/keys/cart"), []})),
         ?assertEqual(?STARTING, request(put, {url("/keys/cart"), [], "text/plain", "milk"})),
         {200, Status} = request(get, {url("/status"), []}),
-        Parts = ["\"life\":null", "\"full\":false", "\"aside\":[]"],
+        Parts = ["\"life\":null", "\"full\":false", "\"aside\":[]", "\"refused\":{\"Starting\":2}"],
         [?assertNotEqual(nomatch, string:find(Status, Part)) || Part <- Parts],
-        ok = ended(Supervisor),
-        ok = room:kill(cluster_wire)
+        ok = ended(Supervisor)
     end).
 
 %% One that is killed serves again, each time.

@@ -11,33 +11,46 @@
 restart_test_() ->
     room:test([], fun(_) ->
         start(),
-        [{ok, _} = cluster_hints:keep(Owner, <<"key">>, ?VERSION) || Owner <- [2, 3, 2]],
-        [#{number := First}, #{number := Second}] = cluster_hints:pending(2, 0, 10),
-        ok = cluster_hints:confirm([{First, new}]),
+        [{ok, _} = cluster_hints:keep(Owner, 0, <<"key">>, ?VERSION) || Owner <- [2, 3, 2]],
+        [#{number := First}, #{number := Second}] = cluster_hints:pending(2, 0, 0, 10),
+        ok = cluster_hints:confirm(2, 0, [{First, new}]),
         restart(),
-        ?assertMatch([#{number := Second, value := <<"value">>}], cluster_hints:pending(2, 0, 10)),
-        ?assertMatch([_], cluster_hints:pending(3, 0, 10))
+        ?assertMatch([#{number := Second, value := <<"value">>}], cluster_hints:pending(2, 0, 0, 10)),
+        ?assertMatch([_], cluster_hints:pending(3, 0, 0, 10))
     end).
 
-%% A renewal gives hints new numbers, and no old one names another hint: a confirmation by it does nothing. Numbers go
-%% on through renewals and restarts. Those of a life begin at its incarnation times 2^40.
-renewal_test_() ->
+%% Each owner and range has numbers of its own, and what is confirmed of one is of no other.
+queues_test_() ->
+    room:test([], fun(_) ->
+        start(),
+        Names = [{2, 0}, {2, 3}, {4, 3}],
+        [?assertEqual({ok, ?FIRST}, cluster_hints:keep(Owner, Range, <<"key">>, ?VERSION)) || {Owner, Range} <- Names],
+        ok = cluster_hints:confirm(2, 3, [{?FIRST, new}]),
+        ?assertEqual([{2, 0}, {4, 3}], lists:sort(cluster_hints:waiting())),
+        ok = cluster_hints:confirm(3, 3, [{?FIRST, new}]),
+        restart(),
+        ?assertEqual([{2, 0}, {4, 3}], lists:sort(cluster_hints:waiting())),
+        ?assertEqual({ok, ?FIRST + 1}, cluster_hints:keep(2, 3, <<"key">>, ?VERSION))
+    end).
+
+%% A checkpoint gives hints new numbers, and no old one names another hint: a confirmation by it does nothing. Numbers go
+%% on through checkpoints and restarts. Those of a life begin at its incarnation times 2^40.
+checkpoint_test_() ->
     room:test([], fun(Folder) ->
         start(),
         [{ok, _} = Kept || Kept <- keep_all(1010)],
-        Hints = cluster_hints:pending(2, 0, 1000),
-        ok = cluster_hints:confirm([{Number, new} || #{number := Number} <- Hints]),
-        ?assertEqual(#{pending => 10, delivered => 1000}, cluster_hints:count()),
-        {ok, ?FIRST + 1020} = cluster_hints:keep(3, key(1), ?VERSION),
-        ok = cluster_hints:confirm([{?FIRST, new}, {?FIRST + 1000, new}]),
-        [#{number := ?FIRST + 1010} | _] = Pending = cluster_hints:pending(2, 0, 20),
-        ?assertEqual(10, length(Pending)),
-        ok = cluster_hints:confirm([{?FIRST + 1011, known}]),
+        Hints = cluster_hints:pending(2, 0, 0, 1000),
+        ok = cluster_hints:confirm(2, 0, [{Number, new} || #{number := Number} <- Hints]),
+        ?assertMatch(#{pending := 10, delivered := 1000}, cluster_hints:count()),
+        {ok, ?FIRST + 1020} = cluster_hints:keep(2, 0, key(1), ?VERSION),
+        ok = cluster_hints:confirm(2, 0, [{?FIRST, new}, {?FIRST + 1000, new}]),
+        [#{number := ?FIRST + 1010} | _] = Pending = cluster_hints:pending(2, 0, 0, 20),
+        ?assertEqual(11, length(Pending)),
+        ok = cluster_hints:confirm(2, 0, [{?FIRST + 1011, known}]),
         restart(),
-        Left = cluster_hints:pending(2, 0, 20),
-        ?assertEqual([Hint || #{number := Number} = Hint <- Pending, Number =/= ?FIRST + 1011], Left),
-        ?assertMatch([#{number := ?FIRST + 1020}], cluster_hints:pending(3, 0, 20)),
-        {ok, ?FIRST + 1021} = cluster_hints:keep(3, key(1), ?VERSION),
+        Left = [Hint || #{number := Number} = Hint <- Pending, Number =/= ?FIRST + 1011],
+        ?assertEqual(Left, cluster_hints:pending(2, 0, 0, 20)),
+        {ok, ?FIRST + 1021} = cluster_hints:keep(2, 0, key(1), ?VERSION),
         Names = lists:sort(filelib:wildcard("*", filename:join(Folder, "hints"))),
         ?assertEqual(["checkpoint.2", "log.2", "manifest", "synced"], Names)
     end).
@@ -47,8 +60,8 @@ damage_test_() ->
     room:test([], fun(Folder) ->
         start(),
         [{ok, _} = Kept || Kept <- keep_all(1010)],
-        ok = cluster_hints:confirm([{Number, new} || #{number := Number} <- cluster_hints:pending(2, 0, 1000)]),
-        {ok, _} = cluster_hints:keep(3, key(1), ?VERSION),
+        ok = cluster_hints:confirm(2, 0, [{Number, new} || #{number := Number} <- cluster_hints:pending(2, 0, 0, 1000)]),
+        {ok, _} = cluster_hints:keep(3, 0, key(1), ?VERSION),
         ok = room:kill(cluster_hints),
         ?assertEqual({whole, 1}, cluster_folder:state()),
         Files = [filename:join([Folder, "hints", Name]) || Name <- ["log.2", "checkpoint.2"]],
@@ -66,26 +79,46 @@ changed(File) ->
 no_room_test_() ->
     room:full_test([], fun(_) ->
         start(),
-        {ok, First} = cluster_hints:keep(2, <<"key">>, ?VERSION),
+        {ok, First} = cluster_hints:keep(2, 0, <<"key">>, ?VERSION),
         Large = #{clock => #{2 => 1}, value => binary:copy(<<"v">>, 60000)},
-        room:until(fun() -> cluster_hints:keep(3, <<"key">>, Large) =:= {error, disk_full} end),
-        ?assertEqual({error, disk_full}, cluster_hints:confirm([{First, new}])),
-        ?assertMatch([#{number := First}], cluster_hints:pending(2, 0, 10)),
+        room:until(fun() -> cluster_hints:keep(3, 0, <<"key">>, Large) =:= {error, disk_full} end),
+        ?assertEqual({error, disk_full}, cluster_hints:confirm(2, 0, [{First, new}])),
+        ?assertMatch([#{number := First}], cluster_hints:pending(2, 0, 0, 10)),
         Before = cluster_hints:count(),
         restart(),
         ?assertEqual(Before, cluster_hints:count())
     end).
 
-%% The 10,001st pending hint is refused.
-full_test_() ->
+%% A queue takes more hints than a store of the library, 10,000. They are all there after a restart, in order.
+many_test_() ->
     room:test([], fun(_) ->
         start(),
-        ?assertEqual([{error, hints_full}], [Kept || {error, _} = Kept <- keep_all(10001)])
+        [{ok, _} = Kept || Kept <- keep_all(10100)],
+        restart(),
+        Numbers = [Number || #{number := Number} <- cluster_hints:pending(2, 0, 0, 20000)],
+        ?assertEqual(lists:seq(?FIRST, ?FIRST + 10099), Numbers),
+        ok = cluster_hints:confirm(2, 0, [{?FIRST + 9999, new}, {?FIRST + 10000, new}]),
+        ?assertMatch([#{number := ?FIRST + 10001} | _], cluster_hints:pending(2, 0, ?FIRST + 9998, 5))
+    end).
+
+%% A queue refuses what is beyond its bytes, and takes it after a delivery. Others have room of their own.
+full_test_() ->
+    Bytes = erlang:external_size({key(1), #{2 => 1}, <<"value">>}),
+    room:test([{hint_bytes, 3 * Bytes}], fun(_) ->
+        start(),
+        [{ok, _} = cluster_hints:keep(2, 0, key(Number), ?VERSION) || Number <- [1, 2, 3]],
+        ?assertEqual({error, hints_full}, cluster_hints:keep(2, 0, key(4), ?VERSION)),
+        ?assertMatch({ok, _}, cluster_hints:keep(2, 3, key(4), ?VERSION)),
+        ok = cluster_hints:confirm(2, 0, [{?FIRST, new}]),
+        restart(),
+        ?assertMatch({ok, _}, cluster_hints:keep(2, 0, key(4), ?VERSION)),
+        ?assertEqual({error, hints_full}, cluster_hints:keep(2, 0, key(5), ?VERSION)),
+        ?assertEqual(4 * Bytes, maps:get(bytes, cluster_hints:count()))
     end).
 
 %% Keeps hints, some hundred at once, and returns the answers.
 keep_all(Count) ->
-    Keep = fun(Number) -> cluster_hints:keep(2, key(Number), ?VERSION) end,
+    Keep = fun(Number) -> cluster_hints:keep(2, 0, key(Number), ?VERSION) end,
     lists:append([
         room:all_at_once(Keep, lists:seq(First, min(First + 399, Count)))
      || First <- lists:seq(1, Count, 400)

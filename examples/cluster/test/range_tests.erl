@@ -72,14 +72,26 @@ renewal_test_() ->
         ?assertMatch({ok, [#{clock := #{33 := 7}}]}, versions(key(1)))
     end).
 
-%% A range that is full of held versions refuses puts, and still serves what it has.
+%% A range that is full of held versions refuses keys that it doesn't hold, and takes puts and deletes of the others.
 full_test_() ->
-    room:test([{limit, 30}], fun(_) ->
+    room:test([{limit, 100}], fun(_) ->
         start(),
-        fill(1, 30),
-        ?assertEqual({error, journal_full}, cluster_range:put(?RANGE, key(31), <<"value">>, #{})),
-        ?assertMatch({ok, [_]}, versions(key(30)))
+        Put = fun(Number) -> element(1, cluster_range:put(?RANGE, key(Number), <<"value">>, #{})) end,
+        Taken = length(lists:takewhile(fun(Number) -> Put(Number) =:= ok end, lists:seq(1, 100))),
+        ?assert(Taken >= 95 andalso Taken < 98),
+        ?assertEqual({error, journal_full}, cluster_range:put(?RANGE, key(Taken + 1), <<"value">>, #{})),
+        [put_again(key(Number)) || _ <- lists:seq(1, 10), Number <- lists:seq(1, Taken)],
+        _ = room:all_at_once(fun(Number) -> put_again(key(Number)) end, lists:seq(1, Taken)),
+        [delete(key(Number)) || Number <- lists:seq(1, Taken)],
+        restart(),
+        ?assertEqual({error, journal_full}, cluster_range:put(?RANGE, key(Taken + 1), <<"value">>, #{})),
+        put_again(key(1)),
+        ?assertMatch({ok, [#{value := tombstone}]}, versions(key(Taken)))
     end).
+
+delete(Key) ->
+    {ok, [#{clock := Clock}]} = versions(Key),
+    {ok, _} = cluster_range:put(?RANGE, Key, tombstone, Clock).
 
 %% After a process has given a replica back, everything that it accepted is on the disk.
 borrowed_test_() ->
@@ -148,14 +160,14 @@ joining_test_() ->
         {ok, Row} = row_of(#{clock => #{34 => 1}, value => <<"other">>}, Key),
         ?assertEqual({error, joining}, cluster_range:row(?RANGE, Key)),
         ?assertEqual({error, down}, cluster_range:read(?RANGE, Key, [Row], 2)),
-        ?assertMatch({ok, [_]}, cluster_range:read(?RANGE, Key, [Row, Row], 2)),
+        ?assertMatch({ok, [_], Row}, cluster_range:read(?RANGE, Key, [Row, Row], 2)),
         ok = take_all(2),
         restart(),
         ok = take_all(3),
         ?assertNot(cluster_range:is_joined(?RANGE)),
         ok = take_all(2),
         ?assertMatch({ok, _}, cluster_range:row(?RANGE, Key)),
-        ?assertMatch({ok, [_]}, cluster_range:read(?RANGE, Key, [Row], 2)),
+        ?assertMatch({ok, [_], Row}, cluster_range:read(?RANGE, Key, [Row], 2)),
         restart(),
         ?assert(cluster_range:is_joined(?RANGE))
     end).
@@ -169,7 +181,7 @@ row_of(Version, Key) ->
     {ok, new} = antientropy:accept(Replica, Key, Version),
     antientropy:row(Replica, Key).
 
-%% A holder that knows a version returns its row.
+%% A holder that knows a version returns its row, and one that has another value under its clock takes nothing.
 known_test_() ->
     room:test([], fun(_) ->
         start(),
@@ -177,6 +189,7 @@ known_test_() ->
         ?assertEqual({ok, new}, cluster_range:copy(?RANGE, key(1), Version)),
         ?assertEqual({ok, {known, [Version]}}, cluster_range:copy(?RANGE, key(1), Version)),
         ?assertEqual([{ok, known}], cluster_range:copies(?RANGE, [{key(1), Version}])),
+        ?assertEqual({ok, {known, [Version]}}, cluster_range:copy(?RANGE, key(1), Version#{value := <<"again">>})),
         ?assertEqual({ok, [Version], 0, 33}, cluster_range:own(?RANGE, key(1)))
     end).
 
@@ -233,10 +246,11 @@ no_room_test_() ->
         ?assertEqual({error, disk_full}, cluster_range:put(?RANGE, key(1), <<"value">>, #{})),
         ?assertEqual({error, disk_full}, cluster_range:copy(?RANGE, key(1), Other)),
         ?assertEqual({error, disk_full}, cluster_range:borrow(?RANGE)),
-        [?assertEqual({ok, []}, cluster_range:read(?RANGE, key(Number), [], 1)) || Number <- Refused],
+        [?assertEqual({ok, [], <<>>}, cluster_range:read(?RANGE, key(Number), [], 1)) || Number <- Refused],
         {ok, Row} = row_of(Other, key(1)),
-        ?assertMatch({ok, [_, _]}, cluster_range:read(?RANGE, key(1), [Row], 2)),
-        ?assertMatch({ok, [_]}, cluster_range:read(?RANGE, key(1), [], 1)),
+        ?assertMatch({ok, [_, _], _}, cluster_range:read(?RANGE, key(1), [Row], 2)),
+        ?assertEqual({error, disk_full}, cluster_range:take_row(?RANGE, key(1), Row)),
+        ?assertMatch({ok, [_], _}, cluster_range:read(?RANGE, key(1), [], 1)),
         Before = dump(),
         restart(),
         ?assertEqual(Before, dump()),
@@ -284,17 +298,5 @@ call_elsewhere(Fun) ->
         {'DOWN', Monitor, process, _, {result, Result}} -> Result
     end.
 
-%% Returns one of the keys of the range, by its number from 1.
 key(Number) ->
-    lists:nth(Number, keys()).
-
-keys() ->
-    case persistent_term:get(?MODULE, none) of
-        none ->
-            All = [<<"key ", (integer_to_binary(Number))/binary>> || Number <- lists:seq(1, 1000)],
-            Keys = [Key || Key <- All, cluster_ring:range(Key) =:= {ok, ?RANGE}],
-            ok = persistent_term:put(?MODULE, Keys),
-            Keys;
-        Keys ->
-            Keys
-    end.
+    room:key(Number).

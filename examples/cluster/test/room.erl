@@ -1,12 +1,13 @@
 %% @doc A folder for a test, and the settings of a node in it.
 -module(room).
 
--export([test/2, full_test/2, stop/1, kill/1, until/1, all_at_once/2, folder/1, flip/1, elsewhere/2]).
+-export([test/2, full_test/2, stop/1, kill/1, until/1, all_at_once/2, folder/1, flip/1, elsewhere/2, key/1]).
 
 %% A disk may be slow.
 -define(SECONDS, 60).
 
 -define(LIFE, 33).
+-define(STARTED, [cluster_space, cluster_lives, cluster_claims, cluster_wire]).
 
 %% @doc Returns a test as the node of place 1 in its first life, with a new disk and these settings. It may start the
 %% range 0 and the hints. With the setting `{life, none}' the folder is empty.
@@ -33,15 +34,19 @@ run(Settings, Test, Mount, Unmount) ->
     ok = Mount(Folder),
     {ok, _} = application:ensure_all_started(antientropy),
     _ = application:load(cluster),
-    Defaults = [{place, 1}, {folder, Folder}, {limit, 1000}, {checkpoint_entries, 1000}],
+    Defaults = [{place, 1}, {folder, Folder}, {limit, 1000}, {checkpoint_entries, 1000}, {hint_bytes, 16777216}],
     [ok = application:set_env(cluster, Name, Value) || {Name, Value} <- Defaults ++ Settings],
-    [{ok, _} = Module:start_link() || Module <- [cluster_space, cluster_lives]],
+    ok = cluster_patience:begin_table(),
+    ok = cluster_requests:begin_table(),
+    ok = cluster_rows:begin_counter(),
+    [{ok, _} = Module:start_link() || Module <- ?STARTED],
     try
         ok = begin_life(proplists:get_value(life, Settings, ?LIFE)),
         Test(Folder)
     after
-        Names = [cluster_range_0, cluster_hints, cluster_life, cluster_lives, cluster_space],
+        Names = [cluster_range_0, cluster_hints, cluster_life | ?STARTED],
         [ok = kill(Name) || Name <- Names, whereis(Name) =/= undefined],
+        [true = ets:delete(Table) || Table <- [cluster_patience, cluster_requests]],
         ok = Unmount(Folder),
         ok = file:del_dir_r(Folder)
     end.
@@ -119,4 +124,19 @@ output(Port, Output) ->
     receive
         {Port, {data, More}} -> output(Port, Output ++ More);
         {Port, {exit_status, Status}} -> {Status, Output}
+    end.
+
+%% @doc Returns one of the keys of the range 0, by its number from 1.
+key(Number) ->
+    lists:nth(Number, keys()).
+
+keys() ->
+    case persistent_term:get(?MODULE, none) of
+        none ->
+            All = [<<"key ", (integer_to_binary(Number))/binary>> || Number <- lists:seq(1, 1000)],
+            Keys = [Key || Key <- All, cluster_ring:range(Key) =:= {ok, 0}],
+            ok = persistent_term:put(?MODULE, Keys),
+            Keys;
+        Keys ->
+            Keys
     end.

@@ -1,0 +1,298 @@
+%% @doc Requests that are handed on, copies, and rows. The other places are functions of the tests.
+-module(coordinator_tests).
+
+-include_lib("eunit/include/eunit.hrl").
+
+%% The range 0 is held by the places 1, 2 and 3.
+-define(RANGE, 0).
+%% What the other places did.
+-define(DEEDS, ?MODULE).
+
+%% ---- a put that place 4 hands on
+
+%% Each way in which a message can be late, repeated or lost, at the holders 1 to 3.
+handed_on_test_() ->
+    Cases = [
+        {"a holder puts", [puts], {ok, 1}, [1]},
+        {"one that is silent doesn't put later", [{late, 150}, puts], {ok, 2}, [2]},
+        {"one that is down", [down, puts], {ok, 2}, [2]},
+        {"a message that is repeated", [repeated], {ok, 1}, [1]},
+        {"a holder that is late after its claim", [slow, puts], {ok, 1}, [1]},
+        {"the claim's answer is lost", [claim_lost, puts], {perhaps, down}, []},
+        {"the put's answer is lost", [put_lost, puts], {perhaps, down}, [1]},
+        {"some refuse", [{refused, stale_context}, {refused, disk_full}, puts], {ok, 3}, [3]},
+        {"a put that may have happened", [{perhaps, down}, puts], {perhaps, down}, []},
+        {"all refuse", [{refused, starting}, {refused, stale_context}, down], {refused, stale_context}, []},
+        {"one that is late, if no other puts", [{late, 250}, down, down], {ok, 1}, [1]},
+        {"all are silent, and don't put later", [{late, 800}, {late, 800}, {late, 800}], {refused, down}, []},
+        {"all are down", [down, down, down], {refused, down}, []},
+        {"bad input", [{refused, bad_value}, puts], {refused, bad_value}, []}
+    ],
+    [
+        {Name,
+            as_place(4, fun hold/4, fun() ->
+                ?assertEqual(Outcome, put_with(<<"value">>, Deeds)),
+                timer:sleep(150),
+                ?assertEqual(Places, places(<<"value">>))
+            end)}
+     || {Name, Deeds, Outcome, Places} <- Cases
+    ].
+
+%% Whatever happens to each of many puts at once, none is done twice, and each has a true answer.
+at_most_once_test_() ->
+    Deeds = [puts, {late, 50}, {late, 700}, down, repeated, slow, claim_lost, put_lost, {refused, stale_context}],
+    as_place(4, fun hold/4, fun() ->
+        Put = fun(Number) ->
+            Value = integer_to_binary(Number),
+            {Value, put_with(Value, [lists:nth(rand:uniform(length(Deeds)), Deeds) || _ <- [1, 2, 3]])}
+        end,
+        Outcomes = room:all_at_once(Put, lists:seq(1, 500)),
+        timer:sleep(800),
+        ?assertEqual([], [Wrong || {Value, Outcome} = Wrong <- Outcomes, not is_true(Outcome, places(Value))])
+    end).
+
+is_true({ok, Place}, Places) -> Places =:= [Place];
+is_true({perhaps, _}, Places) -> length(Places) =< 1;
+is_true({refused, _}, Places) -> Places =:= [].
+
+%% Puts a value, with holders that do these deeds with it.
+put_with(Value, Deeds) ->
+    true = ets:insert(?DEEDS, {{deeds, Value}, Deeds}),
+    case cluster_coordinator:put(room:key(1), Value, #{}) of
+        {ok, #{coordinator := Place}} -> {ok, Place};
+        Refused -> Refused
+    end.
+
+%% The places that put a value.
+places(Value) ->
+    lists:sort([Place || {{put, Put}, Place} <- ets:tab2list(?DEEDS), Put =:= Value]).
+
+%% A holder, which calls the place 4 for its claim.
+hold(Place, cluster_coordinator, put_claimed, [{4, Reference}, ?RANGE, _, Value, _]) ->
+    [{_, Deeds}] = ets:lookup(?DEEDS, {deeds, Value}),
+    Claim = fun() -> cluster_claims:take(Reference, Place) end,
+    Put = fun() ->
+        true = ets:insert(?DEEDS, {{put, Value}, Place}),
+        {ok, #{coordinator => Place}}
+    end,
+    do(lists:nth(Place, Deeds), Claim, Put);
+hold(_, cluster_ring, here, []) ->
+    error({erpc, timeout}).
+
+do(puts, Claim, Put) ->
+    put_if(Claim(), Put);
+do({late, Ms}, Claim, Put) ->
+    timer:sleep(Ms),
+    put_if(Claim(), Put);
+do(down, _, _) ->
+    error({erpc, noconnection});
+do(repeated, Claim, Put) ->
+    [Answer, unclaimed] = [put_if(Claim(), Put) || _ <- [1, 2]],
+    Answer;
+do(slow, Claim, Put) ->
+    IsMine = Claim(),
+    timer:sleep(150),
+    put_if(IsMine, Put);
+do(claim_lost, Claim, _) ->
+    _ = Claim(),
+    unclaimed;
+do(put_lost, Claim, Put) ->
+    _ = put_if(Claim(), Put),
+    error({erpc, timeout});
+do(Refusal, Claim, _) ->
+    put_if(Claim(), fun() -> Refusal end).
+
+put_if(true, Put) -> Put();
+put_if(false, _) -> unclaimed.
+
+%% ---- puts at place 1, a holder
+
+%% Nothing is put without a claim.
+unclaimed_test_() ->
+    Other = fun(Place, cluster_claims, take, [_, 1]) -> Place =:= 5 end,
+    as_place(1, Other, fun() ->
+        Put = fun(Origin) ->
+            cluster_coordinator:put_claimed({Origin, make_ref()}, ?RANGE, room:key(1), <<"value">>, #{0 => 1})
+        end,
+        ?assertEqual(unclaimed, Put(4)),
+        ?assertEqual({refused, bad_clock}, Put(5)),
+        ?assertEqual({ok, [], 0, 33}, cluster_range:own(?RANGE, room:key(1)))
+    end).
+
+%% A put that is stale here is handed on.
+stale_test_() ->
+    Other = fun
+        (_, cluster_range, copy, _) ->
+            {ok, new};
+        (Place, cluster_coordinator, put_claimed, [{1, Reference} | _]) ->
+            true = cluster_claims:take(Reference, Place),
+            true = ets:insert(?DEEDS, {asked, Place}),
+            {refused, stale_context}
+    end,
+    as_place(1, Other, fun() ->
+        Put = fun() -> cluster_coordinator:put(room:key(1), <<"value">>, #{}) end,
+        ?assertMatch({ok, #{coordinator := 1, clock := #{33 := 1}, on := [1, _]}}, Put()),
+        ?assertEqual({refused, stale_context}, Put()),
+        ?assertEqual([{asked, 2}, {asked, 3}], lists:sort(ets:tab2list(?DEEDS)))
+    end).
+
+%% Copies that are late have hints before their limit, each one. From then on the holders are down.
+late_copies_test_() ->
+    Other = fun
+        (_, cluster_range, copy, _) ->
+            timer:sleep(500),
+            error({erpc, timeout});
+        (Place, cluster_hints, keep, [Owner, ?RANGE, _, _]) ->
+            true = ets:insert(?DEEDS, {Owner, Place}),
+            {ok, 1};
+        (_, cluster_ring, here, []) ->
+            error({erpc, timeout})
+    end,
+    as_place(1, Other, fun() ->
+        ?assert(millis_of_put(room:key(1)) < 400),
+        timer:sleep(600),
+        ?assertMatch([{2, _}, {3, _}], lists:sort(ets:tab2list(?DEEDS))),
+        ?assertEqual([2, 3], cluster_wire:down()),
+        ?assert(millis_of_put(room:key(2)) < 90)
+    end).
+
+%% A holder that is down gets a hint at once, but is asked first if it hasn't checked this node's disk since the start.
+unchecked_test_() ->
+    Other = fun
+        (Place, cluster_range, copy, _) ->
+            true = ets:insert(?DEEDS, {asked, Place}),
+            error({erpc, noconnection});
+        (_, cluster_hints, keep, _) ->
+            {ok, 1};
+        (_, cluster_ring, here, []) ->
+            error({erpc, noconnection})
+    end,
+    Asked = fun() ->
+        true = ets:delete_all_objects(?DEEDS),
+        [down = cluster_wire:call(Place, cluster_ring, here, []) || Place <- [2, 3]],
+        {ok, #{on := [1 | _]}} = cluster_coordinator:put(room:key(3), <<"value">>, #{}),
+        lists:sort(ets:tab2list(?DEEDS))
+    end,
+    as_place(1, Other, fun() ->
+        {ok, _} = cluster_coordinator:put(room:key(1), <<"value">>, #{}),
+        ?assertEqual([], Asked()),
+        ok = room:kill(cluster_range_0),
+        {ok, Range} = cluster_range:start_link(?RANGE),
+        true = unlink(Range),
+        ?assertEqual([2, 3], cluster_range:unchecked(?RANGE)),
+        {ok, _} = cluster_coordinator:put(room:key(2), <<"value">>, #{}),
+        room:until(fun() -> lists:sort(ets:tab2list(?DEEDS)) =:= [{asked, 2}, {asked, 3}] end)
+    end).
+
+millis_of_put(Key) ->
+    {Micros, {ok, #{on := [1, Carrier]}}} = timer:tc(fun() -> cluster_coordinator:put(Key, <<"value">>, #{}) end),
+    ?assert(lists:member(Carrier, [4, 5])),
+    Micros div 1000.
+
+%% Carriers without room are named by the owners whose hints they refuse.
+no_room_for_hints_test_() ->
+    Other = fun
+        (_, cluster_hints, keep, _) -> {error, hints_full};
+        (_, _, _, _) -> error({erpc, noconnection})
+    end,
+    as_place(1, Other, fun() ->
+        {ok, Hints} = cluster_hints:start_link(),
+        true = unlink(Hints),
+        ?assertEqual({perhaps, hints_full, [2, 3]}, cluster_coordinator:put(room:key(1), <<"value">>, #{}))
+    end).
+
+%% ---- gets at place 1
+
+%% A get asks the next holder if one is silent, and takes the first answer.
+handed_on_get_test_() ->
+    Other = fun
+        (1, cluster_coordinator, get_here, _) ->
+            timer:sleep(300),
+            {ok, #{coordinator => 1, versions => []}};
+        (2, cluster_coordinator, get_here, [?RANGE, Key]) ->
+            case Key =:= room:key(1) of
+                true -> {ok, #{coordinator => 2, versions => []}};
+                false -> {refused, starting}
+            end;
+        (3, cluster_coordinator, get_here, _) ->
+            {refused, down}
+    end,
+    as_place(4, Other, fun() ->
+        ?assertMatch({ok, #{coordinator := 2}}, cluster_coordinator:get(room:key(1))),
+        ?assertMatch({ok, #{coordinator := 1}}, cluster_coordinator:get(room:key(2)))
+    end).
+
+%% A holder whose row is behind gets what it lacks. Equal rows are written nowhere.
+read_repair_test_() ->
+    Version = #{clock => #{34 => 1}, value => <<"other">>},
+    Other = fun
+        (2, cluster_range, row, [_, Key]) ->
+            {ok, row(Version, Key)};
+        (3, cluster_range, row, _) ->
+            timer:sleep(50),
+            {ok, <<>>};
+        (Place, cluster_range, take_row, [?RANGE, Key, Row]) ->
+            true = ets:insert(?DEEDS, {Place, Key, Row}),
+            {ok, Row}
+    end,
+    as_place(1, Other, fun() ->
+        Key = room:key(1),
+        Get = fun() -> cluster_coordinator:get(Key) end,
+        ?assertEqual({ok, #{coordinator => 1, versions => [Version]}}, Get()),
+        timer:sleep(100),
+        ?assertEqual([{3, Key, row(Version, Key)}], ets:tab2list(?DEEDS)),
+        ok = application:set_env(cluster, read_repair, off),
+        {ok, _} = Get(),
+        timer:sleep(100),
+        ok = application:set_env(cluster, read_repair, on),
+        ?assertMatch([_], ets:tab2list(?DEEDS))
+    end).
+
+row(Version, Key) ->
+    {ok, Replica} = antientropy:new(cluster_ring:replica_options(?RANGE)),
+    {ok, new} = antientropy:accept(Replica, Key, Version),
+    {ok, Row} = antientropy:row(Replica, Key),
+    Row.
+
+%% A holder that is down is asked only if the others are too few, and then a get has its row.
+last_resort_test_() ->
+    Other = fun
+        (Place, cluster_range, row, _) ->
+            true = ets:insert(?DEEDS, {row, Place}),
+            true = Place =:= 2 orelse ets:member(?DEEDS, up),
+            {ok, <<>>};
+        (_, cluster_ring, here, []) ->
+            error({erpc, timeout})
+    end,
+    as_place(1, Other, fun() ->
+        down = cluster_wire:call(2, cluster_ring, here, []),
+        down = cluster_wire:call(3, cluster_ring, here, []),
+        ?assertMatch({ok, _}, cluster_coordinator:get(room:key(1))),
+        room:until(fun() -> cluster_wire:down() =:= [3] end),
+        true = ets:delete(?DEEDS, row),
+        ?assertMatch({ok, _}, cluster_coordinator:get(room:key(1))),
+        ?assertEqual([{row, 2}], ets:tab2list(?DEEDS))
+    end).
+
+%% Runs a test as a place, with other places that do with a call what a function says. Place 1 has its range.
+as_place(Place, Other, Test) ->
+    room:test([{place, Place}], fun(_) ->
+        ?DEEDS = ets:new(?DEEDS, [named_table, public, bag]),
+        try
+            Place =:= 1 andalso joined_range(),
+            links:with(Other, Test)
+        after
+            true = ets:delete(?DEEDS)
+        end
+    end).
+
+joined_range() ->
+    {ok, Range} = cluster_range:start_link(?RANGE),
+    true = unlink(Range),
+    [
+        begin
+            {ok, Replica} = cluster_range:borrow(?RANGE),
+            ok = cluster_range:give_back(?RANGE, Replica, {all_of, Partner})
+        end
+     || Partner <- [2, 3]
+    ].

@@ -1,0 +1,32 @@
+%% @doc A module `cluster_link' for tests: other places are a function of the test.
+-module(links).
+
+-export([with/2]).
+
+-define(LINK,
+    "-module(cluster_link). -export([call/5]). "
+    "call(Place, Module, Function, Arguments, _) -> (persistent_term:get(links))(Place, Module, Function, Arguments). "
+).
+
+%% @doc Runs a test, in which other places do with a call what the function does. It returns or raises.
+with(Call, Test) ->
+    ok = persistent_term:put(?MODULE, Call),
+    {ok, cluster_link, Code} = compile:forms(forms(?LINK)),
+    {module, cluster_link} = code:load_binary(cluster_link, "cluster_link", Code),
+    try
+        Test()
+    after
+        _ = code:purge(cluster_link),
+        {module, cluster_link} = code:load_file(cluster_link)
+    end.
+
+forms(Text) ->
+    {ok, Tokens, _} = erl_scan:string(Text),
+    {Forms, []} = lists:foldl(fun add_token/2, {[], []}, Tokens),
+    lists:reverse(Forms).
+
+add_token({dot, _} = Dot, {Forms, Tokens}) ->
+    {ok, Form} = erl_parse:parse_form(lists:reverse([Dot | Tokens])),
+    {[Form | Forms], []};
+add_token(Token, {Forms, Tokens}) ->
+    {Forms, [Token | Tokens]}.
