@@ -12,6 +12,7 @@ from . import figures, judge, program, rest
 from .clients import Clients
 from .history import read
 from .log import Log, Watch
+from .modes import ALL, MODES
 from .nodes import Nodes, build
 from .schedule import Nemesis
 
@@ -27,7 +28,9 @@ def words() -> argparse.Namespace:
     parser = argparse.ArgumentParser(prog="python3 -m nemesis", description=__doc__)
     parser.add_argument("--seed", type=int, default=1, help="chooses the faults and the clients' deeds")
     parser.add_argument("--seconds", type=float, default=30, help="time under faults")
-    parser.add_argument("--clients", type=int, default=8)
+    parser.add_argument("--clients", type=int, default=24)
+    only = [name for name in MODES if name != ALL.name]
+    parser.add_argument("--only", choices=only, help="what alone brings versions to replicas after a put")
     return program.parse(parser)
 
 
@@ -35,22 +38,24 @@ def work(given: argparse.Namespace, room: Path) -> int:
     """Builds the cluster if it isn't built, breaks it, prints the figures and the verdict, and returns the status."""
     logs, out = given.keep or room / "logs", given.out or room / "out"
     logs.mkdir(parents=True, exist_ok=True)
-    for old in logs.glob("*.log"):
+    for old in [*logs.glob("*.log"), *logs.glob("*.err")]:
         old.unlink()
     if not given.out:
         build(given.library, out)
-    watch = Watch()
+    watch, mode = Watch(), MODES[given.only or ALL.name]
     log = Log(logs / "nemesis.log", watch)
-    with Nodes(out, room, logs, log, SETTINGS, given.ports, has_disk_faults=True) as nodes:
+    log.write(op="run", seed=given.seed, seconds=given.seconds, mode=mode.name)
+    settings = {**SETTINGS, **mode.settings}
+    with Nodes(out, room, logs, log, settings, given.ports, has_disk_faults=True) as nodes:
         if not nodes.powers:
             print("there is no C compiler: disks have no faults")
         nodes.begin()
         with figures.Counts(nodes.base, Log(logs / "status.log", watch)) as counts:
             with Clients(given.clients, given.seed, nodes.base, logs, watch) as clients:
                 begin = watch.now()
-                Nemesis(given.seed, nodes, clients, log, room).run(given.seconds)
+                Nemesis(given.seed, nodes, clients, log, room, logs, mode).run(given.seconds)
                 quiet = watch.now()
-            took = rest.end(nodes.base, log, REST_S)
+            took = rest.end(nodes, log, REST_S, mode)
             sums = counts.look()
         rest.dump(nodes.base, logs)
         lives = nodes.lives()

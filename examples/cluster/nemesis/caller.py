@@ -1,10 +1,10 @@
-"""Requests of a client, which logs what it is told."""
+"""Requests of a client, which logs the responses."""
 
 from __future__ import annotations
 
-from typing import Optional, Sequence, Tuple
+from typing import Any, Dict, Optional, Sequence, Tuple
 
-from .front import Front, Found
+from .front import Answer, Front, Found
 from .log import Log
 
 #: A context, and the marks of the versions that it covers.
@@ -35,6 +35,7 @@ class Caller:
             status=found.answer.status,
             values=found.marks,
             clocks=found.clocks,
+            **_refusal(found.answer),
         )
         return found
 
@@ -45,7 +46,7 @@ class Caller:
             answer = self._front.delete(place, key, context[0])
         else:
             answer = self._front.put(place, key, value, context[0])
-        told = answer.json() if answer.status in (200, 503) else {}
+        body = answer.json() if answer.status == 200 else {}
         self._log.write(
             t=begin,
             end=self._log.now(),
@@ -57,11 +58,12 @@ class Caller:
             place=place,
             by=answer.headers.get("x-place"),
             status=answer.status,
-            **{name: told[name] for name in ("clock", "on", "refused", "perhaps") if name in told},
+            **{name: body[name] for name in ("clock", "on") if name in body},
+            **_refusal(answer),
         )
         if answer.status != 200:
             return answer.status, None
-        return answer.status, (told["context"], (f"tombstone {told['clock']}" if value is None else value,))
+        return answer.status, (body["context"], (f"tombstone {body['clock']}" if value is None else value,))
 
     def close(self) -> None:
         self._front.close()
@@ -75,3 +77,9 @@ class Caller:
 def context_of(found: Found) -> Context:
     """Returns the context that covers what a get found: the empty one if it found no version, or wasn't answered."""
     return BLIND if found.context is None else (found.context, found.marks)
+
+
+def _refusal(answer: Answer) -> Dict[str, Any]:
+    """Returns the members of a refusal with any status: its name, whether the put may have happened, and for whom."""
+    body = answer.json() if answer.status not in (0, 200, 300) else {}
+    return {name: body[name] for name in ("refused", "perhaps", "for") if name in body}

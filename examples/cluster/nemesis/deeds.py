@@ -8,13 +8,13 @@ import time
 from pathlib import Path
 from typing import Callable, List, Optional, Sequence, Tuple
 
-from . import links
-from .clients import KEYS, Clients
+from . import links, rest
+from .clients import Clients
+from .crowd import KEYS
 from .front import PATIENCE_S, Front
 from .log import Log
 from .nodes import Nodes
 from .places import PLACES
-from .rest import settle
 
 #: Seconds that the cluster may take to come to rest between two lost disks.
 REST_S = 30.0
@@ -74,10 +74,10 @@ class Deeds:
 
     # ---- messages
 
-    def cut_off(self, drops: Sequence[links.Drop], is_instant: Optional[bool] = None) -> None:
-        """Drops messages, by silence or at once."""
+    def cut_off(self, drops: Sequence[links.Link], is_instant: Optional[bool] = None) -> None:
+        """Drops messages, mostly in silence, as a network does; sometimes their calls fail at once."""
         if is_instant is None:
-            is_instant = self.chance.random() < 0.5
+            is_instant = self.chance.random() < 0.2
         self.links.partition(drops, is_instant)
 
     # ---- processes
@@ -108,24 +108,24 @@ class Deeds:
             return
         self._check_lost()
         if not self._may_lose and not self.is_over():
-            self.clients.gate.rest()
+            self.clients.rest()
             self.log.write(op="rest")
-            self._may_lose = settle(self.nodes.base, min(REST_S, self._until - time.monotonic())) is not None
+            self._may_lose = rest.settle(self.nodes.base, min(REST_S, self._until - time.monotonic())) is not None
             self.log.write(op="work", settled=self._may_lose)
         else:
             self.wait(0.2, 1.0)
-        self.clients.gate.work()
+        self.clients.work()
 
     def come_to_rest(self) -> None:
         """Waits until all replicas are equal and no hint is pending, but not for long."""
-        settle(self.nodes.base, PATIENT_S)
+        rest.settle(self.nodes.base, PATIENT_S)
 
     # ---- disks
 
     def strain(self, places: Sequence[int]) -> None:
         """Often lets slow syncs keep entries of a few keys waiting."""
         if self.chance.random() < 0.7:
-            self.clients.load.skew(self.chance.sample(KEYS, 3), places)
+            self.clients.skew(self.chance.sample(KEYS, 3), places)
             for place in places:
                 self.slow_disk(place, self.chance.choice((100, 250, 400)))
             self.wait(0.5, 1.5)
@@ -138,9 +138,10 @@ class Deeds:
 
     def relieve(self) -> None:
         """Ends all faults of disks, and the skew of the load."""
-        self.clients.load.skew()
+        self.clients.skew()
         for power in self.nodes.powers.values():
             power.heal()
+        self.log.write(op="disks")
 
     def can_lose(self) -> bool:
         """Returns true if a disk may be lost now: no other one is, and clocks have room for another life."""
@@ -202,6 +203,15 @@ class Deeds:
         """Returns true if a node answers gets."""
         gets = (self._front.get(place, key) for key in self.chance.sample(KEYS, READ))
         return all(found.answer.status in (200, 300, 404) for found in gets)
+
+    def dump_alone(self, place: int, file: Path) -> Optional[dict]:
+        """Writes what a node holds to a file, as soon as it tells it, and returns it: None if it doesn't in time."""
+        until = time.monotonic() + START_S
+        while True:
+            held = rest.dump_one(self._front, place, file)
+            if held is not None or time.monotonic() > until:
+                return held
+            time.sleep(LOOK_S)
 
     def sync_neighbours(self, place: int) -> None:
         """Lets the two nodes that hold most ranges of a place start a round, and waits until one has ended it."""

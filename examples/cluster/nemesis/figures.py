@@ -1,4 +1,4 @@
-"""The figures of a run: what clients were told, and the counts of the nodes while it went on."""
+"""The figures of a run: the responses to clients, and the counts of the nodes while it went on."""
 
 from __future__ import annotations
 
@@ -91,7 +91,7 @@ def show(found: Dict[str, List[Request]], begin: float, end: float, phase: str) 
         counted = sorted(Counter(it.status for it in inside).items())
         statuses = ", ".join(f"{status}: {count}" for status, count in counted)
         print(
-            f"{phase:12} {kind}: {len(took) / (end - begin):7.1f} a second,"
+            f"{phase:25} {kind}: {len(took) / (end - begin):7.1f} a second,"
             f" p50 {percentile_ms(took, 50):6.1f} ms, p99 {percentile_ms(took, 99):7.1f} ms  (statuses {statuses})"
         )
 

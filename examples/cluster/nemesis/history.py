@@ -10,13 +10,18 @@ import functools
 import json
 from dataclasses import dataclass, field
 from pathlib import Path
-from typing import Dict, Iterator, List, Optional, Tuple
+from typing import Any, Dict, Iterator, List, Mapping, NamedTuple, Optional, Tuple
 
 TOMBSTONE = "tombstone "
 
-#: Statuses of a put that was refused, and so happened nowhere; and names with which a node refuses all puts.
+#: Statuses with which a node refuses what it can't do.
 REFUSED = (400, 409)
-REFUSES_ALL = ("Starting", "DiskFull")
+
+#: Statuses of a get that was answered.
+FOUND = (200, 300, 404)
+
+#: The mode of a run: all faults and all repair, or only rounds, or only hints.
+ALL, BY_ROUNDS, BY_HINTS = "all", "repair", "handoff"
 
 
 class BadLog(Exception):
@@ -49,7 +54,7 @@ class Write:
 
     line: Line
     key: str
-    #: None for a delete whose clock the client wasn't told
+    #: None for a delete whose clock isn't known
     mark: Optional[str]
     #: The marks that its client had read
     read: Tuple[str, ...]
@@ -58,8 +63,8 @@ class Write:
     status: int
     clock: str
     on: Tuple[int, ...]
-    #: The name of a refusal, if the put certainly wasn't done then
-    refused: str
+    #: True if it was refused, and not as `perhaps`: then it happened nowhere
+    is_refused: bool
 
     @property
     def acknowledged(self) -> bool:
@@ -71,7 +76,7 @@ class Write:
 
     @property
     def may_have_happened(self) -> bool:
-        return self.status not in REFUSED and self.refused not in REFUSES_ALL
+        return not self.is_refused
 
 
 @dataclass(frozen=True)
@@ -80,9 +85,25 @@ class Get:
 
     line: Line
     key: str
+    #: The place that coordinated it
+    by: int
     versions: Tuple[Version, ...]
     begin: float
     end: float
+
+
+class Request(NamedTuple):
+    """A request of a client, whatever it was and whether it was answered."""
+
+    line: Line
+    is_get: bool
+    key: str
+    place: int
+    begin: float
+    end: float
+    status: int
+    #: The name of a refusal
+    refused: str
 
 
 @dataclass(frozen=True)
@@ -99,6 +120,8 @@ class Event:
     #: What was expected, and whether it held
     what: str
     met: bool
+    #: All that its line has
+    members: Mapping[str, Any]
 
 
 @dataclass(frozen=True)
@@ -122,14 +145,27 @@ class Dump:
     ranges: Dict[int, Replica]
 
 
+@dataclass(frozen=True)
+class Held:
+    """The rows of a node that started cut off from all others, after it was killed or its power was cut."""
+
+    dump: Dump
+    #: When it was still running, and when it was dumped
+    since: float
+    at: float
+
+
 @dataclass
 class History:
     """A run."""
 
+    requests: List[Request] = field(default_factory=list)
     writes: List[Write] = field(default_factory=list)
     gets: List[Get] = field(default_factory=list)
     events: List[Event] = field(default_factory=list)
     dumps: Dict[int, Dump] = field(default_factory=dict)
+    held: List[Held] = field(default_factory=list)
+    mode: str = ALL
 
     def replicas(self) -> Dict[int, List[Replica]]:
         """Returns the replicas of each range, by their places."""
@@ -145,13 +181,18 @@ def read(folder: Path) -> History:
     history = History()
     for path in sorted(folder.glob("client-*.log")):
         for line, data in _lines(path):
-            if data["op"] == "get":
-                if data["status"] in (200, 300, 404):
-                    history.gets.append(_get(line, data))
-            else:
+            history.requests.append(_request(line, data))
+            if data["op"] != "get":
                 history.writes.append(_write(line, data))
+            elif data["status"] in FOUND:
+                history.gets.append(_get(line, data))
     for line, data in _lines(folder / "nemesis.log"):
         history.events.append(_event(line, data))
+        if data["op"] == "run":
+            history.mode = data["mode"]
+        elif data["op"] == "held":
+            dumps = [_dump(*it) for it in _lines(folder / data["file"])]
+            history.held += [Held(dump, data["since"], data["t"]) for dump in dumps]
     for path in sorted(folder.glob("dump-*.log")):
         for line, data in _lines(path):
             history.dumps[data["place"]] = _dump(line, data)
@@ -176,6 +217,19 @@ def _lines(path: Path) -> Iterator[Tuple[Line, dict]]:
             raise BadLog(f"{line}: {fault!r}") from fault
 
 
+def _request(line: Line, data: dict) -> Request:
+    return Request(
+        line,
+        data["op"] == "get",
+        data["key"],
+        data.get("place", 0),
+        data["t"],
+        data["end"],
+        data["status"],
+        data.get("refused", ""),
+    )
+
+
 def _write(line: Line, data: dict) -> Write:
     clock = _clock(data.get("clock", ""))
     mark = data.get("value")
@@ -191,18 +245,18 @@ def _write(line: Line, data: dict) -> Write:
         data["status"],
         clock,
         tuple(data.get("on", ())),
-        "" if data.get("perhaps") else data.get("refused", ""),
+        not data.get("perhaps") and ("refused" in data or data["status"] in REFUSED),
     )
 
 
 def _get(line: Line, data: dict) -> Get:
     versions = (Version(_mark(mark), _clock(clock)) for mark, clock in zip(data["values"], data["clocks"]))
-    return Get(line, data["key"], tuple(versions), data["t"], data["end"])
+    return Get(line, data["key"], int(data.get("by") or 0), tuple(versions), data["t"], data["end"])
 
 
 def _event(line: Line, data: dict) -> Event:
     place, life, status = data.get("place", 0), data.get("life", 0), data.get("status", 0)
-    return Event(line, data["t"], data["op"], place, life, status, data.get("what", ""), data.get("met", True))
+    return Event(line, data["t"], data["op"], place, life, status, data.get("what", ""), data.get("met", True), data)
 
 
 def _dump(line: Line, data: dict) -> Dump:

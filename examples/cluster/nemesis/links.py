@@ -1,91 +1,138 @@
-"""Faults of the messages between nodes: some are dropped, and some are late.
+"""Faults of the messages between nodes: some are dropped, some are late and overtake each other, some are repeated.
 
-They are in a file that each node reads for each message, in the module that the nemesis puts in the place of the
-product's (`erlang/cluster_link.erl`). So they are in force for all nodes as soon as the file is written, and for nodes
-that start later.
+They are in a file that each node reads, in the module that the nemesis puts in the place of the product's
+(`erlang/cluster_link.erl`). So they are in force for all nodes soon after the file is written, and for nodes that start
+later. The module also notes which calls of background work were made without a slot.
 """
 
 from __future__ import annotations
 
 import os
 import subprocess
+import time
+from collections import Counter
 from pathlib import Path
 from typing import Dict, Iterable, List, Sequence, Set, Tuple
 
 from .log import Log
 from .places import PLACES
 
-Drop = Tuple[int, int]
+#: A link of messages, from a place to another.
+Link = Tuple[int, int]
 
 SOURCE = Path(__file__).with_name("erlang") / "cluster_link.erl"
 
 #: Threads for files in each node: a slow disk takes some, and a message needs one for the file of its faults.
 THREADS = 16
 
+#: Seconds after which all nodes have seen that the file has changed.
+SEEN_S = 0.01
+
 
 class Links:
-    """The faults of all messages."""
+    """The faults of all messages. The log has all of them each time that one changes."""
 
     def __init__(self, folder: Path, log: Log) -> None:
         self._folder, self._file, self._log = folder, folder / "links", log
-        self._drops: Set[Drop] = set()
-        self._slow: Dict[int, int] = {}
+        self._drops: Set[Link] = set()
         self._is_instant = False
+        self._slow: Dict[int, int] = {}
+        self._late: Dict[Link, Tuple[int, int]] = {}
+        self._repeat = 0
         self._write()
 
     def environment(self) -> Dict[str, str]:
         """Compiles the module, and returns what a node's environment has for it."""
         subprocess.run(["erlc", "-Wall", "-Werror", "-o", str(self._folder), str(SOURCE)], check=True)
-        return {"NEMESIS_LINKS": str(self._file), "CLUSTER_FLAGS": f"-pa {self._folder} +SDio {THREADS}"}
+        return {
+            "NEMESIS_LINKS": str(self._file),
+            "NEMESIS_UNSLOTTED": str(self._folder / "unslotted"),
+            "CLUSTER_FLAGS": f"-pa {self._folder} +SDio {THREADS}",
+        }
 
-    def partition(self, drops: Iterable[Drop], is_instant: bool = False) -> None:
-        """Drops messages from and to these places, each a pair of them, and those that were dropped already.
+    def partition(self, drops: Iterable[Link], is_instant: bool = False) -> None:
+        """Drops messages of these links, and of those that are dropped already.
 
         A call waits for its limit then, or fails at once.
         """
         self._drops.update(drops)
         self._is_instant = is_instant
-        self._log.write(op="partition", drop=sorted(self._drops), instant=is_instant)
-        self._write()
+        self._change()
 
     def slow(self, place: int, delay_ms: int) -> None:
-        """Delays each message that a node sends."""
+        """Delays each message that a node sends by the same time."""
         self._slow[place] = delay_ms
-        self._log.write(op="slow", place=place, slow_ms=delay_ms)
-        self._write()
+        self._change()
+
+    def late(self, links: Iterable[Link], least_ms: int, most_ms: int) -> None:
+        """Delays each message of these links by a time of its own, mostly near the least."""
+        self._late.update((link, (least_ms, most_ms)) for link in links)
+        self._change()
+
+    def repeat(self, per_mille: int) -> None:
+        """Serves some of 1,000 calls twice, the second time up to a second later."""
+        self._repeat = per_mille
+        self._change()
 
     def heal(self) -> None:
         """Ends all faults."""
-        self._drops.clear()
-        self._slow.clear()
-        self._log.write(op="heal")
+        if self._drops or self._slow or self._late or self._repeat:
+            self._drops.clear()
+            self._slow.clear()
+            self._late.clear()
+            self._repeat, self._is_instant = 0, False
+            self._change()
+
+    def unslotted(self) -> Dict[Tuple[int, str], int]:
+        """Returns the calls that were made without a slot: the numbers of them by place and function."""
+        counts: Dict[Tuple[int, str], int] = {}
+        for place in PLACES:
+            noted = self._folder / f"unslotted-{place}"
+            for what, count in Counter(noted.read_text().split() if noted.exists() else ()).items():
+                counts[place, what] = count
+        return counts
+
+    def _change(self) -> None:
+        """Logs all faults, and puts them in force."""
+        late = sorted([*link, *times] for link, times in self._late.items())
+        drops, slow = sorted(self._drops), {str(place): delay_ms for place, delay_ms in sorted(self._slow.items())}
+        self._log.write(op="links", drop=drops, instant=self._is_instant, late=late, repeat=self._repeat, slow=slow)
         self._write()
+        time.sleep(SEEN_S)
 
     def _write(self) -> None:
+        slow = {link: (delay, delay) for place, delay in self._slow.items() for link in one_way([place])}
+        late = {**slow, **self._late}
         lines = [f"drop {source} {target}" for source, target in sorted(self._drops)]
-        lines += [f"slow {place} {delay_ms}" for place, delay_ms in sorted(self._slow.items())]
+        lines += [f"late {source} {target} {least} {most}" for (source, target), (least, most) in sorted(late.items())]
+        lines += [f"repeat {self._repeat}"] if self._repeat else []
         lines += ["instant"] if self._is_instant else []
         new = self._file.with_suffix(".new")
         new.write_text("".join(f"{line}\n" for line in lines))
         os.replace(new, self._file)
 
 
-def between(one: Iterable[int], other: Iterable[int]) -> List[Drop]:
-    """Returns the drops of all messages between two sides."""
+def between(one: Iterable[int], other: Iterable[int]) -> List[Link]:
+    """Returns the links between two sides."""
     others = list(other)
-    return [drop for a in one for b in others for drop in ((a, b), (b, a))]
+    return [link for a in one for b in others for link in ((a, b), (b, a))]
 
 
-def halves(side: Sequence[int]) -> List[Drop]:
-    """Returns the drops that cut one side off from all other places."""
+def halves(side: Sequence[int]) -> List[Link]:
+    """Returns the links between a side and all other places."""
     return between(side, [place for place in PLACES if place not in side])
 
 
-def one_way(side: Sequence[int]) -> List[Drop]:
-    """Returns the drops after which a side still hears the other places, but isn't heard by them."""
+def one_way(side: Sequence[int]) -> List[Link]:
+    """Returns the links over which the other places hear a side. If they are dropped, it still hears them."""
     return [(a, b) for a in side for b in PLACES if b not in side]
 
 
-def bridge(side: Sequence[int], middle: int) -> List[Drop]:
-    """Returns the drops after which two sides reach each other over one place alone."""
+def bridge(side: Sequence[int], middle: int) -> List[Link]:
+    """Returns the links between two sides that reach each other over one place alone, if these are dropped."""
     return between(side, [place for place in PLACES if place not in side and place != middle])
+
+
+def everywhere() -> List[Link]:
+    """Returns all links."""
+    return [(a, b) for a in PLACES for b in PLACES if a != b]

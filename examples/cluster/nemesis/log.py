@@ -6,17 +6,17 @@ import json
 import threading
 import time
 from pathlib import Path
-from typing import Any
+from typing import Any, Optional
 
 
 class Watch:
-    """The time since a run began, in seconds, for all its logs."""
+    """The time since a run began, in seconds, for all its logs, also those of other processes."""
 
-    def __init__(self) -> None:
-        self._began = time.monotonic()
+    def __init__(self, began: Optional[float] = None) -> None:
+        self.began = time.monotonic() if began is None else began
 
     def now(self) -> float:
-        return round(time.monotonic() - self._began, 6)
+        return round(time.monotonic() - self.began, 6)
 
 
 class Log:

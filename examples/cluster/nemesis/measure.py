@@ -1,9 +1,11 @@
-"""Measures a cluster: clients at full speed, a partition of half a minute, and the repair after it.
+"""Measures a cluster with clients at full speed: without faults, while two of five places are silent, and after that.
 
-    python3 -m nemesis.measure --library FOLDER [--seconds S] [--no-admission]
+    python3 -m nemesis.measure --library FOLDER [--seconds S] [--clients N] [--no-admission]
 
-Prints the requests a second and the latencies without faults, during a partition, and while clients go on during its
-repair and that of a lost disk; and the time that repairs take with clients at rest.
+Prints the requests a second and the latencies at the three places that aren't silent: without faults; while the two
+others are cut off, and while they are stopped, with the first second of each apart; and while clients go on during the
+repairs of these, and of a lost disk. Clients put alone, or get alone: of the keys that one of the three places alone
+holds, gets are refused during the silence. Then prints the time that repairs take with clients at rest.
 """
 
 from __future__ import annotations
@@ -23,42 +25,51 @@ from .nodes import Nodes, build
 from .places import PLACES
 from .rest import settle
 
-SIDE = (1, 2)
+#: The places that are silent, and those that clients call.
+SILENT, CALLED = (1, 2), (3, 4, 5)
 MOST_S = 120.0
+
+#: Seconds in which the other places learn that some are silent.
+FIRST_S = 1.0
 
 #: Keys that are put before, so that a lost disk is worth a repair, and threads that put them.
 FILLED, FILLERS = 4000, 8
 
-Phase = Tuple[str, float, float]
+Phase = Tuple[str, str, float, float]
 
 
 class Measure:
     """A cluster and its clients, and the phases that were measured."""
 
     def __init__(self, nodes: Nodes, clients: Clients, log: Log, counts: figures.Counts) -> None:
-        self._nodes, self._gate, self._log, self._counts = nodes, clients.gate, log, counts
+        self._nodes, self._clients, self._log, self._counts = nodes, clients, log, counts
         self._links = nodes.links
         self.phases: List[Phase] = []
 
-    def run(self, seconds: float, partition_s: float) -> None:
+    def run(self, seconds: float, silence_s: float) -> None:
         """Goes through all phases."""
         self._fill()
-        self._gate.work()
-        self._phase("no faults", seconds)
+        self._clients.work()
+        self._puts("no faults", seconds)
+        self._gets("no faults", seconds)
         self._cut()
-        self._phase("a partition", partition_s)
+        self._silence("two cut off", silence_s)
         self._links.heal()
-        self._phase("its repair", seconds)
+        self._puts("back from the cut", seconds)
+        self._stop()
+        self._silence("two stopped", silence_s)
+        self._go_on()
+        self._puts("back from the stop", seconds)
         self._lose_disk()
-        self._phase("a lost disk", seconds)
-        self._gate.rest()
+        self._puts("a lost disk", seconds)
+        self._clients.rest()
         self._repair("these phases")
         self._cut()
-        self._gate.work()
-        time.sleep(partition_s)
-        self._gate.rest()
+        self._clients.work()
+        time.sleep(silence_s)
+        self._clients.rest()
         self._links.heal()
-        self._repair(f"a partition of {partition_s:.0f} s")
+        self._repair(f"a partition of {silence_s:.0f} s")
         self._lose_disk()
         self._repair("a lost disk")
 
@@ -75,17 +86,39 @@ class Measure:
             list(fillers.map(fill, range(FILLERS)))
 
     def _cut(self) -> None:
-        self._links.partition(links.halves(SIDE))
+        self._links.partition(links.halves(SILENT))
+
+    def _stop(self) -> None:
+        for place in SILENT:
+            self._nodes.pause(place)
+
+    def _go_on(self) -> None:
+        for place in SILENT:
+            self._nodes.resume(place)
 
     def _lose_disk(self) -> None:
-        self._nodes.kill(SIDE[:1])
-        self._nodes.damage(SIDE[0], "destroy", damage.empty)
-        self._nodes.start(SIDE[:1])
+        lost = SILENT[:1]
+        self._nodes.kill(lost)
+        self._nodes.damage(lost[0], "destroy", damage.empty)
+        self._nodes.start(lost)
 
-    def _phase(self, name: str, seconds: float) -> None:
+    def _silence(self, name: str, seconds: float) -> None:
+        self._puts(f"{name}, first second", FIRST_S)
+        self._puts(f"{name}, then", seconds - FIRST_S)
+        self._gets(f"{name}, then", seconds)
+
+    def _puts(self, name: str, seconds: float) -> None:
+        self._clients.only("put")
+        self._phase(name, "puts", seconds)
+
+    def _gets(self, name: str, seconds: float) -> None:
+        self._clients.only("get")
+        self._phase(name, "gets", seconds)
+
+    def _phase(self, name: str, kind: str, seconds: float) -> None:
         begin = self._log.now()
         time.sleep(seconds)
-        self.phases.append((name, begin, self._log.now()))
+        self.phases.append((name, kind, begin, self._log.now()))
 
     def _repair(self, name: str) -> None:
         """Prints how long the cluster takes to come to rest, and what it does meanwhile."""
@@ -107,7 +140,7 @@ def words() -> argparse.Namespace:
     parser = argparse.ArgumentParser(prog="python3 -m nemesis.measure", description=__doc__, formatter_class=PLAIN)
     parser.add_argument("--library", type=Path, required=True, help="folder of the C library, made by ./build-c")
     parser.add_argument("--seconds", type=float, default=20, help="time of a phase")
-    parser.add_argument("--partition", type=float, default=30, help="time of a partition, in seconds")
+    parser.add_argument("--silence", type=float, default=30, help="time for which places are silent, in seconds")
     parser.add_argument("--clients", type=int, default=8)
     parser.add_argument("--no-admission", action="store_true", help="repair does not wait for slots")
     parser.add_argument("--ports", type=int, metavar="FIRST", help="first of seven ports; free ones if it's omitted")
@@ -123,12 +156,12 @@ def work(given: argparse.Namespace, room: Path) -> int:
     with Nodes(room / "out", room, room, log, settings, given.ports) as nodes:
         nodes.begin()
         with figures.Counts(nodes.base, Log(room / "status.log", watch)) as counts:
-            with Clients(given.clients, 1, nodes.base, room, watch) as clients:
+            with Clients(given.clients, 1, nodes.base, room, watch, CALLED, 0.0, True) as clients:
                 measure = Measure(nodes, clients, log, counts)
-                measure.run(given.seconds, given.partition)
+                measure.run(given.seconds, given.silence)
     found = figures.requests(room)
-    for name, begin, end in measure.phases:
-        figures.show(found, begin, end, name)
+    for name, kind, begin, end in measure.phases:
+        figures.show({kind: found[kind]}, begin, end, name)
     return 0
 
 

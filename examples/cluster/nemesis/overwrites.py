@@ -10,16 +10,17 @@ from .history import TOMBSTONE, Get, Write
 class Overwrites:
     """The marks of one key, and for each one those that it overwrote.
 
-    A put overwrote what its client had read, and all that this overwrote. Clocks play no part. A tombstone whose clock
-    no client was told is that of a delete that began before the tombstone was first read; since it isn't known which,
-    it counts for all of these.
+    A put overwrote what its client had read, and all that this overwrote. Clocks play no part. A tombstone
+    whose clock no client knows is from a delete that began before the tombstone was first read. It isn't known which:
+    so it counts for all of these, or for none if only certain overwrites are wanted.
 
     A set of marks is a number with one bit for each.
     """
 
-    def __init__(self, writes: Iterable[Write], gets: Iterable[Get]) -> None:
+    def __init__(self, writes: Iterable[Write], gets: Iterable[Get], is_certain: bool = False) -> None:
         self._bits: Dict[str, int] = {}
         self._overwritten: Dict[str, int] = {}
+        #: The deletes whose tombstones may be any that no client knows
         self._deletes: List[Write] = []
         first: Dict[str, float] = {}
         read: Dict[str, set] = {}
@@ -27,7 +28,7 @@ class Overwrites:
             if write.mark is not None:
                 first[write.mark] = write.begin
                 read.setdefault(write.mark, set()).update(write.read)
-            if write.is_delete and write.may_have_happened:
+            if write.is_delete and write.may_have_happened and not is_certain:
                 self._deletes.append(write)
         unknown: Dict[str, float] = {}
         for get in gets:
@@ -46,6 +47,10 @@ class Overwrites:
     def bit(self, mark: str) -> int:
         """Returns the set of one mark."""
         return self._bits.setdefault(mark, 1 << len(self._bits))
+
+    def marks(self, bits: int) -> List[str]:
+        """Returns the marks of a set."""
+        return [mark for mark, bit in self._bits.items() if bit & bits]
 
     def overwritten(self, mark: str) -> int:
         """Returns the marks that a mark overwrote."""

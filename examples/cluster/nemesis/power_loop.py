@@ -20,6 +20,7 @@ from . import judge, program, rest
 from .caller import BLIND, Caller, Context, context_of
 from .history import read
 from .log import Log, Watch
+from .modes import ALL
 from .nodes import Nodes, build
 from .places import PLACES
 
@@ -119,6 +120,7 @@ def work(given: argparse.Namespace, room: Path) -> int:
         build(given.library, out)
     watch, count = Watch(), Count(given.puts)
     log = Log(logs / "nemesis.log", watch)
+    log.write(op="run", seed=given.seed, seconds=0, mode=ALL.name)
     with Nodes(out, room, logs, log, SETTINGS, given.ports, has_disk_faults=True) as nodes:
         if not nodes.powers:
             print("skipped: there is no C compiler\n0 passed, 0 failed")
@@ -132,7 +134,7 @@ def work(given: argparse.Namespace, room: Path) -> int:
         cuts = cut_until_done(nodes, random.Random(given.seed), count, log)
         for writer in writers:
             writer.join()
-        took = rest.end(nodes.base, log, REST_S)
+        took = rest.end(nodes, log, REST_S)
         rest.dump(nodes.base, logs)
     print(f"{count.acknowledged} puts were acknowledged, {cuts} times the power was cut, {watch.now():.0f} seconds")
     print("the cluster didn't come to rest" if took is None else f"at rest after {took:.1f} s")

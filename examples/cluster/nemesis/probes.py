@@ -2,13 +2,15 @@
 
 from __future__ import annotations
 
+import itertools
 import random
+import time
 from concurrent.futures import ThreadPoolExecutor
 from dataclasses import dataclass
 from typing import Callable, List, Optional, Sequence, Tuple
 
 from .caller import BLIND, Caller, Context, context_of
-from .clients import KEYS
+from .crowd import KEYS
 from .places import PLACES
 
 #: Keys that a caller tries until the place is one that coordinates its puts.
@@ -41,10 +43,16 @@ class Probes:
                     self._probes.append(Probe(caller, key, [BLIND, context_of(found)]))
                     break
 
-    def put_in(self, pool: ThreadPoolExecutor) -> None:
+    def put_in(self, pool: ThreadPoolExecutor, times: int = 1) -> None:
         """Begins to put each key with what was read, and doesn't wait for the answers."""
         for probe in self._probes:
-            pool.submit(probe.caller.put, self._place, probe.key, probe.contexts[-1])
+            pool.submit(self._put, probe, times)
+
+    def read_in(self, pool: ThreadPoolExecutor, readers: Sequence[Caller], seconds: float) -> None:
+        """Begins to read all keys at the other places, again and again for some time."""
+        until = time.monotonic() + seconds
+        for number, reader in enumerate(readers):
+            pool.submit(self._read_on, reader, number, until)
 
     def put(self) -> None:
         """Puts each key a few times."""
@@ -62,11 +70,19 @@ class Probes:
         """Reads each key at all places."""
         self._each(lambda probe: [probe.caller.get(place, probe.key) for place in PLACES])
 
-    def _put(self, probe: Probe) -> None:
-        for _ in range(PUTS):
+    def _put(self, probe: Probe, times: int = PUTS) -> None:
+        for _ in range(times):
             _, covers = self._put_with(probe, probe.contexts[-1])
             if covers is not None:
                 probe.contexts.append(covers)
+
+    def _read_on(self, reader: Caller, first: int, until: float) -> None:
+        """Reads at the other places; each reader begins with another one."""
+        asks = [(place, probe.key) for probe in self._probes for place in PLACES if place != self._place]
+        for place, key in itertools.islice(itertools.cycle(asks), first, None):
+            if time.monotonic() > until:
+                return
+            reader.get(place, key)
 
     def _put_with(self, probe: Probe, context: Context) -> Tuple[int, Optional[Context]]:
         return probe.caller.put(self._place, probe.key, context)

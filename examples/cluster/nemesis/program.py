@@ -10,6 +10,7 @@ import tempfile
 from pathlib import Path
 from typing import Callable
 
+from .clients import NoClients
 from .history import BadLog
 from .nodes import NoStart
 
@@ -32,7 +33,7 @@ def run(work: Callable[[Path], int]) -> int:
     room = Path(tempfile.mkdtemp(prefix="cluster-"))
     try:
         return work(room)
-    except (NoStart, BadLog) as fault:
+    except (NoStart, NoClients, BadLog) as fault:
         print(f"FAILED: {fault}\n0 passed, 1 failed")
         return 1
     except KeyboardInterrupt:

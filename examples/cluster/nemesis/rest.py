@@ -1,4 +1,4 @@
-"""A cluster at rest: all replicas have equal roots, and no hint is pending."""
+"""A cluster at rest: all replicas have equal roots, and no hint is pending, or one of both."""
 
 from __future__ import annotations
 
@@ -9,6 +9,8 @@ from typing import Dict, Optional
 
 from .front import Front
 from .log import Log
+from .modes import ALL, Mode
+from .nodes import Nodes
 from .places import PLACES
 
 #: Replicas of a range.
@@ -21,43 +23,56 @@ LOOK_S = 0.25
 DUMP_S = 20.0
 
 
-def settle(base: int, most_s: float) -> Optional[float]:
+def settle(base: int, most_s: float, mode: Mode = ALL) -> Optional[float]:
     """Waits until the cluster is at rest, and returns the seconds that it took: None if it took too long."""
     front, began = Front(base), time.monotonic()
+    since: Optional[float] = None
     try:
-        while not is_at_rest(front):
-            if time.monotonic() - began > most_s:
+        while True:
+            now = time.monotonic()
+            since = (now if since is None else since) if is_at_rest(front, mode) else None
+            if since is not None and now - since >= mode.steady_s:
+                return since - began
+            if now - began > most_s:
                 return None
             time.sleep(LOOK_S)
-        return time.monotonic() - began
     finally:
         front.close()
 
 
-def is_at_rest(front: Front) -> bool:
-    """Returns true if all nodes are up, replicas have equal roots, and no hint is pending."""
+def is_at_rest(front: Front, mode: Mode = ALL) -> bool:
+    """Returns true if all nodes are up, and replicas are equal and no hint is pending, as far as a mode needs it."""
     roots: Dict[int, list] = {}
     for place in PLACES:
         status = front.status(place)
-        if status is None or status["life"] is None or status["hints"]["pending"]:
+        if status is None or status["life"] is None or (mode.needs_no_hints and status["hints"]["pending"]):
             return False
         for it in status["ranges"]:
             roots.setdefault(it["range"], []).append(it["root"])
-    return bool(roots) and all(found == found[:1] * COPIES and None not in found for found in roots.values())
+    are_equal = all(found == found[:1] * COPIES and None not in found for found in roots.values())
+    return bool(roots) and (are_equal or not mode.needs_equal_roots)
 
 
 def dump(base: int, logs: Path) -> None:
     """Writes what each node holds to the logs."""
     front = Front(base, DUMP_S)
     for place in PLACES:
-        held = front.dump(place)
-        if held is not None:
-            (logs / f"dump-{place}.log").write_text(json.dumps(held) + "\n")
+        dump_one(front, place, logs / f"dump-{place}.log")
     front.close()
 
 
-def end(base: int, log: Log, most_s: float) -> Optional[float]:
+def dump_one(front: Front, place: int, file: Path) -> Optional[dict]:
+    """Writes what a node holds to a file, and returns it: None if it doesn't answer."""
+    held = front.dump(place)
+    if held is not None:
+        file.write_text(json.dumps(held) + "\n")
+    return held
+
+
+def end(nodes: Nodes, log: Log, most_s: float, mode: Mode = ALL) -> Optional[float]:
     """Waits until the cluster is at rest, logs whether it came to it, and returns the seconds that it took."""
-    took = settle(base, most_s)
+    took = settle(nodes.base, most_s, mode)
+    for (place, what), times in nodes.links.unslotted().items():
+        log.write(op="unslotted", place=place, what=what, times=times)
     log.write(op="unsettled" if took is None else "settled", seconds=took)
     return took

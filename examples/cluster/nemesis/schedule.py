@@ -6,19 +6,25 @@ import random
 import time
 from concurrent.futures import ThreadPoolExecutor
 from pathlib import Path
-from typing import Callable, Iterator, Optional, Sequence
+from typing import Callable, Iterator, List, Optional, Sequence
 
-from . import damage, links
+from . import damage, links, rest
 from .caller import BLIND
-from .clients import KEYS, Clients
+from .clients import Clients
+from .crowd import KEYS
 from .deeds import Deeds
 from .log import Log
+from .modes import Mode
 from .nodes import Nodes
 from .places import PLACES
 from .probes import Probes
 
 #: Milliseconds by which the slowest disk delays each sync: a call between nodes may take 500.
 SLOWEST_DISK_MS = 400
+
+#: Puts of a key, one over the other, while others read it; and milliseconds by which the disk delays each sync then. A
+#: place isn't asked any more that takes 500 for an answer, or even less on a busy machine.
+SPREAD, SPREAD_DISK_MS = 3, 250
 
 #: Bytes of room that a disk has at most before it's full.
 MOST_ROOM = 20_000
@@ -34,39 +40,48 @@ class Nemesis(Deeds):
     so they may hit all nodes at once.
     """
 
-    def __init__(self, seed: int, nodes: Nodes, clients: Clients, log: Log, room: Path) -> None:
+    def __init__(
+        self, seed: int, nodes: Nodes, clients: Clients, log: Log, room: Path, logs: Path, mode: Mode
+    ) -> None:
         super().__init__(seed, nodes, clients, log)
-        self._old_disk = room / "old"
+        self._old_disk, self._logs, self._mode = room / "old", logs, mode
+        self._held_alone = 0
 
     def run(self, seconds: float) -> None:
         """Runs episodes for this time, and then heals all."""
         self.set_end(seconds)
-        self.clients.gate.work()
+        self.clients.work()
+        self._calm()
         for episode in self._episodes():
             if self.is_over() or not self.has_healed:
                 break
             self.log.write(op="episode", name=episode.__name__.strip("_"))
             episode()
             self.heal()
-        self.clients.gate.rest()
+        self.clients.rest()
         is_secret = not self.nodes.have_printed(damage.VALUE)
         self.log.write(op="expect", what="no node prints a value of a client", met=is_secret)
         self.log.write(op="quiet")
 
     def _episodes(self) -> Iterator[Episode]:
-        """Returns episodes without end: two of disks after each other one."""
-        others = self._in_rounds(
-            [self._halves, self._one_way, self._bridge, self._pause, self._kill, self._slow, self._skew]
-        )
-        disks = [self._destroy, self._carriers]
+        """Returns episodes without end: of each kind that the mode has, one after the other."""
+        of_messages: List[Episode] = [self._halves, self._one_way, self._bridge, self._flapping, self._flaky]
+        of_messages += [self._slow, self._pause, self._silence, self._skew, self._contention, self._calm]
+        of_kills: List[Episode] = [self._kill, self._held]
+        of_losses: List[Episode] = [self._destroy, self._carriers]
         if self.nodes.powers:
-            disks += [self._power_cut, self._power_cut, self._recovery, self._forget, self._full, self._failed_sync]
-            disks += [self._flipped, self._flipped, self._missing, self._missing, self._damage, self._old, self._hints]
-        of_disks = self._in_rounds(disks)
+            of_kills += [self._power_cut, self._power_cut, self._recovery, self._forget, self._spread]
+            of_kills += [self._spread]
+            of_losses += [self._flipped, self._flipped, self._missing, self._missing, self._damage, self._old]
+            of_losses += [self._full, self._failed_sync, self._hints]
+        kinds = [self._in_rounds(of_messages)]
+        if self._mode.has_kills:
+            kinds.append(self._in_rounds(of_kills))
+        if self._mode.has_losses:
+            kinds.append(self._in_rounds(of_losses))
         while True:
-            yield next(others)
-            yield next(of_disks)
-            yield next(of_disks)
+            for kind in kinds:
+                yield next(kind)
 
     def _in_rounds(self, episodes: Sequence[Episode]) -> Iterator[Episode]:
         """Returns episodes without end: all of them in a random order, then all in another."""
@@ -88,12 +103,42 @@ class Nemesis(Deeds):
         self.cut_off(links.bridge(side, middle))
         self._meanwhile()
 
+    def _flapping(self) -> None:
+        """Cuts places off again and again, so that what their return begins, like a hand-off, often fails."""
+        side = links.halves(self.some(self.chance.choice((1, 2))))
+        for _ in range(self.chance.randint(3, 6)):
+            self.cut_off(side)
+            self.wait(0.3, 1.5)
+            self.links.heal()
+            self.wait(0.1, 0.6)
+
+    def _flaky(self) -> None:
+        """Has links whose messages are late and overtake each other, and calls that are served twice.
+
+        Some are served long after their callers have given up.
+        """
+        late = self.chance.choice((links.everywhere(), links.halves(self.some(2)), links.one_way(self.some(1))))
+        self.links.late(late, 0, self.chance.choice((50, 500, 2000)))
+        self.links.repeat(self.chance.choice((0, 50, 300)))
+        self.wait(1.0, 3.0)
+        self._meanwhile()
+
     def _pause(self) -> None:
         """Pauses a node, which is late with its answers then."""
         (place,) = self.some_up(1)
         self.nodes.pause(place)
         self.wait(1.0, 4.0)
         self.nodes.resume(place)
+        self.wait(0.5, 1.5)
+
+    def _silence(self) -> None:
+        """Pauses one node or two for so long that others know that they are down."""
+        places = self.some_up(self.chance.choice((1, 2)))
+        for place in places:
+            self.nodes.pause(place)
+        self.wait(5.0, 9.0)
+        for place in places:
+            self.nodes.resume(place)
         self.wait(0.5, 1.5)
 
     def _kill(self) -> None:
@@ -109,7 +154,7 @@ class Nemesis(Deeds):
     def _slow(self) -> None:
         """Has a slow node, or one with a slow disk."""
         place = self.chance.choice(PLACES)
-        if self.chance.random() < 0.5:
+        if self.chance.random() < 0.5 or not self._mode.has_kills:
             self.links.slow(place, self.chance.choice((20, 100, 200)))
         else:
             self.slow_disk(place, self.chance.choice((20, 100, 300)))
@@ -117,16 +162,40 @@ class Nemesis(Deeds):
 
     def _skew(self) -> None:
         """Has clients that all want a few keys, mostly at one or two places."""
-        self.clients.load.skew(self.chance.sample(KEYS, 3), self.some(self.chance.choice((1, 2))))
+        self.clients.skew(self.chance.sample(KEYS, 3), self.some(self.chance.choice((1, 2))))
         self._meanwhile()
+
+    def _contention(self) -> None:
+        """Has clients that all read and put one key, everywhere, as fast as they can."""
+        self.clients.skew(self.chance.sample(KEYS, 1))
+        self.wait(2.0, 4.0)
+
+    def _calm(self) -> None:
+        """Has no fault: what is refused now is refused for no reason."""
+        self.wait(4.0, 5.0)
 
     def _meanwhile(self) -> None:
         """Lets a fault last for a while, and sometimes adds a pause or a kill."""
         self.wait(1.0, 2.5)
-        other = self.chance.choice((None, None, self._pause, self._kill))
+        other = self.chance.choice((None, None, self._pause, self._kill if self._mode.has_kills else None))
         if other is not None:
             other()
         self.wait(0.5, 1.5)
+
+    def _held(self) -> None:
+        """Kills a node or cuts its power, starts it cut off from all others, and logs what it holds alone."""
+        place = self.chance.choice(PLACES)
+        self.strain([place])
+        since = self.log.now()
+        self.stop([place])
+        self.relieve()
+        self.cut_off(links.halves([place]), is_instant=True)
+        self.restart()
+        self._held_alone += 1
+        file = f"held-{self._held_alone}.log"
+        held = self.dump_alone(place, self._logs / file)
+        if held is not None:
+            self.log.write(op="held", place=place, life=held["life"], since=since, file=file)
 
     # ---- power
 
@@ -152,20 +221,39 @@ class Nemesis(Deeds):
         self.wait(0.3, 1.0)
 
     def _forget(self) -> None:
-        """Cuts the power of a node whose slow disk keeps puts waiting, just after others have synced with it.
+        """Cuts the power of a node whose slow disk keeps puts waiting, just after others have synced with it."""
+        place = self.chance.choice(PLACES)
+
+        def others_sync(probes: Probes, pool: ThreadPoolExecutor) -> None:
+            probes.put_in(pool)
+            self.wait(0.05, 0.15)
+            self.sync_neighbours(place)
+
+        self._forget_after(place, SLOWEST_DISK_MS, others_sync)
+
+    def _spread(self) -> None:
+        """Cuts the power of a node whose slow disk keeps puts waiting, while others read these keys from it."""
+
+        def others_read(probes: Probes, pool: ThreadPoolExecutor) -> None:
+            seconds = self.chance.uniform(0.3, 0.9)
+            probes.put_in(pool, SPREAD)
+            probes.read_in(pool, self.clients.readers, seconds)
+            time.sleep(seconds)
+
+        self._forget_after(self.chance.choice(PLACES), SPREAD_DISK_MS, others_read)
+
+    def _forget_after(self, place: int, delay_ms: int, others: Callable[[Probes, ThreadPoolExecutor], None]) -> None:
+        """Cuts the power of a node whose slow disk keeps puts waiting, after others have done something.
 
         It starts cut off, so nobody tells it what it has lost. If it gave away what wasn't on its disk, it uses a clock
         for a second value, and all nodes are asked for both.
         """
-        place = self.chance.choice(PLACES)
         callers = self.clients.directed
-        self.clients.gate.rest()
+        self.clients.rest()
         probes = Probes(callers, place, self.chance)
-        self.slow_disk(place, SLOWEST_DISK_MS)
-        with ThreadPoolExecutor(len(callers)) as pool:
-            probes.put_in(pool)
-            self.wait(0.05, 0.15)
-            self.sync_neighbours(place)
+        self.slow_disk(place, delay_ms)
+        with ThreadPoolExecutor(len(callers) + len(self.clients.readers)) as pool:
+            others(probes, pool)
             self.nodes.cut([place], self.chance)
         self.relieve()
         self.cut_off(links.halves([place]), is_instant=True)
@@ -226,10 +314,10 @@ class Nemesis(Deeds):
         if not self.can_lose():
             return
         place = self.chance.choice(PLACES)
-        self.clients.gate.rest()
+        self.clients.rest()
         probes = Probes(self.clients.directed, place, self.chance)
         probes.put()
-        self.clients.gate.work()
+        self.clients.work()
         self.cut_off(links.halves([place]), is_instant=True)
         self.lose(place, "damage", lambda disk: deed(disk, self.chance, "log."))
         probes.put_again()
@@ -246,13 +334,13 @@ class Nemesis(Deeds):
         if not self.can_lose():
             return
         place = self.chance.choice(PLACES)
-        self.clients.gate.rest()
+        self.clients.rest()
         self.nodes.cut([place], self.chance)
         self.nodes.damage(place, "copy", lambda disk: damage.copy(disk, self._old_disk))
         self.restart()
-        self.clients.gate.work()
+        self.clients.work()
         self.wait(1.0, 3.0)
-        self.clients.gate.rest()
+        self.clients.rest()
         probes = Probes(self.clients.directed, place, self.chance)
         probes.put()
         self.come_to_rest()

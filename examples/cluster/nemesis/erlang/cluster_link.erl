@@ -1,24 +1,39 @@
 %% @doc All messages between nodes, as a nemesis breaks them: this module is loaded in place of the product's.
 %%
-%% A file, which the environment names, has the faults of all nodes. It is read for each message, so a fault is in force
-%% for each call that begins after the file was replaced. Its lines are
+%% A file, which the environment names, has the faults of all nodes. A fault is in force some milliseconds after the
+%% file was replaced. Its lines are
 %%
-%%     drop FROM TO        messages from a place to another are dropped
-%%     slow PLACE MS       each message of a place is late by so many milliseconds
-%%     instant             a dropped message is an error at once, as from a link that is known to be down
+%%     drop FROM TO              messages from a place to another are dropped
+%%     instant                   a dropped message is an error at once, as from a link that is known to be down
+%%     late FROM TO LEAST MOST   a message is late by a random time, in milliseconds, mostly a short one
+%%     repeat MANY               MANY of 1,000 calls are served again in the next second, and that answer is dropped
 %%
-%% Without `instant' a dropped message is silence: its call waits for its limit.
+%% Without `instant' a dropped message is silence: its call waits for its limit. Messages that are late overtake each
+%% other, and a call may be served after its caller has given up.
+%%
+%% Another file, which the environment names as well, gets a line for each call of background work whose process has no
+%% slot.
 -module(cluster_link).
 
 -export([call/5]).
 -export([serve/6]).
 
--define(VARIABLE, "NEMESIS_LINKS").
+-define(FAULTS, "NEMESIS_LINKS").
+-define(UNSLOTTED, "NEMESIS_UNSLOTTED").
+%% Time between two looks at the file.
+-define(LOOK_MS, 3).
+%% Most messages of a link that is late by 0 to 2,000 milliseconds are late by less than 40, and a fifth by over 500.
+-define(SKEW, 6).
+-define(AGAIN_MS, 1000).
+%% Calls of background work: offers for a repair, and copies for a hand-off.
+-define(BACKGROUND, [{cluster_range, offer}, {cluster_range, copies}]).
 
 -type ms() :: non_neg_integer().
+-type link() :: {From :: cluster_ring:place(), To :: cluster_ring:place()}.
 -type faults() :: #{
-    drop := [{From :: cluster_ring:place(), To :: cluster_ring:place()}],
-    slow := #{cluster_ring:place() => ms()},
+    drop := [link()],
+    late := #{link() => {Least :: ms(), Most :: ms()}},
+    repeat := 0..1000,
     instant := boolean()
 }.
 
@@ -28,16 +43,17 @@
 call(Place, Module, Function, Arguments, LimitMs) ->
     Here = cluster_ring:here(),
     Until = erlang:monotonic_time(millisecond) + LimitMs,
-    pass(Here, Place, Until),
+    ok = note_unslotted(Here, Module, Function),
+    ok = pass({Here, Place}, Until),
     Served = [Here, Place, Module, Function, Arguments, LimitMs],
     Answer = erpc:call(cluster_ring:node_of(Place), ?MODULE, serve, Served, LimitMs),
-    pass(Place, Here, Until),
+    ok = pass({Place, Here}, Until),
     Answer.
 
-%% Raises an error if messages from a place to another are dropped: when the call's time is over, or at once.
-pass(From, To, Until) ->
+%% Raises an error if messages of a link are dropped: when the call's time is over, or at once.
+pass(Link, Until) ->
     #{drop := Drops, instant := IsInstant} = faults(),
-    case {lists:member({From, To}, Drops), IsInstant} of
+    case {lists:member(Link, Drops), IsInstant} of
         {false, _} ->
             ok;
         {true, true} ->
@@ -53,43 +69,85 @@ pass(From, To, Until) ->
 -spec serve(cluster_ring:place(), cluster_ring:place(), module(), Function :: atom(), Arguments :: [term()], ms()) ->
     term().
 serve(From, Here, Module, Function, Arguments, LimitMs) ->
-    #{drop := Drops, slow := Slow, instant := IsInstant} = faults(),
-    delay(From, Slow),
+    #{drop := Drops, instant := IsInstant} = Faults = faults(),
+    ok = delay({From, Here}, Faults),
     case lists:member({From, Here}, Drops) of
         true ->
             IsInstant orelse timer:sleep(LimitMs),
             exit(dropped);
         false ->
+            ok = repeat([From, Module, Function, Arguments], Faults),
             Answer = cluster_wire:serve(From, Module, Function, Arguments),
-            delay(Here, Slow),
+            ok = delay({Here, From}, faults()),
             Answer
     end.
 
-delay(Place, Slow) ->
-    case Slow of
-        #{Place := Ms} -> timer:sleep(Ms);
+delay(Link, #{late := Late}) ->
+    case Late of
+        #{Link := {Most, Most}} -> timer:sleep(Most);
+        #{Link := {Least, Most}} -> timer:sleep(Least + round((Most - Least) * math:pow(rand:uniform(), ?SKEW)));
         _ -> ok
     end.
 
-%% Returns the faults that the file has now. What was read last is kept with what it means.
+repeat(Call, #{repeat := Many}) ->
+    case Many > 0 andalso rand:uniform(1000) =< Many of
+        true -> serve_later(Call);
+        false -> ok
+    end.
+
+serve_later(Call) ->
+    _ = spawn(fun() ->
+        timer:sleep(rand:uniform(?AGAIN_MS)),
+        catch apply(cluster_wire, serve, Call)
+    end),
+    ok.
+
+note_unslotted(Here, Module, Function) ->
+    IsBackground = lists:member({Module, Function}, ?BACKGROUND),
+    case IsBackground andalso not lists:member(self(), cluster_slots:holders()) of
+        true ->
+            File = os:getenv(?UNSLOTTED) ++ "-" ++ integer_to_list(Here),
+            ok = file:write_file(File, [atom_to_list(Function), "\n"], [append, raw]);
+        false ->
+            ok
+    end.
+
+%% Returns the faults that the file has now, or had some milliseconds ago.
 -spec faults() -> faults().
 faults() ->
-    {ok, Text} = prim_file:read_file(os:getenv(?VARIABLE)),
+    Now = erlang:monotonic_time(millisecond),
     case persistent_term:get(?MODULE, none) of
-        {Text, Faults} ->
+        none ->
+            read({none, none, atomics:new(1, [{signed, true}])}, Now);
+        {_, Faults, Looked} = Last ->
+            case Now - atomics:get(Looked, 1) < ?LOOK_MS of
+                true -> Faults;
+                false -> read(Last, Now)
+            end
+    end.
+
+read({Before, Faults, Looked}, Now) ->
+    ok = atomics:put(Looked, 1, Now),
+    case prim_file:read_file(os:getenv(?FAULTS)) of
+        {ok, Before} ->
             Faults;
-        _ ->
-            Faults = lists:foldl(fun add/2, #{drop => [], slow => #{}, instant => false}, lines(Text)),
-            persistent_term:put(?MODULE, {Text, Faults}),
-            Faults
+        {ok, Text} ->
+            New = lists:foldl(fun add/2, #{drop => [], late => #{}, repeat => 0, instant => false}, lines(Text)),
+            ok = persistent_term:put(?MODULE, {Text, New, Looked}),
+            New
     end.
 
 lines(Text) ->
     [string:lexemes(Line, " ") || Line <- string:lexemes(binary_to_list(Text), "\n")].
 
 add(["drop", From, To], #{drop := Drops} = Faults) ->
-    Faults#{drop := [{list_to_integer(From), list_to_integer(To)} | Drops]};
-add(["slow", Place, Ms], #{slow := Slow} = Faults) ->
-    Faults#{slow := Slow#{list_to_integer(Place) => list_to_integer(Ms)}};
+    Faults#{drop := [link(From, To) | Drops]};
+add(["late", From, To, Least, Most], #{late := Late} = Faults) ->
+    Faults#{late := Late#{link(From, To) => {list_to_integer(Least), list_to_integer(Most)}}};
+add(["repeat", Many], Faults) ->
+    Faults#{repeat := list_to_integer(Many)};
 add(["instant"], Faults) ->
     Faults#{instant := true}.
+
+link(From, To) ->
+    {list_to_integer(From), list_to_integer(To)}.

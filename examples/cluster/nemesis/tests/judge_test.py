@@ -2,22 +2,31 @@
 
 import unittest
 
-from .written import Run, delete, event, get, put
+from .written import Run, delete, event, get, put, refused
 
 REST = "run came to rest"
 HELD = "acknowledged puts are held"
+NAMED = "named places hold puts"
 PUT = "held values were put"
+DEFINITE = "refusals are definite"
 CLOCKS = "clocks differ"
+ONE = "versions have one clock"
+COVERS = "clocks cover what was read"
+GONE = "overwritten versions are gone"
+BACK = "nothing comes back"
 EQUAL = "replicas are equal"
 LIVES = "lives are used once"
 ENDED = "lives end with a loss"
 LOST = "lost lives put nothing"
 ENDS = "nodes end when they are ended"
 EXPECTED = "what was expected held"
+SLOTS = "background work has slots"
 TWO = "puts are on two nodes"
 READS = "reads see what was acknowledged"
 
 MILK, EGGS, TEA = ("milk", "33:1"), ("eggs", "34:1"), ("tea", "33:1,34:1,35:1")
+#: What a client puts that has read MILK
+MORE = ("more", "33:1,34:1")
 
 
 class JudgeCase(unittest.TestCase):
@@ -116,6 +125,12 @@ class Tombstones(JudgeCase):
     def test_a_tombstone_that_nobody_put(self):
         self.assert_broken(Run(put(*MILK), everywhere=[MILK, ("tombstone", "34:1")]), PUT)
 
+    def test_a_delete_that_was_done_twice(self):
+        twice = [("tombstone", "33:1"), ("tombstone", "34:1")]
+        self.assert_broken(Run(delete("33:1"), everywhere=twice), PUT)
+        self.assert_broken(Run(delete(None), everywhere=twice), PUT)
+        self.assert_broken(Run(delete(None), delete(None), everywhere=twice))
+
 
 class Put(JudgeCase):
     def test_a_value_that_nobody_put(self):
@@ -125,18 +140,26 @@ class Put(JudgeCase):
         clients = put(*MILK), put("eggs", None, key="l")
         self.assert_broken(Run(*clients, everywhere=[MILK, EGGS]), PUT)
 
-    def test_a_value_that_was_refused(self):
-        clients = put(*MILK), put("eggs", None, status=409)
-        self.assert_broken(Run(*clients, everywhere=[MILK, EGGS]), PUT)
-
-    def test_a_value_that_a_node_refused_since_it_starts_or_has_no_room(self):
-        for refused in ("Starting", "DiskFull"):
-            client = {**put("milk", None, status=503), "refused": refused}
-            self.assert_broken(Run(client, everywhere=[MILK]), PUT)
-            self.assert_broken(Run({**client, "perhaps": True}, everywhere=[MILK]))
-
     def test_a_value_that_a_read_alone_showed(self):
         self.assert_broken(Run(get(MILK)), PUT)
+
+
+class Definite(JudgeCase):
+    def test_a_value_that_was_refused(self):
+        clients = put(*MILK), put("eggs", None, status=409)
+        self.assert_broken(Run(*clients, everywhere=[MILK, EGGS]), DEFINITE)
+
+    def test_a_value_that_was_refused_by_a_name(self):
+        client = refused(put("milk", None), "Down", place=0)
+        self.assert_broken(Run(client, everywhere=[MILK]), DEFINITE)
+        self.assert_broken(Run({**client, "perhaps": True}, everywhere=[MILK]))
+
+    def test_a_value_that_was_refused_and_shown(self):
+        self.assert_broken(Run(put("milk", None, status=400), get(MILK)), DEFINITE)
+
+    def test_a_delete_that_was_refused(self):
+        client = refused(delete(None), "Down", place=0)
+        self.assert_broken(Run(client, everywhere=[("tombstone", "33:1")]), PUT)
 
 
 class Clocks(JudgeCase):
@@ -157,12 +180,139 @@ class Clocks(JudgeCase):
         clients = put("milk", "34:1,33:1"), put("eggs", "33:1,34:1", read=["milk"], t=3.0)
         self.assert_broken(Run(*clients, everywhere=[("eggs", "33:1,34:1")]), CLOCKS)
 
-    def test_one_value_with_two_clocks(self):
-        self.assert_broken(Run(put(*MILK), everywhere=[MILK, ("milk", "34:1")]))
-
     def test_one_clock_of_two_keys(self):
         clients = put(*MILK), put("eggs", None, key="l"), get(("eggs", "33:1"), key="l")
         self.assert_broken(Run(*clients, everywhere=[MILK]))
+
+    def test_two_deletes_with_one_clock(self):
+        clients = delete("33:1"), delete("33:1", t=3.0)
+        self.assert_broken(Run(*clients, everywhere=[("tombstone", "33:1")]), CLOCKS)
+
+
+class One(JudgeCase):
+    def test_a_value_with_two_clocks(self):
+        self.assert_broken(Run(put(*MILK), everywhere=[MILK, ("milk", "34:1")]), ONE)
+
+    def test_a_value_that_was_read_with_another_clock(self):
+        self.assert_broken(Run(put(*MILK), get(("milk", "34:1")), everywhere=[MILK]), ONE)
+
+    def test_a_clock_in_another_order(self):
+        self.assert_broken(Run(put("milk", "34:1,33:1"), everywhere=[("milk", "33:1,34:1")]))
+
+
+class Covers(JudgeCase):
+    def test_a_clock_that_covers_what_was_read(self):
+        self.assert_broken(Run(put(*MILK), put(*MORE, read=["milk"], t=3.0), everywhere=[MORE]))
+
+    def test_a_clock_that_does_not(self):
+        clients = put(*MILK), put(*EGGS, read=["milk"], t=3.0)
+        self.assert_broken(Run(*clients, everywhere=[EGGS]), COVERS)
+
+    def test_a_clock_that_covers_one_of_two_siblings(self):
+        clients = put(*MILK), put(*EGGS), put("tea", "34:2", read=["milk", "eggs"], t=3.0)
+        self.assert_broken(Run(*clients, everywhere=[("tea", "34:2")]), COVERS)
+
+    def test_a_clock_that_does_not_cover_a_tombstone(self):
+        clients = delete("33:1"), put(*EGGS, read=["tombstone 33:1"], t=3.0)
+        self.assert_broken(Run(*clients, everywhere=[EGGS]), COVERS)
+
+    def test_a_put_that_nobody_saw(self):
+        self.assert_broken(Run(put(*MILK), put("eggs", None, read=["milk"], t=3.0), everywhere=[MILK]))
+
+
+class Gone(JudgeCase):
+    def test_a_get_of_siblings(self):
+        self.assert_broken(Run(put(*MILK), put(*EGGS), get(MILK, EGGS), everywhere=[MILK, EGGS]))
+
+    def test_a_get_of_a_version_and_one_that_overwrote_it(self):
+        clients = put(*MILK), put(*MORE, read=["milk"]), get(MILK, MORE)
+        self.assert_broken(Run(*clients, everywhere=[MORE]), GONE)
+
+    def test_a_row_with_a_version_and_one_that_overwrote_it(self):
+        clients = put(*MILK), put(*MORE, read=["milk"])
+        self.assert_broken(Run(*clients, everywhere=[MILK, MORE]), GONE)
+        self.assert_broken(Run(*clients, everywhere=[MORE], alone={1: [MILK, MORE]}), GONE)
+
+    def test_a_version_beside_what_overwrote_one_that_overwrote_it(self):
+        last = ("last", "33:1,34:2")
+        clients = put(*MILK), put(*MORE, read=["milk"], t=1.2), put(*last, read=["more"], t=3.0)
+        self.assert_broken(Run(*clients, everywhere=[MILK, last]), GONE)
+
+    def test_a_value_beside_the_tombstone_that_overwrote_it(self):
+        clients = put(*MILK), delete("33:2", read=["milk"])
+        self.assert_broken(Run(*clients, everywhere=[MILK, ("tombstone", "33:2")]), GONE)
+
+    def test_a_value_beside_a_tombstone_that_may_be_of_another_delete(self):
+        clients = put(*MILK), delete(None, read=["milk"]), delete(None)
+        self.assert_broken(Run(*clients, everywhere=[MILK, ("tombstone", "34:1")]))
+
+
+class Back(JudgeCase):
+    """Place 1 shows what overwrote `milk`, or that it was deleted, and later shows `milk` again."""
+
+    first = put(*MILK), put("more", None, read=["milk"]), get(MORE, t=2.0)
+
+    def test_a_value_that_comes_back(self):
+        self.assert_broken(Run(*self.first, get(MILK, t=3.0), everywhere=[MORE]), BACK)
+
+    def test_a_deleted_value_that_comes_back(self):
+        tombstone = ("tombstone 33:2", "33:2")
+        clients = put(*MILK), delete(None, read=["milk"]), get(tombstone, t=2.0), get(MILK, t=3.0)
+        self.assert_broken(Run(*clients, everywhere=[("tombstone", "33:2")]), BACK)
+
+    def test_a_value_that_comes_back_in_the_end(self):
+        self.assert_broken(Run(*self.first, everywhere=[MILK]), BACK)
+        self.assert_broken(Run(*self.first, everywhere=[MORE], alone={1: [MILK]}), BACK)
+
+    def test_a_value_that_another_place_shows(self):
+        self.assert_broken(Run(*self.first, get(MILK, t=3.0, by=2), everywhere=[MORE]))
+
+    def test_a_value_that_was_shown_meanwhile(self):
+        self.assert_broken(Run(*self.first, get(MILK, t=2.2), everywhere=[MORE]))
+
+    def test_a_value_that_comes_back_after_a_loss(self):
+        events = event("damage", 2.7, place=1, life=33), event("life", 2.9, place=1, life=65)
+        run = Run(*self.first, get(MILK, t=3.0), everywhere=[MORE], events=events)
+        run.dumps[1]["life"] = 65
+        self.assert_broken(run)
+
+    def test_a_value_that_was_overwritten_where_a_disk_was_full(self):
+        events = event("full", 1.5, place=1), event("free", 2.2, place=1)
+        self.assert_broken(Run(*self.first, get(MILK, t=3.0), everywhere=[MORE], events=events))
+
+
+class Named(JudgeCase):
+    """Place 1 is killed at the time 4, and is dumped alone."""
+
+    def test_a_put_that_is_held(self):
+        self.assert_broken(Run(put(*MILK), everywhere=[MILK], alone={1: [MILK]}))
+
+    def test_a_put_that_is_not_held(self):
+        self.assert_broken(Run(put(*MILK), everywhere=[MILK], alone={1: []}), NAMED)
+
+    def test_a_put_that_was_overwritten(self):
+        clients = put(*MILK), put(*MORE, read=["milk"], t=3.0)
+        self.assert_broken(Run(*clients, everywhere=[MORE], alone={1: [MORE]}))
+
+    def test_a_put_that_was_overwritten_elsewhere(self):
+        clients = put(*MILK), put(*MORE, read=["milk"], t=3.0, on=[2, 3])
+        self.assert_broken(Run(*clients, everywhere=[MORE], alone={1: []}), NAMED)
+
+    def test_a_put_that_does_not_name_the_place(self):
+        self.assert_broken(Run(put(*MILK, on=[2, 3]), everywhere=[MILK], alone={1: []}))
+
+    def test_a_put_at_a_carrier(self):
+        self.assert_broken(Run(put(*MILK, on=[1, 4]), everywhere=[MILK], alone={4: []}))
+
+    def test_a_put_that_was_acknowledged_later(self):
+        self.assert_broken(Run(put(*MILK, t=3.6), everywhere=[MILK], alone={1: []}))
+
+    def test_a_put_before_the_disk_was_lost(self):
+        events = event("damage", 2.0, place=1, life=33), event("life", 2.2, place=1, life=65)
+        for t, rules in ((1.0, []), (3.0, [NAMED])):
+            run = Run(put(*EGGS, t=t), everywhere=[EGGS], alone={1: []}, events=events)
+            run.dumps[1]["life"] = 65
+            self.assert_broken(run, *rules)
 
 
 class Equal(JudgeCase):
@@ -175,6 +325,11 @@ class Equal(JudgeCase):
         run = Run(put("milk", None), everywhere=[MILK], at={2: []})
         run.dumps[2]["ranges"][0]["root"] = run.dumps[1]["ranges"][0]["root"]
         self.assert_broken(run, EQUAL)
+
+    def test_a_put_at_one_replica_without_rounds(self):
+        self.assert_broken(Run(put("milk", None), everywhere=[], at={2: [MILK]}, mode="repair"), EQUAL)
+        self.assert_broken(Run(put("milk", None), everywhere=[], at={2: [MILK]}, mode="handoff"))
+        self.assert_broken(Run(put(*MILK), everywhere=[], at={2: [MILK]}, mode="handoff"), HELD)
 
     def test_siblings_in_another_order(self):
         run = Run(put(*MILK), put(*EGGS), everywhere=[MILK, EGGS], at={2: [EGGS, MILK]})
@@ -312,6 +467,11 @@ class Expected(JudgeCase):
         self.assert_broken(Run(events=[event("expect", what="it rains", met=False)]), EXPECTED)
 
 
+class Slots(JudgeCase):
+    def test_an_offer_without_a_slot(self):
+        self.assert_broken(Run(events=[event("unslotted", place=1, what="offer")]), SLOTS)
+
+
 class Two(JudgeCase):
     def test_one_node(self):
         self.assert_broken(Run(put(*MILK, on=[1]), everywhere=[MILK]), TWO)
@@ -394,9 +554,10 @@ class Rest(JudgeCase):
         self.assert_broken(run, REST)
 
     def test_a_hint_that_is_pending(self):
-        run = Run()
-        run.dumps[5]["pending"] = 1
-        self.assert_broken(run, REST)
+        for mode, rules in (("all", [REST]), ("handoff", [REST]), ("repair", [])):
+            run = Run(mode=mode)
+            run.dumps[5]["pending"] = 1
+            self.assert_broken(run, *rules)
 
     def test_a_range_that_a_place_lacks(self):
         run = Run()

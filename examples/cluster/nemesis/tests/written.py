@@ -26,11 +26,17 @@ def delete(clock, read=(), t=1.0, on=(1, 2), status=200, key="k"):
     return _write("delete", clock, read, t, on, status, key)
 
 
-def get(*versions, t=2.0, key="k"):
+def get(*versions, t=2.0, key="k", by=1):
     """A get that shows these versions, each a mark and its clock."""
     marks, clocks = [mark for mark, _ in versions], [clock for _, clock in versions]
     status = 200 if len(marks) == 1 else 300 if marks else 404
-    return {"t": t, "end": t + 0.5, "op": "get", "key": key, "status": status, "values": marks, "clocks": clocks}
+    shown = {"by": str(by), "status": status, "values": marks, "clocks": clocks}
+    return {"t": t, "end": t + 0.5, "op": "get", "key": key, **shown}
+
+
+def refused(line, name, place=1, t=5.0, **more):
+    """A request that a place refused by a name."""
+    return {**line, "t": t, "end": t + 0.5, "place": place, "status": 503, "refused": name, **more}
 
 
 def event(op, t=1.0, **more):
@@ -46,12 +52,18 @@ def held(*versions):
 class Run:
     """A run that is in order, but for what a test changes."""
 
-    def __init__(self, *clients, everywhere=(), at=None, events=()):
-        """`everywhere` are the versions that each replica holds of `k`, and `at` those of some places instead."""
+    def __init__(self, *clients, everywhere=(), at=None, alone=None, events=(), mode="all"):
+        """`everywhere` are the versions that each replica holds of `k`, and `at` those of some places instead.
+
+        `alone` are those of places that were killed at the time 4, and then were dumped alone.
+        """
         self.client = list(clients)
         starts = [event("start", 0.0, place=place) for place in PLACES]
         lives = [event("life", 0.0, place=place, life=FIRST + place) for place in PLACES]
-        self.nemesis = [*starts, *lives, *events, event("settled", 9.0)]
+        ready = [event("ready", 0.0, place=place) for place in PLACES]
+        self.alone = {place: _dump(place, held(*versions)) for place, versions in (alone or {}).items()}
+        dumped = [event("held", 5.0, place=it, life=FIRST + it, since=4.0, file=f"held-{it}.log") for it in self.alone]
+        self.nemesis = [event("run", 0.0, mode=mode), *starts, *lives, *ready, *events, *dumped, event("settled", 9.0)]
         rows = {place: held(*everywhere) for place in PLACES}
         rows.update({place: held(*versions) for place, versions in (at or {}).items()})
         self.dumps = {place: _dump(place, rows[place]) for place in PLACES}
@@ -62,8 +74,9 @@ class Run:
             logs = Path(folder)
             _write_lines(logs / "client-1.log", self.client)
             _write_lines(logs / "nemesis.log", self.nemesis)
-            for place, dump in self.dumps.items():
-                _write_lines(logs / f"dump-{place}.log", [dump])
+            for name, dumps in (("dump", self.dumps), ("held", self.alone)):
+                for place, dump in dumps.items():
+                    _write_lines(logs / f"{name}-{place}.log", [dump])
             verdict = judge.judge(history.read(logs))
         return [rule for rule, breaches in verdict.items() if breaches]
 

@@ -1,0 +1,48 @@
+%% @doc Calls the nemesis' `cluster_link' in one node, and prints what comes of it, and how often it was served.
+-module(link_probe).
+
+-export([main/0]).
+-export([served/1]).
+
+%% @doc Makes a call under each fault. Prints the fault's name, the outcome, the milliseconds of the call, and how often
+%% it was served in the end.
+-spec main() -> no_return().
+main() ->
+    ?MODULE = ets:new(?MODULE, [named_table, public, duplicate_bag]),
+    Calls = [call(Name, Faults) || {Name, Faults} <- faults()],
+    timer:sleep(1100),
+    [
+        io:format("~p ~p ~b ~b~n", [Name, Outcome, Micros div 1000, length(ets:lookup(?MODULE, Name))])
+     || {Name, {Micros, Outcome}} <- Calls
+    ],
+    halt().
+
+faults() ->
+    [
+        {none, ""},
+        {request_dropped, "drop 1 2\n"},
+        {answer_dropped, "drop 2 1\n"},
+        {others_dropped, "drop 1 3\ndrop 3 1\n"},
+        {refused, "drop 1 2\ninstant\n"},
+        {late, "late 1 2 60 60\nlate 2 1 40 40\n"},
+        {too_late, "late 1 2 300 300\n"},
+        {repeated, "repeat 1000\n"}
+    ].
+
+call(Name, Faults) ->
+    ok = file:write_file(os:getenv("NEMESIS_LINKS"), Faults),
+    timer:sleep(10),
+    {Name, timer:tc(fun() -> outcome(Name) end)}.
+
+outcome(Name) ->
+    try
+        cluster_link:call(2, ?MODULE, served, [Name], 200)
+    catch
+        error:{erpc, Reason} -> Reason
+    end.
+
+%% @private
+-spec served(atom()) -> answered.
+served(Name) ->
+    true = ets:insert(?MODULE, {Name}),
+    answered.

@@ -1,0 +1,55 @@
+"""Tests what faults of messages do to a call, in a node where all places are."""
+
+from __future__ import annotations
+
+import os
+import subprocess
+import tempfile
+import unittest
+from pathlib import Path
+from typing import Dict, Tuple
+
+from nemesis.links import SOURCE
+
+PROBE = sorted(map(str, (Path(__file__).with_name("erlang")).glob("*.erl")))
+
+#: The limit of the probe's calls, and the time that a call may take beside its fault, in milliseconds.
+LIMIT_MS, SPARE_MS = 200, 100
+
+
+class LinkTest(unittest.TestCase):
+    def test_calls_under_faults(self) -> None:
+        found = probe()
+        self.assertEqual(
+            {name: (outcome, served) for name, (outcome, _, served) in found.items()},
+            {
+                "none": ("answered", 1),
+                "request_dropped": ("timeout", 0),
+                "answer_dropped": ("timeout", 1),
+                "others_dropped": ("answered", 1),
+                "refused": ("noconnection", 0),
+                "late": ("answered", 1),
+                "too_late": ("timeout", 1),
+                "repeated": ("answered", 2),
+            },
+        )
+        for name, least_ms in {"none": 0, "request_dropped": LIMIT_MS, "answer_dropped": LIMIT_MS, "late": 100}.items():
+            with self.subTest(name):
+                self.assertIn(found[name][1], range(least_ms, least_ms + SPARE_MS))
+
+
+def probe() -> Dict[str, Tuple[str, int, int]]:
+    """Runs the probe, and returns the outcome of the call under each fault, its milliseconds, and how often it was
+    served.
+    """
+    with tempfile.TemporaryDirectory() as room:
+        subprocess.run(["erlc", "-Wall", "-Werror", "-o", room, *PROBE, str(SOURCE)], check=True)
+        words = ["erl", "-noinput", "-kernel", "logger_level", "critical", "-pa", room, "-s", "link_probe", "main"]
+        environment = {**os.environ, "NEMESIS_LINKS": f"{room}/links", "ERL_CRASH_DUMP_BYTES": "0"}
+        said = subprocess.run(words, env=environment, stdout=subprocess.PIPE, text=True, check=True).stdout
+    lines = (line.split() for line in said.splitlines())
+    return {name: (outcome, int(took), int(served)) for name, outcome, took, served in lines}
+
+
+if __name__ == "__main__":
+    unittest.main()
