@@ -3,6 +3,7 @@
 //!
 //! - [`version`], [`kind`]: a version, and its kind.
 //! - [`set`]: sets of versions.
+//! - [`held`]: sets that may be absent.
 //! - [`laws`]: a law proved from the definitions.
 //!
 //! ```
@@ -14,12 +15,14 @@
 //! ```
 #![tactic(auto)]
 
+pub mod held;
 pub mod kind;
 pub mod laws;
 mod members;
 pub mod set;
 pub mod version;
 
+pub use held::Held;
 pub use kind::Kind;
 pub use set::{Offered, VersionSet};
 pub use version::Version;

@@ -1,5 +1,3 @@
-use Rattle.std.proofs.Common.{subst}
-use Rattle.version_set.specs.Version.{IsVersionSet}
 use Rattle.version_set.proofs.SetLaws.{none-is_below}
 use Rattle.version_set.proofs.TextOrderLaws.{ascends_by_text, ascends_by_live_text}
 use Rattle.version_set.proofs.set.VersionSet.iter.Goals as goal
