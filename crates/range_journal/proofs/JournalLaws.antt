@@ -87,6 +87,11 @@ pub AreNumberedFrom-push : (n : ℕ) (es : List Entry) (e : Entry) → AreNumber
 AreNumberedFrom-push n [] e all is = (is ∙ add-zero n, tt)
 AreNumberedFrom-push n (x ∷ es) e all is = (all.0, AreNumberedFrom-push (n + 1) es e all.1 (omega arith))
 
+-- entries with the next numbers at the end
+pub AreNumberedFrom-append : (n : ℕ) (es fs : List Entry) → AreNumberedFrom n es → AreNumberedFrom (n + length es) fs → AreNumberedFrom n (es ++ fs)
+AreNumberedFrom-append n [] fs all more = subst (λ (m : ℕ). AreNumberedFrom m fs) (add-zero n) more
+AreNumberedFrom-append n (x ∷ es) fs all more = (all.0, AreNumberedFrom-append (n + 1) es fs all.1 (subst (λ (m : ℕ). AreNumberedFrom m fs) (omega arith) more))
+
 pub contains_cons : {X : Type 0} (y : X) (ys : List X) (x : X) → Contains (y ∷ ys) x → (y ≡ x) ⊎ Contains ys x
 contains_cons y ys x (zero, h, e) = inl e
 contains_cons y ys x (suc k, h, e) = inr (k, omega arith, e)

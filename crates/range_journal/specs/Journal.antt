@@ -13,6 +13,10 @@ use Rattle.range_journal.specs.Log.{Log}
 abbrev pub with_entry : Log → Entry → Log
 with_entry log e = record { entries = log.entries ++ e ∷ []; limit = log.limit; room = log.room - 1 }
 
+-- the journal with entries at its end
+abbrev pub with_entries : Log → List Entry → Log
+with_entries log es = record { entries = log.entries ++ es; limit = log.limit; room = log.room - length es }
+
 -- room for k more entries, within the limit
 abbrev pub reserve : Log → ℕ → Outcome (Unit {0}) Log
 reserve log k = if nat_lt log.limit (length log.entries + k) then refuses JournalFull else gives tt (record log { room = max log.room k })

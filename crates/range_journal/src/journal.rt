@@ -4,8 +4,8 @@ ghost use Rattle.std.specs.Option.{option_copied};
 ghost use Rattle.vclock.specs.Answer.{Answers};
 ghost use Rattle.vclock.specs.Outcome.{Does};
 ghost use Rattle.range_journal.specs.Counters.{top_counter};
-ghost use Rattle.range_journal.specs.Log.{IsLog};
-ghost use Rattle.range_journal.specs.Journal.{append, reserve, with_entry, held, NeverCrowded};
+ghost use Rattle.range_journal.specs.Log.{AreNumberedFrom, IsLog};
+ghost use Rattle.range_journal.specs.Journal.{append, reserve, with_entry, with_entries, held, NeverCrowded};
 
 use std::alloc::Global;
 use std::marker::Model;
@@ -50,6 +50,19 @@ pub struct Entry {
 }
 
 impl Entry {
+    /// Returns an equal entry. Refused: NoMemory.
+    pub fn try_clone(&self) -> Result<Entry, Refusal>
+        ensures { Answers result None (λ copy. copy ≡ self.now) }
+    {
+        Ok(Entry {
+            number: self.number,
+            seat: self.seat,
+            source: self.source,
+            key: self.key.try_clone()?,
+            version: self.version.try_clone()?,
+        })
+    }
+
     /// Returns true if both entries are equal in all fields.
     pub fn same(&self, other: &Entry) -> bool
         ensures { IsTrue result ↔ (self.now ≡ other.now) }
@@ -204,6 +217,27 @@ impl Journal {
         self.room -= 1;
         number
     }
+
+    /// Adds entries at the end, in room that was made before. They have the next numbers, in order. Doesn't allocate.
+    pub fn append_entries(&mut self, mut entries: Vec<Entry>)
+        requires numbered { AreNumberedFrom (length self.old.entries) entries.items }
+        requires room { length entries.items ≤ self.old.room }
+        ensures { self.new ≡ with_entries self.old entries.items }
+    {
+        self.room -= entries.len() as u64;
+        self.entries.append(&mut entries).unwrap();
+    }
+}
+
+/// Copies entries. Refused: NoMemory.
+pub fn copy_entries(alloc: Global, entries: &[Entry]) -> Result<Vec<Entry>, Refusal>
+    ensures { Answers result None (λ copies. copies.items ≡ entries.now) }
+{
+    let mut copies = Vec::with_capacity(alloc, entries.len())?;
+    for entry in entries {
+        copies.push_reserved(entry.try_clone()?);
+    }
+    Ok(copies)
 }
 
 /// Returns the greatest counter of a node in the clocks of the versions that entries have for a key.

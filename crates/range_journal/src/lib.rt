@@ -21,5 +21,5 @@ pub mod journal;
 pub mod laws;
 pub mod replay;
 
-pub use journal::{Entry, Journal, Source, held_in};
+pub use journal::{Entry, Journal, Source, copy_entries, held_in};
 pub use replay::Replay;
