@@ -43,21 +43,21 @@ pub all-replicate : {X : Type 0} (P : X → Type 0) (n : ℕ) (x : X) → P x �
 all-replicate P zero x h = tt
 all-replicate P (suc n) x h = (h, all-replicate P n x h)
 
--- ---- blocks of 64
+-- ---- blocks of 64, which are all elements
 
 -- which block has an element
-pub number_within : {X : Type 0} (blocks : List (List X)) (i : ℕ) → AreOf 64 blocks → i < length (joined blocks) → i / 64 < length blocks
-number_within blocks i all within = omega (arith, length-joined 64 blocks all)
+pub number_within : {X : Type 0} (blocks : List (List X)) (all : List X) (i : ℕ) → joined blocks ≡ all → AreOf 64 blocks → i < length all → i / 64 < length blocks
+number_within blocks all i same each within = omega (arith, ap length same, length-joined 64 blocks each)
 
 -- what a read of a block and then of its element gives
-pub read_at : {X : Type 0} (blocks : List (List X)) (i : ℕ) (b : List X) (d : X) → AreOf 64 blocks → i < length (joined blocks) → b ≡ get_or blocks (i / 64) b → get_or b (i % 64) d ≡ get_or (joined blocks) i d
-read_at {X = X} blocks i b d all within is =
-    ap (λ (x : List X). get_or x (i % 64) d) is ∙ sym (joined-at 64 blocks (i / 64) (i % 64) i b d all (number_within blocks i all within) (omega arith) (omega arith))
+pub read_at : {X : Type 0} (blocks : List (List X)) (all : List X) (i : ℕ) (b : List X) (d : X) → joined blocks ≡ all → AreOf 64 blocks → i < length all → b ≡ get_or blocks (i / 64) b → get_or b (i % 64) d ≡ get_or all i d
+read_at {X = X} blocks all i b d same each within is =
+    ap (λ (x : List X). get_or x (i % 64) d) is ∙ sym (joined-at 64 blocks (i / 64) (i % 64) i b d each (number_within blocks all i same each within) (omega arith) (omega arith)) ∙ ap (λ (x : List X). get_or x i d) same
 
 -- what a change of an element of a block leaves
-pub set_at : {X : Type 0} (blocks : List (List X)) (i : ℕ) (b : List X) (x : X) → AreOf 64 blocks → i < length (joined blocks) → b ≡ get_or blocks (i / 64) b → joined (set blocks (i / 64) (set b (i % 64) x)) ≡ set (joined blocks) i x
-set_at {X = X} blocks i b x all within is =
-    ap (λ (c : List X). joined (set blocks (i / 64) (set c (i % 64) x))) is ∙ joined-set 64 blocks (i / 64) (i % 64) i b x all (number_within blocks i all within) (omega arith) (omega arith)
+pub set_at : {X : Type 0} (blocks : List (List X)) (all : List X) (i : ℕ) (b : List X) (x : X) → joined blocks ≡ all → AreOf 64 blocks → i < length all → b ≡ get_or blocks (i / 64) b → joined (set blocks (i / 64) (set b (i % 64) x)) ≡ set all i x
+set_at {X = X} blocks all i b x same each within is =
+    ap (λ (c : List X). joined (set blocks (i / 64) (set c (i % 64) x))) is ∙ joined-set 64 blocks (i / 64) (i % 64) i b x each (number_within blocks all i same each within) (omega arith) (omega arith) ∙ ap (λ (c : List X). set c i x) same
 
 -- ---- one block after another
 

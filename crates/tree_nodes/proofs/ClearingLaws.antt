@@ -1,23 +1,22 @@
 -- Making the nodes of a path dirty, from the leaf up to the first dirty node.
-use Rattle.std.proofs.Common.{◌≡◌, ℕ, zero, suc, ◌+◌, ◌*◌, ◌/◌, ◌^◌, ◌<◌, true, is_some, Option, Some, None, List, length, set, refl, sym, ap, ◌∙◌, arith, inl, inr}
-use Rattle.std.specs.Prelude.{MatchOption, ◌⊎◌}
+use Rattle.std.proofs.Common.{◌≡◌, ℕ, zero, suc, ◌+◌, ◌*◌, ◌^◌, ◌<◌, true, is_some, Option, Some, None, List, length, set, refl, sym, ap, ◌∙◌, arith, inl, inr}
+use Rattle.std.specs.Prelude.{◌⊎◌}
 use Rattle.std.proofs.lemmas.Bool.{cases_eq}
 use Rattle.std.proofs.lemmas.List.{get_or-set_same, get_or-set_other, length-set}
 use Rattle.vclock.specs.declared.format.Format.{Format}
-use Rattle.tree_nodes.specs.declared.node.NodeAt.{NodeAt}
-use Rattle.tree_nodes.specs.Nodes.{tree_depth, node_count, place_at, path_of, kept_digest, dirty_count, dirtied, AreCleanBelow, IsTree}
+use Rattle.tree_nodes.specs.Nodes.{Node, parent_of, parent_at, place_of, tree_depth, node_count, place_at, path_of, kept_digest, dirty_count, dirtied, AreCleanBelow, IsTree}
 use Rattle.tree_nodes.proofs.PlaceLaws.{Digests, place_within}
-use Rattle.tree_nodes.proofs.PathLaws.{cleared, cleared_none, cleared_first, dirtied_is, path_left, steps_left, path_step}
+use Rattle.tree_nodes.proofs.PathLaws.{cleared, cleared_none, cleared_first, dirtied_is, path_left, steps_left, path_step, path_shorter}
 use Rattle.tree_nodes.proofs.DirtyLaws.{dirty_in, count_set, cleared_dirty}
 
 -- a place is that of the next node
-abbrev pub IsNext : Option NodeAt → ℕ → Type 0
+abbrev pub IsNext : Option Node → ℕ → Type 0
 IsNext None place = ⊥
-IsNext (Some node) place = place ≡ place_at node.depth node.index
+IsNext (Some node) place = place ≡ place_of node
 
 -- The digests on the way: to make dirty what is left of the path is what is wanted. The parent of a dirty node is dirty,
 -- or is the next one.
-pub record IsClearing (format : Format) (leaf : ℕ) (start : Digests) (next : Option NodeAt) (count : ℕ) (digests : Digests) : Type 0 where
+pub record IsClearing (format : Format) (leaf : ℕ) (start : Digests) (next : Option Node) (count : ℕ) (digests : Digests) : Type 0 where
   pub path : cleared (path_left next) digests ≡ dirtied format leaf start
   pub all : length digests ≡ node_count format
   pub steps : count + steps_left next ≡ suc (tree_depth format)
@@ -25,7 +24,7 @@ pub record IsClearing (format : Format) (leaf : ℕ) (start : Digests) (next : O
   pub counted : dirty_count digests ≡ dirty_count start + count
 
 -- At first the leaf's path is left.
-pub clearing_begins : (format : Format) (leaf : ℕ) (start : Digests) (node : NodeAt) → node.depth ≡ tree_depth format → node.index ≡ leaf → IsTree (record { format = format; digests = start }) → IsClearing format leaf start (Some node) 0 start
+pub clearing_begins : (format : Format) (leaf : ℕ) (start : Digests) (node : Node) → node.depth ≡ tree_depth format → node.index ≡ leaf → IsTree (record { format = format; digests = start }) → IsClearing format leaf start (Some node) 0 start
 unfolding AreCleanBelow
 clearing_begins format leaf start node deep at tree = record {
   path = (λ i. cleared (path_of (deep i) (at i)) start) ∙ sym (dirtied_is format leaf start);
@@ -36,34 +35,26 @@ clearing_begins format leaf start node deep at tree = record {
 }
 
 -- The next node has its place.
-pub clearing_within : (format : Format) (leaf : ℕ) (start : Digests) (node : NodeAt) (count : ℕ) (digests : Digests) → IsClearing format leaf start (Some node) count digests → place_at node.depth node.index < length digests
-clearing_within format leaf start node count digests before = omega (arith, before.all, place_within format node.depth node.index (omega (arith, before.steps)) node.within)
+pub clearing_within : (format : Format) (leaf : ℕ) (start : Digests) (node : Node) (count : ℕ) (digests : Digests) → node.index < 16 ^ node.depth → IsClearing format leaf start (Some node) count digests → place_of node < length digests
+clearing_within format leaf start node count digests here before = omega (arith, before.all, place_within format node.depth node.index (omega (arith, before.steps)) here)
 
 -- the parent of a node's place is that of the node above
-parent_next : (node : NodeAt) (above : Option NodeAt) (place j : ℕ) → MatchOption above (node.depth ≡ 0) (λ (n : NodeAt). (n.depth + 1 ≡ node.depth) × (n.index ≡ node.index / 16)) → j < 16 → 16 * place + 1 + j ≡ place_at node.depth node.index → IsNext above place
-parent_next node None place j root less is = absurd (top node.depth node.index root node.within is)
+parent_next : (node : Node) (place j : ℕ) → node.index < 16 ^ node.depth → j < 16 → 16 * place + 1 + j ≡ place_of node → IsNext (parent_of node) place
+parent_next node place j within less is = at node.depth node.index within is
   where
-    top : (depth index : ℕ) → depth ≡ 0 → index < 16 ^ depth → 16 * place + 1 + j ≡ place_at depth index → ⊥
-    top zero index root within is = omega (arith, is)
-    top (suc depth) index root within is = omega (arith, root)
-parent_next node (Some n) place j up less is = over node.depth node.index n.depth n.index up.0 up.1 is
-  where
-    over : (depth index d i : ℕ) → d + 1 ≡ depth → i ≡ index / 16 → 16 * place + 1 + j ≡ place_at depth index → place ≡ place_at d i
-    over zero index d i deep at is = absurd (omega arith)
-    over (suc depth) index d i deep at is =
-        let here : place ≡ place_at depth (index / 16) = omega (arith, is, less) in
-        let same : depth ≡ d = omega arith in
-        here ∙ (λ t. place_at (same t) (sym at t))
+    at : (depth index : ℕ) → index < 16 ^ depth → 16 * place + 1 + j ≡ place_at depth index → IsNext (parent_at depth index) place
+    at zero index within is = absurd (omega (arith, is))
+    at (suc depth) index within is = omega (arith, is, less)
 
 -- Then that of the node above.
-pub clearing_goes_on : (format : Format) (leaf : ℕ) (start : Digests) (node : NodeAt) (above : Option NodeAt) (count : ℕ) (digests : Digests) → IsClearing format leaf start (Some node) count digests → is_some (kept_digest digests (place_at node.depth node.index)) ≡ true
-    → MatchOption above (node.depth ≡ 0) (λ (n : NodeAt). (n.depth + 1 ≡ node.depth) × (n.index ≡ node.index / 16)) → IsClearing format leaf start above (count + 1) (set digests (place_at node.depth node.index) None)
-clearing_goes_on format leaf start node above count digests before clean up = record {
-  path = cleared_first here (path_left above) digests ∙ ap (λ (places : List ℕ). cleared places digests) (path_step node.depth node.index above node.within up) ∙ before.path;
+pub clearing_goes_on : (format : Format) (leaf : ℕ) (start : Digests) (node : Node) (count : ℕ) (digests : Digests) → node.index < 16 ^ node.depth → IsClearing format leaf start (Some node) count digests → is_some (kept_digest digests (place_of node)) ≡ true
+    → IsClearing format leaf start (parent_of node) (count + 1) (set digests (place_of node) None)
+clearing_goes_on format leaf start node count digests is_node before clean = record {
+  path = cleared_first here (path_left (parent_of node)) digests ∙ ap (λ (places : List ℕ). cleared places digests) (path_step node is_node) ∙ before.path;
   all = length-set digests here none ∙ before.all;
-  steps = omega (arith, steps_are node above up, before.steps);
+  steps = omega (arith, path_shorter node, before.steps);
   below = λ place j less within dirty. elim (cases_eq (16 * place + 1 + j) here) [
-    | inl is ↦ inr (parent_next node above place j up less is)
+    | inl is ↦ inr (parent_next node place j is_node less is)
     | inr other ↦
         let old = sym (get_or-set_other digests here (16 * place + 1 + j) none None other) ∙ dirty in
         elim (before.below place j less (omega (arith, within, length-set digests here none)) old) [
@@ -78,18 +69,14 @@ clearing_goes_on format leaf start node above count digests before clean up = re
     none = None
 
     here : ℕ
-    here = place_at node.depth node.index
+    here = place_of node
 
     inside : here < length digests
-    inside = clearing_within format leaf start node count digests before
+    inside = clearing_within format leaf start node count digests is_node before
 
     clean_in : (o : Option (List ℕ)) → is_some o ≡ true → dirty_in o ≡ 0
     clean_in None clean = absurd (cc)
     clean_in (Some d) clean = refl
-
-    steps_are : (node : NodeAt) (above : Option NodeAt) → MatchOption above (node.depth ≡ 0) (λ (n : NodeAt). (n.depth + 1 ≡ node.depth) × (n.index ≡ node.index / 16)) → steps_left above ≡ node.depth
-    steps_are node None root = sym root
-    steps_are node (Some n) up = up.0
 
     still : (place : ℕ) → kept_digest digests place ≡ None → kept_digest (set digests here none) place ≡ None
     still place dirty = elim (cases_eq place here) [
@@ -98,14 +85,14 @@ clearing_goes_on format leaf start node above count digests before clean up = re
     ]
 
 -- At a dirty node nothing is left, nor behind the root.
-pub clearing_stops : (format : Format) (leaf : ℕ) (start : Digests) (node : NodeAt) (count : ℕ) (digests : Digests) → IsClearing format leaf start (Some node) count digests → kept_digest digests (place_at node.depth node.index) ≡ None → digests ≡ dirtied format leaf start
+pub clearing_stops : (format : Format) (leaf : ℕ) (start : Digests) (node : Node) (count : ℕ) (digests : Digests) → node.index < 16 ^ node.depth → IsClearing format leaf start (Some node) count digests → kept_digest digests (place_of node) ≡ None → digests ≡ dirtied format leaf start
 unfolding AreCleanBelow
-clearing_stops format leaf start node count digests before dirty =
-    let below : AreCleanBelow digests = λ place j less within none. elim (before.below place j less within none) [
+clearing_stops format leaf start node count digests within before dirty =
+    let below : AreCleanBelow digests = λ place j less inside none. elim (before.below place j less inside none) [
       | inl parent ↦ parent
       | inr next ↦ rw next dirty
     ] in
-    sym (cleared_dirty node.depth node.index digests below node.within (clearing_within format leaf start node count digests before) dirty) ∙ before.path
+    sym (cleared_dirty node.depth node.index digests below within (clearing_within format leaf start node count digests within before) dirty) ∙ before.path
 
 pub clearing_done : (format : Format) (leaf : ℕ) (start : Digests) (count : ℕ) (digests : Digests) → IsClearing format leaf start None count digests → digests ≡ dirtied format leaf start
 clearing_done format leaf start count digests before = sym (cleared_none digests) ∙ before.path

@@ -1,15 +1,14 @@
 -- Making the places of a path dirty, one after another.
 use Rattle.std.proofs.Common.{◌≡◌, ℕ, zero, suc, ◌+◌, ◌-◌, ◌/◌, ◌^◌, ◌<◌, cond, eqb, ◌||◌, Option, Some, None, List, [], ◌∷◌, length, set, refl, sym, ap, ◌∙◌, arith, inl, inr}
 use Rattle.std.proofs.Math.Nat.{pow-succ'}
-use Rattle.std.specs.Prelude.{map, MatchOption}
+use Rattle.std.specs.Prelude.{map}
 use Rattle.std.specs.List.{list_any, range_with_len}
 use Rattle.std.proofs.lemmas.Bool.{cond_both, cases_eq, cond-true, or_left, eq-eqb, ne_eqb}
 use Rattle.std.proofs.lemmas.List.{get_or-set_same, get_or-set_other, length-set}
 use Rattle.std.proofs.lemmas.List.FromFn.{get_or-map-range_with_len, length-map-range_with_len, fill_by_all}
 use Rattle.vclock.specs.declared.format.Format.{Format}
 use Rattle.tree_nodes.proofs.PlaceLaws.{Digests}
-use Rattle.tree_nodes.specs.declared.node.NodeAt.{NodeAt}
-use Rattle.tree_nodes.specs.Nodes.{tree_depth, place_at, path_of, kept_digest, dirtied}
+use Rattle.tree_nodes.specs.Nodes.{Node, parent_of, parent_at, place_of, tree_depth, place_at, path_of, kept_digest, dirtied}
 
 -- the digests with some places dirty
 unfoldable pub cleared : List ℕ → Digests → Digests
@@ -50,34 +49,30 @@ cleared_first place places digests =
 -- ---- from node to node
 
 -- the places that are left, from a node up
-abbrev pub path_left : Option NodeAt → List ℕ
+abbrev pub path_left : Option Node → List ℕ
 path_left None = []
 path_left (Some node) = path_of node.depth node.index
 
 -- how many places are left
-abbrev pub steps_left : Option NodeAt → ℕ
+abbrev pub steps_left : Option Node → ℕ
 steps_left None = 0
 steps_left (Some node) = node.depth + 1
 
-root_path : (depth index : ℕ) → depth ≡ 0 → index < 16 ^ depth → place_at depth index ∷ [] ≡ path_of depth index
-root_path zero index e within = ap (λ (p : ℕ). p ∷ []) (omega arith)
-root_path (suc depth) index e within = absurd (omega arith)
-
-longer_path : (depth index d i : ℕ) → d + 1 ≡ depth → i ≡ index / 16 → place_at depth index ∷ path_of d i ≡ path_of depth index
-longer_path zero index d i up e = absurd (omega arith)
-longer_path (suc depth) index d i up e =
-    let above : d ≡ depth = omega arith in
-    ap (λ (xs : List ℕ). place_at (suc depth) index ∷ xs) (λ t. path_of (above t) (e t))
-
 -- A node's path is its place and the path of the node above.
-pub path_step : (depth index : ℕ) (above : Option NodeAt) → index < 16 ^ depth → MatchOption above (depth ≡ 0) (λ (n : NodeAt). (n.depth + 1 ≡ depth) × (n.index ≡ index / 16)) → place_at depth index ∷ path_left above ≡ path_of depth index
-path_step depth index None within root = root_path depth index root within
-path_step depth index (Some n) within up = longer_path depth index n.depth n.index up.0 up.1
+pub path_step : (node : Node) → node.index < 16 ^ node.depth → place_of node ∷ path_left (parent_of node) ≡ path_of node.depth node.index
+path_step node within = at node.depth node.index within
+  where
+    at : (depth index : ℕ) → index < 16 ^ depth → place_at depth index ∷ path_left (parent_at depth index) ≡ path_of depth index
+    at zero index within = ap (λ (p : ℕ). p ∷ []) (omega arith)
+    at (suc depth) index within = refl
 
--- Fewer places are left above a node.
-pub path_shorter : (depth index : ℕ) (above : Option NodeAt) → MatchOption above (depth ≡ 0) (λ (n : NodeAt). (n.depth + 1 ≡ depth) × (n.index ≡ index / 16)) → steps_left above < depth + 1
-path_shorter depth index None root = omega arith
-path_shorter depth index (Some n) up = omega (arith, up.0)
+-- As many places are left above a node as its depth says.
+pub path_shorter : (node : Node) → steps_left (parent_of node) ≡ node.depth
+path_shorter node = at node.depth node.index
+  where
+    at : (depth index : ℕ) → steps_left (parent_at depth index) ≡ depth
+    at zero index = refl
+    at (suc depth) index = omega arith
 
 -- The node above another has an index of its depth.
 pub parent_within : (depth index : ℕ) → 0 < depth → index < 16 ^ depth → index / 16 < 16 ^ (depth - 1)

@@ -1,6 +1,6 @@
 -- The nodes of a range's tree: the paper of 2007, section 4.7. The fan is 16, and the place of a node counts the nodes
 -- before it, depth by depth: the root is at 0, and child j of the node at p is at 16 p + 1 + j.
-use Rattle.std.specs.Prelude.{◌≡◌, ℕ, zero, suc, ◌+◌, ◌*◌, ◌/◌, ◌-◌, ◌<◌, Bool, ◌&&◌, is_some, is_none, Option, None, List, [], ◌∷◌, length, map, filter, take, drop, slice_index_or, nat_eq, if◌then◌else◌}
+use Rattle.std.specs.Prelude.{◌≡◌, ℕ, zero, suc, ◌+◌, ◌*◌, ◌/◌, ◌-◌, ◌^◌, ◌<◌, ◌≤◌, Bool, ◌&&◌, is_some, is_none, Option, Some, None, List, [], ◌∷◌, length, map, filter, take, drop, slice_index_or, nat_eq, if◌then◌else◌}
 use Rattle.std.specs.List.{list_any, list_all, range_with_len}
 use Rattle.vclock.specs.declared.format.Format.{Format}
 use Rattle.vclock.specs.declared.format.Format.TheVariants.{One, Two}
@@ -9,6 +9,39 @@ use Rattle.vclock.specs.declared.format.Format.TheVariants.{One, Two}
 abbrev pub tree_depth : Format → ℕ
 tree_depth One = 2
 tree_depth Two = 3
+
+-- a node: its depth, and its index there
+pub record Node : Type 0 where
+  pub depth : ℕ
+  pub index : ℕ
+
+-- a tree of this depth has the node
+pub record IsNode (depth : ℕ) (n : Node) : Type 0 where
+  pub shallow : n.depth ≤ depth
+  pub within : n.index < 16 ^ n.depth
+
+abbrev pub top : Node
+top = record { depth = 0; index = 0 }
+
+-- the children of a node are its child 0 to its child 15
+abbrev pub child : Node → ℕ → Node
+child n j = record { depth = suc n.depth; index = 16 * n.index + j }
+
+-- the node above, if there is one
+abbrev pub parent_at : ℕ → ℕ → Option Node
+parent_at zero i = None
+parent_at (suc depth) i = Some (record { depth = depth; index = i / 16 })
+
+abbrev pub parent_of : Node → Option Node
+parent_of n = parent_at n.depth n.index
+
+-- two nodes are equal
+abbrev pub is_same_node : Node → Node → Bool
+is_same_node m n = nat_eq m.depth n.depth && nat_eq m.index n.index
+
+-- a list has the node
+abbrev pub contains_node : Node → List Node → Bool
+contains_node n nodes = list_any (is_same_node n) nodes
 
 -- the number of nodes above a depth
 abbrev pub nodes_above : ℕ → ℕ
@@ -23,6 +56,9 @@ node_count Two = nodes_above 4
 -- the place of a node
 abbrev pub place_at : ℕ → ℕ → ℕ
 place_at depth index = nodes_above depth + index
+
+abbrev pub place_of : Node → ℕ
+place_of n = place_at n.depth n.index
 
 -- a tree: its format, and the digests of its clean nodes by place
 pub record Tree : Type 0 where

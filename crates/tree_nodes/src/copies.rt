@@ -23,30 +23,6 @@ pub(crate) fn no_blocks(alloc: Global, format: Format) -> Result<Vec<Option<Dige
     Ok(blocks)
 }
 
-/// Adds an owner to each copy, and returns the copies. Refused: NoMemory. Copies no digest.
-pub(crate) fn share_copies(
-    alloc: Global,
-    blocks: &[Option<DigestBlock>],
-) -> Result<Vec<Option<DigestBlock>>, Refusal>
-    ensures { Answers result None (λ shared. shared.items ≡ blocks.now) }
-{
-    let mut shared = Vec::with_capacity(alloc, blocks.len())?;
-    for block in blocks {
-        shared.push(share_copy(block)?)?;
-    }
-    Ok(shared)
-}
-
-/// Adds an owner to a copy, if there is one, and returns its handle. Refused: NoMemory.
-fn share_copy(copy: &Option<DigestBlock>) -> Result<Option<DigestBlock>, Refusal>
-    ensures { Answers result None (λ shared. shared ≡ copy.now) }
-{
-    match copy {
-        Some(block) => Ok(Some(block.share()?)),
-        None => Ok(None),
-    }
-}
-
 /// Drops the copy of the block that has the node at a place. The root is in no block.
 pub(crate) fn drop_block(place: usize, blocks: &mut [Option<DigestBlock>])
     requires { place < 16 * length blocks.old + 1 }
@@ -131,7 +107,7 @@ fn share_block(
     ensures { Answers result None (IsCopy digests.now place) }
 {
     match copy {
-        Some(block) => block.share(),
+        Some(block) => Ok(block.clone()?),
         None => new_block(alloc, digests, place),
     }
 }

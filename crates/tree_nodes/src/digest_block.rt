@@ -3,7 +3,7 @@ ghost use Rattle.std.specs.Prelude.{◌≡◌, ◌<◌, ℕ, List, None, length,
 ghost use Rattle.vclock.specs.Answer.{Answers};
 
 use crate::digest::Digest;
-use std::alloc::Global;
+use std::alloc::{AllocError, Global};
 use std::marker::Model;
 use std::sync::Arc;
 use vclock::Refusal;
@@ -24,6 +24,19 @@ impl Model for DigestBlock {
     ghost view = { λ b. arc_value b.digests };
 
     ghost invariant = { λ b. length (arc_value b.digests) ≡ 16 };
+}
+
+impl Clone for DigestBlock {
+    ghost use Rattle.std.specs.Prelude.{◌≡◌};
+
+    ghost is_clone = { λ block copy. copy ≡ block };
+
+    /// Adds an owner to the digests, and returns its handle. Fails only if memory is needed. Copies no digest.
+    fn clone(&self) -> Result<DigestBlock, AllocError> {
+        Ok(DigestBlock {
+            digests: Arc::try_clone(&self.digests)?,
+        })
+    }
 }
 
 impl DigestBlock {
@@ -49,16 +62,6 @@ impl DigestBlock {
         ensures { (d : List ℕ) → result ≡ slice_index_or self.now at d }
     {
         self.digests[at]
-    }
-
-    /// Adds an owner to the digests, and returns its handle. Refused: NoMemory. Copies no digest.
-    pub(crate) fn share(&self) -> Result<DigestBlock, Refusal>
-        ensures shared { Answers result None (λ shared. shared ≡ self.now) }
-        ensures valid { length self.now ≡ 16 }
-    {
-        Ok(DigestBlock {
-            digests: Arc::try_clone(&self.digests)?,
-        })
     }
 }
 

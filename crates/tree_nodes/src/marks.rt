@@ -1,10 +1,10 @@
 //! The clean nodes of a tree, and their digests.
-ghost use Rattle.std.specs.Prelude.{◌≡◌, ◌+◌, ◌/◌, ◌<◌, ◌≤◌, ◌^◌, ◌∷◌, [], length, Option, Some, None, map, replicate, slice_set, false, if◌then◌else◌, IsTrue, MatchOption};
+ghost use Rattle.std.specs.Prelude.{◌≡◌, ◌+◌, ◌/◌, ◌<◌, ◌≤◌, ◌^◌, ◌∷◌, [], length, Option, Some, None, map, replicate, slice_set, false, if◌then◌else◌, IsTrue, MatchOption, IfSome};
 ghost use Rattle.vclock.specs.Answer.{Answers};
-ghost use Rattle.tree_nodes.specs.Nodes.{tree_depth, node_count, place_at, kept_digest, children_of, are_clean, ready_from, dirtied, dirty_count, IsTree};
+ghost use Rattle.tree_nodes.specs.Nodes.{IsNode, place_of, tree_depth, node_count, place_at, kept_digest, children_of, are_clean, ready_from, dirtied, dirty_count, IsTree};
 ghost use Rattle.tree_nodes.specs.Blocks.{AreCopies};
 
-use crate::copies::{drop_block, fill_blocks, no_blocks, share_blocks, share_copies};
+use crate::copies::{drop_block, fill_blocks, no_blocks, share_blocks};
 use crate::digest::Digest;
 use crate::digest_block::DigestBlock;
 use crate::node::{NodeAt, tree_depth};
@@ -63,10 +63,10 @@ impl Marks {
     {
         Ok(Marks {
             format: self.format,
-            digests: copy_digests(alloc, &self.digests)?,
+            digests: Vec::from_slice(alloc, &self.digests)?,
             clean: self.clean,
-            blocks: share_copies(alloc, &self.blocks)?,
-            whole: share_whole(&self.whole)?,
+            blocks: Vec::from_clones(alloc, &self.blocks)?,
+            whole: self.whole.clone()?,
         })
     }
 
@@ -74,6 +74,7 @@ impl Marks {
     pub fn get(&self, node: NodeAt) -> Option<Digest>
         ensures digest { result ≡ kept_digest self.now.digests (place_at node.depth node.index) }
         ensures valid { IsTree self.now }
+        ensures node { IsNode 3 node }
     {
         match self.digests.get(node.place()) {
             Some(digest) => *digest,
@@ -94,10 +95,11 @@ impl Marks {
     /// Returns the first node, in order of place from `from` on, that can be hashed: it is dirty, and its children are
     /// clean. Doesn't allocate.
     pub fn next_ready(&self, from: usize) -> Option<NodeAt>
-        ensures { MatchOption result
+        ensures order { MatchOption result
             (ready_from self.now.digests from ≡ [])
             (λ node. ready_from self.now.digests from
-            ≡ place_at node.depth node.index ∷ ready_from self.now.digests (place_at node.depth node.index + 1)) }
+            ≡ place_of node ∷ ready_from self.now.digests (place_of node + 1)) }
+        ensures node { IfSome result (IsNode 3) }
     {
         match first_ready(&self.digests, from) {
             Some(place) => Some(node_of(place)),
@@ -215,27 +217,6 @@ fn count_of(format: Format) -> usize
     }
 }
 
-/// Copies digests. Refused: NoMemory.
-fn copy_digests(alloc: Global, digests: &[Option<Digest>]) -> Result<Vec<Option<Digest>>, Refusal>
-    ensures { Answers result None (λ copy. copy.items ≡ digests.now) }
-{
-    let mut copy = Vec::with_capacity(alloc, digests.len())?;
-    for digest in digests {
-        copy.push(*digest)?;
-    }
-    Ok(copy)
-}
-
-/// Adds an owner to the digests of all nodes, if they are there, and returns their handle. Refused: NoMemory.
-fn share_whole(whole: &Option<SharedDigests>) -> Result<Option<SharedDigests>, Refusal>
-    ensures { Answers result None (λ shared. shared ≡ whole.now) }
-{
-    match whole {
-        Some(digests) => Ok(Some(digests.share()?)),
-        None => Ok(None),
-    }
-}
-
 /// Makes a leaf and every node above it dirty, and drops the copies that have one of them. Returns the number of those
 /// that were clean. The nodes above a dirty node are dirty.
 fn dirty_up(
@@ -264,22 +245,9 @@ fn dirty_up(
         digests[place] = None;
         drop_block(place, blocks);
         count += 1;
-        next = parent_of(node);
+        next = node.parent();
     }
     count
-}
-
-/// Returns the node above a node, or `None` for the root.
-fn parent_of(node: NodeAt) -> Option<NodeAt>
-    ensures { MatchOption result (node.depth ≡ 0) (λ n. (n.depth + 1 ≡ node.depth) × (n.index ≡ node.index / 16)) }
-{
-    if node.depth == 0 {
-        return None;
-    }
-    Some(NodeAt {
-        depth: node.depth - 1,
-        index: node.index / 16,
-    })
 }
 
 impl Drop for Marks {

@@ -1,7 +1,8 @@
 //! The nodes of a range's tree (the paper of 2007, section 4.7), by depth and index.
 ghost use Rattle.std.specs.Prelude.{◌≡◌, ◌+◌, ◌<◌, ◌≤◌, ◌^◌, ◌↔◌, IsSome, IfSome};
-ghost use Rattle.tree_nodes.specs.Nodes.{nodes_above, place_at, tree_depth};
+ghost use Rattle.tree_nodes.specs.Nodes.{IsNode, top, child, parent_of, nodes_above, place_of, tree_depth};
 
+use std::marker::Model;
 use vclock::Format;
 
 /// A node of a tree, by its depth and its index there. The root is the only node of depth 0. The children of a node are
@@ -16,8 +17,18 @@ pub struct NodeAt {
     pub depth: u8,
     /// The index among the nodes of this depth, from 0: below 16^depth.
     pub index: u16,
-    pub ghost shallow: { depth ≤ 3 },
-    pub ghost within: { index < 16 ^ depth },
+}
+
+impl Model for NodeAt {
+    ghost use Rattle.tree_nodes.specs.Nodes.{Node, IsNode};
+
+    ghost Value = { Node };
+
+    ghost view = { λ n. record { depth = n.depth; index = n.index } };
+
+    ghost invariant = { λ n. IsNode 3 (record { depth = n.depth; index = n.index }) };
+
+    ghost inverse = { λ n. record { depth = n.depth; index = n.index } };
 }
 
 /// Returns the depth of the leaves of a tree: 2, or 3 in format 2.
@@ -51,9 +62,42 @@ impl NodeAt {
         }
     }
 
+    /// Returns the root of each tree.
+    pub fn root() -> NodeAt
+        ensures { result ≡ top }
+    {
+        NodeAt { depth: 0, index: 0 }
+    }
+
+    /// Returns a child of a node that isn't at depth 3: `number` is below 16.
+    pub fn child(self, number: u16) -> NodeAt
+        requires inner { self.depth < 3 }
+        requires few { number < 16 }
+        ensures { result ≡ child self number }
+    {
+        NodeAt {
+            depth: self.depth + 1,
+            index: 16 * self.index + number,
+        }
+    }
+
+    /// Returns the node above, or `None` for the root.
+    pub fn parent(self) -> Option<NodeAt>
+        ensures { result ≡ parent_of self }
+    {
+        if self.depth == 0 {
+            return None;
+        }
+        Some(NodeAt {
+            depth: self.depth - 1,
+            index: self.index / 16,
+        })
+    }
+
     /// Returns the number of nodes before this one in a tree, depth by depth.
     pub fn place(self) -> usize
-        ensures place { result ≡ place_at self.depth self.index }
+        ensures node { IsNode 3 self }
+        ensures place { result ≡ place_of self }
         ensures before { result < nodes_above (self.depth + 1) }
         ensures below { result < nodes_above 4 }
     {

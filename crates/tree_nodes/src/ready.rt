@@ -1,6 +1,6 @@
 //! The nodes of a tree that can be hashed: dirty ones whose children are clean.
 ghost use Rattle.std.specs.Prelude.{◌≡◌, ◌+◌, ◌*◌, ◌<◌, ◌≤◌, ◌^◌, ◌∷◌, [], ℕ, length, Some, map, true, false, is_some, IsTrue, MatchOption};
-ghost use Rattle.tree_nodes.specs.Nodes.{nodes_above, place_at, kept_digest, children_of, are_clean, ready_from, AreCleanBelow};
+ghost use Rattle.tree_nodes.specs.Nodes.{IsNode, place_of, nodes_above, place_at, kept_digest, children_of, are_clean, ready_from, AreCleanBelow};
 
 use crate::digest::Digest;
 use crate::node::NodeAt;
@@ -81,7 +81,8 @@ fn are_clean(digests: &[Option<Digest>]) -> bool
 /// Returns the node at a place.
 pub(crate) fn node_of(place: usize) -> NodeAt
     requires { place < nodes_above 4 }
-    ensures { place_at result.depth result.index ≡ place }
+    ensures place { place_of result ≡ place }
+    ensures node { IsNode 3 result }
 {
     let (depth, before) = match place {
         0 => (0, 0),

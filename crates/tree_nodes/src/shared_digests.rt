@@ -7,7 +7,7 @@ ghost use Rattle.tree_nodes.specs.Blocks.{joined, AreOf};
 use crate::digest::Digest;
 use crate::digest_block::DigestBlock;
 use crate::node::NodeAt;
-use std::alloc::Global;
+use std::alloc::{AllocError, Global};
 use std::marker::Model;
 use std::sync::Arc;
 use vclock::{Format, Refusal};
@@ -31,6 +31,20 @@ impl Model for SharedDigests {
     ghost view = { λ s. s.root ∷ joined (vec_items (arc_value s.blocks)) };
 
     ghost invariant = { λ s. AreOf 16 (vec_items (arc_value s.blocks)) };
+}
+
+impl Clone for SharedDigests {
+    ghost use Rattle.std.specs.Prelude.{◌≡◌};
+
+    ghost is_clone = { λ digests copy. copy ≡ digests };
+
+    /// Adds an owner to the digests, and returns its handle. Fails only if memory is needed. Copies no block.
+    fn clone(&self) -> Result<SharedDigests, AllocError> {
+        Ok(SharedDigests {
+            root: self.root,
+            blocks: Arc::try_clone(&self.blocks)?,
+        })
+    }
 }
 
 impl SharedDigests {
@@ -89,10 +103,7 @@ impl SharedDigests {
     pub fn share(&self) -> Result<SharedDigests, Refusal>
         ensures { Answers result None (λ shared. shared ≡ self.now) }
     {
-        Ok(SharedDigests {
-            root: self.root,
-            blocks: Arc::try_clone(&self.blocks)?,
-        })
+        Ok(self.clone()?)
     }
 }
 

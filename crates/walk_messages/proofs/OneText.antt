@@ -2,21 +2,10 @@
 use Rattle.std.proofs.Common.{◌≡◌, ℕ, zero, suc, ◌^◌, ◌<◌, ◌≤◌, List, take, drop, get_or, sym, ap, ◌∙◌, arith}
 use Rattle.std.specs.Int.{w16, w32, from_be_bytes, to_be_bytes}
 use Rattle.std.proofs.lemmas.Nat.{from_be_bytes-to_be_bytes_2, from_be_bytes-to_be_bytes_4}
-use mathlib.Core.HLevel.{is_prop→PathP}
-use Rattle.std.proofs.Math.Bridge.{le_prop}
-use Rattle.tree_nodes.specs.declared.node.NodeAt.{NodeAt}
+use Rattle.tree_nodes.specs.Nodes.{Node, IsNode}
 use Rattle.walk_messages.specs.declared.message.Message.{Message}
 use Rattle.walk_messages.specs.declared.message.Message.TheVariants as messages
 use Rattle.walk_messages.specs.Messages.{IsMessage, message_text}
-
--- a depth and an index are those of one node
-one_node : (m n : NodeAt) → m.depth ≡ n.depth → m.index ≡ n.index → m ≡ n
-one_node m n d e = λ i. record {
-  depth = d i;
-  index = e i;
-  shallow = is_prop→PathP (λ j. d j ≤ 3) (λ j. le_prop) m.shallow n.shallow i;
-  within = is_prop→PathP (λ j. e j < 16 ^ d j) (λ j. le_prop) m.within n.within i;
-}
 
 -- a number of two bytes is spelled as no other
 one_index : (m n : ℕ) → m < 2 ^ 16 → n < 2 ^ 16 → to_be_bytes w16 m ≡ to_be_bytes w16 n → m ≡ n
@@ -27,8 +16,8 @@ one_number : (m n : ℕ) → m < 2 ^ 32 → n < 2 ^ 32 → to_be_bytes w32 m ≡
 one_number m n f g e = sym (from_be_bytes-to_be_bytes_4 m f) ∙ ap (from_be_bytes w32) e ∙ from_be_bytes-to_be_bytes_4 n g
 
 -- a node's index has two bytes
-short_index : (n : NodeAt) → n.index < 2 ^ 16
-short_index n = below n.depth n.index n.shallow n.within
+short_index : (n : Node) → IsNode 3 n → n.index < 2 ^ 16
+short_index n is = below n.depth n.index is.shallow is.within
   where
     below : (depth index : ℕ) → depth ≤ 3 → index < 16 ^ depth → index < 2 ^ 16
     below zero index d i = omega arith
@@ -50,14 +39,16 @@ one_message (messages.Offer o) (messages.Ask b) f g e = absurd (omega (arith, ap
 one_message (messages.Offer o) (messages.Answer b) f g e = absurd (omega (arith, ap (λ (t : List ℕ). get_or t 0 0) e))
 one_message (messages.Ask a) (messages.Offer p) f g e = absurd (omega (arith, ap (λ (t : List ℕ). get_or t 0 0) e))
 one_message (messages.Ask a) (messages.Ask b) f g e =
-    let offer = one_number a.offer b.offer f g (ap (λ (t : List ℕ). take 4 (drop 1 t)) e) in
-    let node = one_node a.node b.node (ap (λ (t : List ℕ). get_or t 5 0) e) (one_index a.node.index b.node.index (short_index a.node) (short_index b.node) (ap (λ (t : List ℕ). drop 6 t) e)) in
-    λ i. messages.Ask (record { offer = offer i; node = node i })
+    let offer = one_number a.offer b.offer f.0 g.0 (ap (λ (t : List ℕ). take 4 (drop 1 t)) e) in
+    let depth = ap (λ (t : List ℕ). get_or t 5 0) e in
+    let index = one_index a.node.index b.node.index (short_index a.node f.1) (short_index b.node g.1) (ap (λ (t : List ℕ). drop 6 t) e) in
+    λ i. messages.Ask (record { offer = offer i; node = record { depth = depth i; index = index i } })
 one_message (messages.Ask a) (messages.Answer b) f g e = absurd (omega (arith, ap (λ (t : List ℕ). get_or t 0 0) e))
 one_message (messages.Answer a) (messages.Offer p) f g e = absurd (omega (arith, ap (λ (t : List ℕ). get_or t 0 0) e))
 one_message (messages.Answer a) (messages.Ask b) f g e = absurd (omega (arith, ap (λ (t : List ℕ). get_or t 0 0) e))
 one_message (messages.Answer a) (messages.Answer b) f g e =
-    let offer = one_number a.offer b.offer f g (ap (λ (t : List ℕ). take 4 (drop 1 t)) e) in
-    let node = one_node a.node b.node (ap (λ (t : List ℕ). get_or t 5 0) e) (one_index a.node.index b.node.index (short_index a.node) (short_index b.node) (ap (λ (t : List ℕ). take 2 (drop 6 t)) e)) in
+    let offer = one_number a.offer b.offer f.0 g.0 (ap (λ (t : List ℕ). take 4 (drop 1 t)) e) in
+    let depth = ap (λ (t : List ℕ). get_or t 5 0) e in
+    let index = one_index a.node.index b.node.index (short_index a.node f.1) (short_index b.node g.1) (ap (λ (t : List ℕ). take 2 (drop 6 t)) e) in
     let text = ap (λ (t : List ℕ). drop 16 t) e in
-    λ i. messages.Answer (record { offer = offer i; node = node i; text = text i })
+    λ i. messages.Answer (record { offer = offer i; node = record { depth = depth i; index = index i }; text = text i })

@@ -3,13 +3,13 @@ use Rattle.std.specs.Prelude.{◌≡◌, ◌<◌, ◌^◌, ℕ, List, ◌∷◌,
 use Rattle.std.specs.Int.{w16, w32, w64, to_be_bytes}
 use Rattle.vclock.specs.declared.refusal.Refusal.{Refusal}
 use Rattle.vclock.specs.declared.refusal.Refusal.TheVariants as refusals
-use Rattle.tree_nodes.specs.declared.node.NodeAt.{NodeAt}
+use Rattle.tree_nodes.specs.Nodes.{Node, IsNode}
 use Rattle.walk_messages.specs.declared.message.Answer.{Answer}
 use Rattle.walk_messages.specs.declared.message.Message.{Message}
 use Rattle.walk_messages.specs.declared.message.Message.TheVariants as messages
 
 -- the depth of a node, and its index there
-abbrev pub node_bytes : NodeAt → List ℕ
+abbrev pub node_bytes : Node → List ℕ
 node_bytes node = node.depth ∷ to_be_bytes w16 node.index
 
 -- the bytes of a message
@@ -18,12 +18,12 @@ message_text (messages.Offer o) = 1 ∷ to_be_bytes w32 o.offer ++ o.format ∷ 
 message_text (messages.Ask a) = 2 ∷ to_be_bytes w32 a.offer ++ node_bytes a.node
 message_text (messages.Answer a) = 3 ∷ to_be_bytes w32 a.offer ++ node_bytes a.node ++ to_be_bytes w64 (length a.text) ++ a.text
 
--- a message whose offer number and digest have their widths; the format and the range of an offer are bytes by their
--- types
+-- a message whose offer number and digest have their widths, and whose node is one of a tree; the format and the range
+-- of an offer are bytes by their types
 abbrev pub IsMessage : Message → Type 0
 IsMessage (messages.Offer o) = (o.offer < 2 ^ 32) × (length o.root ≡ 32)
-IsMessage (messages.Ask a) = a.offer < 2 ^ 32
-IsMessage (messages.Answer a) = a.offer < 2 ^ 32
+IsMessage (messages.Ask a) = (a.offer < 2 ^ 32) × IsNode 3 a.node
+IsMessage (messages.Answer a) = (a.offer < 2 ^ 32) × IsNode 3 a.node
 
 -- The result of decoding: the message with these bytes; BadMessage if no message has them; NoMemory only if an answer
 -- has them.

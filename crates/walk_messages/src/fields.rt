@@ -1,7 +1,7 @@
 //! The fields of messages, read from the left.
 ghost use Rattle.std.specs.Prelude.{◌≡◌, ◌<◌, ℕ, List, ◌∷◌, ◌++◌, length, MatchOption};
 ghost use Rattle.std.specs.Int.{w32, w64, to_be_bytes};
-ghost use Rattle.tree_nodes.specs.declared.node.NodeAt.{NodeAt};
+ghost use Rattle.tree_nodes.specs.Nodes.{Node, IsNode};
 ghost use Rattle.walk_messages.specs.declared.message.Answer.{Answer};
 ghost use Rattle.walk_messages.specs.declared.message.Ask.{Ask};
 ghost use Rattle.walk_messages.specs.declared.message.Offer.{Offer};
@@ -21,7 +21,7 @@ fn offer_number_at(bytes: &[u8]) -> Option<(u32, &[u8])>
 
 /// Returns a node and the bytes after it, or `None` if the bytes don't begin with a node.
 fn node_at(bytes: &[u8]) -> Option<(NodeAt, &[u8])>
-    ensures { MatchOption result ((n : NodeAt) (rest : List ℕ) → bytes.now ≡ node_bytes n ++ rest → ⊥) (λ x. bytes.now ≡ node_bytes x.0 ++ x.1.now) }
+    ensures { MatchOption result ((n : Node) (rest : List ℕ) → IsNode 3 n → bytes.now ≡ node_bytes n ++ rest → ⊥) (λ x. IsNode 3 x.0 × (bytes.now ≡ node_bytes x.0 ++ x.1.now)) }
 {
     let ([depth, high, low], rest) = bytes.split_first_chunk::<3>()?;
     let node = NodeAt::new(*depth, u16::from_be_bytes([*high, *low]))?;
@@ -31,10 +31,12 @@ fn node_at(bytes: &[u8]) -> Option<(NodeAt, &[u8])>
 /// Returns the number of an offer and a node, with which an ask and an answer begin, and the bytes after them, or
 /// `None` if the bytes don't begin with these.
 fn head_at(bytes: &[u8]) -> Option<(Ask, &[u8])>
-    ensures { MatchOption result ((a : Ask) (rest : List ℕ) → bytes.now ≡ to_be_bytes w32 a.offer ++ node_bytes a.node ++ rest → ⊥) (λ x. bytes.now ≡ to_be_bytes w32 x.0.offer ++ node_bytes x.0.node ++ x.1.now) }
+    ensures { MatchOption result ((a : Ask) (rest : List ℕ) → IsNode 3 a.node → bytes.now ≡ to_be_bytes w32 a.offer ++ node_bytes a.node ++ rest → ⊥) (λ x. IsNode 3 x.0.node × (bytes.now ≡ to_be_bytes w32 x.0.offer ++ node_bytes x.0.node ++ x.1.now)) }
 {
     let (offer, rest) = offer_number_at(bytes)?;
-    let (node, rest) = node_at(rest)?;
+    let Some((node, rest)) = node_at(rest) else {
+        return None;
+    };
     Some((Ask { offer, node }, rest))
 }
 
@@ -56,10 +58,12 @@ pub(crate) fn offer_of(fields: &[u8]) -> Option<Offer>
 /// Returns the ask with these fields, or `None` if no ask has them.
 #[tactic(auto, unfolding(crate::specs::Messages::message_text))]
 pub(crate) fn ask_of(fields: &[u8]) -> Option<Ask>
-    ensures { MatchOption result ((a : Ask) → message_text (messages.Ask a) ≡ 2 ∷ fields.now → ⊥) (λ a. IsMessage (messages.Ask a) × (message_text (messages.Ask a) ≡ 2 ∷ fields.now)) }
+    ensures { MatchOption result ((a : Ask) → IsMessage (messages.Ask a) → message_text (messages.Ask a) ≡ 2 ∷ fields.now → ⊥) (λ a. IsMessage (messages.Ask a) × (message_text (messages.Ask a) ≡ 2 ∷ fields.now)) }
 {
-    let (ask, rest) = head_at(fields)?;
-    if rest.is_empty() { Some(ask) } else { None }
+    match head_at(fields) {
+        Some((ask, [])) => Some(ask),
+        _ => None,
+    }
 }
 
 /// Returns the length of a text and the bytes after it, or `None` if there are fewer than eight bytes.
@@ -85,8 +89,10 @@ fn text_of(bytes: &[u8]) -> Option<&[u8]>
 /// Returns the offer's number, the node and the text of an answer with these fields, or `None` if no answer has them.
 #[tactic(auto, unfolding(crate::specs::Messages::message_text))]
 pub(crate) fn answer_parts_of(fields: &[u8]) -> Option<(Ask, &[u8])>
-    ensures { MatchOption result ((a : Answer) → message_text (messages.Answer a) ≡ 3 ∷ fields.now → ⊥) (λ x. let answer = messages.Answer (record { offer = x.0.offer; node = x.0.node; text = x.1.now }) in IsMessage answer × (message_text answer ≡ 3 ∷ fields.now)) }
+    ensures { MatchOption result ((a : Answer) → IsMessage (messages.Answer a) → message_text (messages.Answer a) ≡ 3 ∷ fields.now → ⊥) (λ x. let answer = messages.Answer (record { offer = x.0.offer; node = x.0.node; text = x.1.now }) in IsMessage answer × (message_text answer ≡ 3 ∷ fields.now)) }
 {
-    let (head, rest) = head_at(fields)?;
+    let Some((head, rest)) = head_at(fields) else {
+        return None;
+    };
     Some((head, text_of(rest)?))
 }

@@ -3,7 +3,7 @@ use Rattle.std.specs.Int.{w64, to_be_bytes}
 use Rattle.walk_messages.specs.Messages.{message_text}
 use Rattle.walk_messages.proofs.fields.answer_parts_of.Goals as goal
 
-pub returns-in_err-head : goal.returns-in_err-head
+pub returns-in_default : goal.returns-in_default
 unfolding message_text
-returns-in_err-head c =
-    rw c.from_residual.ensures (λ a e. c.in_err-head.ensures (record { offer = a.offer; node = a.node }) (to_be_bytes w64 (length a.text) ++ a.text) (sym (ap (λ (t : List ℕ). drop 1 t) e)))
+returns-in_default c =
+    λ a is e. c.in_default.ensures (record { offer = a.offer; node = a.node }) (to_be_bytes w64 (length a.text) ++ a.text) is.1 (sym (ap (λ (t : List ℕ). drop 1 t) e))
