@@ -5,14 +5,13 @@ use Rattle.std.proofs.lemmas.List.{get_or-set_same, get_or-set_other, get_or_pas
 use Rattle.std.proofs.lemmas.List.Sums.{AllPass-from_list_all}
 use Rattle.sha2.specs.Sha256.{sha256}
 use Rattle.vclock.specs.declared.format.Format.{Format}
-use Rattle.version_set.specs.declared.version.Version.{Version}
 use Rattle.row_bytes.specs.declared.row.Row.{Row}
 use Rattle.tree_nodes.specs.Nodes.{tree_depth, node_count, place_at, kept_digest, children_of, are_clean, ancestor_of, is_on_path, dirtied}
 use Rattle.tree_nodes.proofs.PlaceLaws.{Digests, same_place, place_within, child_place, child_within, ancestor_on_path}
 use Rattle.tree_nodes.proofs.TreeLaws.{no_digest, some_none, dirtied-at, child_at, sixteen_children, fresh-at}
-use Rattle.hash_tree.specs.Leaves.{AscendByKey, with_offer}
+use Rattle.hash_tree.specs.Leaves.{rows_in_leaf}
 use Rattle.hash_tree.specs.Texts.{node_text, node_digest, inner_text, AreTrue}
-use Rattle.hash_tree.proofs.TextLaws.{text_kept, per_child_is, inner_node}
+use Rattle.hash_tree.proofs.TextLaws.{text_apart, per_child_is, inner_node}
 
 some_is : (x y : List ℕ) → Some x ≡ Some y → x ≡ y
 some_is x y e = cc
@@ -24,18 +23,18 @@ true_fresh format leaf rows n depth height index d sum within e = absurd (some_n
 
 -- ---- digests that are right
 
--- A version of a key was journaled, and the path of its leaf made dirty.
-pub true_kept : (format : Format) (leaf : List ℕ → ℕ) (rows : List Row) (key : List ℕ) (v : Version) (digests : Digests) → AscendByKey rows → AreTrue format leaf rows digests → leaf key < 16 ^ tree_depth format
-    → AreTrue format leaf (with_offer key v rows) (dirtied format (leaf key) digests)
+-- The rows of one leaf changed, and the path of that leaf was made dirty.
+pub true_apart : (format : Format) (leaf : List ℕ → ℕ) (rows others : List Row) (there : ℕ) (digests : Digests) → ((i : ℕ) → i ≢ there → rows_in_leaf leaf i others ≡ rows_in_leaf leaf i rows) → AreTrue format leaf rows digests → there < 16 ^ tree_depth format
+    → AreTrue format leaf others (dirtied format there digests)
 unfolding AreTrue
-true_kept format leaf rows key v digests ascend right at depth height index d sum within e =
+true_apart format leaf rows others there digests same right at depth height index d sum within e =
     let place = place_at depth index in
-    elim (cases_Bool (is_on_path format (leaf key) place)) [
-      | inl on ↦ absurd (some_none d (sym (dirtied-at format (leaf key) place digests ∙ cond-true (is_on_path format (leaf key) place) no_digest (kept_digest digests place) on) ∙ e))
+    elim (cases_Bool (is_on_path format there place)) [
+      | inl on ↦ absurd (some_none d (sym (dirtied-at format there place digests ∙ cond-true (is_on_path format there place) no_digest (kept_digest digests place) on) ∙ e))
       | inr off ↦
-          let old : kept_digest digests place ≡ Some d = sym (dirtied-at format (leaf key) place digests ∙ cond-false (is_on_path format (leaf key) place) no_digest (kept_digest digests place) off) ∙ e in
-          let apart : index ≢ ancestor_of height (leaf key) = λ same. both_ways (is_on_path format (leaf key) place) off (subst (λ (i : ℕ). is_on_path format (leaf key) (place_at depth i) ≡ true) (sym same) (ancestor_on_path height depth (tree_depth format) (leaf key) sum at)) in
-          right depth height index d sum within old ∙ sym (ap sha256 (text_kept format leaf rows key v height index ascend apart))
+          let old : kept_digest digests place ≡ Some d = sym (dirtied-at format there place digests ∙ cond-false (is_on_path format there place) no_digest (kept_digest digests place) off) ∙ e in
+          let apart : index ≢ ancestor_of height there = λ e. both_ways (is_on_path format there place) off (subst (λ (i : ℕ). is_on_path format there (place_at depth i) ≡ true) (sym e) (ancestor_on_path height depth (tree_depth format) there sum at)) in
+          right depth height index d sum within old ∙ sym (ap sha256 (text_apart format leaf rows others there same height index apart))
     ]
 
 -- a digest that is read where it was written

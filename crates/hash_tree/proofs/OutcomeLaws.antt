@@ -1,5 +1,8 @@
 -- What holds around a call that has an outcome.
-use Rattle.std.proofs.Common.{◌≡◌, Result, Ok, Err, inl, inr, sym, ap, subst, ◌∙◌}
+use Rattle.std.proofs.Common.{◌≡◌, ◌⊎◌, Result, Ok, Err, Vec, Global, inl, inr, sym, ap, subst, ◌∙◌}
+use Rattle.std.proofs.lemmas.List.Elements.{same_from_all_zip}
+use Rattle.std.specs.Vec.{vec_len}
+use Rattle.std.specs.List.{AllZip}
 use Rattle.vclock.specs.declared.refusal.Refusal.{Refusal}
 use Rattle.vclock.specs.declared.refusal.Refusal.TheVariants.{NoMemory}
 use Rattle.vclock.specs.Outcome.{Outcome, gives, refuses, through, Does}
@@ -29,3 +32,8 @@ does_within f (Err m) old new s x was now e g h = (ap f h.0 ∙ e, elim h.1 [ in
 pub does_keep : {T S : Type 0} (P : S → Type 0) (r : Result T Refusal) (old new s : S) (x : T) → P old → P s → Does r old new (gives x s) → P new
 does_keep P (Ok y) old new s x was now is = subst P (ap (state_of s) is) now
 does_keep P (Err m) old new s x was now h = subst P (sym h.0) was
+
+-- a list of handles that is to be changed has the elements of the shared one
+pub unshared : {X : Type 0} (old now : Vec X Global) → (now ≡ old) ⊎ (AllZip (λ (x y : X). y ≡ x) old.items now.items × (vec_len now ≡ vec_len old)) → now.items ≡ old.items
+unshared {X = X} old now (inl same) = ap (λ (v : Vec X Global). v.items) same
+unshared {X = X} old now (inr copy) = same_from_all_zip (λ (x y : X). y ≡ x) old.items now.items copy.0 (λ x y e. e)

@@ -57,14 +57,19 @@ rows_kept leaf index key v rows ascend other =
     rows_at-with_offer leaf index key v rows ascend
     ∙ cond-false (nat_eq (leaf key) index) (with_offer key v (rows_in_leaf leaf index rows)) (rows_in_leaf leaf index rows) (ne_eqb (leaf key) index (λ e. other (sym e)))
 
--- A version of a key leaves the text of each node that doesn't lie above the key's leaf.
+-- Rows that differ in one leaf leave the text of each node that is not above that leaf.
+pub text_apart : (format : Format) (leaf : List ℕ → ℕ) (rows others : List Row) (there : ℕ) → ((i : ℕ) → i ≢ there → rows_in_leaf leaf i others ≡ rows_in_leaf leaf i rows)
+    → (height index : ℕ) → index ≢ ancestor_of height there → node_text format leaf others height index ≡ node_text format leaf rows height index
+unfolding node_text
+text_apart format leaf rows others there same zero index other = ap (leaf_text format) (same index other)
+text_apart format leaf rows others there same (suc height) index other =
+    ap (inner_text format) (per_child_same (λ j. sha256 (node_text format leaf others height (16 * index + j))) (λ j. sha256 (node_text format leaf rows height (16 * index + j)))
+    (λ j less. ap sha256 (text_apart format leaf rows others there same height (16 * index + j) (λ e. other (omega (arith, e))))))
+
+-- A version of a key leaves the text of each node that is not above the key's leaf.
 pub text_kept : (format : Format) (leaf : List ℕ → ℕ) (rows : List Row) (key : List ℕ) (v : Version) (height index : ℕ) → AscendByKey rows → index ≢ ancestor_of height (leaf key)
     → node_text format leaf (with_offer key v rows) height index ≡ node_text format leaf rows height index
-unfolding node_text
-text_kept format leaf rows key v zero index ascend other = ap (leaf_text format) (rows_kept leaf index key v rows ascend other)
-text_kept format leaf rows key v (suc height) index ascend other =
-    ap (inner_text format) (per_child_same (λ j. sha256 (node_text format leaf (with_offer key v rows) height (16 * index + j))) (λ j. sha256 (node_text format leaf rows height (16 * index + j)))
-    (λ j less. ap sha256 (text_kept format leaf rows key v height (16 * index + j) ascend (λ e. other (omega (arith, e))))))
+text_kept format leaf rows key v height index ascend other = text_apart format leaf rows (with_offer key v rows) (leaf key) (λ i apart. rows_kept leaf i key v rows ascend apart) height index other
 
 -- ---- how long texts are
 

@@ -1,24 +1,24 @@
 //! Consecutive rows of a leaf that several leaves may share.
-ghost use Rattle.std.specs.Prelude.{◌≡◌, ◌<◌, ◌≤◌, [], ◌∷◌, None, length, take, drop, slice_index_or};
-ghost use Rattle.std.specs.List.{flat_map, insert};
+ghost use Rattle.std.specs.Prelude.{◌≡◌, ◌<◌, ◌≤◌, [], ◌∷◌, None, length, take, drop};
+ghost use Rattle.std.specs.List.{insert};
 ghost use Rattle.vclock.specs.Answer.{Answers};
 ghost use Rattle.vclock.specs.Outcome.{Does, gives};
 ghost use Rattle.version_set.specs.Kind.{value_fault};
 ghost use Rattle.version_set.specs.Version.{offer_fault};
-ghost use Rattle.row_bytes.specs.Rows.{row_text, FitsText};
-ghost use Rattle.row_bytes.specs.declared.row.Row.{Row};
-ghost use Rattle.hash_tree.specs.Chunks.{chunk_text, begin_by, row_versions, offered_at};
+ghost use Rattle.row_bytes.specs.Rows.{FitsText};
+ghost use Rattle.hash_tree.specs.Chunks.{begin_by, row_versions, offered_at};
 
 use crate::written_rows::WrittenRows;
 use row_bytes::Row;
-use std::alloc::Global;
+use std::alloc::{AllocError, Global};
 use std::marker::Model;
+use std::ops::Deref;
 use std::sync::Arc;
 use vclock::{Bytes, Format, Refusal};
 use version_set::Version;
 
-/// Some consecutive rows of a leaf, at least one. Copies of the leaf share them until one is changed. The first key is
-/// stored in the chunk as well, so that a search among chunks reads no row. On error a chunk is unchanged.
+/// A handle of some consecutive rows of a leaf, at least one. Copies of the leaf share them until one is changed. The
+/// handle has the first key as well, so that a search among chunks reads no row. On error a chunk is unchanged.
 #[derive(Debug)]
 pub(crate) struct Chunk {
     first: Bytes,
@@ -38,6 +38,38 @@ impl Model for Chunk {
     ghost invariant = { λ c. (1 ≤ length (arc_value c.held).rows) × (c.first ≡ first_key (arc_value c.held).rows) };
 }
 
+impl Deref for Chunk {
+    type Target = WrittenRows;
+
+    ghost use Rattle.std.specs.Prelude.{◌≡◌};
+
+    ghost deref_gives = { λ chunk rows. rows ≡ chunk };
+
+    /// Returns the rows with their texts.
+    fn deref(&self) -> &WrittenRows
+        ensures { result.now ≡ self.now }
+    {
+        &self.held
+    }
+}
+
+impl Clone for Chunk {
+    ghost use Rattle.std.specs.Prelude.{◌≡◌};
+
+    ghost is_clone = { λ chunk copy. copy ≡ chunk };
+
+    /// Adds an owner to the rows, and returns its handle. Fails only if memory is needed. Copies no row.
+    fn clone(&self) -> Result<Chunk, AllocError> {
+        let Ok(first) = self.first.try_clone() else {
+            return Err(AllocError);
+        };
+        Ok(Chunk {
+            first,
+            held: Arc::try_clone(&self.held)?,
+        })
+    }
+}
+
 impl Chunk {
     /// Creates a chunk with one row. Refused: NoMemory.
     pub(crate) fn of_row(alloc: Global, format: Format, row: Row) -> Result<Chunk, Refusal>
@@ -53,59 +85,11 @@ impl Chunk {
         })
     }
 
-    /// Returns the rows, in ascending order of key.
-    pub(crate) fn rows(&self) -> &[Row]
-        ensures { result.now ≡ self.now.rows }
-    {
-        self.held.rows()
-    }
-
-    /// Returns the row at a place.
-    pub(crate) fn row(&self, at: usize) -> &Row
-        requires { at < length self.now.rows }
-        ensures { (d : Row) → result.now ≡ slice_index_or self.now.rows at d }
-    {
-        &self.rows()[at]
-    }
-
     /// Returns true if the first key is at most `key`. Reads no row.
     pub(crate) fn begins_by(&self, key: &[u8]) -> bool
         ensures { result ≡ begin_by key.now self.now.rows }
     {
         self.first.as_slice().cmp(key).is_le()
-    }
-
-    /// Returns the texts of the rows, one after another.
-    pub(crate) fn text(&self) -> &[u8]
-        ensures { result.now ≡ chunk_text self.now }
-    {
-        self.held.text()
-    }
-
-    /// Returns the text of the row at a place.
-    pub(crate) fn row_text(&self, at: usize) -> &[u8]
-        requires { at < length self.now.rows }
-        ensures { (d : Row) → result.now ≡ row_text self.now.format (slice_index_or self.now.rows at d) }
-    {
-        self.held.row_text(at)
-    }
-
-    /// Returns the texts of the rows from a place on, one after another.
-    pub(crate) fn texts_from(&self, at: usize) -> &[u8]
-        requires { at < length self.now.rows }
-        ensures { result.now ≡ flat_map (row_text self.now.format) (drop at self.now.rows) }
-    {
-        self.held.texts_from(at)
-    }
-
-    /// Adds an owner to the rows, and returns its handle. Refused: NoMemory. Copies no row.
-    pub(crate) fn share(&self) -> Result<Chunk, Refusal>
-        ensures { Answers result None (λ shared. shared ≡ self.now) }
-    {
-        Ok(Chunk {
-            first: self.first.try_clone()?,
-            held: Arc::try_clone(&self.held)?,
-        })
     }
 
     /// Offers a version to the set of the row at a place, which has room for it. If the rows have other owners, a copy
@@ -148,11 +132,7 @@ impl Chunk {
     {
         let first = self.held.rows()[at].key.try_clone()?;
         let mut held = Arc::new(alloc, WrittenRows::none(alloc, self.held.format()))?;
-        // This always succeeds, since `held` has no other owner. The contract of `get_mut` doesn't say so: in a
-        // contract, an `Arc` is its value, without the number of its owners.
-        let Some(back) = Arc::get_mut(&mut held) else {
-            return Err(Refusal::NoMemory);
-        };
+        let back = Arc::make_mut(&mut held)?;
         *back = Arc::make_mut(&mut self.held)?.split(alloc, at)?;
         Ok(Chunk { first, held })
     }

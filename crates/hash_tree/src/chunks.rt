@@ -145,17 +145,6 @@ pub(crate) fn text_len(chunks: &[Chunk]) -> u128
     len
 }
 
-/// Adds an owner to each chunk, and returns the chunks. Refused: NoMemory. Copies no row.
-pub(crate) fn share_chunks(alloc: Global, chunks: &[Chunk]) -> Result<Vec<Chunk>, Refusal>
-    ensures { Answers result None (λ copy. copy.items ≡ chunks.now) }
-{
-    let mut copy = Vec::with_capacity(alloc, chunks.len())?;
-    for chunk in chunks {
-        copy.push(chunk.share()?)?;
-    }
-    Ok(copy)
-}
-
 /// Offers a version to the set of a key, which has room for it. If the key has no row, one is added. Looks for the row
 /// at a spot first. On error the rows are unchanged. Refused: NoMemory.
 pub(crate) fn offer_to_key(

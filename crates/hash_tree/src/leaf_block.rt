@@ -10,7 +10,7 @@ ghost use Rattle.hash_tree.specs.Blocks.{nth_leaf, leaf_with_offer};
 
 use crate::chunks::Spot;
 use crate::shared_leaf::SharedLeaf;
-use std::alloc::Global;
+use std::alloc::{AllocError, Global};
 use std::marker::Model;
 use std::sync::Arc;
 use vclock::{Bytes, Format, Refusal};
@@ -39,6 +39,19 @@ impl Model for LeafBlock {
     ghost invariant = { λ b. length (vec_items (arc_value b.leaves)) ≡ 64 };
 }
 
+impl Clone for LeafBlock {
+    ghost use Rattle.std.specs.Prelude.{◌≡◌};
+
+    ghost is_clone = { λ block copy. copy ≡ block };
+
+    /// Adds an owner to the leaves, and returns its handle. Fails only if memory is needed. Copies no leaf.
+    fn clone(&self) -> Result<LeafBlock, AllocError> {
+        Ok(LeafBlock {
+            leaves: Arc::try_clone(&self.leaves)?,
+        })
+    }
+}
+
 impl LeafBlock {
     /// Creates a block of leaves without rows. Refused: NoMemory.
     pub(crate) fn empty(alloc: Global, format: Format) -> Result<LeafBlock, Refusal>
@@ -58,9 +71,8 @@ impl LeafBlock {
         requires { length leaves.now ≡ 64 }
         ensures { Answers result None (λ block. block ≡ leaves.now) }
     {
-        let leaves = share_leaves(alloc, leaves)?;
         Ok(LeafBlock {
-            leaves: Arc::new(alloc, leaves)?,
+            leaves: Arc::new(alloc, Vec::from_clones(alloc, leaves)?)?,
         })
     }
 
@@ -72,31 +84,14 @@ impl LeafBlock {
         &self.leaves[at]
     }
 
-    /// Adds an owner to the leaves, and returns its handle. Refused: NoMemory. Copies no leaf.
-    pub(crate) fn share(&self) -> Result<LeafBlock, Refusal>
-        ensures shared { Answers result None (λ shared. shared ≡ self.now) }
-        ensures valid { length self.now ≡ 64 }
-    {
-        Ok(LeafBlock {
-            leaves: Arc::try_clone(&self.leaves)?,
-        })
-    }
-
-    /// Returns a block with another leaf at an index. The other leaves are shared. Refused: NoMemory.
-    pub(crate) fn with_leaf(
-        &self,
-        alloc: Global,
-        at: usize,
-        leaf: SharedLeaf,
-    ) -> Result<LeafBlock, Refusal>
+    /// Replaces the leaf at an index. If the leaves have other owners, a block that shares the others is changed. Refused:
+    /// NoMemory.
+    pub(crate) fn set(&mut self, at: usize, leaf: SharedLeaf) -> Result<(), Refusal>
         requires { at < 64 }
-        ensures { Answers result None (λ block. block ≡ slice_set self.now at leaf) }
+        ensures { Does result self.old self.new (gives tt (slice_set self.old at leaf)) }
     {
-        let mut leaves = share_leaves(alloc, &self.leaves)?;
-        leaves[at] = leaf;
-        Ok(LeafBlock {
-            leaves: Arc::new(alloc, leaves)?,
-        })
+        Arc::make_mut(&mut self.leaves)?[at] = leaf;
+        Ok(())
     }
 
     /// Offers a version to the set of a key in the leaf at an index. If the leaves have other owners, a block that
@@ -113,28 +108,12 @@ impl LeafBlock {
         requires key { key_fault key.now ≡ None }
         requires value { value_fault (nth_leaf self.old at).format version.kind version.value ≡ None }
         requires room { offer_fault version (versions_in key.now (nth_leaf self.old at).rows) ≡ None }
-        ensures { Does result self.old self.new
+        ensures offered { Does result self.old self.new
             (gives tt (slice_set self.old at (leaf_with_offer key.now version (nth_leaf self.old at)))) }
+        ensures valid { length self.new ≡ 64 }
     {
-        if let Some(leaves) = Arc::get_mut(&mut self.leaves) {
-            return leaves[at].offer(alloc, near, key, version);
-        }
-        let mut leaves = share_leaves(alloc, &self.leaves)?;
-        leaves[at].offer(alloc, near, key, version)?;
-        self.leaves = Arc::new(alloc, leaves)?;
-        Ok(())
+        Arc::make_mut(&mut self.leaves)?[at].offer(alloc, near, key, version)
     }
-}
-
-/// Adds an owner to each leaf, and returns the leaves. Refused: NoMemory. Copies no row.
-fn share_leaves(alloc: Global, leaves: &[SharedLeaf]) -> Result<Vec<SharedLeaf>, Refusal>
-    ensures { Answers result None (λ copy. copy.items ≡ leaves.now) }
-{
-    let mut copy = Vec::with_capacity(alloc, leaves.len())?;
-    for leaf in leaves {
-        copy.push(leaf.share()?)?;
-    }
-    Ok(copy)
 }
 
 impl Drop for LeafBlock {

@@ -7,7 +7,6 @@ ghost use Rattle.version_set.specs.Kind.{value_fault};
 ghost use Rattle.version_set.specs.Version.{offer_fault};
 ghost use Rattle.hash_tree.specs.Leaves.{Bucket, versions_in};
 ghost use Rattle.tree_nodes.specs.Nodes.{tree_depth};
-ghost use Rattle.tree_nodes.specs.Blocks.{joined, AreOf};
 ghost use Rattle.hash_tree.specs.Blocks.{nth_leaf, leaf_with_offer};
 
 use crate::chunks::Spot;
@@ -51,7 +50,7 @@ impl Leaves {
         let block = LeafBlock::empty(alloc, format)?;
         let mut blocks = Vec::with_capacity(alloc, count)?;
         for _ in 0..count {
-            blocks.push(block.share()?)?;
+            blocks.push(block.clone()?)?;
         }
         Ok(Leaves {
             blocks: Arc::new(alloc, blocks)?,
@@ -79,11 +78,12 @@ impl Leaves {
     }
 
     /// Returns the leaf with an index. Doesn't allocate.
+    #[tactic(auto, using(tree_nodes::proofs::BlockLaws::number_within))]
     pub fn get(&self, leaf: u16) -> &SharedLeaf
         requires { leaf < length self.now }
         ensures { (d : Bucket) → result.now ≡ slice_index_or self.now leaf d }
     {
-        let leaf = usize::from(leaf);
+        let leaf = leaf as usize;
         self.blocks[leaf / BLOCK_LEN].get(leaf % BLOCK_LEN)
     }
 
@@ -97,14 +97,14 @@ impl Leaves {
     }
 
     /// Returns the leaves with another one at an index. All else is shared. Refused: NoMemory.
+    #[tactic(auto, using(tree_nodes::proofs::BlockLaws::number_within))]
     pub fn with_leaf(&self, alloc: Global, leaf: u16, new: SharedLeaf) -> Result<Leaves, Refusal>
         requires { leaf < length self.now }
         ensures { Answers result None (λ all. all ≡ slice_set self.now leaf new) }
     {
-        let leaf = usize::from(leaf);
-        let number = leaf / BLOCK_LEN;
-        let mut blocks = share_blocks(alloc, &self.blocks)?;
-        blocks[number] = self.blocks[number].with_leaf(alloc, leaf % BLOCK_LEN, new)?;
+        let leaf = leaf as usize;
+        let mut blocks = Vec::from_clones(alloc, &self.blocks)?;
+        blocks[leaf / BLOCK_LEN].set(leaf % BLOCK_LEN, new)?;
         Ok(Leaves {
             blocks: Arc::new(alloc, blocks)?,
         })
@@ -113,6 +113,7 @@ impl Leaves {
     /// Offers a version to the set of a key in the leaf with an index, which has room for it. Looks for the row at the
     /// spot `near` first. What has other owners is copied first, by handles; if nothing has, the leaf is changed in
     /// place. Refused: NoMemory.
+    #[tactic(auto, using(tree_nodes::proofs::BlockLaws::number_within))]
     pub fn offer(
         &mut self,
         alloc: Global,
@@ -128,13 +129,9 @@ impl Leaves {
         ensures { Does result self.old self.new
             (gives tt (slice_set self.old leaf (leaf_with_offer key.now version (nth_leaf self.old leaf)))) }
     {
-        if let Some(blocks) = Arc::get_mut(&mut self.blocks) {
-            return offer_to_leaf(alloc, blocks, leaf, near, key, version);
-        }
-        let mut blocks = share_blocks(alloc, &self.blocks)?;
-        offer_to_leaf(alloc, &mut blocks, leaf, near, key, version)?;
-        self.blocks = Arc::new(alloc, blocks)?;
-        Ok(())
+        let leaf = leaf as usize;
+        let blocks = Arc::make_mut(&mut self.blocks)?;
+        blocks[leaf / BLOCK_LEN].offer(alloc, leaf % BLOCK_LEN, near, key, version)
     }
 }
 
@@ -146,40 +143,6 @@ fn block_count(format: Format) -> usize
         Format::One => 4,
         Format::Two => 64,
     }
-}
-
-/// Adds an owner to each block, and returns the blocks. Refused: NoMemory. Copies no leaf.
-fn share_blocks(alloc: Global, blocks: &[LeafBlock]) -> Result<Vec<LeafBlock>, Refusal>
-    ensures { Answers result None (λ copy. copy.items ≡ blocks.now) }
-{
-    let mut copy = Vec::with_capacity(alloc, blocks.len())?;
-    for block in blocks {
-        copy.push(block.share()?)?;
-    }
-    Ok(copy)
-}
-
-/// Offers a version to the set of a key in the leaf with an index, which has room for it. On error the leaves are
-/// unchanged. Refused: NoMemory.
-fn offer_to_leaf(
-    alloc: Global,
-    blocks: &mut Vec<LeafBlock>,
-    leaf: u16,
-    near: Spot,
-    key: &Bytes,
-    version: Version,
-) -> Result<(), Refusal>
-    requires blocks { AreOf 64 blocks.old.items }
-    requires leaf { leaf < length (joined blocks.old.items) }
-    requires key { key_fault key.now ≡ None }
-    requires value { value_fault (nth_leaf (joined blocks.old.items) leaf).format version.kind version.value ≡ None }
-    requires room { offer_fault version (versions_in key.now (nth_leaf (joined blocks.old.items) leaf).rows) ≡ None }
-    ensures leaves { let all = joined blocks.old.items in Does result all (joined blocks.new.items)
-        (gives tt (slice_set all leaf (leaf_with_offer key.now version (nth_leaf all leaf)))) }
-    ensures blocks { AreOf 64 blocks.new.items }
-{
-    let leaf = usize::from(leaf);
-    blocks[leaf / BLOCK_LEN].offer(alloc, leaf % BLOCK_LEN, near, key, version)
 }
 
 impl Drop for Leaves {

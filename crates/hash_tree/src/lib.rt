@@ -32,4 +32,4 @@ pub use leaves::Leaves;
 pub use row_runs::RowRuns;
 pub use shared_leaf::SharedLeaf;
 pub use texts::{INNER_LEN, inner_byte, inner_text, leaf_byte, leaf_text, put_inner_text};
-pub use tree_nodes::{Digest, Hashed, Marks, NodeAt, SharedDigests, Text, hash, tree_depth};
+pub use tree_nodes::{Digest, Hashed, Marks, NodeAt, hash};

@@ -2,19 +2,18 @@
 ghost use Rattle.std.specs.Prelude.{◌≡◌, ◌↔◌, ◌++◌, ◌+◌, ◌<◌, ◌≤◌, [], ⊤, None, IsTrue, length, unwrap_or, option_map, MatchOption, OnOk, OnErr};
 ghost use Rattle.std.specs.List.{flat_map};
 ghost use Rattle.std.specs.Vec.{vec_capacity};
-ghost use Rattle.std.specs.Arc.{arc_value};
 ghost use Rattle.vclock.specs.Answer.{Answers};
 ghost use Rattle.vclock.specs.Bytes.{key_fault};
 ghost use Rattle.vclock.specs.Outcome.{Does, gives};
 ghost use Rattle.version_set.specs.Kind.{value_fault};
 ghost use Rattle.version_set.specs.Version.{offer_fault};
 ghost use Rattle.row_bytes.specs.Rows.{row_text};
-ghost use Rattle.hash_tree.specs.Leaves.{AscendByKey, IsBucket, FindsRow, FindsRun, versions_in, with_offer};
+ghost use Rattle.hash_tree.specs.Leaves.{IsBucket, FindsRow, FindsRun, versions_in, with_offer};
 ghost use Rattle.hash_tree.specs.Chunks.{all_rows, AreChunks};
 ghost use Rattle.hash_tree.specs.Texts.{leaf_text};
 
 use crate::chunk::Chunk;
-use crate::chunks::{Spot, offer_to_key, share_chunks, spot_of, text_len};
+use crate::chunks::{Spot, offer_to_key, spot_of, text_len};
 use crate::comparison::is_chunked_text;
 use crate::row_runs::RowRuns;
 use crate::texts::{leaf_byte, put_chunks};
@@ -55,6 +54,20 @@ impl Model for SharedLeaf {
         × AreChunks s.format (unwrap_or (option_map (λ c. vec_items (arc_value c)) s.chunks) []) };
 }
 
+impl Clone for SharedLeaf {
+    ghost use Rattle.std.specs.Prelude.{◌≡◌};
+
+    ghost is_clone = { λ leaf copy. copy ≡ leaf };
+
+    /// Adds an owner to the leaf, and returns its handle. Fails only if memory is needed. Copies no row.
+    fn clone(&self) -> Result<SharedLeaf, AllocError> {
+        Ok(SharedLeaf {
+            format: self.format,
+            chunks: self.chunks.clone()?,
+        })
+    }
+}
+
 impl SharedLeaf {
     /// Creates a leaf without rows. Doesn't allocate.
     pub fn empty(format: Format) -> SharedLeaf
@@ -84,14 +97,7 @@ impl SharedLeaf {
     pub fn share(&self) -> Result<SharedLeaf, Refusal>
         ensures { Answers result None (λ shared. shared ≡ self.now) }
     {
-        let chunks = match &self.chunks {
-            Some(chunks) => Some(Arc::try_clone(chunks)?),
-            None => None,
-        };
-        Ok(SharedLeaf {
-            format: self.format,
-            chunks,
-        })
+        Ok(self.clone()?)
     }
 
     /// Appends the text of the leaf, copied from its chunks. Fails only if memory is needed beyond the room of `out`,
@@ -199,7 +205,10 @@ impl SharedLeaf {
             (gives tt (record self.old { rows = with_offer key.now version self.old.rows })) }
     {
         match &mut self.chunks {
-            Some(chunks) => offer_to(alloc, self.format, chunks, near, key, version),
+            Some(chunks) => {
+                let chunks = Arc::make_mut(chunks)?;
+                offer_to_key(alloc, self.format, chunks, near, key, version)
+            }
             None => {
                 let mut chunks = Vec::new(alloc);
                 offer_to_key(alloc, self.format, &mut chunks, near, key, version)?;
@@ -220,34 +229,6 @@ impl SharedLeaf {
             None => &[],
         }
     }
-}
-
-/// Offers a version to the set of a key, which has room for it, among the rows of chunks. If the chunks have other
-/// owners, a changed copy replaces them. On error the rows are unchanged. Refused: NoMemory.
-fn offer_to(
-    alloc: Global,
-    format: Format,
-    shared: &mut Arc<Vec<Chunk>, Global>,
-    near: Spot,
-    key: &Bytes,
-    version: Version,
-) -> Result<(), Refusal>
-    requires ascending { AscendByKey (all_rows (arc_value shared.old).items) }
-    requires key { key_fault key.now ≡ None }
-    requires value { value_fault format version.kind version.value ≡ None }
-    requires room { offer_fault version (versions_in key.now (all_rows (arc_value shared.old).items)) ≡ None }
-    requires chunks { AreChunks format (arc_value shared.old).items }
-    ensures rows { Does result (all_rows (arc_value shared.old).items) (all_rows (arc_value shared.new).items)
-        (gives tt (with_offer key.now version (all_rows (arc_value shared.old).items))) }
-    ensures chunks { AreChunks format (arc_value shared.new).items }
-{
-    if let Some(chunks) = Arc::get_mut(shared) {
-        return offer_to_key(alloc, format, chunks, near, key, version);
-    }
-    let mut copy = share_chunks(alloc, shared)?;
-    offer_to_key(alloc, format, &mut copy, near, key, version)?;
-    *shared = Arc::new(alloc, copy)?;
-    Ok(())
 }
 
 /// Makes room for `len` more bytes. Fails only if memory is needed.

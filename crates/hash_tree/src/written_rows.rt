@@ -56,11 +56,18 @@ impl Clone for WrittenRows {
 
     ghost is_clone = { λ rows copy. copy ≡ rows };
 
+    /// Returns equal rows. Fails only if memory is needed.
     fn clone(&self) -> Result<WrittenRows, AllocError> {
-        match self.try_clone(*self.text.allocator()) {
-            Ok(copy) => Ok(copy),
-            Err(_) => Err(AllocError),
-        }
+        let alloc = *self.text.allocator();
+        let Ok(rows) = clone_rows(alloc, &self.rows) else {
+            return Err(AllocError);
+        };
+        Ok(WrittenRows {
+            format: self.format,
+            rows,
+            lens: Vec::from_slice(alloc, &self.lens)?,
+            text: Vec::from_slice(alloc, &self.text)?,
+        })
     }
 }
 
@@ -77,18 +84,6 @@ impl WrittenRows {
         }
     }
 
-    /// Returns equal rows. Refused: NoMemory.
-    fn try_clone(&self, alloc: Global) -> Result<WrittenRows, Refusal>
-        ensures { Answers result None (λ copy. copy ≡ self.now) }
-    {
-        Ok(WrittenRows {
-            format: self.format,
-            rows: clone_rows(alloc, &self.rows)?,
-            lens: Vec::from_slice(alloc, &self.lens)?,
-            text: Vec::from_slice(alloc, &self.text)?,
-        })
-    }
-
     /// Returns the format of the rows.
     pub(crate) fn format(&self) -> Format
         ensures { result ≡ self.now.format }
@@ -101,6 +96,14 @@ impl WrittenRows {
         ensures { result.now ≡ self.now.rows }
     {
         self.rows.as_slice()
+    }
+
+    /// Returns the row at a place.
+    pub(crate) fn row(&self, at: usize) -> &Row
+        requires { at < length self.now.rows }
+        ensures { (d : Row) → result.now ≡ slice_index_or self.now.rows at d }
+    {
+        &self.rows[at]
     }
 
     /// Returns the texts of the rows, one after another.

@@ -28,11 +28,11 @@ returns-then-follows c =
       (λ t. record {
         chunk = c.in-Some.chunk.now;
         there = slice_get_read chunks (length chunks) gap.chunk c.in-Some.chunk.now refl c.in-Some.ensures.lookup.3.0 c.in-Some.ensures.lookup.1;
-        follows = subst (λ (rs : List Row). Follows k rs gap) c.rows.ensures (c.follows.ensures.0 c.if-follows.true);
-        precedes = subst (λ (rs : List Row). Precedes k rs (length chunks) gap) c.rows-then-follows.ensures (c.precedes.ensures.0 t);
+        follows = subst (λ (rs : List Row). Follows k rs gap) (c.rows.ensures ∙ ap (λ (b : Bucket). b.rows) c.deref.ensures) (c.follows.ensures.0 c.if-follows.true);
+        precedes = subst (λ (rs : List Row). Precedes k rs (length chunks) gap) (c.rows-then-follows.ensures ∙ ap (λ (b : Bucket). b.rows) c.deref-then-follows.ensures) (c.precedes.ensures.0 t);
       }),
       λ at.
-          let same : at.chunk.rows ≡ c.rows-then-follows.result.now = ap (λ (b : Bucket). b.rows) (sym (found (goal.at.returns-then-follows c).In-Some at)) ∙ sym c.rows-then-follows.ensures in
+          let same : at.chunk.rows ≡ c.rows-then-follows.result.now = ap (λ (b : Bucket). b.rows) (sym (found (goal.at.returns-then-follows c).In-Some at) ∙ sym c.deref-then-follows.ensures) ∙ sym c.rows-then-follows.ensures in
           c.precedes.ensures.1 (subst (λ (rs : List Row). Precedes k rs (length chunks) gap) same at.precedes),
     )
 
@@ -40,7 +40,7 @@ pub returns-else-follows : goal.returns-else-follows
 returns-else-follows c = (
   (λ t. absurd (cc)),
   λ at.
-      let same : at.chunk.rows ≡ c.rows.result.now = ap (λ (b : Bucket). b.rows) (sym (found (goal.at.returns-else-follows c).In-Some at)) ∙ sym c.rows.ensures in
+      let same : at.chunk.rows ≡ c.rows.result.now = ap (λ (b : Bucket). b.rows) (sym (found (goal.at.returns-else-follows c).In-Some at) ∙ sym c.deref.ensures) ∙ sym c.rows.ensures in
       let yes = c.follows.ensures.1 (subst (λ (rs : List Row). Follows c.args.key.now rs c.args.gap) same at.follows) in
       absurd (cc),
 )

@@ -29,7 +29,7 @@ returns-in-None c =
       (λ h. absurd (cc)),
       λ at.
           let chunk : c.in-Some.chunk.now ≡ at.chunk = found.1 ∙ get_or_from_slice_get chunks c.args.spot.chunk at.chunk c.in-Some.chunk.now at.there in
-          let rows : c.rows.result.now ≡ at.chunk.rows = c.rows.ensures ∙ ap (λ (b : Bucket). b.rows) chunk in
+          let rows : c.rows.result.now ≡ at.chunk.rows = c.rows.ensures ∙ ap (λ (b : Bucket). b.rows) (c.deref.ensures ∙ chunk) in
           let within : c.args.spot.at < length c.rows.result.now = subst (λ (rs : List Row). c.args.spot.at < length rs) (sym rows) (slice_get_within at.chunk.rows c.args.spot.at at.row at.row_is) in
           absurd (grind (arith, nat_tests)),
     )
@@ -41,7 +41,7 @@ returns-in-Some-get c =
     let found = c.in-Some.ensures.lookup in
     let there = slice_get_read chunks (length chunks) c.args.spot.chunk c.in-Some.chunk.now refl found.3.0 found.1 in
     let read = slice_get_read rows (length rows) c.args.spot.at c.in-Some-get.row.now refl c.in-Some-get.ensures.lookup.3.0 c.in-Some-get.ensures.lookup.1 in
-    let row : slice_get c.in-Some.chunk.now.rows c.args.spot.at ≡ Some c.in-Some-get.row.now = ap (λ (rs : List Row). slice_get rs c.args.spot.at) (sym c.rows.ensures) ∙ read in (
+    let row : slice_get c.in-Some.chunk.now.rows c.args.spot.at ≡ Some c.in-Some-get.row.now = ap (λ (rs : List Row). slice_get rs c.args.spot.at) (ap (λ (b : Bucket). b.rows) (sym c.deref.ensures) ∙ sym c.rows.ensures) ∙ read in (
       (λ t. record { chunk = c.in-Some.chunk.now; there = there; row = c.in-Some-get.row.now; row_is = row; key = search rules }),
       λ at.
           let chunk : c.in-Some.chunk.now ≡ at.chunk = found.1 ∙ get_or_from_slice_get chunks c.args.spot.chunk at.chunk c.in-Some.chunk.now at.there in

@@ -1,4 +1,4 @@
-use Rattle.std.proofs.Common.{ℕ, List, length, take, ap, arith}
+use Rattle.std.proofs.Common.{◌∙◌, ℕ, List, length, take, ap, arith}
 use Rattle.std.specs.List.{flat_map}
 use Rattle.std.proofs.lemmas.List.{length-append}
 use Rattle.row_bytes.proofs.TextLengthLaws.{on_err}
@@ -13,4 +13,4 @@ returns-in_err-extend_from_slice-clause-room c =
     let out = c.args.out.now.items in
     let behind = flat_map chunk_text (take l.chunk-index chunks) in
     on_err c.from_residual.result
-    (omega (arith, part_within chunk_text chunks l.chunk-index c.chunk-item.result c.loop-chunk-test.true c.chunk-item.is, ap (λ (t : List ℕ). length t) l.invariant.so_far, length-append out behind, l.invariant.room, ap (λ (t : List ℕ). length t) c.text.ensures, c.in_err-extend_from_slice.ensures.full, l.out.ok.0))
+    (omega (arith, part_within chunk_text chunks l.chunk-index c.chunk-item.result c.loop-chunk-test.true c.chunk-item.is, ap (λ (t : List ℕ). length t) l.invariant.so_far, length-append out behind, l.invariant.room, ap (λ (t : List ℕ). length t) (c.text.ensures ∙ ap chunk_text c.deref.ensures), c.in_err-extend_from_slice.ensures.full, l.out.ok.0))

@@ -10,7 +10,7 @@ invariant_of-self-2 c =
     let s = c.self.inside in
     let at = c.args.at in
     let old = (arc_value s.held).rows in
-    let rows : (arc_value (c.make_mut.follows.lender c.split.new.self)).rows ≡ take at old = search rules in
+    let rows : (arc_value (c.make_mut-2.follows.lender c.split.new.self)).rows ≡ take at old = search rules in
     let within : at < length old = subst (λ (b : Bucket). c.args.at < length b.rows) (sym c.self.view_is) c.requires.within in
     let some : 1 ≤ length (take at old) = omega (arith, length-take-le at old (omega (arith, within)), c.requires.some) in
     rw rows (some, c.self.invariant.1 ∙ sym (first-take old at c.requires.some))

@@ -9,13 +9,13 @@ returns-in_default-clause-found c =
 
 pub split_at-requires : goal.split_at-requires
 split_at-requires c =
-    omega (arith, spot_within c.args.key.now c.chunks-chunks.result.now c.in-Ok.spot c.index-chunks-spot.result c.in-Ok.ensures c.index-chunks-spot.is, ap length c.rows.ensures)
+    omega (arith, spot_within c.args.key.now c.chunks-chunks.result.now c.in-Ok.spot c.index-chunks-spot.result c.in-Ok.ensures c.index-chunks-spot.is, ap length (c.rows.ensures ∙ ap (λ (b : Bucket). b.rows) c.deref.ensures))
 
 pub texts_from-requires : goal.texts_from-requires
-texts_from-requires c = spot_within c.args.key.now c.chunks-chunks.result.now c.in-Ok.spot c.index-chunks-spot.result c.in-Ok.ensures c.index-chunks-spot.is
+texts_from-requires c = rw c.deref-2.ensures (spot_within c.args.key.now c.chunks-chunks.result.now c.in-Ok.spot c.index-chunks-spot.result c.in-Ok.ensures c.index-chunks-spot.is)
 
 pub returns-clause-found : goal.returns-clause-found
 returns-clause-found c =
-    let run = c.split_at.ensures.back ∙ ap (drop c.in-Ok.spot.at) c.rows.ensures in
+    let run = c.split_at.ensures.back ∙ ap (drop c.in-Ok.spot.at) (c.rows.ensures ∙ ap (λ (b : Bucket). b.rows) c.deref.ensures) in
     subst (λ (b : Bucket). IsRun b.rows c.args.key.now c.split_at.result.1.now) c.chunks-chunks.ensures.rows
     (subst (IsRun _ c.args.key.now) (sym run) (spot_run c.args.key.now c.chunks-chunks.result.now c.in-Ok.spot c.index-chunks-spot.result c.in-Ok.ensures c.index-chunks-spot.is))
