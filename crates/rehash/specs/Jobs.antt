@@ -1,13 +1,13 @@
 -- Jobs: nodes whose texts are to be hashed.
 use Rattle.std.specs.Prelude.{ℕ, List, length}
 use Rattle.hash_tree.specs.Texts.{leaf_text, inner_text}
-use Rattle.tree_nodes.specs.declared.node.NodeAt.{NodeAt}
+use Rattle.tree_nodes.specs.Nodes.{Node}
 use Rattle.rehash.specs.declared.source.TextSource.{TextSource}
 use Rattle.rehash.specs.declared.source.TextSource.TheVariants.{Leaf, Children}
 
 -- a node and its text
 pub record NodeText : Type 0 where
-  pub node : NodeAt
+  pub node : Node
   pub text : List ℕ
 
 -- the text from a source: a leaf, or the digests of the children

@@ -3,10 +3,10 @@ ghost use Rattle.std.specs.Prelude.{◌≡◌, None, map};
 ghost use Rattle.vclock.specs.Answer.{Answers};
 
 use crate::job::{Job, run_job};
-use hash_tree::Hashed;
 use rayon::prelude::*;
 use std::alloc::Global;
 use std::thread::Threads;
+use tree_nodes::Hashed;
 use vclock::Refusal;
 
 /// The least number of bytes that a thread is to write and hash, so that it is worth starting.

@@ -4,9 +4,10 @@ ghost use Rattle.vclock.specs.Answer.{Answers};
 ghost use Rattle.hash_tree.specs.Texts.{leaf_text, inner_text};
 
 use crate::source::TextSource;
-use hash_tree::{Digest, Hashed, INNER_LEN, NodeAt, SharedLeaf, Text, hash, put_inner_text};
+use hash_tree::{INNER_LEN, SharedLeaf, put_inner_text};
 use std::alloc::Global;
 use std::marker::Model;
+use tree_nodes::{Digest, Hashed, NodeAt, Text, hash};
 use vclock::{Format, Refusal};
 
 /// A node whose text is to be hashed, with the source of the text and the room for it. A range makes jobs under its

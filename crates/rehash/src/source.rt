@@ -1,5 +1,6 @@
 //! The source of a node's text.
-use hash_tree::{Digest, SharedLeaf};
+use hash_tree::SharedLeaf;
+use tree_nodes::Digest;
 use vclock::Format;
 
 /// The source of a node's text.

@@ -8,9 +8,8 @@ use Rattle.version_set.specs.Order.{inserted}
 use Rattle.key_ring.specs.Places.{leaf_bits}
 use Rattle.row_bytes.specs.declared.row.Row.{Row}
 use Rattle.hash_tree.specs.Leaves.{Bucket, key_cmp, rows_in_leaf}
-use Rattle.tree_nodes.specs.Nodes.{tree_depth, node_count}
+use Rattle.tree_nodes.specs.Nodes.{Node, tree_depth, node_count}
 use Rattle.hash_tree.specs.Texts.{AreTrue}
-use Rattle.tree_nodes.specs.declared.node.NodeAt.{NodeAt}
 use Rattle.snapshot.specs.RowMaps.{RowMap, IsRowMap, leaf_in}
 
 -- ascending rows and one more
@@ -37,8 +36,8 @@ pub record IsSnapshot (m : RowMap) (leaves : List Bucket) (digests : List (List 
   pub all : length digests ≡ node_count m.format
   pub right : AreTrue m.format (leaf_in m) m.rows (map Some digests)
 
--- the fault of an ask for a node's text: the tree has no such node
-abbrev pub answer_fault : RowMap → NodeAt → Option Refusal
+-- the fault of an ask for a node's text: the tree isn't so deep
+abbrev pub answer_fault : RowMap → Node → Option Refusal
 answer_fault m node = if nat_le node.depth (tree_depth m.format) then None else Some BadMessage
 
 -- the fault of a leaf that the tree does not have

@@ -7,18 +7,17 @@ ghost use Rattle.vclock.specs.Format.{format_number};
 ghost use Rattle.key_ring.specs.Places.{leaf_bits};
 ghost use Rattle.row_bytes.specs.Rows.{row_text};
 ghost use Rattle.hash_tree.specs.Leaves.{rows_in_leaf};
-ghost use Rattle.tree_nodes.specs.Nodes.{tree_depth};
+ghost use Rattle.tree_nodes.specs.Nodes.{IsNode, tree_depth};
 ghost use Rattle.hash_tree.specs.Texts.{inner_text, leaf_text};
 ghost use Rattle.snapshot.specs.RowMaps.{IsRowMap, leaf_in, text_at, digest_at, root_of};
 ghost use Rattle.snapshot.specs.Snapshots.{IsSnapshot, map_of, answer_fault, leaf_fault};
 
-use hash_tree::{
-    Digest, Hashed, Leaves, NodeAt, SharedDigests, SharedLeaf, Text, inner_text, tree_depth,
-};
+use hash_tree::{Leaves, SharedLeaf, inner_text};
 use key_ring::leaf_count;
 use std::alloc::Global;
 use std::marker::Model;
 use std::sync::Arc;
+use tree_nodes::{Digest, Hashed, NodeAt, SharedDigests, Text, tree_depth};
 use vclock::{Format, Refusal};
 use walk_messages::{Ask, Offer};
 
@@ -135,7 +134,7 @@ impl Snapshot {
     pub fn root(&self) -> Digest
         ensures { result ≡ root_of self.now }
     {
-        self.digests.get(NodeAt { depth: 0, index: 0 })
+        self.digests.get(NodeAt::root())
     }
 
     /// Returns the offer of these rows to another replica. The replica's offers differ by `number`.
@@ -159,6 +158,8 @@ impl Snapshot {
         requires { node.depth ≤ tree_depth self.now.format }
         ensures { result ≡ digest_at self.now node.depth node.index }
     {
+        // A look at a field shows that the index is one of this depth.
+        let _ = &node.depth;
         self.digests.get(node)
     }
 
@@ -200,7 +201,8 @@ impl Snapshot {
 
     /// Returns the digests of the children of a node that isn't a leaf, in order.
     fn children(&self, node: NodeAt) -> &[Digest; 16]
-        requires { node.depth < tree_depth self.now.format }
+        requires node { IsNode 3 node }
+        requires inner { node.depth < tree_depth self.now.format }
         ensures { inner_text self.now.format result.now ≡ text_at self.now node.depth node.index }
     {
         self.digests.children(node)

@@ -8,10 +8,10 @@ pub get-requires : goal.get-requires
 get-requires c =
     let s = c.self.inside in
     let is = subst (λ (m : RowMap). IsSnapshot m s.leaves s.digests) c.self.view_is c.self.invariant in
-    digest_within c.args.self.now s.leaves s.digests 0 0 is (omega arith) (omega arith)
+    rw c.root.ensures (digest_within c.args.self.now s.leaves s.digests 0 0 is (omega arith) (omega arith))
 
 pub returns : goal.returns
 returns c =
     let s = c.self.inside in
     let is = subst (λ (m : RowMap). IsSnapshot m s.leaves s.digests) c.self.view_is c.self.invariant in
-    c.get.ensures [] ∙ digest_shown c.args.self.now s.leaves s.digests 0 0 [] is (omega arith) (omega arith)
+    c.get.ensures [] ∙ rw c.root.ensures (digest_shown c.args.self.now s.leaves s.digests 0 0 [] is (omega arith) (omega arith))
