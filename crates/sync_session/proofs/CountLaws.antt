@@ -5,9 +5,8 @@ use Rattle.std.specs.List.{flat_map, filter, AllByRecursion}
 use Rattle.std.proofs.lemmas.Bool.{cases_Bool, cases_lt, both_ways, ltb-true, lt-ltb, ne_eqb, false_from_ne_true}
 use Rattle.std.proofs.lemmas.List.{map-append}
 use Rattle.version_set.specs.declared.version.Version.{Version}
-use Rattle.sync_session.specs.TreeNodes.{Node, top, child, is_same_node, contains_node}
 use Rattle.snapshot.specs.RowMaps.{RowMap, root_of}
-use Rattle.tree_nodes.specs.Nodes.{tree_depth}
+use Rattle.tree_nodes.specs.Nodes.{Node, top, child, is_same_node, contains_node, tree_depth}
 use Rattle.sync_session.specs.TreeNodes.{digest_of}
 use Rattle.sync_session.specs.Walks.{Walk, TakenText, Walked, child_digest, first_asked, differing, asks}
 use Rattle.sync_session.specs.Steps.{started, after, IsDue}

@@ -14,9 +14,8 @@ use Rattle.hash_tree.proofs.TextLaws.{leaf_node, same_leaf}
 use Rattle.vclock.specs.declared.format.Format.{Format}
 use Rattle.version_set.proofs.ListLaws.{all-filter}
 use Rattle.sync_session.specs.declared.state.SessionState.TheVariants.{Finished}
-use Rattle.sync_session.specs.TreeNodes.{Node, top, child, is_same_node, contains_node}
 use Rattle.snapshot.specs.RowMaps.{RowMap, IsRowMap, leaf_in, root_of}
-use Rattle.tree_nodes.specs.Nodes.{tree_depth, ancestor_of}
+use Rattle.tree_nodes.specs.Nodes.{Node, top, child, is_same_node, contains_node, tree_depth, ancestor_of}
 use Rattle.hash_tree.specs.Texts.{leaf_text}
 use Rattle.sync_session.specs.TreeNodes.{digest_of}
 use Rattle.sync_session.specs.Walks.{Walk, TakenText, taken_at, child_digest, expected, differing, asks, Held, IsLeafHeld, IsRightlyTaken, Walked, IsCompared, NoTwoShareADigest, IsPartners}

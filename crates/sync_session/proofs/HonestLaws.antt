@@ -13,9 +13,8 @@ use Rattle.hash_tree.proofs.TextLaws.{leaf_node}
 use Rattle.sync_session.proofs.StepLaws.{All-weaker}
 use Rattle.vclock.specs.declared.format.Format.{Format}
 use Rattle.version_set.proofs.ListLaws.{all-filter}
-use Rattle.sync_session.specs.TreeNodes.{Node, top, child, is_same_node, contains_node}
 use Rattle.snapshot.specs.RowMaps.{RowMap, IsRowMap, leaf_in, root_of}
-use Rattle.tree_nodes.specs.Nodes.{tree_depth}
+use Rattle.tree_nodes.specs.Nodes.{Node, top, child, is_same_node, contains_node, tree_depth}
 use Rattle.hash_tree.specs.Texts.{leaf_text, inner_text, node_text}
 use Rattle.sync_session.proofs.TextLaws.{text_above, leaf_rows, leaf_are, length-children, child_digest-text}
 use Rattle.sync_session.specs.TreeNodes.{text_of, digest_of}

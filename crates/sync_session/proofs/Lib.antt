@@ -5,7 +5,6 @@ pub mod CountLaws
 pub mod TraceLaws
 pub mod HonestLaws
 pub mod OrderLaws
-pub mod NodeLists
 pub mod ReadingLaws
 pub mod NewsLaws
 pub mod NewsRowLaws

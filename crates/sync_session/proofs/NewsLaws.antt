@@ -24,12 +24,11 @@ use Rattle.row_bytes.proofs.RowLaws.{one_row}
 use Rattle.row_bytes.proofs.TextLengthLaws.{row_text_len, row_short}
 use Rattle.hash_tree.specs.Leaves.{Bucket, AscendByKey, rows_in_leaf, versions_in, key_cmp}
 use Rattle.hash_tree.specs.Texts.{leaf_byte, leaf_text}
-use Rattle.tree_nodes.specs.Nodes.{tree_depth}
+use Rattle.tree_nodes.specs.Nodes.{Node, tree_depth}
 use Rattle.hash_tree.proofs.KeyLaws.{all_get}
 use Rattle.hash_tree.proofs.KeySpotLaws.{ascend_middle}
 use Rattle.hash_tree.proofs.LeafLaws.{held_by_row}
 use Rattle.snapshot.specs.RowMaps.{RowMap, IsRowMap, leaf_in}
-use Rattle.sync_session.specs.TreeNodes.{Node}
 use Rattle.sync_session.specs.Walks.{TakenText, Walk, AreSpelled}
 use Rattle.sync_session.specs.Steps.{IsDue, IsTakeFault}
 use Rattle.sync_session.specs.declared.news.News.{News}

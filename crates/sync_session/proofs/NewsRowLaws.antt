@@ -12,7 +12,7 @@ use Rattle.row_bytes.specs.Rows.{is_before, KeysAscend}
 use Rattle.hash_tree.specs.Leaves.{key_cmp}
 use Rattle.hash_tree.proofs.KeyLaws.{less_trans}
 use Rattle.snapshot.specs.RowMaps.{RowMap}
-use Rattle.sync_session.specs.TreeNodes.{Node}
+use Rattle.tree_nodes.specs.Nodes.{Node}
 use Rattle.sync_session.specs.Readings.{AreOthers, LiesIn, IsReadTo}
 
 -- ---- one key after another

@@ -5,10 +5,9 @@ use Rattle.std.specs.List.{flat_map, AllByRecursion}
 use Rattle.std.proofs.lemmas.Bool.{or_left}
 use Rattle.std.proofs.lemmas.List.{append_cancel_left}
 use Rattle.version_set.proofs.ListLaws.{all-append}
-use Rattle.sync_session.specs.TreeNodes.{Node, top, child, is_same_node, contains_node}
 use Rattle.snapshot.specs.RowMaps.{RowMap, root_of}
-use Rattle.tree_nodes.specs.Nodes.{tree_depth}
-use Rattle.sync_session.specs.TreeNodes.{digest_of, place_of}
+use Rattle.tree_nodes.specs.Nodes.{Node, top, child, is_same_node, contains_node, place_of, tree_depth}
+use Rattle.sync_session.specs.TreeNodes.{digest_of}
 use Rattle.sync_session.specs.Walks.{Walk, TakenText, child_digest, differing, asks}
 use Rattle.sync_session.specs.Differing.{times, nodes_of, IsTraced, AscendByPlace, IsInTurn}
 use Rattle.sync_session.proofs.StepLaws.{All-weaker}

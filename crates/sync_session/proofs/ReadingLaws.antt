@@ -9,7 +9,7 @@ use Rattle.row_bytes.specs.declared.row.Row.{Row}
 use Rattle.row_bytes.specs.Rows.{row_text, AreRows}
 use Rattle.hash_tree.specs.Texts.{leaf_byte, leaf_text}
 use Rattle.snapshot.specs.RowMaps.{RowMap, leaf_in}
-use Rattle.sync_session.specs.TreeNodes.{Node}
+use Rattle.tree_nodes.specs.Nodes.{Node}
 use Rattle.sync_session.specs.Walks.{AreSpelled}
 
 -- the test of a row's place

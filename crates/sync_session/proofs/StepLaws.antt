@@ -9,7 +9,7 @@ use Rattle.row_bytes.specs.declared.row.Row.{Row}
 use Rattle.version_set.specs.declared.version.Version.{Version}
 use Rattle.version_set.proofs.ListLaws.{all-push}
 use Rattle.sync_session.specs.declared.state.SessionState.TheVariants.{Finished}
-use Rattle.sync_session.specs.TreeNodes.{Node, is_same_node, contains_node}
+use Rattle.tree_nodes.specs.Nodes.{Node, is_same_node, contains_node}
 use Rattle.snapshot.specs.RowMaps.{RowMap, IsRowMap}
 use Rattle.sync_session.specs.Walks.{Walk, TakenText, taken_at, child_digest, expected_at, first_asked, asks, Held, IsLeafHeld, IsCanonical, AreSpelled, IsRightlyTaken, Walked}
 use Rattle.sync_session.specs.Steps.{state_by, started, left_after, after, IsDue, Grows}

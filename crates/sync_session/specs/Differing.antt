@@ -3,9 +3,9 @@ use Rattle.std.specs.Prelude.{◌≡◌, ℕ, zero, suc, ◌+◌, ◌/◌, ◌^�
 use Rattle.std.specs.List.{filter, AllByRecursion}
 use Rattle.vclock.specs.declared.format.Format.{Format}
 use Rattle.version_set.specs.Order.{Pairwise}
-use Rattle.tree_nodes.specs.Nodes.{tree_depth}
+use Rattle.tree_nodes.specs.Nodes.{Node, is_same_node, contains_node, place_of, tree_depth}
 use Rattle.snapshot.specs.RowMaps.{RowMap}
-use Rattle.sync_session.specs.TreeNodes.{Node, is_same_node, contains_node, place_of, text_of, digest_of}
+use Rattle.sync_session.specs.TreeNodes.{text_of, digest_of}
 use Rattle.sync_session.specs.Walks.{TakenText, Walk, asked_by, IsRightlyTaken}
 
 -- the first k nodes of a depth

@@ -9,10 +9,9 @@ use Rattle.row_bytes.specs.Reading.{last_key}
 use Rattle.row_bytes.specs.Rows.{row_text, IsRow, AreRows}
 use Rattle.hash_tree.specs.Leaves.{Bucket, IsRun}
 use Rattle.hash_tree.specs.Texts.{leaf_byte}
-use Rattle.tree_nodes.specs.Nodes.{tree_depth}
+use Rattle.tree_nodes.specs.Nodes.{Node, tree_depth}
 use Rattle.snapshot.specs.RowMaps.{RowMap, leaf_in}
 use Rattle.sync_session.specs.declared.news.News.{News}
-use Rattle.sync_session.specs.TreeNodes.{Node}
 use Rattle.sync_session.specs.Walks.{TakenText, Walk, AreSpelled, IsInnerText}
 use Rattle.sync_session.specs.Steps.{IsDue, IsTakeFault}
 

@@ -6,13 +6,12 @@ use Rattle.vclock.specs.declared.refusal.Refusal.{Refusal}
 use Rattle.vclock.specs.declared.refusal.Refusal.TheVariants as refusals
 use Rattle.version_set.specs.Version.{covered}
 use Rattle.version_set.specs.declared.version.Version.{Version}
-use Rattle.tree_nodes.specs.Nodes.{tree_depth}
+use Rattle.tree_nodes.specs.Nodes.{Node, is_same_node, contains_node, tree_depth}
 use Rattle.snapshot.specs.RowMaps.{RowMap}
 use Rattle.sync_session.specs.declared.state.SessionState.{SessionState}
 use Rattle.sync_session.specs.declared.state.SessionState.TheVariants.{Open, Finished, Failed, Cancelled}
 use Rattle.sync_session.specs.declared.session.Answered.{Answered}
 use Rattle.sync_session.specs.declared.session.Answered.TheVariants.{Inner, Leaf}
-use Rattle.sync_session.specs.TreeNodes.{Node, is_same_node, contains_node}
 use Rattle.sync_session.specs.Walks.{TakenText, Walk, expected, first_asked, asks, IsCanonical, IsInnerText, AreSpelled}
 
 -- open, or finished if nothing is outstanding

@@ -9,12 +9,12 @@ use Rattle.version_set.specs.declared.version.Version.{Version}
 use Rattle.key_ring.specs.Places.{range_at}
 use Rattle.row_bytes.specs.declared.row.Row.{Row}
 use Rattle.row_bytes.specs.Rows.{AreRows}
-use Rattle.tree_nodes.specs.Nodes.{tree_depth}
+use Rattle.tree_nodes.specs.Nodes.{Node, IsNode, top, child, is_same_node, contains_node, tree_depth}
 use Rattle.hash_tree.specs.Texts.{inner_byte, leaf_text}
 use Rattle.snapshot.specs.RowMaps.{RowMap, IsRowMap, leaf_in, root_of}
 use Rattle.sync_session.specs.declared.state.SessionState.{SessionState}
 use Rattle.sync_session.specs.declared.state.SessionState.TheVariants.{Finished}
-use Rattle.sync_session.specs.TreeNodes.{Node, IsNode, top, child, is_same_node, contains_node, text_of, digest_of}
+use Rattle.sync_session.specs.TreeNodes.{text_of, digest_of}
 
 -- a node, and the text that was taken for it
 pub record TakenText : Type 0 where

@@ -5,14 +5,14 @@ ghost use Rattle.vclock.specs.Answer.{Answers};
 ghost use Rattle.row_bytes.specs.declared.row.Row.{Row};
 ghost use Rattle.hash_tree.specs.Leaves.{AscendByKey};
 ghost use Rattle.tree_nodes.specs.Nodes.{tree_depth};
-ghost use Rattle.sync_session.specs.TreeNodes.{as_node};
 ghost use Rattle.sync_session.specs.Readings.{ReadsNews, IsReadTo, StepsTo, IsReadFault, FrontRow, FrontOwn, FrontRun};
 
 use crate::text_reader::is_here;
-use hash_tree::{NodeAt, SharedLeaf};
+use hash_tree::SharedLeaf;
 use row_bytes::{Row, key_at, read_row};
 use snapshot::Snapshot;
 use std::alloc::Global;
+use tree_nodes::NodeAt;
 use vclock::Refusal;
 
 /// The rows of a leaf's text that the local snapshot lacks. A row that the local snapshot has, byte by byte, is counted
@@ -68,12 +68,12 @@ pub(crate) fn next_news<'a>(
 ) -> Result<NewsStep<'a>, Refusal>
     requires leaf { node.depth ≡ tree_depth own.now.format }
     requires read { (text : List ℕ) × (others : List Row)
-        × IsReadTo own.now (as_node node) text place.last.now place.rest.now others place.known }
+        × IsReadTo own.now node text place.last.now place.rest.now others place.known }
     ensures { (text : List ℕ) (others : List Row)
-        → IsReadTo own.now (as_node node) text place.entry.last.now place.entry.rest.now others place.entry.known
-        → MatchResult result (λ step. StepsTo own.now (as_node node) text (length place.entry.rest.now) others
+        → IsReadTo own.now node text place.entry.last.now place.entry.rest.now others place.entry.known
+        → MatchResult result (λ step. StepsTo own.now node text (length place.entry.rest.now) others
         step.row step.place.last.now step.place.rest.now step.place.known)
-        (IsReadFault own.now (as_node node) text) }
+        (IsReadFault own.now node text) }
 {
     // Called for its clause alone: the local rows are those of a range.
     let _format = own.format();
@@ -127,9 +127,9 @@ pub(crate) fn leaf_news(
 ) -> Result<News, Refusal>
     requires leaf { node.depth ≡ tree_depth own.now.format }
     requires read { (text : List ℕ)
-        × IsReadTo own.now (as_node node) text first.last.now first.rest.now [] first.known }
-    ensures { (text : List ℕ) → IsReadTo own.now (as_node node) text first.entry.last.now first.entry.rest.now [] first.entry.known
-        → ReadsNews own.now (as_node node) text result }
+        × IsReadTo own.now node text first.last.now first.rest.now [] first.known }
+    ensures { (text : List ℕ) → IsReadTo own.now node text first.entry.last.now first.entry.rest.now [] first.entry.known
+        → ReadsNews own.now node text result }
 {
     let mut rows = Vec::new(alloc);
     let mut place = first;

@@ -2,61 +2,27 @@
 ghost use Rattle.std.specs.Prelude.{◌≡◌, ◌+◌, ◌<◌, ◌≤◌, ◌++◌, ◌↔◌, IsTrue, IfOk, Some, not, length, map, option_map};
 ghost use Rattle.std.specs.List.{filter};
 ghost use Rattle.std.specs.Vec.{vec_len, vec_capacity};
-ghost use Rattle.tree_nodes.specs.Nodes.{tree_depth};
-ghost use Rattle.sync_session.specs.TreeNodes.{as_node, top, child, parent_of, is_same_node, contains_node};
+ghost use Rattle.tree_nodes.specs.Nodes.{is_same_node, contains_node, tree_depth};
 ghost use Rattle.sync_session.specs.Walks.{taken_at, child_digest, expected, differing};
 
 use crate::taken_text::Taken;
-use hash_tree::{Digest, NodeAt};
 use snapshot::Snapshot;
 use std::alloc::{AllocError, Global};
+use tree_nodes::{Digest, NodeAt};
 
 /// The length of a digest, in bytes.
 const DIGEST_LEN: usize = 32;
 
-/// Returns the root of each tree.
-pub fn root() -> NodeAt
-    ensures { as_node result ≡ top }
-{
-    NodeAt { depth: 0, index: 0 }
-}
-
-/// Returns a child of an inner node.
-fn child(node: NodeAt, j: u16) -> NodeAt
-    requires inner { node.depth < 3 }
-    requires few { j < 16 }
-    ensures { as_node result ≡ child (as_node node) j }
-{
-    NodeAt {
-        depth: node.depth + 1,
-        index: 16 * node.index + j,
-    }
-}
-
-/// Returns the parent of a node, or `None` for the root.
-fn parent(node: NodeAt) -> Option<NodeAt>
-    ensures { option_map as_node result ≡ parent_of (as_node node) }
-{
-    if node.depth == 0 {
-        None
-    } else {
-        Some(NodeAt {
-            depth: node.depth - 1,
-            index: node.index / 16,
-        })
-    }
-}
-
 /// Returns true if the list has the node.
 pub fn has(nodes: &[NodeAt], node: NodeAt) -> bool
-    ensures { result ≡ contains_node (as_node node) (map as_node nodes.now) }
+    ensures { result ≡ contains_node node nodes.now }
 {
     nodes.iter().any(|other| node == *other)
 }
 
 /// Returns the text that was taken for a node, if any.
 fn taken_text(taken: &[Taken], node: NodeAt) -> Option<&[u8]>
-    ensures { option_map (λ t. t.now) result ≡ taken_at taken.now (as_node node) }
+    ensures { option_map (λ t. t.now) result ≡ taken_at taken.now node }
 {
     for entry in taken {
         if entry.node() == node {
@@ -85,9 +51,9 @@ fn digest_in(text: &[u8], j: u16) -> &[u8]
 
 /// Returns the digest that is expected at a node: at the root the offered one, otherwise the one in the parent's text.
 fn expected_digest<'a>(offered: &'a Digest, taken: &'a [Taken], node: NodeAt) -> Option<&'a [u8]>
-    ensures { option_map (λ d. d.now) result ≡ expected offered.now taken.now (as_node node) }
+    ensures { option_map (λ d. d.now) result ≡ expected offered.now taken.now node }
 {
-    match parent(node) {
+    match node.parent() {
         None => Some(offered),
         Some(above) => match taken_text(taken, above) {
             None => None,
@@ -98,7 +64,7 @@ fn expected_digest<'a>(offered: &'a Digest, taken: &'a [Taken], node: NodeAt) ->
 
 /// Returns true if this digest is the one expected at a node.
 pub fn is_expected(offered: &Digest, taken: &[Taken], node: NodeAt, digest: &Digest) -> bool
-    ensures { IsTrue result ↔ (expected offered.now taken.now (as_node node) ≡ Some digest.now) }
+    ensures { IsTrue result ↔ (expected offered.now taken.now node ≡ Some digest.now) }
 {
     match expected_digest(offered, taken, node) {
         None => false,
@@ -115,11 +81,11 @@ pub fn differing(
     text: &[u8],
 ) -> Result<Vec<NodeAt>, AllocError>
     requires { node.depth < tree_depth own.now.format }
-    ensures { IfOk result (λ nodes. map as_node nodes.items ≡ differing own.now (as_node node) text.now 16) }
+    ensures { IfOk result (λ nodes. nodes.items ≡ differing own.now node text.now 16) }
 {
     let mut nodes = Vec::new(alloc);
     for j in 0..16u16 {
-        let child = child(node, j);
+        let child = node.child(j);
         let digest = own.digest_at(child);
         if digest_in(text, j) != digest.as_slice() {
             nodes.push(child)?;
@@ -130,7 +96,7 @@ pub fn differing(
 
 /// Removes a node from a list, and keeps the list's room.
 pub fn remove(nodes: &mut Vec<NodeAt>, node: NodeAt)
-    ensures kept { map as_node nodes.new.items ≡ filter (λ n. not (is_same_node n (as_node node))) (map as_node nodes.old.items) }
+    ensures kept { nodes.new.items ≡ filter (λ n. not (is_same_node n node)) nodes.old.items }
     ensures room { vec_capacity nodes.new ≡ vec_capacity nodes.old }
     ensures bound { vec_len nodes.new ≤ vec_len nodes.old }
 {
@@ -140,7 +106,7 @@ pub fn remove(nodes: &mut Vec<NodeAt>, node: NodeAt)
 /// Appends nodes to a list that has room for them.
 pub fn append(nodes: &mut Vec<NodeAt>, new: &[NodeAt])
     requires { vec_len nodes.old + length new.now ≤ vec_capacity nodes.old }
-    ensures { map as_node nodes.new.items ≡ map as_node nodes.old.items ++ map as_node new.now }
+    ensures { nodes.new.items ≡ nodes.old.items ++ new.now }
 {
     nodes.extend_from_slice(new).unwrap();
 }

@@ -5,7 +5,6 @@ ghost use Rattle.vclock.specs.Answer.{Answers};
 ghost use Rattle.vclock.specs.Outcome.{Does, gives};
 ghost use Rattle.row_bytes.specs.declared.row.Row.{Row};
 ghost use Rattle.tree_nodes.specs.Nodes.{tree_depth};
-ghost use Rattle.sync_session.specs.TreeNodes.{as_node};
 ghost use Rattle.sync_session.specs.Walks.{TakenText, asks, IsCanonical, IsInnerText};
 ghost use Rattle.sync_session.specs.Steps.{state_by, started, after, failed, cancelled_by, IsDue, Takes};
 ghost use Rattle.sync_session.specs.Readings.{Shows, Tells, Awaits, BeginsAtOnce, IsBeginFault, IsReadTo, StepsTo, IsReadFault};
@@ -14,12 +13,13 @@ use crate::news::{News, NewsPlace, NewsStep};
 use crate::state::SessionState;
 use crate::taken_text::Taken;
 use crate::{news, node_list, text_reader};
-use hash_tree::{Digest, Hashed, NodeAt, leaf_byte, tree_depth};
+use hash_tree::leaf_byte;
 use row_bytes::RowList;
 use snapshot::Snapshot;
 use std::alloc::Global;
 use std::marker::Model;
 use std::sync::Arc;
+use tree_nodes::{Digest, Hashed, NodeAt, tree_depth};
 use vclock::Refusal;
 
 /// The kind of a text that a session took.
@@ -56,7 +56,6 @@ pub struct Session {
 impl Model for Session {
     ghost use Rattle.std.specs.Prelude.{map};
     ghost use Rattle.std.specs.Arc.{arc_value};
-    ghost use Rattle.sync_session.specs.TreeNodes.{as_node};
     ghost use Rattle.sync_session.specs.Walks.{Walk};
 
     ghost Value = { Walk };
@@ -64,8 +63,8 @@ impl Model for Session {
     ghost view = { λ s. record {
       own = arc_value s.own;
       root = s.root;
-      asked = map as_node s.asked.items;
-      outstanding = map as_node s.outstanding.items;
+      asked = s.asked.items;
+      outstanding = s.outstanding.items;
       taken = s.taken.items;
       state = s.state;
     } };
@@ -84,8 +83,8 @@ impl Session {
         let mut asked = Vec::new(alloc);
         let mut outstanding = Vec::new(alloc);
         if root != own.root() {
-            asked.push(node_list::root())?;
-            outstanding.push(node_list::root())?;
+            asked.push(NodeAt::root())?;
+            outstanding.push(NodeAt::root())?;
         }
         let state = state_by(&outstanding);
         Ok(Session {
@@ -114,14 +113,14 @@ impl Session {
 
     /// Returns the nodes that were asked and aren't answered, in the order in which they are to be answered.
     pub fn outstanding(&self) -> &[NodeAt]
-        ensures { map as_node result.now ≡ self.now.outstanding }
+        ensures { result.now ≡ self.now.outstanding }
     {
         &self.outstanding
     }
 
     /// Returns all nodes that were ever asked, in order.
     pub fn asked(&self) -> &[NodeAt]
-        ensures { map as_node result.now ≡ self.now.asked }
+        ensures { result.now ≡ self.now.asked }
     {
         &self.asked
     }
@@ -143,7 +142,7 @@ impl Session {
     /// Checks that this text is awaited for the node. Refused, in order: NotAsked (the node isn't outstanding),
     /// WrongDigest (the text's digest isn't the one expected at the node).
     fn expects(&self, node: NodeAt, text: &Hashed) -> Result<(), Refusal>
-        ensures { Awaits self.now (record { node = as_node node; text = text.now }) result }
+        ensures { Awaits self.now (record { node = node; text = text.now }) result }
     {
         if !node_list::has(&self.outstanding, node) {
             return Err(Refusal::NotAsked);
@@ -168,7 +167,7 @@ impl Session {
     /// at the node), NotCanonical (no rows of the range give the node this text), NoMemory. Reading a leaf allocates,
     /// so at a leaf NoMemory may replace NotCanonical.
     pub fn rows_of(&self, alloc: Global, node: NodeAt, text: &Hashed) -> Result<RowList, Refusal>
-        ensures { Shows self.now (record { node = as_node node; text = text.now }) result }
+        ensures { Shows self.now (record { node = node; text = text.now }) result }
     {
         self.expects(node, text)?;
         if node.depth == tree_depth(self.own.format()) {
@@ -190,9 +189,9 @@ impl Session {
         node: NodeAt,
         text: &'a Hashed,
     ) -> Result<Option<NewsPlace<'a>>, Refusal>
-        ensures { MatchResult result (λ place. BeginsAtOnce self.now (record { node = as_node node; text = text.now })
+        ensures { MatchResult result (λ place. BeginsAtOnce self.now (record { node = node; text = text.now })
             (option_map (λ p. (p.last.now, p.rest.now, p.known)) place))
-            (IsBeginFault self.now (record { node = as_node node; text = text.now })) }
+            (IsBeginFault self.now (record { node = node; text = text.now })) }
     {
         self.expects(node, text)?;
         if self.is_inner(node, text) {
@@ -224,12 +223,12 @@ impl Session {
     ) -> Result<NewsStep<'a>, Refusal>
         requires leaf { node.depth ≡ tree_depth self.now.own.format }
         requires read { (text : List ℕ) × (others : List Row)
-            × IsReadTo self.now.own (as_node node) text place.last.now place.rest.now others place.known }
+            × IsReadTo self.now.own node text place.last.now place.rest.now others place.known }
         ensures { (text : List ℕ) (others : List Row)
-            → IsReadTo self.now.own (as_node node) text place.entry.last.now place.entry.rest.now others place.entry.known
-            → MatchResult result (λ step. StepsTo self.now.own (as_node node) text (length place.entry.rest.now) others
+            → IsReadTo self.now.own node text place.entry.last.now place.entry.rest.now others place.entry.known
+            → MatchResult result (λ step. StepsTo self.now.own node text (length place.entry.rest.now) others
             step.row step.place.last.now step.place.rest.now step.place.known)
-            (IsReadFault self.now.own (as_node node) text) }
+            (IsReadFault self.now.own node text) }
     {
         news::next_news(alloc, &self.own, node, place)
     }
@@ -240,7 +239,7 @@ impl Session {
     /// Refused, in order: NotAsked, WrongDigest, NotCanonical and NoMemory, as `rows_of` is. Memory is needed only for
     /// rows that the local snapshot lacks, and NoMemory may then replace NotCanonical.
     pub fn news_of(&self, alloc: Global, node: NodeAt, text: &Hashed) -> Result<News, Refusal>
-        ensures { Tells self.now (record { node = as_node node; text = text.now }) result }
+        ensures { Tells self.now (record { node = node; text = text.now }) result }
     {
         match self.begin_news(node, text)? {
             Some(first) => news::leaf_news(alloc, &self.own, node, first),
@@ -255,7 +254,7 @@ impl Session {
     /// Refused, in order: NotAsked, WrongDigest, NotCanonical and NoMemory, as `rows_of` is. After NotCanonical the
     /// session has failed and nothing is outstanding.
     pub fn take(&mut self, alloc: Global, node: NodeAt, text: Hashed) -> Result<Answered, Refusal>
-        ensures { Takes self.old (record { node = as_node node; text = text }) result self.new }
+        ensures { Takes self.old (record { node = node; text = text }) result self.new }
     {
         match self.rows_of(alloc, node, &text) {
             Ok(rows) => {
@@ -279,11 +278,11 @@ impl Session {
     /// whose digest differs from the local one is asked, by ascending index. If nothing is outstanding afterwards, the
     /// session is finished. Refused: NoMemory.
     pub fn take_inner(&mut self, alloc: Global, node: NodeAt, text: Hashed) -> Result<(), Refusal>
-        requires due { IsDue self.old (record { node = as_node node; text = text }) }
+        requires due { IsDue self.old (record { node = node; text = text }) }
         requires inner { node.depth < tree_depth self.old.own.format }
         requires form { IsInnerText self.old.own.format text }
         ensures { Does result self.old self.new
-            (gives tt (after self.old (record { node = as_node node; text = text }))) }
+            (gives tt (after self.old (record { node = node; text = text }))) }
     {
         let new = node_list::differing(alloc, &self.own, node, text.text())?;
         self.record(node, text, &new)
@@ -292,20 +291,20 @@ impl Session {
     /// Takes the text of a leaf that `rows_of` or `news_of` has read, without reading it again. If nothing is
     /// outstanding afterwards, the session is finished. Refused: NoMemory.
     pub fn take_leaf(&mut self, node: NodeAt, text: Hashed) -> Result<(), Refusal>
-        requires due { IsDue self.old (record { node = as_node node; text = text }) }
+        requires due { IsDue self.old (record { node = node; text = text }) }
         requires leaf { node.depth ≡ tree_depth self.old.own.format }
-        requires canonical { IsCanonical self.old.own (as_node node) text }
+        requires canonical { IsCanonical self.old.own node text }
         ensures { Does result self.old self.new
-            (gives tt (after self.old (record { node = as_node node; text = text }))) }
+            (gives tt (after self.old (record { node = node; text = text }))) }
     {
         self.record(node, text, &[])
     }
 
     /// Records a text, and asks these nodes.
     fn record(&mut self, node: NodeAt, text: Hashed, new: &[NodeAt]) -> Result<(), Refusal>
-        requires { map as_node new.now ≡ asks self.old.own (record { node = as_node node; text = text }) }
+        requires { new.now ≡ asks self.old.own (record { node = node; text = text }) }
         ensures { Does result self.old self.new
-            (gives tt (after self.old (record { node = as_node node; text = text }))) }
+            (gives tt (after self.old (record { node = node; text = text }))) }
     {
         self.asked.reserve(new.len())?;
         self.outstanding.reserve(new.len())?;
@@ -345,7 +344,7 @@ impl Session {
 
 /// Returns the state of a session that isn't ended: finished if nothing is outstanding, otherwise open.
 fn state_by(outstanding: &[NodeAt]) -> SessionState
-    ensures { result ≡ state_by (map as_node outstanding.now) }
+    ensures { result ≡ state_by outstanding.now }
 {
     if outstanding.is_empty() {
         SessionState::Finished

@@ -1,9 +1,8 @@
 //! Texts that a session took.
 ghost use Rattle.std.specs.Prelude.{◌≡◌};
-ghost use Rattle.sync_session.specs.TreeNodes.{as_node};
 
-use hash_tree::{Hashed, NodeAt};
 use std::marker::Model;
+use tree_nodes::{Hashed, NodeAt};
 
 /// A text that a session took, with its node.
 #[derive(Debug)]
@@ -13,25 +12,24 @@ pub struct Taken {
 }
 
 impl Model for Taken {
-    ghost use Rattle.sync_session.specs.TreeNodes.{as_node};
     ghost use Rattle.sync_session.specs.Walks.{TakenText};
 
     ghost Value = { TakenText };
 
-    ghost view = { λ t. record { node = as_node t.node; text = t.text } };
+    ghost view = { λ t. record { node = t.node; text = t.text } };
 }
 
 impl Taken {
     /// Creates the record of a text taken for a node.
     pub(crate) fn new(node: NodeAt, text: Hashed) -> Taken
-        ensures { result ≡ record { node = as_node node; text = text } }
+        ensures { result ≡ record { node = node; text = text } }
     {
         Taken { node, text }
     }
 
     /// Returns the node.
     pub fn node(&self) -> NodeAt
-        ensures { as_node result ≡ self.now.node }
+        ensures { result ≡ self.now.node }
     {
         self.node
     }

@@ -6,15 +6,15 @@ ghost use Rattle.key_ring.specs.Places.{range_at};
 ghost use Rattle.row_bytes.specs.declared.row.Row.{Row};
 ghost use Rattle.hash_tree.specs.Texts.{leaf_byte, inner_byte};
 ghost use Rattle.snapshot.specs.RowMaps.{leaf_in};
-ghost use Rattle.sync_session.specs.TreeNodes.{as_node};
 ghost use Rattle.sync_session.specs.Walks.{IsInnerText};
 ghost use Rattle.sync_session.specs.Readings.{ReadsLeaf};
 
-use hash_tree::{INNER_LEN, NodeAt, inner_byte, leaf_byte};
+use hash_tree::{INNER_LEN, inner_byte, leaf_byte};
 use key_ring::place;
 use row_bytes::{Row, RowList, read_rows};
 use snapshot::Snapshot;
 use std::alloc::Global;
+use tree_nodes::NodeAt;
 use vclock::{Format, Refusal};
 
 /// Returns true if a text has the form of an inner node's text.
@@ -58,7 +58,7 @@ pub fn leaf_rows(
     node: NodeAt,
     text: &[u8],
 ) -> Result<RowList, Refusal>
-    ensures { ReadsLeaf own.now (as_node node) text.now result }
+    ensures { ReadsLeaf own.now node text.now result }
 {
     let format = own.format();
     let Some(body) = body_of(leaf_byte(format), text) else {

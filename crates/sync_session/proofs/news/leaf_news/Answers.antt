@@ -1,5 +1,4 @@
 use Rattle.std.proofs.lemmas.Result.{err_from_is_err_and}
-use Rattle.sync_session.specs.TreeNodes.{as_node}
 use Rattle.sync_session.proofs.NewsLaws.{read_done, read_fault}
 use Rattle.sync_session.proofs.news.leaf_news.Goals as goal
 
@@ -7,7 +6,7 @@ pub returns-in_err-row : goal.returns-in_err-row
 returns-in_err-row c =
     λ text read.
     let p = err_from_is_err_and c.from_residual.result c.from_residual.ensures.1 in
-    rw (p.1, p.2) (read_fault c.args.own.now (as_node c.args.node) text c.in_err-row.field-0.0 (c.in_err-row.ensures text c.rows.rows.items (c.rows.invariant text read)))
+    rw (p.1, p.2) (read_fault c.args.own.now c.args.node text c.in_err-row.field-0.0 (c.in_err-row.ensures text c.rows.rows.items (c.rows.invariant text read)))
 
 pub returns-in-None : goal.returns-in-None
 returns-in-None c =

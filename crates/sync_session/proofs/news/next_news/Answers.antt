@@ -5,9 +5,9 @@ use Rattle.row_bytes.specs.declared.row.Row.{Row}
 use Rattle.row_bytes.specs.Rows.{is_before, row_text}
 use Rattle.row_bytes.proofs.ManyRowLaws.{some_left}
 use Rattle.hash_tree.specs.Leaves.{Bucket, AscendByKey, rows_in_leaf}
-use Rattle.snapshot.specs.RowMaps.{leaf_in}
-use Rattle.sync_session.specs.TreeNodes.{as_node}
-use Rattle.sync_session.specs.Readings.{IsReadTo}
+use Rattle.snapshot.specs.RowMaps.{RowMap, leaf_in}
+use Rattle.tree_nodes.specs.Nodes.{Node}
+use Rattle.sync_session.specs.Readings.{IsReadTo, LiesIn}
 use Rattle.sync_session.proofs.NewsLaws.{way_front, way_own, way_other, leaf_ascends, begins_with_key, row_is_text, run_is_text, found_key, read_on, read_known, read_next}
 use Rattle.sync_session.proofs.news.next_news.Goals as goal
 use Rattle.sync_session.proofs.news.next_news.Goals.{In-Some-front_run, In-Some-front_own}
@@ -32,16 +32,20 @@ returns-then-not-is_lt c =
     let off : is_before l.last.now key ≡ false = cc (c.if-not-is_lt.true, c.is_lt.ensures, c.cmp.ensures) in
     absurd (true≢false (sym next.next ∙ ap (is_before l.last.now) (sym same) ∙ off))
 
+-- the local leaf of a node
+abbrev leaf_of : RowMap → Node → Bucket
+leaf_of m n = record { format = m.format; rows = rows_in_leaf (leaf_in m) n.index m.rows }
+
 -- the text was read on by a run of the own rows
-run_read : (c : In-Some-front_run) (text : List ℕ) (others : List Row) → IsReadTo c.args.own.now (as_node c.args.node) text c.rows.last.now c.rows.rest.now others c.rows.known
-    → IsReadTo c.args.own.now (as_node c.args.node) text c.in-Some-front_run.skipped.last.now c.in-Some-front_run.skipped.after.now others (c.rows.known + c.in-Some-front_run.skipped.versions)
+run_read : (c : In-Some-front_run) (text : List ℕ) (others : List Row) → IsReadTo c.args.own.now c.args.node text c.rows.last.now c.rows.rest.now others c.rows.known
+    → IsReadTo c.args.own.now c.args.node text c.in-Some-front_run.skipped.last.now c.in-Some-front_run.skipped.after.now others (c.rows.known + c.in-Some-front_run.skipped.versions)
 run_read c text others read =
     let l = c.rows in
     let skipped = c.in-Some-front_run.skipped in
     let key = c.in-Some.key.now in
     let less : is_before l.last.now key ≡ true = cc (c.if-not-is_lt.false, c.is_lt.ensures, c.cmp.ensures) in
     read_on read skipped.last.now skipped.after.now others (l.known + skipped.versions)
-    (way_front c.args.own.now (as_node c.args.node) c.rows-leaf.result.now text read.body l.last.now l.rest.now others l.known key skipped.versions skipped.last.now skipped.after.now c.format-format.ensures.valid c.rows-leaf.ensures read.way c.in-Some-front_run.ensures less)
+    (way_front c.args.own.now c.args.node c.rows-leaf.result.now text read.body l.last.now l.rest.now others l.known key skipped.versions skipped.last.now skipped.after.now c.format-format.ensures.valid (c.rows-leaf.ensures ∙ ap (leaf_of c.args.own.now) c.node.view_is) read.way c.in-Some-front_run.ensures less)
 
 pub overflow_add-known : goal.overflow_add-known
 overflow_add-known c =
@@ -63,19 +67,20 @@ rows-preserved-in-Some-front_run c =
     }
 
 pub front_own-requires : goal.front_own-requires
-front_own-requires c = subst (λ (b : Bucket). AscendByKey b.rows) (sym c.rows-leaf.ensures) (leaf_ascends c.args.own.now c.args.node.index c.format-format.ensures.valid)
+front_own-requires c = subst (λ (b : Bucket). AscendByKey b.rows) (sym c.rows-leaf.ensures) (leaf_ascends c.args.own.now c.node.inside.index c.format-format.ensures.valid)
 
 -- the text was read on by an own row
-own_read : (c : In-Some-front_own) (text : List ℕ) (others : List Row) → IsReadTo c.args.own.now (as_node c.args.node) text c.rows.last.now c.rows.rest.now others c.rows.known
-    → IsReadTo c.args.own.now (as_node c.args.node) text c.in-Some.key.now c.in-Some-front_own.after.now others (c.rows.known + c.in-Some-front_own.versions)
+own_read : (c : In-Some-front_own) (text : List ℕ) (others : List Row) → IsReadTo c.args.own.now c.args.node text c.rows.last.now c.rows.rest.now others c.rows.known
+    → IsReadTo c.args.own.now c.args.node text c.in-Some.key.now c.in-Some-front_own.after.now others (c.rows.known + c.in-Some-front_own.versions)
 own_read c text others read =
     let m = c.args.own.now in
-    let n = as_node c.args.node in
+    let n = c.args.node in
     let l = c.rows in
     let r = c.in-Some-front_own.ensures in
     let after = c.in-Some-front_own.after.now in
-    let begins = r.4 ∙ ap (λ (b : Bucket). row_text b.format r.0 ++ after) c.rows-leaf.ensures in
-    let has : Contains (rows_in_leaf (leaf_in m) n.index m.rows) r.0 = subst (λ (b : Bucket). Contains b.rows r.0) c.rows-leaf.ensures r.1 in
+    let leaf = c.rows-leaf.ensures ∙ ap (leaf_of m) c.node.view_is in
+    let begins = r.4 ∙ ap (λ (b : Bucket). row_text b.format r.0 ++ after) leaf in
+    let has : Contains (rows_in_leaf (leaf_in m) n.index m.rows) r.0 = subst (λ (b : Bucket). Contains b.rows r.0) leaf r.1 in
     let less : is_before l.last.now c.in-Some.key.now ≡ true = cc (c.if-not-is_lt.false, c.is_lt.ensures, c.cmp.ensures) in
     let next : is_before l.last.now r.0.key ≡ true = ap (is_before l.last.now) r.2 ∙ less in
     subst (λ (p : List ℕ × ℕ). IsReadTo m n text p.0 after others (l.known + p.1)) (λ i. (r.2 i, r.3 i))
@@ -107,13 +112,13 @@ returns-in_default-2 c =
     let l = c.rows in
     let next = read_next (l.invariant.read text others read) all spelled (some_left c.is_empty.result l.rest.now c.is_empty.ensures c.rows-test.true) in
     let none = rw c.in_default-2.is at c.in_ok-row.ensures.1 in
-    none next.row next.after next.is next.lies next.begins
+    none next.row next.after next.is (subst (λ (n : Node). LiesIn c.args.own.now n.index next.row.key) (sym c.node.view_is) next.lies) next.begins
 
 pub returns-in-rows : goal.returns-in-rows
 returns-in-rows c =
     λ text others before.
     let m = c.args.own.now in
-    let n = as_node c.args.node in
+    let n = c.args.node in
     let l = c.rows in
     let read = l.invariant.read text others before in
     let r : Row = c.in-Some-2.row in
@@ -123,9 +128,11 @@ returns-in-rows c =
     let same : key ≡ r.key = found_key key r.key (c.in-Some.ensures.only r.key _ (begins_with_key m.format r l.rest.now after front.0 front.2)) in
     let less : is_before l.last.now key ≡ true = cc (c.if-not-is_lt.false, c.is_lt.ensures, c.cmp.ensures) in
     let next : is_before l.last.now r.key ≡ true = ap (is_before l.last.now) (sym same) ∙ less in
+    let leaf = c.rows-leaf.ensures ∙ ap (leaf_of m) c.node.view_is in
+    let lies = subst (λ (k : Node). LiesIn m k.index r.key) c.node.view_is front.1 in
     let other = λ (has : Contains (rows_in_leaf (leaf_in m) n.index m.rows) r).
-    c.in_default-front_own.ensures r after (subst (λ (b : Bucket). Contains b.rows r) (sym c.rows-leaf.ensures) has) (sym same) (front.2 ∙ ap (λ (b : Bucket). row_text b.format r ++ after) (sym c.rows-leaf.ensures)) in
-    let way = way_other m n text read.body l.last.now l.rest.now others l.known r after read.way front.0 front.1 other front.2 next in (
+    c.in_default-front_own.ensures r after (subst (λ (b : Bucket). Contains b.rows r) (sym leaf) has) (sym same) (front.2 ∙ ap (λ (b : Bucket). row_text b.format r ++ after) (sym leaf)) in
+    let way = way_other m n text read.body l.last.now l.rest.now others l.known r after read.way front.0 lies other front.2 next in (
       subst (λ (k : List ℕ). IsReadTo m n text k after (others ++ r ∷ []) l.known) (sym same) (read_on read r.key after (others ++ r ∷ []) l.known way),
       omega (arith, ap length front.2, length-append (row_text m.format r) after, row_is_text m.format r, l.invariant.shorter),
     )

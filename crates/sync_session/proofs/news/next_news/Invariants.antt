@@ -1,12 +1,11 @@
 use Rattle.std.proofs.Common.{ℕ, ◌≤◌, List, length}
 use Rattle.row_bytes.specs.declared.row.Row.{Row}
-use Rattle.sync_session.specs.TreeNodes.{as_node}
 use Rattle.sync_session.specs.Readings.{IsReadTo}
 use Rattle.sync_session.proofs.news.next_news.Given as goal
 
 abbrev pub invariant-rows : goal.invariant-rows
 invariant-rows l = record {
-  read : (text : List ℕ) (others : List Row) → IsReadTo l.own (as_node l.node) text l.initial.last l.initial.rest others l.initial.known → IsReadTo l.own (as_node l.node) text l.last l.rest others l.known;
+  read : (text : List ℕ) (others : List Row) → IsReadTo l.own l.fn.node text l.initial.last l.initial.rest others l.initial.known → IsReadTo l.own l.fn.node text l.last l.rest others l.known;
   shorter : length l.rest ≤ length l.initial.rest;
 }
 

@@ -3,7 +3,6 @@ use Rattle.std.proofs.lemmas.Result.{err_from_is_err_and}
 use Rattle.vclock.specs.declared.format.Format.{Format}
 use Rattle.tree_nodes.specs.Nodes.{tree_depth}
 use Rattle.hash_tree.specs.Texts.{leaf_byte}
-use Rattle.sync_session.specs.TreeNodes.{as_node}
 use Rattle.sync_session.specs.Walks.{IsCanonical}
 use Rattle.sync_session.proofs.NewsLaws.{way_begins}
 use Rattle.sync_session.proofs.ReadingLaws.{spelled_text}
@@ -17,7 +16,7 @@ returns-in_err-expects c =
 pub returns-in-Some : goal.returns-in-Some
 returns-in-Some c =
     let m = c.args.self.now.own in
-    let n = as_node c.args.node in
+    let n = c.args.node in
     let body = c.in-Some.body.now in
     let format : c.format-format.result ≡ m.format = search rules in
     let deep : c.args.node.depth ≡ tree_depth m.format = search rules in
@@ -37,7 +36,7 @@ returns-in-Some c =
 pub returns-in-None : goal.returns-in-None
 returns-in-None c =
     let m = c.args.self.now.own in
-    let n = as_node c.args.node in
+    let n = c.args.node in
     let format : c.format-format.result ≡ m.format = search rules in
     let deep : c.args.node.depth ≡ tree_depth m.format = search rules in
     let other : IsCanonical m n c.args.text.now → ⊥ = λ can. elim can [

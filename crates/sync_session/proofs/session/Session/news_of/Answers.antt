@@ -1,13 +1,12 @@
 use Rattle.std.proofs.Common.{rules, ◌≡◌, [], sym, subst}
 use Rattle.snapshot.specs.RowMaps.{RowMap}
-use Rattle.sync_session.specs.TreeNodes.{as_node}
 use Rattle.sync_session.specs.Readings.{IsReadTo, ReadsNews}
 use Rattle.sync_session.proofs.NewsLaws.{leaf_told}
 use Rattle.sync_session.proofs.session.Session.news_of.Goals as goal
 
 pub returns-in-Some : goal.returns-in-Some
 returns-in-Some c =
-    let n = as_node c.args.node in
+    let n = c.args.node in
     let text = c.args.text.now in
     let first = c.in-Some.first in
     let begun = rw c.in-Some.is at c.in_ok-first.ensures in
