@@ -1,0 +1,4 @@
+pub mod RowTextLaws
+pub mod TreeLaws
+pub mod NodeLaws
+pub mod CleaningLaws

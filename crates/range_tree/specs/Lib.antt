@@ -1,0 +1,3 @@
+pub mod Trees
+pub mod Jobs
+pub mod Rehashes
