@@ -2,9 +2,9 @@
 use Rattle.std.proofs.Common.{◌≡◌, ◌≢◌, ℕ, zero, suc, ◌+◌, ◌<◌, ◌≤◌, ◌^◌, ◌⊎◌, Bool, true, false, cond, Option, Some, None, List, [], ◌∷◌, ◌++◌, length, set, get_or, refl, sym, ap, subst, ◌∙◌, inl, inr, arith, append_assoc, append-nil, slice_get}
 use Rattle.std.specs.Prelude.{nat_eq, nat_lt, nat_le, Ok, Err, MatchOption, IsTrue}
 use Rattle.std.specs.List.{AllByRecursion}
-use Rattle.std.proofs.lemmas.Bool.{cases_eq, le-leb}
+use Rattle.std.proofs.lemmas.Bool.{le-leb}
 use Rattle.std.proofs.lemmas.Bool.Decides.{nat_tests}
-use Rattle.std.proofs.lemmas.List.{length-append, length-set, set-get_or, get_or-set_same, get_or-set_other}
+use Rattle.std.proofs.lemmas.List.{length-append, set-get_or}
 use Rattle.std.proofs.lemmas.Option.{slice_get_read, slice_get_within, get_or_from_slice_get}
 use Rattle.vclock.specs.Answer.{first_fault}
 use Rattle.vclock.specs.declared.format.Format.{Format}
@@ -34,9 +34,13 @@ use Rattle.range_state.specs.declared.event.AnswerTaken.{AnswerTaken}
 use Rattle.range_state.specs.declared.state.preparation.Batch.{Batch}
 use Rattle.range_state.specs.Records.{IsKept}
 use Rattle.range_state.specs.Rows.{rows_of}
-use Rattle.range_state.specs.State.{State, IsRight, AreLeaves, leaf_in, leaf_count, bucket_of, accept_step}
+use Rattle.range_state.specs.State.{State, IsRight, rows_now, tree_in, leaf_in, leaf_count, bucket_of, accept_step}
+use Rattle.snapshot.specs.RowMaps.{IsRowMap}
+use Rattle.snapshot.specs.Snapshots.{leaves_of}
+use Rattle.range_tree.specs.Trees.{RangeTree, IsChange, with_rows}
+use Rattle.range_state.proofs.OfferLaws.{row_map_now}
 use Rattle.range_state.specs.Sessions.{offers_of, taken_in, crowded_in, walked_to, IsInnerRead, IsLeafRead, IsNewsRead, TakesLeaf, IsLeafFault, Refuses, TakesText, TakesFor}
-use Rattle.range_state.specs.Batches.{IsRowFor, IsBatch, seen_count}
+use Rattle.range_state.specs.Batches.{ahead, IsRowFor, IsBatch, seen_count}
 use Rattle.range_state.proofs.RowLaws.{leaf-push}
 use Rattle.range_state.proofs.BatchLaws.{Offers}
 use Rattle.range_state.proofs.TakenLaws.{Reached, reached, taken_grown, record_kept, goes_on, format_now, spelled_offers, spelled_rows, spelled_short, leaf_right}
@@ -271,18 +275,44 @@ leaf_inside c depth index deep within = counted c.format index (subst (λ (d : �
     counted Two n h = h
 
 -- the leaves with another in the place of the one that the entries are of
-pub leaves_after : (c : Config) (es more : List Entry) (leaves : List Bucket) (leaf : ℕ) (new : Bucket) → AreLeaves c es leaves → leaf < leaf_count c → AllByRecursion (λ (e : Entry). leaf ≡ leaf_in c e.key) more → new ≡ bucket_of c (es ++ more) leaf
-    → AreLeaves c (es ++ more) (set leaves leaf new)
-leaves_after c es more leaves leaf new ok within all is = record {
-  all = length-set leaves leaf new ∙ ok.all;
-  each = λ i d lt. elim (cases_eq i leaf) [
-    | inl same ↦
-        ap (λ (k : ℕ). get_or (set leaves leaf new) k d) same ∙ get_or-set_same leaves leaf new d (omega (arith, ok.all, within)) ∙ is
-        ∙ ap (bucket_of c (es ++ more)) (sym same)
-    | inr other ↦
-        get_or-set_other leaves leaf i new d other ∙ ok.each i d lt
-        ∙ ap (λ (rows : List Row). record { format = c.format; rows = rows }) (sym (leaf_off c i leaf es more other all))
-  ];
+pub batch_change : (s : State) (more : List Entry) (leaf : ℕ) (leaves : List Bucket) (b : Bucket) → IsRowMap (rows_now (record s { entries = s.entries ++ more })) → leaf < leaf_count s.config → AllByRecursion (λ (e : Entry). leaf ≡ leaf_in s.config e.key) more
+    → b ≡ bucket_of s.config (s.entries ++ more) leaf → leaves ≡ set (leaves_of (rows_now s)) leaf b → IsChange (rows_now s) leaf leaves (rows_now (record s { entries = s.entries ++ more }))
+batch_change s more leaf leaves b rows within all is are = record {
+  rows = rows;
+  same = refl;
+  within = within;
+  others = λ i other. leaf_off s.config i leaf s.entries more other all;
+  are = are ∙ ap (set (leaves_of (rows_now s)) leaf) is;
+}
+
+-- so many entries are some, or none
+some_news : (n : ℕ) → 0 < n → nat_eq n 0 ≡ false
+some_news n h = grind (arith, nat_tests)
+
+no_news : (n : ℕ) → n ≡ 0 → nat_eq n 0 ≡ true
+no_news n h = grind (arith, nat_tests)
+
+-- the tree that is kept has the rows then
+pub kept_rows : (s : State) (more : List Entry) (leaf : ℕ) (old new : RangeTree) → old ≡ tree_in s → new ≡ cond (nat_eq (length more) 0) old (with_rows old leaf (rows_now (record s { entries = s.entries ++ more })))
+    → new ≡ record { map = rows_now (record s { entries = s.entries ++ more }); marks = cond (nat_eq (length more) 0) s.marks (dirtied s.config.format leaf s.marks) }
+kept_rows s [] leaf old new was is = is ∙ was ∙ (λ i. record { map = rows_now (record s { entries = sym (append-nil s.entries) i }); marks = s.marks })
+kept_rows s (e ∷ more) leaf old new was is =
+    let news = some_news (length (e ∷ more)) (omega arith) in
+    rw news (rw news at is ∙ ap (λ (t : RangeTree). with_rows t leaf (rows_now (record s { entries = s.entries ++ e ∷ more }))) was)
+
+-- a state that was reached by so many entries more
+pub reached_is : (s : State) (leaf : ℕ) (t : State) (n : ℕ) → length t.entries ≡ length s.entries + n → Reached s leaf t
+    → record { config = s.config; entries = t.entries; marks = cond (nat_eq n 0) s.marks (dirtied s.config.format leaf s.marks); records = s.records } ≡ t
+reached_is s leaf t n count (inl e) = rw (no_news n (omega (arith, count, ap (λ (x : State). length x.entries) e))) (λ i. record { config = (sym e i).config; entries = t.entries; marks = (sym e i).marks; records = (sym e i).records })
+reached_is s leaf t n count (inr news) = rw (some_news n (omega (arith, count, news.more))) (λ i. record { config = sym news.config i; entries = t.entries; marks = sym news.marks i; records = sym news.records i })
+
+-- the state after a text of a leaf whose versions are prepared
+abbrev pub planned : State → ℕ → TakenText → Record → Batch → State
+planned s id t r b = record {
+  config = s.config;
+  entries = s.entries ++ b.entries.items;
+  marks = cond (nat_eq (length b.entries.items) 0) s.marks (dirtied s.config.format t.node.index s.marks);
+  records = set s.records id (record { partner = r.partner; session = after r.session t });
 }
 
 -- the facts of a leaf's text whose versions are prepared, and of the state with them
@@ -306,40 +336,23 @@ accepted_is {s = s} {seat = seat} {id = id} {t = t} {rows = rows} {r = r} {b = b
     let end = taken_in s seat (offers_of rows) in
     let moved = reached s s t.node.index seat Partner (offers_of rows) (homes is) (inl refl) in
     let count : length end.entries ≡ length s.entries + length b.entries.items = sym (ap length is.taken) ∙ length-append s.entries b.entries.items in
-    let same = by_case s t.node.index end (length b.entries.items) count moved in
-    let records = is.records ∙ ap (λ (rs : List Record). set rs id (record { partner = r.partner; session = after r.session t })) same.1 in
-    λ i. record { config = (is.config ∙ same.0) i; entries = (is.entries ∙ is.taken) i; marks = (is.marks ∙ same.2) i; records = records i }
-  where
-    some_news : (n : ℕ) → 0 < n → nat_eq n 0 ≡ false
-    some_news n h = grind (arith, nat_tests)
-
-    no_news : (n : ℕ) → n ≡ 0 → nat_eq n 0 ≡ true
-    no_news n h = grind (arith, nat_tests)
-
-    by_case : (u : State) (leaf : ℕ) (v : State) (n : ℕ) → length v.entries ≡ length u.entries + n → Reached u leaf v
-        → (u.config ≡ v.config) × (u.records ≡ v.records) × (cond (nat_eq n 0) u.marks (dirtied u.config.format leaf u.marks) ≡ v.marks)
-    by_case u leaf v n count (inl e) = (
-      ap (λ (x : State). x.config) (sym e),
-      ap (λ (x : State). x.records) (sym e),
-      rw (no_news n (omega (arith, count, ap (λ (x : State). length x.entries) e))) (ap (λ (x : State). x.marks) (sym e)),
-    )
-    by_case u leaf v n count (inr news) = (
-      sym news.config,
-      sym news.records,
-      rw (some_news n (omega (arith, count, news.more))) (sym news.marks),
-    )
+    (λ i. record { config = is.config i; entries = (is.entries ∙ is.taken) i; marks = is.marks i; records = is.records i })
+    ∙ ap (λ (u : State). walked_to u id r (after r.session t)) (reached_is s t.node.index end (length b.entries.items) count moved)
 
 pub accepted_right : {s new : State} {seat id : ℕ} {t : TakenText} {rows : List Row} {r : Record} {b : Batch} → IsRight s → IsAccepted s seat id t rows r b new → IsRight new
 accepted_right {s = s} {seat = seat} {id = id} {t = t} {rows = rows} {r = r} ok is = subst IsRight (sym (accepted_is is)) (leaf_right s seat id r t rows ok is.at.within is.at.was is.at.read is.fits)
 
-pub accepted_leaves : {s new : State} {seat id : ℕ} {t : TakenText} {rows : List Row} {r : Record} {b : Batch} {leaves : List Bucket} → AreLeaves s.config s.entries leaves → IsAccepted s seat id t rows r b new → t.node.index < 16 ^ t.node.depth → AreLeaves new.config new.entries (set leaves t.node.index b.leaf)
-accepted_leaves {s = s} {new = new} {seat = seat} {t = t} {rows = rows} {b = b} {leaves = leaves} are is within =
+-- its leaves
+pub accepted_change : {s new : State} {seat id : ℕ} {t : TakenText} {rows : List Row} {r : Record} {b : Batch} (leaves : List Bucket) → IsRight s → IsAccepted s seat id t rows r b new → t.node.index < 16 ^ t.node.depth → leaves ≡ set (leaves_of (rows_now s)) t.node.index b.leaf
+    → IsChange (rows_now s) t.node.index leaves (rows_now (ahead s b))
+accepted_change {s = s} {new = new} {seat = seat} {id = id} {t = t} {rows = rows} {r = r} {b = b} leaves ok is within are =
     let grown = taken_grown (λ key v. t.node.index ≡ leaf_in s.config key) s seat Partner (offers_of rows) (homes is) in
-    let es : new.entries ≡ s.entries ++ grown.more = is.entries ∙ is.taken ∙ grown.entries in
-    let leaf : b.leaf ≡ bucket_of s.config (s.entries ++ grown.more) t.node.index = is.batch.leaf_is ∙ ap (λ (xs : List Entry). bucket_of s.config xs t.node.index) (sym is.entries ∙ es) in
+    let es : s.entries ++ b.entries.items ≡ s.entries ++ grown.more = is.taken ∙ grown.entries in
+    let leaf : b.leaf ≡ bucket_of s.config (s.entries ++ grown.more) t.node.index = is.batch.leaf_is ∙ ap (λ (xs : List Entry). bucket_of s.config xs t.node.index) es in
     let inside = leaf_inside s.config t.node.depth t.node.index is.at.read.leaf within in
-    subst (λ (c : Config). AreLeaves c new.entries (set leaves t.node.index b.leaf)) (sym is.config)
-    (subst (λ (xs : List Entry). AreLeaves s.config xs (set leaves t.node.index b.leaf)) (sym es) (leaves_after s.config s.entries grown.more leaves t.node.index b.leaf are inside grown.all leaf))
+    let right = row_map_now new (accepted_right ok is) in
+    let here : IsRowMap (rows_now (record s { entries = s.entries ++ grown.more })) = subst IsRowMap (λ i. rows_now (record s { config = is.config i; entries = (is.entries ∙ es) i })) right in
+    subst (λ (xs : List Entry). IsChange (rows_now s) t.node.index leaves (rows_now (record s { entries = xs }))) (sym es) (batch_change s grown.more t.node.index leaves b.leaf here inside grown.all leaf are)
 
 pub leaf_taken : {s new : State} {seat id : ℕ} {t : TakenText} {rows : List Row} {r : Record} {b : Batch} {log after_log : Log} {n : ℕ} {w : Walk} (a : AnswerTaken) → IsAccepted s seat id t rows r b new → a.receipts.items ≡ b.entries.items → a.known ≡ b.known
     → a.state ≡ w.state → w ≡ after r.session t → IsLogOf s log → Reserved log after_log n → n ≡ length b.entries.items → TakesFor s seat id (slice_get s.records id) t (Ok a) new

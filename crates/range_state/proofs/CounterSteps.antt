@@ -1,7 +1,7 @@
 -- The counters that calls leave: each call keeps the entries, and may add some.
 use Rattle.std.proofs.Common.{◌≡◌, ◌≤◌, ◌+◌, ℕ, Bool, true, false, cond, List, [], ◌∷◌, ◌++◌, Option, Some, None, Result, Ok, Err, refl, sym, ap, subst, ◌∙◌, append-nil, append_assoc, inl, inr}
 use Rattle.std.specs.Prelude.{⊤, slice_get}
-use Rattle.vclock.specs.Outcome.{Outcome, gives, refuses, Does, DoesAtOnce, DoesOrNoMemory}
+use Rattle.vclock.specs.Outcome.{Outcome, gives, refuses, Does, DoesAtOnce, DoesOrNoMemory, through}
 use Rattle.vclock.specs.declared.refusal.Refusal.{Refusal}
 use Rattle.vclock.specs.declared.refusal.Refusal.TheVariants as refusals
 use Rattle.version_set.specs.declared.version.Version.{Version}
@@ -12,7 +12,7 @@ use Rattle.range_journal.specs.Counters.{top_in, top_counter}
 use Rattle.range_journal.proofs.CounterLaws.{top-held, top-later}
 use Rattle.row_bytes.specs.declared.row.Row.{Row}
 use Rattle.snapshot.specs.RowMaps.{RowMap}
-use Rattle.sync_session.specs.TreeNodes.{Node}
+use Rattle.tree_nodes.specs.Nodes.{Node}
 use Rattle.sync_session.specs.Walks.{TakenText}
 use Rattle.range_state.specs.declared.event.Accepted.{Accepted}
 use Rattle.range_state.specs.declared.event.Accepted.TheVariants.{Taken, Known}
@@ -24,11 +24,11 @@ use Rattle.range_state.specs.declared.«record».Record.{Record}
 use Rattle.range_state.specs.declared.state.loading.Loaded.{Loaded}
 use Rattle.vclock.specs.declared.format.Format.{Format}
 use Rattle.vclock.specs.declared.format.Format.TheVariants.{One, Two}
-use Rattle.tree_nodes.specs.declared.node.NodeAt.{NodeAt}
 use Rattle.walk_messages.specs.declared.message.Offer.{Offer}
 use Rattle.sync_session.specs.Steps.{cancelled_by}
 use Rattle.range_state.specs.declared.context_test.ContextTest.TheVariants.{Fresh}
-use Rattle.range_state.specs.State.{State, entry_of, put_entry, journaled, rows_now, dirty_fault, accept, install, installed, is_current}
+use Rattle.range_state.specs.State.{State, entry_of, put_entry, journaled, rows_now, dirty_fault, accept, install, tree_in, with_tree}
+use Rattle.range_tree.specs.Jobs.{is_current, installed}
 use Rattle.range_state.specs.Run.{IsStep, Run}
 use Rattle.range_state.specs.Loads.{load}
 use Rattle.range_state.specs.Migrates.{migrate, migrated_from}
@@ -80,14 +80,11 @@ sent : (s : State) (seat : ℕ) (source : Source) (key : List ℕ) (v : Version)
 sent s seat source key v (Taken x) u h = let came = accept_gives s seat source key v (Taken x) u h in one s u (entry_of s seat source key v) came.1
 sent s seat source key v Known u h = same s u (accept_gives s seat source key v Known u h)
 
-installed_on : (s : State) (node : NodeAt) (text : List ℕ) (x : ⊤) (u : State) → install s node text ≡ gives x u → Grows s u
-installed_on s node text x u h = parts (is_current s node text) h
+installed_on : (s : State) (node : Node) (text : List ℕ) (x : ⊤) (u : State) → install s node text ≡ gives x u → Grows s u
+installed_on s node text x u h = parts (is_current (tree_in s) node text) h
   where
-    parts : (b : Bool) → cond b (gives tt (installed s node text)) (refuses refusals.Stale) ≡ gives x u → Grows s u
-    parts true e = same_entries (let now : installed s node text ≡ u = cc in now)
-      where
-        same_entries : installed s node text ≡ u → Grows s u
-        same_entries now = alike s u (ap (λ (y : State). y.entries) (sym now))
+    parts : (b : Bool) → through (with_tree s) (cond b (gives tt (installed (tree_in s) node text)) (refuses refusals.Stale)) ≡ gives x u → Grows s u
+    parts true e = let now : with_tree s (installed (tree_in s) node text) ≡ u = cc in alike s u (ap (λ (y : State). y.entries) (sym now))
     parts false e = absurd (cc)
 
 opened_on : (s : State) (partner : ℕ) (offer : Offer) (x : ℕ) (u : State) → open_session s partner offer ≡ gives x u → Grows s u

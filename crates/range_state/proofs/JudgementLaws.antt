@@ -16,8 +16,7 @@ use Rattle.range_journal.specs.declared.journal.Source.TheVariants.{Partner}
 use Rattle.range_journal.specs.Journal.{held}
 use Rattle.row_bytes.specs.declared.row.Row.{Row}
 use Rattle.snapshot.specs.RowMaps.{RowMap}
-use Rattle.sync_session.specs.TreeNodes.{Node}
-use Rattle.tree_nodes.specs.Nodes.{tree_depth}
+use Rattle.tree_nodes.specs.Nodes.{Node, tree_depth}
 use Rattle.sync_session.specs.Readings.{IsReadTo, IsReadFault, Tells}
 use Rattle.sync_session.specs.Steps.{IsDue, IsTakeFault}
 use Rattle.sync_session.specs.Walks.{TakenText, AreSpelled, IsInnerText}

@@ -28,17 +28,21 @@ use Rattle.row_bytes.proofs.LimitLaws.{no_fault_else}
 use Rattle.row_bytes.proofs.ManyRowLaws.{rows_read}
 use Rattle.hash_tree.specs.Leaves.{Bucket}
 use Rattle.tree_nodes.specs.Nodes.{dirtied}
+use Rattle.snapshot.specs.RowMaps.{IsRowMap}
+use Rattle.snapshot.specs.Snapshots.{leaves_of}
+use Rattle.range_tree.specs.Trees.{IsChange}
 use Rattle.sync_session.proofs.StepLaws.{All-weaker}
 use Rattle.range_state.specs.Config.{Config}
-use Rattle.range_state.specs.Loads.{is_home, first_leaf, apart_fault, rows_in, AreLeafRows, IsLoadable, loaded, load}
+use Rattle.range_state.specs.Loads.{is_home, first_leaf, apart_fault, rows_in, AreLeafRows, IsLoadable, loaded, load, load_offers}
 use Rattle.range_state.specs.Sessions.{offers_in, offers_of, accepted_in, crowded_in}
-use Rattle.range_state.specs.State.{State, IsRight, AreLeaves, leaf_in, leaf_count, bucket_of, place_fault, knows, entry_of, journaled, accept_step}
+use Rattle.range_state.specs.State.{State, IsRight, rows_now, leaf_in, leaf_count, bucket_of, place_fault, knows, entry_of, journaled, accept_step}
 use Rattle.range_state.specs.declared.state.loading.Loaded.{Loaded}
 use Rattle.range_state.specs.declared.state.preparation.Batch.{Batch}
 use Rattle.range_state.proofs.StateLaws.{eq_itself, grown-right, knows_held, first_none, later_none}
 use Rattle.range_state.proofs.BatchLaws.{Offers}
-use Rattle.range_state.proofs.TakenLaws.{Reached, reached, IsOfferFor, step_config, taken_grown, offers_all}
-use Rattle.range_state.proofs.AnswerLaws.{given_state, leaves_after}
+use Rattle.range_state.proofs.TakenLaws.{reached, IsOfferFor, step_config, taken_grown, offers_all}
+use Rattle.range_state.proofs.AnswerLaws.{given_state, batch_change, reached_is}
+use Rattle.range_state.proofs.OfferLaws.{row_map_now}
 
 -- ---- rows of one leaf
 
@@ -127,17 +131,23 @@ sent_right c t seat source (o ∷ offers) other same ok all none =
     let fits = first_none (offer_fault o.1 (held t.entries o.0)) _ none in
     sent_right c (accept_step t seat source o.0 o.1) seat source offers other (step_config t seat source o.0 o.1 ∙ same) (step_right t seat source o.0 o.1 other ok here all.0.clock fits) all.1 (later_none (offer_fault o.1 (held t.entries o.0)) _ none)
 
--- a state that was reached by so many entries more
-reached_is : (s : State) (leaf : ℕ) (t : State) (n : ℕ) → length t.entries ≡ length s.entries + n → Reached s leaf t
-    → record { config = s.config; entries = t.entries; marks = cond (nat_eq n 0) s.marks (dirtied s.config.format leaf s.marks); records = s.records } ≡ t
-reached_is s leaf t n count (inl e) = rw (no_news n (omega (arith, count, ap (λ (x : State). length x.entries) e))) (λ i. record { config = (sym e i).config; entries = t.entries; marks = (sym e i).marks; records = (sym e i).records })
-  where
-    no_news : (n : ℕ) → n ≡ 0 → nat_eq n 0 ≡ true
-    no_news n h = grind (arith, nat_tests)
-reached_is s leaf t n count (inr news) = rw (some_news n (omega (arith, count, news.more))) (λ i. record { config = sym news.config i; entries = t.entries; marks = sym news.marks i; records = sym news.records i })
-  where
-    some_news : (n : ℕ) → 0 < n → nat_eq n 0 ≡ false
-    some_news n h = grind (arith, nat_tests)
+-- versions that are accepted leave the configuration and the records
+pub record IsOfRange (s t : State) : Type 0 where
+  pub config : t.config ≡ s.config
+  pub records : t.records ≡ s.records
+
+step_of : (t : State) (seat : ℕ) (source : Source) (key : List ℕ) (v : Version) → IsOfRange t (accept_step t seat source key v)
+step_of t seat source key v = elim (knows t key v) as (λ b. IsOfRange t (cond b t (journaled t (entry_of t seat source key v)))) [
+  | true ↦ record { config = refl; records = refl }
+  | false ↦ record { config = refl; records = refl }
+]
+
+pub accepted_of : (s : State) (seat : ℕ) (source : Source) (offers : Offers) → IsOfRange s (accepted_in s seat source offers)
+accepted_of s seat source [] = record { config = refl; records = refl }
+accepted_of s seat source (o ∷ offers) =
+    let one = step_of s seat source o.0 o.1 in
+    let rest = accepted_of (accept_step s seat source o.0 o.1) seat source offers in
+    record { config = rest.config ∙ one.config; records = rest.records ∙ one.records }
 
 -- ---- a batch that is accepted
 
@@ -160,60 +170,84 @@ loaded_is s seat leaf rows b entries marks is =
     let es : entries ≡ end.entries = is.entries_are ∙ is.loads.entries in
     (λ i. record { config = s.config; entries = es i; marks = is.marks_are i; records = s.records }) ∙ reached_is s leaf end (length b.entries.items) (loaded_count s seat leaf rows b is.loads) moved
 
+-- a batch of the versions of rows keeps the range right
+batch_right : (s : State) (seat leaf : ℕ) (rows : List Row) (b : Batch) → IsRight s → IsLoadable s seat leaf rows b → IsRight (accepted_in s seat Copy (offers_of rows))
+batch_right s seat leaf rows b ok is =
+    sent_right s.config s seat Copy (offers_of rows) (λ same. cc) refl ok (All-weaker _ _ (offers_of rows) (λ o x. record { leaf_is = refl; here = x.here; clock = x.clock }) (leaf_offers s.config leaf rows is.rows_are)) is.fits
+
 pub loaded_right : (s : State) (seat leaf : ℕ) (rows : List Row) (b : Batch) (entries : List Entry) (marks : List (Option (List ℕ))) → IsRight s → IsLoaded s seat leaf rows b entries marks
     → IsRight (record { config = s.config; entries = entries; marks = marks; records = s.records })
-loaded_right s seat leaf rows b entries marks ok is =
-    subst IsRight (sym (loaded_is s seat leaf rows b entries marks is)) (sent_right s.config s seat Copy (offers_of rows) (λ same. cc) refl ok (All-weaker _ _ (offers_of rows) (λ o x. record { leaf_is = refl; here = x.here; clock = x.clock }) (leaf_offers s.config leaf rows is.loads.rows_are)) is.loads.fits)
+loaded_right s seat leaf rows b entries marks ok is = subst IsRight (sym (loaded_is s seat leaf rows b entries marks is)) (batch_right s seat leaf rows b ok is.loads)
 
-pub loaded_leaves : (s : State) (seat leaf : ℕ) (rows : List Row) (b : Batch) (entries : List Entry) (marks : List (Option (List ℕ))) (leaves : List Bucket) → AreLeaves s.config s.entries leaves → IsLoaded s seat leaf rows b entries marks
-    → AreLeaves s.config entries (set leaves leaf b.leaf)
-loaded_leaves s seat leaf rows b entries marks leaves are is =
-    let grown = taken_grown (λ key v. leaf ≡ leaf_in s.config key) s seat Copy (offers_of rows) (offer_leaves s.config leaf rows is.loads.rows_are) in
-    let es : entries ≡ s.entries ++ grown.more = is.entries_are ∙ is.loads.entries ∙ grown.entries in
-    let now : b.leaf ≡ bucket_of s.config (s.entries ++ grown.more) leaf = is.loads.batch.leaf_is ∙ ap (λ (xs : List Entry). bucket_of s.config xs leaf) (sym is.entries_are ∙ es) in
-    subst (λ (xs : List Entry). AreLeaves s.config xs (set leaves leaf b.leaf)) (sym es) (leaves_after s.config s.entries grown.more leaves leaf b.leaf are is.loads.rows_are.inside grown.all now)
+-- the leaves then
+pub loaded_leaves : (s : State) (seat leaf : ℕ) (rows : List Row) (b : Batch) (leaves : List Bucket) → IsRight s → IsLoadable s seat leaf rows b → leaves ≡ set (leaves_of (rows_now s)) leaf b.leaf
+    → IsChange (rows_now s) leaf leaves (rows_now (record s { entries = s.entries ++ b.entries.items }))
+loaded_leaves s seat leaf rows b leaves ok is set_is =
+    let end = accepted_in s seat Copy (offers_of rows) in
+    let grown = taken_grown (λ key v. leaf ≡ leaf_in s.config key) s seat Copy (offers_of rows) (offer_leaves s.config leaf rows is.rows_are) in
+    let es : s.entries ++ b.entries.items ≡ s.entries ++ grown.more = is.entries ∙ grown.entries in
+    let now : b.leaf ≡ bucket_of s.config (s.entries ++ grown.more) leaf = is.batch.leaf_is ∙ ap (λ (xs : List Entry). bucket_of s.config xs leaf) es in
+    let config = (accepted_of s seat Copy (offers_of rows)).config in
+    let there : rows_now end ≡ rows_now (record s { entries = s.entries ++ grown.more }) = λ i. rows_now (record s { config = config i; entries = grown.entries i }) in
+    let map = subst IsRowMap there (row_map_now end (batch_right s seat leaf rows b ok is)) in
+    subst (λ (xs : List Entry). IsChange (rows_now s) leaf leaves (rows_now (record s { entries = xs }))) (sym es) (batch_change s grown.more leaf leaves b.leaf map is.rows_are.inside grown.all now set_is)
 
 -- ---- what a load answers
 
--- rows of a leaf whose versions fit are loaded if the journal has room
-load_by : (s : State) (seat leaf : ℕ) (rows : List Row) (b : Batch) (room : Bool) → IsLoadable s seat leaf rows b → nat_le (length (accepted_in s seat Copy (offers_of rows)).entries) s.config.limit ≡ room
-    → load s seat rows ≡ cond room (gives (loaded s (accepted_in s seat Copy (offers_of rows)) (offers_of rows)) (accepted_in s seat Copy (offers_of rows))) (refuses JournalFull)
-load_by s seat leaf rows b true is room = rw (none_apart s.config leaf rows is.rows_are.range is.rows_are.leaf_is, is.fits, room) refl
-load_by s seat leaf rows b false is room = rw (none_apart s.config leaf rows is.rows_are.range is.rows_are.leaf_is, is.fits, room) refl
+-- entries for all of these versions, none of which is refused
+pub record AreEntriesOf (s : State) (seat : ℕ) (offers : Offers) (es : List Entry) (known : ℕ) : Type 0 where
+  pub fits : crowded_in s seat Copy offers ≡ None
+  pub entries : s.entries ++ es ≡ (accepted_in s seat Copy offers).entries
+  pub count : length es + known ≡ length offers
+
+entries_count : (s : State) (seat : ℕ) (offers : Offers) (es : List Entry) (known : ℕ) → AreEntriesOf s seat offers es known → length (accepted_in s seat Copy offers).entries ≡ length s.entries + length es
+entries_count s seat offers es known are = sym (ap length are.entries) ∙ length-append s.entries es
+
+-- they are loaded if the journal has room
+load_by : (s : State) (seat : ℕ) (offers : Offers) (room : Bool) → crowded_in s seat Copy offers ≡ None → nat_le (length (accepted_in s seat Copy offers).entries) s.config.limit ≡ room
+    → load_offers s seat offers ≡ cond room (gives (loaded s (accepted_in s seat Copy offers) offers) (accepted_in s seat Copy offers)) (refuses JournalFull)
+load_by s seat offers true fits room = rw (fits, room) refl
+load_by s seat offers false fits room = rw (fits, room) refl
 
 -- there is room
-pub load_given : (s : State) (seat leaf : ℕ) (rows : List Row) (b : Batch) → IsLoadable s seat leaf rows b → length s.entries + length b.entries.items ≤ s.config.limit
-    → load s seat rows ≡ gives (record { taken = length b.entries.items; known = b.known }) (accepted_in s seat Copy (offers_of rows))
-load_given s seat leaf rows b is room =
-    let end = accepted_in s seat Copy (offers_of rows) in
-    let count = loaded_count s seat leaf rows b is in
-    let taken : length end.entries - length s.entries ≡ length b.entries.items = omega (arith, count) in
-    let known : (length s.entries + length (offers_of rows)) - length end.entries ≡ b.known = omega (arith, count, is.count) in
-    load_by s seat leaf rows b true is (le-leb _ _ (omega (arith, count, room))) ∙ (λ i. gives (record { taken = taken i; known = known i }) end)
+pub load_given : (s : State) (seat : ℕ) (offers : Offers) (es : List Entry) (known : ℕ) (o : Outcome Loaded State) → o ≡ load_offers s seat offers → AreEntriesOf s seat offers es known → length s.entries + length es ≤ s.config.limit
+    → o ≡ gives (record { taken = length es; known = known }) (accepted_in s seat Copy offers)
+load_given s seat offers es known o is are room =
+    let end = accepted_in s seat Copy offers in
+    let count = entries_count s seat offers es known are in
+    let taken : length end.entries - length s.entries ≡ length es = omega (arith, count) in
+    let rest : (length s.entries + length offers) - length end.entries ≡ known = omega (arith, count, are.count) in
+    is ∙ load_by s seat offers true are.fits (le-leb _ _ (omega (arith, count, room))) ∙ (λ i. gives (record { taken = taken i; known = rest i }) end)
 
 -- there is none
-pub load_full : (s : State) (seat leaf : ℕ) (rows : List Row) (b : Batch) → IsLoadable s seat leaf rows b → s.config.limit < length s.entries + length b.entries.items → load s seat rows ≡ refuses JournalFull
-load_full s seat leaf rows b is full = load_by s seat leaf rows b false is (not_within _ _ (omega (arith, loaded_count s seat leaf rows b is, full)))
+load_full : (s : State) (seat : ℕ) (offers : Offers) (es : List Entry) (known : ℕ) → AreEntriesOf s seat offers es known → s.config.limit < length s.entries + length es → load_offers s seat offers ≡ refuses JournalFull
+load_full s seat offers es known are full = load_by s seat offers false are.fits (not_within _ _ (omega (arith, entries_count s seat offers es known are, full)))
   where
     not_within : (a b : ℕ) → b < a → nat_le a b ≡ false
     not_within a b h = grind (arith, nat_tests)
 
--- a batch for which there is no memory
-pub load_memory : (s : State) (seat leaf : ℕ) (rows : List Row) (b : Batch) (e : Refusal) → IsLoadable s seat leaf rows b → length s.entries + length b.entries.items ≤ s.config.limit → e ≡ NoMemory
-    → ((e ≡ NoMemory) × IsTrue (is_given (load s seat rows))) ⊎ (load s seat rows ≡ refuses e)
-load_memory s seat leaf rows b e is room memory = inl (memory, subst (λ (o : Outcome Loaded State). IsTrue (is_given o)) (sym (load_given s seat leaf rows b is room)) refl)
+-- there is no memory
+pub load_memory : (s : State) (seat : ℕ) (offers : Offers) (es : List Entry) (known : ℕ) (o : Outcome Loaded State) (e : Refusal) → o ≡ load_offers s seat offers → AreEntriesOf s seat offers es known → length s.entries + length es ≤ s.config.limit → e ≡ NoMemory
+    → ((e ≡ NoMemory) × IsTrue (is_given o)) ⊎ (o ≡ refuses e)
+load_memory s seat offers es known o e is are room memory = inl (memory, subst (λ (x : Outcome Loaded State). IsTrue (is_given x)) (sym (load_given s seat offers es known o is are room)) refl)
 
--- a batch for which the journal has no room, or there is no memory
-pub load_refused : (s : State) (seat leaf : ℕ) (rows : List Row) (b : Batch) (e : Refusal) (log : Log) → IsLoadable s seat leaf rows b → log.entries ≡ s.entries → log.limit ≡ s.config.limit
-    → ((e ≡ NoMemory) × IsTrue (is_given (reserve log (length b.entries.items)))) ⊎ (reserve log (length b.entries.items) ≡ refuses e)
-    → ((e ≡ NoMemory) × IsTrue (is_given (load s seat rows))) ⊎ (load s seat rows ≡ refuses e)
-load_refused s seat leaf rows b e log is entries limit (inl memory) = elim (cases_lt log.limit (length log.entries + length b.entries.items)) [
-  | inl full ↦ absurd (let no = rw (lt-ltb log.limit (length log.entries + length b.entries.items) full) at memory.1 in cc)
-  | inr room ↦ load_memory s seat leaf rows b e is (omega (arith, room, limit, ap length entries)) memory.0
+-- the journal makes no room for them
+pub load_refused : (s : State) (seat : ℕ) (offers : Offers) (es : List Entry) (known : ℕ) (o : Outcome Loaded State) (e : Refusal) (log : Log) → o ≡ load_offers s seat offers → AreEntriesOf s seat offers es known → log.entries ≡ s.entries → log.limit ≡ s.config.limit
+    → ((e ≡ NoMemory) × IsTrue (is_given (reserve log (length es)))) ⊎ (reserve log (length es) ≡ refuses e) → ((e ≡ NoMemory) × IsTrue (is_given o)) ⊎ (o ≡ refuses e)
+load_refused s seat offers es known o e log is are entries limit (inl memory) = elim (cases_lt log.limit (length log.entries + length es)) [
+  | inl full ↦ absurd (let no = rw (lt-ltb log.limit (length log.entries + length es) full) at memory.1 in cc)
+  | inr room ↦ load_memory s seat offers es known o e is are (omega (arith, room, limit, ap length entries)) memory.0
 ]
-load_refused s seat leaf rows b e log is entries limit (inr full) =
-    let both = reserve_err log (length b.entries.items) e full in
-    inr (load_full s seat leaf rows b is (omega (arith, both.0, limit, ap length entries)) ∙ ap (λ (x : Refusal). refuses x) (sym both.1))
+load_refused s seat offers es known o e log is are entries limit (inr full) =
+    let both = reserve_err log (length es) e full in
+    inr (is ∙ load_full s seat offers es known are (omega (arith, both.0, limit, ap length entries)) ∙ ap (λ (x : Refusal). refuses x) (sym both.1))
+
+-- rows of a leaf whose versions fit
+pub load_is : (s : State) (seat leaf : ℕ) (rows : List Row) (b : Batch) → IsLoadable s seat leaf rows b → load s seat rows ≡ load_offers s seat (offers_of rows)
+load_is s seat leaf rows b is = rw (none_apart s.config leaf rows is.rows_are.range is.rows_are.leaf_is) refl
+
+pub batch_entries : (s : State) (seat leaf : ℕ) (rows : List Row) (b : Batch) → IsLoadable s seat leaf rows b → AreEntriesOf s seat (offers_of rows) b.entries.items b.known
+batch_entries s seat leaf rows b is = record { fits = is.fits; entries = is.entries; count = is.count }
 
 -- one version would be too many for its key
 pub load_crowded : (s : State) (seat : ℕ) (c : Config) (leaf : ℕ) (rows : List Row) (e : Refusal) → c ≡ s.config → AreLeafRows c leaf rows → crowded_in s seat Copy (offers_of rows) ≡ Some e → load s seat rows ≡ refuses e
@@ -225,7 +259,7 @@ load_crowded s seat c leaf rows e config are crowd =
 pub load_tells : (s new : State) (seat leaf : ℕ) (rows : List Row) (b : Batch) (told : Loaded) → IsLoadable s seat leaf rows b → load s seat rows ≡ gives told new → drop (length s.entries) new.entries ≡ b.entries.items
 load_tells s new seat leaf rows b told is done =
     let end = accepted_in s seat Copy (offers_of rows) in
-    by_case (nat_le (length end.entries) s.config.limit) (sym (load_by s seat leaf rows b (nat_le (length end.entries) s.config.limit) is refl) ∙ done)
+    by_case (nat_le (length end.entries) s.config.limit) (sym (load_is s seat leaf rows b is ∙ load_by s seat (offers_of rows) (nat_le (length end.entries) s.config.limit) is.fits refl) ∙ done)
   where
     by_case : (room : Bool)
         → cond room (gives (loaded s (accepted_in s seat Copy (offers_of rows)) (offers_of rows)) (accepted_in s seat Copy (offers_of rows))) (refuses JournalFull) ≡ gives told new

@@ -25,16 +25,17 @@ use Rattle.row_bytes.specs.declared.row.Row.{Row}
 use Rattle.row_bytes.proofs.ManyRowLaws.{rows_read}
 use Rattle.hash_tree.specs.Leaves.{rows_in_leaf}
 use Rattle.tree_nodes.specs.Nodes.{is_on_path, kept_digest, dirtied}
+use Rattle.range_tree.specs.Trees.{all_dirty}
+use Rattle.range_tree.proofs.TreeLaws.{all_dirty-at}
 use Rattle.range_state.specs.Config.{Config, is_config}
 use Rattle.range_state.specs.Rows.{rows_of}
-use Rattle.range_state.specs.State.{State, all_dirty, fresh, leaf_in, leaf_count, knows, entry_of, journaled, accept_step, IsRight}
+use Rattle.range_state.specs.State.{State, fresh, leaf_in, leaf_count, knows, entry_of, journaled, accept_step, IsRight}
 use Rattle.range_state.specs.Sessions.{offers_of, accepted_in, crowded_in, accept_fault}
 use Rattle.range_state.specs.Renewals.{copies_from, held_offers, config_to, renewed_by, short_fault, renew_fault}
 use Rattle.range_state.specs.Loads.{is_home, apart_fault, loaded, load, load_read, load_text, leaves_of, load_all}
 use Rattle.range_state.proofs.BatchLaws.{Offers}
 use Rattle.range_state.proofs.OfferLaws.{row_map_now}
 use Rattle.range_state.proofs.StateLaws.{eq_itself, knows_held}
-use Rattle.range_state.proofs.TreeStepLaws.{all_dirty-at}
 use Rattle.range_state.proofs.RenewLaws.{copies-append, length-copies, offers-append, renewed_right, limit_fits}
 
 -- ---- texts

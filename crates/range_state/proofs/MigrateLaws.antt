@@ -1,9 +1,9 @@
 -- What a range keeps that goes over to format 2.
-use Rattle.std.proofs.Common.{◌≡◌, ℕ, zero, suc, ◌+◌, ◌<◌, false, Some, None, List, [], ◌∷◌, ◌++◌, length, map, take, drop, set, get_or, replicate, refl, sym, ap, subst, ◌∙◌, arith, inl, inr, Any}
+use Rattle.std.proofs.Common.{◌≡◌, ℕ, zero, suc, ◌+◌, ◌<◌, false, Some, None, List, [], ◌∷◌, ◌++◌, length, map, take, drop, set, get_or, refl, sym, ap, subst, ◌∙◌, arith, inl, inr, Any}
 use Rattle.std.specs.Prelude.{nat_lt}
 use Rattle.std.specs.List.{AllByRecursion}
 use Rattle.std.proofs.lemmas.Bool.{cases_lt, lt-ltb, le-ltb, both_ways}
-use Rattle.std.proofs.lemmas.List.{length-map, get_or-map}
+use Rattle.std.proofs.lemmas.List.{length-map, get_or-map, take_all}
 use Rattle.vclock.specs.declared.format.Format.{Format}
 use Rattle.vclock.specs.declared.format.Format.TheVariants.{One, Two}
 use Rattle.vclock.specs.declared.refusal.Refusal.TheVariants.{BadValue}
@@ -16,7 +16,7 @@ use Rattle.row_bytes.specs.Rows.{IsRow}
 use Rattle.row_bytes.specs.declared.row.Row.{Row}
 use Rattle.row_bytes.proofs.LimitLaws.{no_fault}
 use Rattle.row_bytes.proofs.RowSetLaws.{row_set, set_row, row_fits}
-use Rattle.tree_nodes.specs.Nodes.{Tree, node_count}
+use Rattle.tree_nodes.specs.Nodes.{node_count}
 use Rattle.tree_nodes.proofs.TreeLaws.{tree_fresh}
 use Rattle.hash_tree.proofs.DigestLaws.{true_fresh}
 use Rattle.sync_session.specs.Walks.{Walk}
@@ -28,8 +28,9 @@ use Rattle.range_state.specs.declared.«record».Record.{Record}
 use Rattle.range_state.specs.Config.{Config}
 use Rattle.range_state.specs.Records.{IsKept, is_open, open_count}
 use Rattle.range_state.specs.Rows.{rows_of}
-use Rattle.range_state.specs.State.{State, all_dirty, leaf_in, IsOwn, IsRight, HasTaken}
-use Rattle.range_state.specs.Replays.{IsReplay}
+use Rattle.range_tree.specs.Trees.{RangeTree, all_dirty}
+use Rattle.range_state.specs.State.{State, leaf_in, rows_now, IsOwn, IsRight, HasTaken}
+use Rattle.range_state.specs.Replays.{IsReplay, replayed_tree}
 use Rattle.range_state.specs.Migrates.{config_in_two, cancelled, in_two}
 use Rattle.range_state.proofs.SessionLaws.{kept_cancelled, keeps_cancelled}
 
@@ -131,13 +132,16 @@ replay_in_two s ok one = record {
   within = omega arith;
 }
 
--- a state with the configuration, the marks and the records of one that went over
-pub went_over : (s : State) (c : Config) (marks : Tree) (records : List Record) → IsRight s → s.config.format ≡ One → c ≡ config_in_two s.config → marks ≡ record { format = Two; digests = replicate (node_count Two) None } → records ≡ map cancelled s.records
-    → IsRight (record { config = c; entries = s.entries; marks = marks.digests; records = records }) × (record { config = c; entries = s.entries; marks = marks.digests; records = records } ≡ in_two s)
-unfolding all_dirty
-went_over s c marks records ok one config dirty all =
-    let back : record { config = c; entries = s.entries; marks = marks.digests; records = records } ≡ in_two s = λ i. record { config = config i; entries = s.entries; marks = (dirty i).digests; records = all i } in
-    (subst IsRight (sym back) (right_in_two s ok one), back)
+-- a state with the configuration, the tree and the records of one that went over
+pub went_over : (s : State) (c : Config) (es : List Entry) (tree : RangeTree) (records : List Record) → IsRight s → s.config.format ≡ One → c ≡ config_in_two s.config → es ≡ s.entries → tree ≡ replayed_tree (record { config = c; entries = es; front = length es }) → records ≡ map cancelled s.records
+    → IsRight (record { config = c; entries = s.entries; marks = tree.marks; records = records }) × (tree.map ≡ rows_now (record { config = c; entries = s.entries; marks = tree.marks; records = records })) × (record { config = c; entries = s.entries; marks = tree.marks; records = records } ≡ in_two s)
+went_over s c es tree records ok one config same is all =
+    let whole : take (length es) es ≡ s.entries = take_all (length es) es (omega arith) ∙ same in
+    let rows : tree.map ≡ record { format = c.format; bits = c.bits; range = c.range; rows = rows_of s.entries } =
+    ap (λ (t : RangeTree). t.map) is ∙ ap (λ (xs : List Entry). record { format = c.format; bits = c.bits; range = c.range; rows = rows_of xs }) whole in
+    let dirty : tree.marks ≡ all_dirty Two = ap (λ (t : RangeTree). t.marks) is ∙ ap (λ (x : Config). all_dirty x.format) config in
+    let back : record { config = c; entries = s.entries; marks = tree.marks; records = records } ≡ in_two s = λ i. record { config = config i; entries = s.entries; marks = dirty i; records = all i } in
+    (subst IsRight (sym back) (right_in_two s ok one), rows, back)
 
 -- ---- one record after another
 

@@ -1,25 +1,26 @@
--- What a range offers to another replica: its rows, in the leaves, with the digests of their tree.
-use Rattle.std.proofs.Common.{◌≡◌, ℕ, ◌^◌, Option, Some, List, [], ◌∷◌, length, map, sym, ap, subst, ◌∙◌}
+-- The rows of a range and their tree, as those of a right range.
+use Rattle.std.proofs.Common.{◌≡◌, ℕ, ◌≤◌, ◌<◌, ◌^◌, List, [], ◌∷◌, map, ap, subst, ◌∙◌}
+use Rattle.std.specs.Prelude.{IsTrue, Result, Ok, Err}
+use Rattle.vclock.specs.declared.refusal.Refusal.{Refusal}
+use Rattle.range_tree.specs.Rehashes.{HashesSome}
 use Rattle.std.specs.List.{AllByRecursion}
 use Rattle.std.specs.declared.cmp.Ordering.TheVariants.{Less, Equal, Greater}
 use Rattle.std.proofs.lemmas.Bool.{ltb-true, leb-true, and_parts}
-use Rattle.std.proofs.lemmas.List.{length-map}
-use Rattle.std.proofs.lemmas.List.FromFn.{fill_by_all}
 use Rattle.vclock.specs.declared.format.Format.{Format}
 use Rattle.version_set.specs.Order.{place_by}
 use Rattle.version_set.specs.declared.version.Version.{Version}
 use Rattle.range_journal.specs.declared.journal.Entry.{Entry}
 use Rattle.range_journal.specs.Journal.{held}
-use Rattle.key_ring.specs.Places.{range_at, leaf_bits}
+use Rattle.key_ring.specs.Places.{range_at, leaf_at}
+use Rattle.row_bytes.specs.Rows.{IsRow}
 use Rattle.row_bytes.specs.declared.row.Row.{Row}
-use Rattle.hash_tree.specs.Leaves.{Bucket, key_cmp}
-use Rattle.hash_tree.specs.Texts.{AreTrue}
+use Rattle.hash_tree.specs.Leaves.{key_cmp}
+use Rattle.hash_tree.specs.Texts.{IsTreeFor}
 use Rattle.snapshot.specs.RowMaps.{RowMap, IsRowMap}
-use Rattle.snapshot.specs.Snapshots.{leaves_of, map_of, IsSnapshot}
-use Rattle.snapshot.proofs.OrderLaws.{bucket_at, leaves_make}
-use Rattle.range_state.specs.Config.{Config}
+use Rattle.range_tree.specs.Trees.{RangeTree, IsRangeTree}
+use Rattle.range_state.specs.Config.{Config, is_config}
 use Rattle.range_state.specs.Rows.{with_key, keys_from, rows_of}
-use Rattle.range_state.specs.State.{State, IsOwn, IsRight, AreLeaves, leaf_in, rows_now}
+use Rattle.range_state.specs.State.{State, IsOwn, IsRight, leaf_in, rows_now, tree_in, tree_of, with_tree}
 use Rattle.range_state.proofs.RowLaws.{rows_of-ascend}
 
 -- ---- what holds of the keys of entries holds of the keys of rows
@@ -48,39 +49,67 @@ own_keys : (c : Config) (es : List Entry) → AllByRecursion (IsOwn c) es → Al
 own_keys c [] all = tt
 own_keys c (e ∷ es) all = (all.0.here, own_keys c es all.1)
 
--- ---- an offer to another replica
+-- ---- the rows now
 
--- the rows now are those of a range
-pub row_map_now : (s : State) → IsRight s → IsRowMap (rows_now s)
-row_map_now s ok =
+-- no entry has no row
+pub no_row : (format : Format) → AllByRecursion (IsRow format) (rows_of [])
+unfolding rows_of
+no_row format = tt
+
+-- the bits and the range of a configuration
+pub bits_fit : (c : Config) → IsTrue (is_config c) → c.bits ≤ 8
+bits_fit c config = leb-true c.bits 8 (and_parts _ _ (and_parts _ _ (and_parts _ _ config).0).0).0
+
+pub range_fits : (c : Config) → IsTrue (is_config c) → c.range < 2 ^ c.bits
+range_fits c config = ltb-true c.range (2 ^ c.bits) (and_parts _ _ (and_parts _ _ (and_parts _ _ config).0).0).1
+
+-- the rows now are those of a range, and their tree is right
+pub tree_right : (s : State) → IsTrue (is_config s.config) → AllByRecursion (IsOwn s.config) s.entries → AllByRecursion (IsRow s.config.format) (rows_of s.entries) → IsTreeFor (leaf_in s.config) (rows_of s.entries) (tree_of s) → IsRangeTree (tree_in s)
+tree_right s config own rows marks =
     let c = s.config in
-    let three = and_parts _ _ ok.config in
-    let two = and_parts _ _ three.0 in
-    let one = and_parts _ _ two.0 in
     record {
-      few = leb-true c.bits 8 one.0;
-      range = ltb-true c.range (2 ^ c.bits) one.1;
-      ascending = rows_of-ascend s.entries;
-      each = ok.rows;
-      here = all-rows_of (λ key. range_at c.bits key ≡ c.range) s.entries (own_keys c s.entries ok.own);
+      rows = record {
+        few = bits_fit c config;
+        range = range_fits c config;
+        ascending = rows_of-ascend s.entries;
+        each = rows;
+        here = all-rows_of (λ key. range_at c.bits key ≡ c.range) s.entries (own_keys c s.entries own);
+      };
+      marks = marks;
     }
 
--- the leaves are those of the rows now
-leaves_now : (s : State) (leaves : List Bucket) → AreLeaves s.config s.entries leaves → leaves ≡ leaves_of (rows_now s)
-unfolding leaves_of
-leaves_now s leaves are = fill_by_all (bucket_at (rows_now s)) leaves (2 ^ leaf_bits s.config.format) (record { format = s.config.format; rows = [] }) are.all (λ i less. are.each i (record { format = s.config.format; rows = [] }) less)
+pub tree_now : (s : State) → IsRight s → IsRangeTree (tree_in s)
+tree_now s ok = tree_right s ok.config ok.own ok.rows ok.marks
 
--- The leaves and the digests of a range whose nodes are all clean are a snapshot of the rows now.
-pub offered_now : (s now : State) (leaves shared : List Bucket) (digests : List (List ℕ)) (format : Format) (bits range : ℕ) → s ≡ now → IsRight s → AreLeaves s.config s.entries leaves → shared ≡ leaves → map Some digests ≡ s.marks
-    → format ≡ s.config.format → bits ≡ s.config.bits → range ≡ s.config.range → (map_of format bits range shared ≡ rows_now now) × IsSnapshot (map_of format bits range shared) shared digests
-offered_now s now leaves shared digests format bits range view ok are whole marks f b r =
-    let m = rows_now s in
-    let same = whole ∙ leaves_now s leaves are in
-    let made : map_of format bits range shared ≡ m = (λ i. map_of (f i) (b i) (r i) (same i)) ∙ leaves_make m (rows_of-ascend s.entries) in
-    let of_map : IsSnapshot m shared digests = record {
-      rows = row_map_now s ok;
-      leaves_are = same;
-      all = sym (length-map digests (λ (d : List ℕ). Some d)) ∙ ap (λ (xs : List (Option (List ℕ))). length xs) marks ∙ ok.marks.tree.all;
-      right = subst (λ (xs : List (Option (List ℕ))). AreTrue m.format (leaf_in s.config) m.rows xs) (sym marks) ok.marks.digests;
-    } in
-    (made ∙ ap rows_now view, subst (λ (x : RowMap). IsSnapshot x shared digests) (sym made) of_map)
+pub row_map_now : (s : State) → IsRight s → IsRowMap (rows_now s)
+row_map_now s ok = (tree_now s ok).rows
+
+-- the tree that a right range has
+pub tree_is : (s now : State) (t : RangeTree) → s ≡ now → t.map ≡ rows_now s → t.marks ≡ s.marks → t ≡ tree_in now
+tree_is s now t view map marks = (λ i. record { map = map i; marks = marks i }) ∙ ap tree_in view
+
+-- the state with other digests of the same rows
+pub retreed : (s : State) (t : RangeTree) → IsRight s → IsRangeTree t → t.map ≡ rows_now s → IsRight (with_tree s t)
+retreed s t ok right map = record {
+  config = ok.config;
+  own = ok.own;
+  news = ok.news;
+  short = ok.short;
+  rows = ok.rows;
+  marks = subst (λ (m : RowMap). IsTreeFor (leaf_at m.format m.bits) m.rows (record { format = m.format; digests = t.marks })) map right.marks;
+  records = ok.records;
+  few = ok.few;
+  few_open = ok.few_open;
+  partners = ok.partners;
+}
+
+-- some nodes were hashed, and the rows are unchanged
+pub hashed_map : (r : Result ℕ Refusal) (most : ℕ) (t u : RangeTree) → HashesSome r most t u → u.map ≡ t.map
+hashed_map (Ok left) most t u h = h.1.same.map
+hashed_map (Err e) most t u h = ap (λ (x : RangeTree). x.map) h.3
+
+pub some_hashed : (r : Result ℕ Refusal) (most : ℕ) (now : State) (t u : RangeTree) → t ≡ tree_in now → HashesSome r most t u → HashesSome r most (tree_in now) (tree_in (with_tree now u))
+some_hashed r most now t u is h =
+    let map : u.map ≡ rows_now now = hashed_map r most t u h ∙ ap (λ (x : RangeTree). x.map) is in
+    let new : u ≡ tree_in (with_tree now u) = λ i. record { map = map i; marks = u.marks } in
+    subst (HashesSome r most (tree_in now)) new (subst (λ (x : RangeTree). HashesSome r most x u) is h)

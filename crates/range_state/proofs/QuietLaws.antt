@@ -21,13 +21,13 @@ use Rattle.row_bytes.specs.declared.row.Row.{Row}
 use Rattle.row_bytes.specs.Rows.{IsRow}
 use Rattle.row_bytes.proofs.LimitLaws.{no_fault_else}
 use Rattle.hash_tree.specs.Leaves.{key_cmp, AscendByKey, versions_in}
-use Rattle.tree_nodes.specs.Nodes.{tree_depth, node_count, kept_digest, are_clean}
+use Rattle.tree_nodes.specs.Nodes.{Node, is_same_node, contains_node, tree_depth, node_count, kept_digest, are_clean}
 use Rattle.hash_tree.specs.Texts.{leaf_text, node_digest, AreTrue}
 use Rattle.hash_tree.proofs.KeyLaws.{turned}
 use Rattle.hash_tree.proofs.LeafLaws.{versions_in-rows_at}
 use Rattle.hash_tree.proofs.TextLaws.{leaf_node, same_leaf}
 use Rattle.snapshot.specs.RowMaps.{RowMap, IsRowMap, leaf_in, root_of}
-use Rattle.sync_session.specs.TreeNodes.{Node, is_same_node, contains_node, text_of}
+use Rattle.sync_session.specs.TreeNodes.{text_of}
 use Rattle.sync_session.specs.Walks.{child_digest, IsCompared, NoTwoShareADigest}
 use Rattle.sync_session.specs.Differing.{first_of_level, nodes_above_depth, all_nodes, is_unlike, differs_at, differ}
 use Rattle.sync_session.proofs.DescentLaws.{at_node, is_node-same}

@@ -1,5 +1,5 @@
 -- Ranges that begin with the versions that others hold.
-use Rattle.std.proofs.Common.{◌≡◌, ℕ, zero, suc, ◌+◌, ◌-◌, ◌<◌, ◌≤◌, Bool, true, false, cond, not, Option, Some, None, List, [], ◌∷◌, ◌++◌, length, map, take, refl, sym, ap, subst, ◌∙◌, arith, inl, inr, append_assoc, append-nil}
+use Rattle.std.proofs.Common.{◌≡◌, ℕ, zero, suc, ◌+◌, ◌-◌, ◌<◌, ◌≤◌, Bool, true, false, cond, not, Some, None, List, [], ◌∷◌, ◌++◌, length, map, take, refl, sym, ap, subst, ◌∙◌, arith, inl, inr, append_assoc, append-nil}
 use Rattle.std.specs.Prelude.{nat_eq, IsTrue}
 use Rattle.std.specs.List.{filter, flat_map, list_any, range_with_len, AllByRecursion}
 use Rattle.std.specs.Cmp.Lexicographic.{pointwise}
@@ -28,13 +28,14 @@ use Rattle.key_ring.specs.Places.{range_at}
 use Rattle.row_bytes.specs.Rows.{IsRow}
 use Rattle.row_bytes.specs.declared.row.Row.{Row}
 use Rattle.row_bytes.proofs.RowSetLaws.{row_fits}
-use Rattle.hash_tree.specs.Leaves.{Bucket, key_cmp, AscendByKey, rows_in_leaf, versions_in, with_offer}
+use Rattle.hash_tree.specs.Leaves.{key_cmp, AscendByKey, rows_in_leaf, versions_in, with_offer}
 use Rattle.hash_tree.specs.Texts.{IsTreeFor}
 use Rattle.hash_tree.proofs.LeafLaws.{versions_in-rows_at}
+use Rattle.range_tree.specs.Trees.{RangeTree}
 use Rattle.range_state.specs.declared.«record».Record.{Record}
 use Rattle.range_state.specs.Config.{Config, is_config}
 use Rattle.range_state.specs.Rows.{rows_of}
-use Rattle.range_state.specs.State.{State, leaf_in, leaf_count, tree_of, IsOwn, IsRight, IsFromPartner, AreLeaves}
+use Rattle.range_state.specs.State.{State, leaf_in, leaf_count, rows_now, tree_of, IsOwn, IsRight, IsFromPartner}
 use Rattle.range_state.specs.Sessions.{offers_in, offers_of}
 use Rattle.range_state.specs.Renewals.{copies_from, by_leaf, held_offers, config_to, renewed_by, short_fault, renew_fault, with_copies}
 use Rattle.range_state.proofs.BatchLaws.{Offers}
@@ -309,13 +310,6 @@ renewed_right s seat limit ok config = record {
   partners = copies_sent (renewed_by s seat limit) 0 seat (held_offers s);
 }
 
--- and its leaves are those of the old one
-pub renewed_leaves : (s : State) (seat limit : ℕ) (leaves : List Bucket) → AreLeaves s.config s.entries leaves → AreLeaves (config_to s.config limit) (copies_from 0 seat (held_offers s)) leaves
-renewed_leaves s seat limit leaves are = record {
-  all = are.all;
-  each = λ i d lt. are.each i d lt ∙ ap (λ (rows : List Row). record { format = s.config.format; rows = rows_in_leaf (leaf_in s.config) i rows }) (sym (renewed_rows s seat));
-}
-
 -- a limit that is not refused
 pub limit_fits : (s : State) (limit : ℕ) → renew_fault s limit ≡ None → IsTrue (is_config (config_to s.config limit))
 limit_fits s limit none = by_config (is_config (config_to s.config limit)) none
@@ -446,15 +440,17 @@ leaf_part s leaf within =
 -- ---- a new range
 
 -- what a renewed range has
-pub renewed_range : (s now : State) (seat limit : ℕ) (config : Config) (entries : List Entry) (marks : List (Option (List ℕ))) (records : List Record) (leaves shared : List Bucket) → s ≡ now → IsRight s → AreLeaves s.config s.entries leaves
-    → renew_fault now limit ≡ None → config ≡ config_to now.config limit → entries ≡ copies_from 0 seat (held_offers now) → marks ≡ s.marks → records ≡ [] → shared ≡ leaves
-    → IsRight (record { config = config; entries = entries; marks = marks; records = records }) × AreLeaves config entries shared × (record { config = config; entries = entries; marks = marks; records = records } ≡ renewed_by now seat limit)
-renewed_range s now seat limit config entries marks records leaves shared view ok are fits limited copies same none whole =
+pub renewed_range : (s now : State) (seat limit : ℕ) (config : Config) (entries : List Entry) (old tree : RangeTree) (records : List Record) → s ≡ now → IsRight s → old.map ≡ rows_now s → old.marks ≡ s.marks
+    → renew_fault now limit ≡ None → config ≡ config_to now.config limit → entries ≡ copies_from 0 seat (held_offers now) → tree ≡ old → records ≡ []
+    → IsRight (record { config = config; entries = entries; marks = tree.marks; records = records }) × (tree.map ≡ rows_now (record { config = config; entries = entries; marks = tree.marks; records = records })) × (record { config = config; entries = entries; marks = tree.marks; records = records } ≡ renewed_by now seat limit)
+renewed_range s now seat limit config entries old tree records view ok map marks fits limited copies same none =
     let fits_s : renew_fault s limit ≡ None = ap (λ (t : State). renew_fault t limit) view ∙ fits in
     let config_is : config ≡ config_to s.config limit = limited ∙ ap (λ (t : State). config_to t.config limit) (sym view) in
     let es : entries ≡ copies_from 0 seat (held_offers s) = copies ∙ ap (λ (t : State). copies_from 0 seat (held_offers t)) (sym view) in
-    let back : record { config = config; entries = entries; marks = marks; records = records } ≡ renewed_by s seat limit = λ i. record { config = config_is i; entries = es i; marks = same i; records = none i } in (
+    let digests : tree.marks ≡ s.marks = ap (λ (t : RangeTree). t.marks) same ∙ marks in
+    let back : record { config = config; entries = entries; marks = tree.marks; records = records } ≡ renewed_by s seat limit = λ i. record { config = config_is i; entries = es i; marks = digests i; records = none i } in
+    let rows : rows_now s ≡ rows_now (renewed_by s seat limit) = ap (λ (rs : List Row). record { format = s.config.format; bits = s.config.bits; range = s.config.range; rows = rs }) (sym (renewed_rows s seat)) in (
       subst IsRight (sym back) (renewed_right s seat limit ok (limit_fits s limit fits_s)),
-      subst (AreLeaves config entries) (sym whole) (subst (λ (t : State). AreLeaves t.config t.entries leaves) (sym back) (renewed_leaves s seat limit leaves are)),
+      ap (λ (t : RangeTree). t.map) same ∙ map ∙ rows ∙ ap rows_now (sym back),
       back ∙ ap (λ (t : State). renewed_by t seat limit) view,
     )

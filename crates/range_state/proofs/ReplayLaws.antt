@@ -1,53 +1,63 @@
 -- What a replay keeps.
-use Rattle.std.proofs.Common.{◌≡◌, ℕ, ◌+◌, ◌<◌, List, [], ◌∷◌, ◌++◌, length, get_or, take, set, None, refl, sym, ap, subst, ◌∙◌}
+use Rattle.std.proofs.Common.{◌≡◌, ℕ, ◌+◌, ◌<◌, List, [], ◌∷◌, ◌++◌, length, get_or, take, None, refl, sym, ap, subst, ◌∙◌}
 use Rattle.std.proofs.lemmas.List.{take_more}
 use Rattle.std.proofs.lemmas.List.Elements.{All-from_recursion}
 use Rattle.std.proofs.lemmas.Slice.Eq.{bytes_eq-Decides}
+use Rattle.vclock.specs.Bytes.{key_fault}
+use Rattle.version_set.specs.Kind.{value_fault}
 use Rattle.version_set.specs.declared.version.Version.{Version}
 use Rattle.version_set.specs.Version.{offer_fault}
 use Rattle.range_journal.specs.declared.journal.Entry.{Entry}
-use Rattle.range_journal.specs.Journal.{held}
 use Rattle.range_journal.proofs.JournalLaws.{never_refused}
-use Rattle.hash_tree.specs.Leaves.{Bucket, with_offer, versions_in, rows_in_leaf}
+use Rattle.key_ring.specs.Places.{range_at}
+use Rattle.hash_tree.specs.Leaves.{versions_in}
+use Rattle.range_tree.specs.Trees.{RangeTree, bare, offered_to}
+use Rattle.snapshot.specs.RowMaps as maps
+use Rattle.range_tree.proofs.TreeLaws.{still_dirty}
 use Rattle.range_state.specs.Config.{Config}
-use Rattle.range_state.specs.State.{State, IsOwn, AreLeaves, leaf_in, bucket_of}
+use Rattle.range_state.specs.State.{IsOwn, leaf_in}
 use Rattle.range_state.specs.Rows.{rows_of}
-use Rattle.range_state.specs.Replays.{Replayed, IsReplay}
-use Rattle.range_state.proofs.StateLaws.{grown-leaves, leaf_within, rows_here, set_here}
-
--- a state that has these entries
-abbrev of_entries : Config → List Entry → State
-of_entries c es = record { config = c; entries = es; marks = []; records = [] }
-
--- the leaf of a key
-pub leaf_there : (c : Config) (es : List Entry) (leaves : List Bucket) (leaf : ℕ) (key : List ℕ) → AreLeaves c es leaves → leaf ≡ leaf_in c key → leaf < length leaves
-leaf_there c es leaves leaf key are at = leaf_within (of_entries c es) leaves leaf key are at
-
--- what it has for the key is what is held
-pub leaf_holds_key : (c : Config) (es : List Entry) (leaves : List Bucket) (leaf : ℕ) (key : List ℕ) (b : Bucket) → AreLeaves c es leaves → leaf ≡ leaf_in c key → b ≡ get_or leaves leaf b → versions_in key b.rows ≡ held es key
-leaf_holds_key c es leaves leaf key b are at is = set_here (of_entries c es) leaves leaf key b are at is
-
--- the format of its rows
-pub leaf_format : (c : Config) (es : List Entry) (leaves : List Bucket) (leaf : ℕ) (key : List ℕ) (b : Bucket) → AreLeaves c es leaves → leaf ≡ leaf_in c key → b ≡ get_or leaves leaf b → b.format ≡ c.format
-leaf_format c es leaves leaf key b are at is = ap (λ (x : Bucket). x.format) (rows_here (of_entries c es) leaves leaf key b are at is)
+use Rattle.range_state.specs.Replays.{Replayed, IsReplay, replayed_tree}
+use Rattle.range_state.proofs.RowLaws.{rows_of-push, versions_in-rows_of}
 
 -- the next entry is of the range
-pub next_own : (r : Replayed) (e : Entry) → IsReplay r → r.front < length r.entries → e ≡ get_or r.entries r.front e → IsOwn r.config e
+next_own : (r : Replayed) (e : Entry) → IsReplay r → r.front < length r.entries → e ≡ get_or r.entries r.front e → IsOwn r.config e
 next_own r e ok below is = subst (IsOwn r.config) (sym is) (All-from_recursion (IsOwn r.config) r.entries ok.own r.front e below)
 
 -- its offer is not refused
-pub next_fits : (r : Replayed) (e : Entry) (v : Version) (old : List Version) → IsReplay r → r.front < length r.entries → e ≡ get_or r.entries r.front e → v ≡ e.version → old ≡ held (take r.front r.entries) e.key → offer_fault v old ≡ None
-next_fits r e v old ok below is copy was = never_refused r.entries r.front e e.key old v below is ((bytes_eq-Decides e.key e.key).1 refl) was copy (ok.short e.key)
+next_fits : (r : Replayed) (e : Entry) → IsReplay r → r.front < length r.entries → e ≡ get_or r.entries r.front e → offer_fault e.version (versions_in e.key (replayed_tree r).map.rows) ≡ None
+next_fits r e ok below is = never_refused r.entries r.front e e.key (versions_in e.key (rows_of (take r.front r.entries))) e.version below is ((bytes_eq-Decides e.key e.key).1 refl) (versions_in-rows_of (take r.front r.entries) e.key) refl (ok.short e.key)
 
--- the leaves after it
-pub next_leaves : (r : Replayed) (e : Entry) (leaves : List Bucket) (leaf : ℕ) (b new : Bucket) (key : List ℕ) (v : Version) → r.front < length r.entries → e ≡ get_or r.entries r.front e → AreLeaves r.config (take r.front r.entries) leaves
-    → leaf ≡ leaf_in r.config e.key → b ≡ get_or leaves leaf b → key ≡ e.key → v ≡ e.version → new ≡ record b { rows = with_offer key v b.rows } → AreLeaves r.config (take (r.front + 1) r.entries) (set leaves leaf new)
-next_leaves r e leaves leaf b new key v below is are at was same copy now =
+-- the key and the version of the next entry can be offered to a tree
+pub record IsNext (t : RangeTree) (i : ℕ) (k : List ℕ) (v : Version) : Type 0 where
+  pub leaf : i ≡ maps.leaf_in t.map k
+  pub here : range_at t.map.bits k ≡ t.map.range
+  pub key : key_fault k ≡ None
+  pub value : value_fault t.map.format v.kind v.value ≡ None
+  pub room : offer_fault v (versions_in k t.map.rows) ≡ None
+
+-- the next entry can be offered to the tree of those before it
+pub next_is : (now r : Replayed) (e : Entry) (t : RangeTree) (leaf : ℕ) (key : List ℕ) (v : Version) → r ≡ now → IsReplay r → t ≡ replayed_tree r → now.front < length now.entries → e ≡ get_or r.entries r.front e → leaf ≡ leaf_in now.config key → key ≡ e.key → v ≡ e.version → IsNext t leaf key v
+next_is now r e t leaf key v view ok tree below is at same copy =
+    let before : r.front < length r.entries = subst (λ (x : Replayed). x.front < length x.entries) (sym view) below in
+    let own = next_own r e ok before is in
+    let here : IsNext (replayed_tree r) (leaf_in r.config e.key) e.key e.version = record { leaf = refl; here = own.here; key = own.key; value = own.value; room = next_fits r e ok before is } in
+    let place : leaf_in r.config e.key ≡ leaf = (λ i. leaf_in (view i).config (sym same i)) ∙ sym at in
+    subst (λ (x : RangeTree). IsNext x leaf key v) (sym tree)
+    (subst (λ (w : Version). IsNext (replayed_tree r) leaf key w) (sym copy)
+    (subst (λ (k : List ℕ). IsNext (replayed_tree r) leaf k e.version) (sym same)
+    (subst (λ (n : ℕ). IsNext (replayed_tree r) n e.key e.version) place here)))
+
+-- the tree after it
+pub next_tree : (r : Replayed) (e : Entry) (t new : RangeTree) (key : List ℕ) (v : Version) → t ≡ replayed_tree r → r.front < length r.entries → e ≡ get_or r.entries r.front e → key ≡ e.key → v ≡ e.version → new ≡ offered_to t key v → new ≡ replayed_tree (record r { front = r.front + 1 })
+next_tree r e t new key v tree below is same copy now =
     let es = take r.front r.entries in
-    let s : State = of_entries r.config es in
-    let rows : b ≡ bucket_of r.config es leaf = rows_here s leaves leaf e.key b are at was in
-    let made : new ≡ record { format = r.config.format; rows = with_offer e.key e.version (rows_in_leaf (leaf_in r.config) (leaf_in r.config e.key) (rows_of es)) } =
-    now ∙ (λ i. record { format = (rows i).format; rows = with_offer (same i) (copy i) (rows i).rows }) ∙ ap (λ (n : ℕ). record { format = r.config.format; rows = with_offer e.key e.version (rows_in_leaf (leaf_in r.config) n (rows_of es)) }) at in
-    let more : take (r.front + 1) r.entries ≡ es ++ e ∷ [] = take_more r.entries r.front e below ∙ ap (λ (x : Entry). es ++ x ∷ []) (sym is) in
-    subst (λ (xs : List Entry). AreLeaves r.config xs (set leaves leaf new)) (sym more)
-    (subst (λ (n : ℕ). AreLeaves r.config (es ++ e ∷ []) (set leaves n new)) (sym at) (grown-leaves s leaves e new are made))
+    let more : es ++ e ∷ [] ≡ take (r.front + 1) r.entries = ap (λ (x : Entry). es ++ x ∷ []) is ∙ sym (take_more r.entries r.front e below) in
+    let rows = sym (rows_of-push es e) ∙ ap rows_of more in
+    let dirty = still_dirty r.config.format (leaf_in r.config e.key) in
+    now ∙ (λ i. offered_to (tree i) (same i) (copy i)) ∙ (λ i. record { map = record { format = r.config.format; bits = r.config.bits; range = r.config.range; rows = rows i }; marks = dirty i })
+
+-- the tree before the first entry
+pub none_replayed : (c : Config) (es : List Entry) (t : RangeTree) → t ≡ bare c.format c.bits c.range → t ≡ replayed_tree (record { config = c; entries = es; front = 0 })
+unfolding rows_of
+none_replayed c es t is = is

@@ -15,7 +15,7 @@ use Rattle.range_journal.specs.declared.journal.Entry.{Entry}
 use Rattle.range_journal.specs.Journal.{held}
 use Rattle.hash_tree.proofs.ChunkLaws.{all-set}
 use Rattle.hash_tree.proofs.KeyLaws.{all_get}
-use Rattle.sync_session.specs.TreeNodes.{Node}
+use Rattle.tree_nodes.specs.Nodes.{Node}
 use Rattle.sync_session.specs.Walks.{Walk, Held, first_asked}
 use Rattle.sync_session.specs.Steps.{state_by, started, cancelled_by}
 use Rattle.sync_session.specs.declared.state.SessionState.{SessionState}

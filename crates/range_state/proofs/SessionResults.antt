@@ -8,7 +8,8 @@ use Rattle.range_journal.specs.Journal.{held}
 use Rattle.hash_tree.proofs.KeyLaws.{all_get}
 use Rattle.snapshot.specs.RowMaps.{RowMap}
 use Rattle.sync_session.specs.declared.state.SessionState.TheVariants.{Open, Finished, Failed, Cancelled}
-use Rattle.sync_session.specs.TreeNodes.{Node, contains_node, text_of}
+use Rattle.tree_nodes.specs.Nodes.{Node, contains_node}
+use Rattle.sync_session.specs.TreeNodes.{text_of}
 use Rattle.sync_session.specs.Walks.{Walk, Held, IsCanonical, IsRightlyTaken, NoTwoShareADigest, IsPartners}
 use Rattle.sync_session.specs.Steps.{IsDue}
 use Rattle.sync_session.specs.Differing.{differ, times, IsHonest, IsNearlyDone, IsInTurn, AscendByPlace}

@@ -1,13 +1,12 @@
 -- What becomes of a range when rows of any leaves are loaded.
-use Rattle.std.proofs.Common.{◌≡◌, ◌⊎◌, ℕ, ◌+◌, ◌-◌, ◌<◌, ◌≤◌, Bool, true, false, cond, Option, Some, None, List, [], ◌∷◌, ◌++◌, length, get_or, take, drop, set, refl, sym, ap, subst, ◌∙◌, inl, inr, arith, append_assoc, append-nil}
-use Rattle.std.specs.Prelude.{IsTrue, Ok, nat_le}
+use Rattle.std.proofs.Common.{◌≡◌, ◌⊎◌, ℕ, ◌+◌, ◌<◌, ◌≤◌, true, false, cond, Option, Some, None, List, [], ◌∷◌, ◌++◌, length, map, get_or, take, drop, refl, sym, ap, subst, ◌∙◌, inl, inr, arith, append_assoc, append-nil}
+use Rattle.std.specs.Prelude.{Ok, nat_le}
 use Rattle.std.specs.List.{AllByRecursion}
-use Rattle.std.proofs.lemmas.Bool.{eqb-true, and_parts, le-leb, lt-ltb, le-ltb, cases_lt}
-use Rattle.std.proofs.lemmas.Bool.Decides.{nat_tests}
-use Rattle.std.proofs.lemmas.List.{length-append, take_more}
-use Rattle.std.proofs.Math.Seq.{drop-append_seam}
+use Rattle.std.proofs.lemmas.Bool.{eqb-true, and_parts, lt-ltb, le-ltb, cases_lt}
+use Rattle.std.proofs.lemmas.List.{length-append, length-map, length-take}
 use Rattle.vclock.specs.Answer.{first_fault}
-use Rattle.vclock.specs.Outcome.{Outcome, gives, refuses, is_given, ◌>>◌}
+use Rattle.vclock.specs.Bytes.{key_fault}
+use Rattle.vclock.specs.Outcome.{Outcome, gives, refuses, ◌>>◌}
 use Rattle.vclock.specs.declared.format.Format.{Format}
 use Rattle.vclock.specs.declared.format.Format.TheVariants.{One, Two}
 use Rattle.vclock.specs.declared.refusal.Refusal.{Refusal}
@@ -15,33 +14,34 @@ use Rattle.vclock.specs.declared.refusal.Refusal.TheVariants.{NoMemory, OtherRan
 use Rattle.version_set.specs.Kind.{value_fault}
 use Rattle.version_set.specs.declared.kind.Kind.{Kind}
 use Rattle.version_set.specs.declared.kind.Kind.TheVariants.{Live, Tombstone}
+use Rattle.version_set.specs.Version.{covered, offer_fault}
 use Rattle.version_set.specs.declared.version.Version.{Version}
 use Rattle.range_journal.specs.declared.journal.Entry.{Entry}
-use Rattle.range_journal.specs.declared.journal.Source.{Source}
 use Rattle.range_journal.specs.declared.journal.Source.TheVariants.{Copy}
-use Rattle.range_journal.specs.Journal.{reserve}
-use Rattle.range_journal.specs.Log.{Log}
-use Rattle.range_journal.proofs.JournalLaws.{reserve_err}
+use Rattle.range_journal.specs.Journal.{held}
+use Rattle.range_journal.specs.Log.{AreNumberedFrom}
+use Rattle.range_journal.proofs.JournalLaws.{AreNumberedFrom-push}
 use Rattle.key_ring.specs.Places.{range_at}
 use Rattle.row_bytes.specs.declared.row.Row.{Row}
 use Rattle.row_bytes.specs.Rows.{IsRow, IsVersion}
 use Rattle.row_bytes.proofs.LimitLaws.{no_fault_else}
-use Rattle.hash_tree.specs.Leaves.{Bucket}
-use Rattle.tree_nodes.specs.Nodes.{dirtied}
+use Rattle.hash_tree.specs.Leaves.{versions_in}
 use Rattle.sync_session.proofs.StepLaws.{All-weaker}
-use Rattle.range_state.specs.Batches.{ahead, IsBatch, IsPrepared}
+use Rattle.snapshot.specs.RowMaps.{RowMap}
+use Rattle.snapshot.specs.RowMaps as maps
+use Rattle.range_tree.specs.Trees.{RangeTree, offered_to}
 use Rattle.range_state.specs.Config.{Config}
-use Rattle.range_state.specs.FormatLoads.{newer_fault, are_here, astray_fault, load_rows, load_format, IsSpread, IsSpreadable, dirtied_by}
-use Rattle.range_state.specs.Loads.{loaded, rows_in}
-use Rattle.range_state.specs.Sessions.{offers_in, offers_of, accepted_in, crowded_in}
-use Rattle.range_state.specs.State.{State, IsRight, AreLeaves, leaf_in, leaf_count, bucket_of, place_fault, knows, entry_of, journaled, accept_step}
+use Rattle.range_state.specs.FormatLoads.{newer_fault, are_here, astray_fault, load_rows, load_format, IsSpread, IsSpreadable}
+use Rattle.range_state.specs.Loads.{load_offers, loaded, rows_in}
+use Rattle.range_state.specs.Sessions.{offers_of, accepted_in, crowded_in}
+use Rattle.range_state.specs.State.{State, IsRight, rows_now, tree_in, leaf_in, place_fault, entry_of, journaled, accept_step}
 use Rattle.range_state.specs.declared.state.loading.Loaded.{Loaded}
 use Rattle.range_state.specs.declared.state.format_loading.Spread.{Spread}
-use Rattle.range_state.specs.declared.state.preparation.Batch.{Batch}
-use Rattle.range_state.proofs.BatchLaws.{Offers, crowded_same, taken_same, crowded-append, taken-append}
-use Rattle.range_state.proofs.LoadLaws.{placed, sent_right}
-use Rattle.range_state.proofs.TakenLaws.{IsOfferFor, taken_grown, offers_all}
-use Rattle.range_state.proofs.AnswerLaws.{leaves_after}
+use Rattle.range_state.proofs.BatchLaws.{Offers, alone, crowded-append, map_next, map_split, taken-append}
+use Rattle.range_state.proofs.LoadLaws.{AreEntriesOf, placed, accepted_of, sent_right}
+use Rattle.range_state.proofs.RowLaws.{versions_in-rows_of}
+use Rattle.range_state.proofs.StateLaws.{knows_held, first_none, later_none, rows_after}
+use Rattle.range_state.proofs.TakenLaws.{IsOfferFor, offers_all}
 
 -- ---- versions of an older format
 
@@ -89,148 +89,153 @@ row_here c format r older is range = All-weaker (λ v. IsOfferFor c (leaf_in c r
 spread_offers : (s : State) (seat : ℕ) (rows : List Row) (sp : Spread) → IsSpreadable s seat rows sp → AllByRecursion (λ o. IsOfferFor s.config (leaf_in s.config o.0) o.0 o.1) (offers_of rows)
 spread_offers s seat rows sp is = offers_all (λ key v. IsOfferFor s.config (leaf_in s.config key) key v) rows (rows_placed s.config is.format rows is.older is.rows_are.each (rows_here s.config rows is.here))
 
--- ---- one row more
+-- ---- one version more
 
--- a batch for the leaf of a row
-pub row_batch : (s : State) (seat : ℕ) (xs : Offers) (sp : Spread) (leaf : ℕ) (b : Bucket) → IsSpread s seat xs sp → leaf < leaf_count s.config → ((d : Bucket) → b ≡ get_or sp.leaves leaf d)
-    → IsBatch s leaf (record { leaf = b; entries = sp.batch.entries; known = sp.batch.known })
-row_batch s seat xs sp leaf b is inside at = record { leaf_is = at b ∙ is.leaves.each leaf b inside; numbered = is.numbered }
+-- no versions
+pub spread_start : (s : State) (seat : ℕ) (sp : Spread) → sp.tree ≡ tree_in s → sp.entries.items ≡ [] → sp.known ≡ 0 → IsSpread s seat [] sp
+spread_start s seat sp tree none known = record {
+  tree = tree;
+  entries = ap (λ (es : List Entry). s.entries ++ es) none ∙ append-nil s.entries;
+  numbered = subst (AreNumberedFrom (length s.entries)) (sym none) tt;
+  fits = refl;
+  count = omega (arith, ap length none, known);
+}
 
--- the keys of a row's versions
-row_leaves : (c : Config) (key : List ℕ) (vs : List Version) (leaf : ℕ) → leaf ≡ leaf_in c key → AllByRecursion (λ o. leaf ≡ leaf_in c o.0) (offers_in (record { key = key; versions = vs }))
-row_leaves c key [] leaf is = tt
-row_leaves c key (v ∷ vs) leaf is = (is, row_leaves c key vs leaf is)
+-- the rows with the versions so far are of the range
+spread_map : (s : State) (seat : ℕ) (xs : Offers) (sp : Spread) → IsSpread s seat xs sp → sp.tree.map ≡ record (rows_now s) { rows = sp.tree.map.rows }
+spread_map s seat xs sp is =
+    let map : sp.tree.map ≡ rows_now (accepted_in s seat Copy xs) = ap (λ (t : RangeTree). t.map) is.tree in
+    let config = (accepted_of s seat Copy xs).config in
+    map ∙ (λ i. record { format = (config i).format; bits = (config i).bits; range = (config i).range; rows = (sym map i).rows })
 
--- whether one of the versions so far, and then of a row, would be too many
-pub row_crowded : (s : State) (seat : ℕ) (xs ys : Offers) (sp : Spread) (b : Batch) → IsSpread s seat xs sp → b.entries ≡ sp.batch.entries → crowded_in s seat Copy (xs ++ ys) ≡ crowded_in (ahead s b) seat Copy ys
-row_crowded s seat xs ys sp b is same =
-    crowded-append s seat Copy xs ys
-    ∙ ap (λ (o : Option Refusal). first_fault o (crowded_in (accepted_in s seat Copy xs) seat Copy ys)) is.fits
-    ∙ crowded_same (accepted_in s seat Copy xs) (ahead s b) seat Copy ys (sym (ap (λ es. s.entries ++ es.items) same ∙ is.entries))
+pub spread_leaf : (s : State) (seat : ℕ) (xs : Offers) (sp : Spread) (leaf : ℕ) (key : List ℕ) → IsSpread s seat xs sp → leaf ≡ leaf_in s.config key → leaf ≡ maps.leaf_in sp.tree.map key
+spread_leaf s seat xs sp leaf key is at = at ∙ ap (λ (m : RowMap). maps.leaf_in m key) (sym (spread_map s seat xs sp is))
 
--- a row that was prepared, and the leaves with its own
-pub row_spread : (s : State) (seat : ℕ) (xs : Offers) (r : Row) (sp : Spread) (leaf : ℕ) (a b : Batch) (leaves : List Bucket) → IsSpread s seat xs sp → leaf ≡ leaf_in s.config r.key → leaf < leaf_count s.config
-    → a.entries ≡ sp.batch.entries → a.known ≡ sp.batch.known → crowded_in (ahead s a) seat Copy (offers_in r) ≡ None → IsPrepared s seat Copy leaf (offers_in r) a b → leaves ≡ set sp.leaves leaf b.leaf
-    → IsSpread s seat (xs ++ offers_in r) (record { leaves = leaves; batch = b })
-row_spread s seat xs r sp leaf a b leaves is at inside entries known none next leaves_are =
-    let ys = offers_in r in
-    let was : (ahead s a).entries ≡ (ahead s sp.batch).entries = ap (λ es. s.entries ++ es.items) entries in
-    let grown = taken_grown (λ key v. leaf ≡ leaf_in s.config key) (ahead s a) seat Copy ys (row_leaves s.config r.key r.versions leaf at) in
-    let now : (ahead s b).entries ≡ (ahead s a).entries ++ grown.more = next.entries ∙ grown.entries in
-    let here : b.leaf ≡ bucket_of s.config ((ahead s a).entries ++ grown.more) leaf = next.batch.leaf_is ∙ ap (λ (es : List Entry). bucket_of s.config es leaf) now in
-    let all = leaves_after s.config (ahead s a).entries grown.more sp.leaves leaf b.leaf (subst (λ (es : List Entry). AreLeaves s.config es sp.leaves) (sym was) is.leaves) inside grown.all here in
+-- a key and a value that have their place in the range have one in its tree
+pub record HasPlace (m : RowMap) (key : List ℕ) (kind : Kind) (value : List ℕ) : Type 0 where
+  pub value_fits : value_fault m.format kind value ≡ None
+  pub here : range_at m.bits key ≡ m.range
+
+pub spread_place : (s : State) (seat : ℕ) (xs : Offers) (sp : Spread) (key : List ℕ) (kind : Kind) (value : List ℕ) → IsSpread s seat xs sp → place_fault s.config key kind value ≡ None → HasPlace sp.tree.map key kind value
+spread_place s seat xs sp key kind value is placed =
+    let later = later_none (key_fault key) _ placed in
+    let here : HasPlace (record (rows_now s) { rows = sp.tree.map.rows }) key kind value = record {
+      value_fits = first_none (value_fault s.config.format kind value) _ later;
+      here = eqb-true (range_at s.config.bits key) s.config.range (no_fault_else _ OtherRange (later_none (value_fault s.config.format kind value) _ later));
+    } in
+    subst (λ (m : RowMap). HasPlace m key kind value) (sym (spread_map s seat xs sp is)) here
+
+-- the versions that a key has with those so far
+spread_set : (s : State) (seat : ℕ) (xs : Offers) (sp : Spread) (key : List ℕ) → IsSpread s seat xs sp → versions_in key sp.tree.map.rows ≡ held (accepted_in s seat Copy xs).entries key
+spread_set s seat xs sp key is = ap (λ (t : RangeTree). versions_in key t.map.rows) is.tree ∙ versions_in-rows_of (accepted_in s seat Copy xs).entries key
+
+-- whether one of the versions so far, or the next one, would be too many
+spread_next : (s : State) (seat : ℕ) (xs : Offers) (sp : Spread) (key : List ℕ) (v : Version) → IsSpread s seat xs sp → crowded_in s seat Copy (xs ++ (key, v) ∷ []) ≡ offer_fault v (versions_in key sp.tree.map.rows)
+spread_next s seat xs sp key v is =
+    let t = accepted_in s seat Copy xs in
+    crowded-append s seat Copy xs ((key, v) ∷ [])
+    ∙ ap (λ (o : Option Refusal). first_fault o (crowded_in t seat Copy ((key, v) ∷ []))) is.fits
+    ∙ alone t seat Copy key v
+    ∙ ap (offer_fault v) (sym (spread_set s seat xs sp key is))
+
+-- a version that would be too many
+pub spread_crowded : (s : State) (seat : ℕ) (xs : Offers) (sp : Spread) (key : List ℕ) (v : Version) (e : Refusal) → IsSpread s seat xs sp → offer_fault v (versions_in key sp.tree.map.rows) ≡ Some e → crowded_in s seat Copy (xs ++ (key, v) ∷ []) ≡ Some e
+spread_crowded s seat xs sp key v e is full = spread_next s seat xs sp key v is ∙ full
+
+-- a version that is known
+pub spread_known : (s : State) (seat : ℕ) (xs : Offers) (key : List ℕ) (v : Version) (a : Spread) → IsSpread s seat xs a → covered v (versions_in key a.tree.map.rows) ≡ true
+    → IsSpread s seat (xs ++ (key, v) ∷ []) (record { tree = a.tree; entries = a.entries; known = a.known + 1 })
+spread_known s seat xs key v a is known =
+    let t = accepted_in s seat Copy xs in
+    let here : covered v (held t.entries key) ≡ true = ap (covered v) (sym (spread_set s seat xs a key is)) ∙ known in
+    let step : accept_step t seat Copy key v ≡ t = rw (sym (knows_held t key v) ∙ here) refl in
+    let whole : accepted_in s seat Copy (xs ++ (key, v) ∷ []) ≡ t = taken-append s seat Copy xs ((key, v) ∷ []) ∙ step in
+    let fits : offer_fault v (versions_in key a.tree.map.rows) ≡ None = rw known refl in
     record {
-      leaves = subst (AreLeaves s.config (ahead s b).entries) (sym leaves_are) (subst (λ (es : List Entry). AreLeaves s.config es (set sp.leaves leaf b.leaf)) (sym now) all);
-      numbered = next.batch.numbered;
-      entries = next.entries ∙ taken_same (ahead s a) (accepted_in s seat Copy xs) seat Copy ys (was ∙ is.entries) ∙ ap (λ (t : State). t.entries) (sym (taken-append s seat Copy xs ys));
-      fits = row_crowded s seat xs ys sp a is entries ∙ none;
-      count = omega (arith, next.count, ap (λ es. length es.items) entries, known, is.count, length-append xs ys);
+      tree = is.tree ∙ ap tree_in (sym whole);
+      entries = is.entries ∙ ap (λ (u : State). u.entries) (sym whole);
+      numbered = is.numbered;
+      fits = spread_next s seat xs a key v is ∙ fits;
+      count = omega (arith, is.count, length-append xs ((key, v) ∷ []));
     }
 
--- a row of which a version is one too many
-pub row_stops : (s : State) (seat : ℕ) (xs ys : Offers) (sp : Spread) (b : Batch) (e : Refusal) → IsSpread s seat xs sp → b.entries ≡ sp.batch.entries → (e ≡ NoMemory) ⊎ (crowded_in (ahead s b) seat Copy ys ≡ Some e)
-    → (e ≡ NoMemory) ⊎ (crowded_in s seat Copy (xs ++ ys) ≡ Some e)
-row_stops s seat xs ys sp b e is same (inl memory) = inl memory
-row_stops s seat xs ys sp b e is same (inr crowd) = inr (row_crowded s seat xs ys sp b is same ∙ crowd)
+-- a version that is news
+pub spread_news : (s : State) (seat : ℕ) (xs : Offers) (key : List ℕ) (v w : Version) (a b : Spread) (e : Entry) → IsSpread s seat xs a → covered v (versions_in key a.tree.map.rows) ≡ false → offer_fault v (versions_in key a.tree.map.rows) ≡ None → w ≡ v
+    → e ≡ record { number = length s.entries + length a.entries.items; seat = seat; source = Copy; key = key; version = v } → b.tree ≡ offered_to a.tree key w → b.entries.items ≡ a.entries.items ++ e ∷ [] → b.known ≡ a.known
+    → IsSpread s seat (xs ++ (key, v) ∷ []) b
+spread_news s seat xs key v w a b e is news fits copy made tree entries known =
+    let t = accepted_in s seat Copy xs in
+    let here : covered v (held t.entries key) ≡ false = ap (covered v) (sym (spread_set s seat xs a key is)) ∙ news in
+    let long : length t.entries ≡ length s.entries + length a.entries.items = sym (ap length is.entries) ∙ length-append s.entries a.entries.items in
+    let entry : entry_of t seat Copy key v ≡ e = ap (λ (n : ℕ). record { number = n; seat = seat; source = Copy; key = key; version = v }) long ∙ sym made in
+    let step : accept_step t seat Copy key v ≡ journaled t e = rw (sym (knows_held t key v) ∙ here) (ap (journaled t) entry) in
+    let whole : accepted_in s seat Copy (xs ++ (key, v) ∷ []) ≡ journaled t e = taken-append s seat Copy xs ((key, v) ∷ []) ∙ step in
+    let k : key ≡ e.key = ap (λ (y : Entry). y.key) (sym made) in
+    let ver : w ≡ e.version = copy ∙ ap (λ (y : Entry). y.version) (sym made) in
+    record {
+      tree =
+          tree ∙ (λ i. offered_to (is.tree i) (k i) (ver i)) ∙ (λ i. record { map = rows_after t e i; marks = (journaled t e).marks })
+          ∙ ap tree_in (sym whole);
+      entries =
+          ap (λ (es : List Entry). s.entries ++ es) entries ∙ sym (append_assoc s.entries a.entries.items (e ∷ [])) ∙ ap (λ (es : List Entry). es ++ e ∷ []) is.entries
+          ∙ ap (λ (u : State). u.entries) (sym whole);
+      numbered = subst (AreNumberedFrom (length s.entries)) (sym entries) (AreNumberedFrom-push (length s.entries) a.entries.items e is.numbered (ap (λ (y : Entry). y.number) made));
+      fits = spread_next s seat xs a key v is ∙ fits;
+      count = omega (arith, is.count, known, ap length entries, length-append a.entries.items (e ∷ []), length-append xs ((key, v) ∷ []));
+    }
 
--- and then all of them are too many
+-- ---- one row more
+
+-- versions of a key
+abbrev pub offers_at : List ℕ → List Version → Offers
+offers_at key vs = map (λ (v : Version). (key, v)) vs
+
+-- at a step of a loop over the versions of a row
+pub row_next : (xs : Offers) (key : List ℕ) (vs : List Version) (i : ℕ) (v : Version) → i < length vs → v ≡ get_or vs i v → (xs ++ offers_at key (take i vs)) ++ (key, v) ∷ [] ≡ xs ++ offers_at key (take (i + 1) vs)
+row_next xs key vs i v less is =
+    append_assoc xs (offers_at key (take i vs)) ((key, v) ∷ []) ∙ ap (λ (os : Offers). xs ++ os) (sym (map_next {Y = List ℕ × Version} (λ (w : Version). (key, w)) vs i v less is))
+
+-- the versions of a row up to one, and those after it
+pub row_split : (xs : Offers) (key : List ℕ) (vs : List Version) (i : ℕ) (v : Version) → i < length vs → v ≡ get_or vs i v → xs ++ offers_at key vs ≡ ((xs ++ offers_at key (take i vs)) ++ (key, v) ∷ []) ++ offers_at key (drop (i + 1) vs)
+row_split xs key vs i v less is =
+    ap (λ (os : Offers). xs ++ os) (map_split {Y = List ℕ × Version} (λ (w : Version). (key, w)) vs (i + 1))
+    ∙ sym (append_assoc xs (offers_at key (take (i + 1) vs)) (offers_at key (drop (i + 1) vs)))
+    ∙ ap (λ (os : Offers). os ++ offers_at key (drop (i + 1) vs)) (sym (row_next xs key vs i v less is))
+
+-- the versions of a row up to one are fewer than all
+pub row_room : (xs : Offers) (key : List ℕ) (vs : List Version) (i : ℕ) → i < length vs → length (xs ++ offers_at key (take i vs)) < length xs + length vs
+row_room xs key vs i less =
+    omega (arith, less, length-append xs (offers_at key (take i vs)), length-map {B = List ℕ × Version} (take i vs) (λ (v : Version). (key, v)), length-take i vs)
+
+-- if one of the first versions is one too many, so is one of all
 pub rows_stop : (s : State) (seat : ℕ) (xs ys all : Offers) (e : Refusal) → all ≡ xs ++ ys → (e ≡ NoMemory) ⊎ (crowded_in s seat Copy xs ≡ Some e) → (e ≡ NoMemory) ⊎ (crowded_in s seat Copy all ≡ Some e)
 rows_stop s seat xs ys all e is (inl memory) = inl memory
 rows_stop s seat xs ys all e is (inr crowd) =
     inr (ap (crowded_in s seat Copy) is ∙ crowded-append s seat Copy xs ys ∙ ap (λ (o : Option Refusal). first_fault o (crowded_in (accepted_in s seat Copy xs) seat Copy ys)) crowd)
 
--- ---- the nodes that get dirty
-
-dirtied-append : (c : Config) (es fs : List Entry) (marks : List (Option (List ℕ))) → dirtied_by c (es ++ fs) marks ≡ dirtied_by c fs (dirtied_by c es marks)
-dirtied-append c [] fs marks = refl
-dirtied-append c (e ∷ es) fs marks = dirtied-append c es fs (dirtied c.format (leaf_in c e.key) marks)
-
--- at a step of a loop over the entries
-pub dirtied_more : (c : Config) (es : List Entry) (i : ℕ) (e : Entry) (marks : List (Option (List ℕ))) → i < length es → e ≡ get_or es i e → dirtied_by c (take (i + 1) es) marks ≡ dirtied c.format (leaf_in c e.key) (dirtied_by c (take i es) marks)
-dirtied_more c es i e marks less is = ap (λ (t : List Entry). dirtied_by c t marks) (take_more es i e less ∙ ap (λ y. take i es ++ y ∷ []) (sym is)) ∙ dirtied-append c (take i es) (e ∷ []) marks
-
--- the state after versions were accepted in their turn
-record IsAfter (s t : State) : Type 0 where
-  pub more : List Entry
-  pub state : t ≡ record { config = s.config; entries = s.entries ++ more; marks = dirtied_by s.config more s.marks; records = s.records }
-
-step_after : (s : State) (seat : ℕ) (source : Source) (key : List ℕ) (v : Version) → IsAfter s (accept_step s seat source key v)
-step_after s seat source key v = elim (knows s key v) as (λ b. IsAfter s (cond b s (journaled s (entry_of s seat source key v)))) [
-  | true ↦ record { more = []; state = λ i. record { config = s.config; entries = sym (append-nil s.entries) i; marks = s.marks; records = s.records } }
-  | false ↦ record { more = entry_of s seat source key v ∷ []; state = refl }
-]
-
-then_after : (s m t : State) → IsAfter s m → IsAfter m t → IsAfter s t
-then_after s m t one two = record {
-  more = one.more ++ two.more;
-  state =
-      two.state
-      ∙ ap (λ (x : State). record { config = x.config; entries = x.entries ++ two.more; marks = dirtied_by x.config two.more x.marks; records = x.records }) one.state
-      ∙ (λ i. record { config = s.config; entries = append_assoc s.entries one.more two.more i; marks = sym (dirtied-append s.config one.more two.more s.marks) i; records = s.records });
-}
-
-accepted_after : (s : State) (seat : ℕ) (source : Source) (offers : Offers) → IsAfter s (accepted_in s seat source offers)
-accepted_after s seat source [] = record { more = []; state = λ i. record { config = s.config; entries = sym (append-nil s.entries) i; marks = s.marks; records = s.records } }
-accepted_after s seat source (o ∷ offers) = then_after s (accept_step s seat source o.0 o.1) (accepted_in (accept_step s seat source o.0 o.1) seat source offers) (step_after s seat source o.0 o.1) (accepted_after (accept_step s seat source o.0 o.1) seat source offers)
-
--- entries that follow the same ones
-same_rest : (es xs ys : List Entry) → es ++ xs ≡ es ++ ys → xs ≡ ys
-same_rest es xs ys e = sym (drop-append_seam es xs) ∙ ap (drop (length es)) e ∙ drop-append_seam es ys
-
 -- ---- what is accepted
 
 -- the state with the entries that are prepared
 abbrev pub spread_state : State → Spread → State
-spread_state s sp = record { config = s.config; entries = s.entries ++ sp.batch.entries.items; marks = dirtied_by s.config sp.batch.entries.items s.marks; records = s.records }
+spread_state s sp = record { config = s.config; entries = s.entries ++ sp.entries.items; marks = sp.tree.marks; records = s.records }
 
 pub spread_is : (s : State) (seat : ℕ) (rows : List Row) (sp : Spread) → IsSpreadable s seat rows sp → spread_state s sp ≡ accepted_in s seat Copy (offers_of rows)
 spread_is s seat rows sp is =
-    by_more (accepted_after s seat Copy (offers_of rows))
-  where
-    by_more : IsAfter s (accepted_in s seat Copy (offers_of rows)) → spread_state s sp ≡ accepted_in s seat Copy (offers_of rows)
-    by_more after =
-        let more : sp.batch.entries.items ≡ after.more = same_rest s.entries sp.batch.entries.items after.more (is.spread_is.entries ∙ ap (λ (t : State). t.entries) after.state) in
-        ap (λ (es : List Entry). record { config = s.config; entries = s.entries ++ es; marks = dirtied_by s.config es s.marks; records = s.records }) more ∙ sym after.state
+    let same = accepted_of s seat Copy (offers_of rows) in
+    λ i. record { config = sym same.config i; entries = is.spread_is.entries i; marks = (is.spread_is.tree i).marks; records = sym same.records i }
+
+pub spread_rows : (s : State) (seat : ℕ) (rows : List Row) (sp : Spread) → IsSpreadable s seat rows sp → sp.tree.map ≡ rows_now (spread_state s sp)
+spread_rows s seat rows sp is = ap (λ (t : RangeTree). t.map) is.spread_is.tree ∙ ap rows_now (sym (spread_is s seat rows sp is))
 
 pub spread_right : (s : State) (seat : ℕ) (rows : List Row) (sp : Spread) → IsRight s → IsSpreadable s seat rows sp → IsRight (spread_state s sp)
 spread_right s seat rows sp ok is =
     subst IsRight (sym (spread_is s seat rows sp is)) (sent_right s.config s seat Copy (offers_of rows) (λ same. cc) refl ok (spread_offers s seat rows sp is) is.spread_is.fits)
 
-spread_count : (s : State) (seat : ℕ) (rows : List Row) (sp : Spread) → IsSpreadable s seat rows sp → length (accepted_in s seat Copy (offers_of rows)).entries ≡ length s.entries + length sp.batch.entries.items
-spread_count s seat rows sp is = sym (ap length is.spread_is.entries) ∙ length-append s.entries sp.batch.entries.items
+pub spread_load : (s : State) (seat : ℕ) (rows : List Row) (sp : Spread) → IsSpreadable s seat rows sp → load_rows s seat rows ≡ load_offers s seat (offers_of rows)
+spread_load s seat rows sp is = rw is.here refl
 
-load_by : (s : State) (seat : ℕ) (rows : List Row) (sp : Spread) (room : Bool) → IsSpreadable s seat rows sp → nat_le (length (accepted_in s seat Copy (offers_of rows)).entries) s.config.limit ≡ room
-    → load_rows s seat rows ≡ cond room (gives (loaded s (accepted_in s seat Copy (offers_of rows)) (offers_of rows)) (accepted_in s seat Copy (offers_of rows))) (refuses JournalFull)
-load_by s seat rows sp true is room = rw (is.here, is.spread_is.fits, room) refl
-load_by s seat rows sp false is room = rw (is.here, is.spread_is.fits, room) refl
-
--- there is room
-pub spread_given : (s : State) (seat : ℕ) (rows : List Row) (sp : Spread) → IsSpreadable s seat rows sp → length s.entries + length sp.batch.entries.items ≤ s.config.limit
-    → load_rows s seat rows ≡ gives (record { taken = length sp.batch.entries.items; known = sp.batch.known }) (spread_state s sp)
-spread_given s seat rows sp is room =
-    let end = accepted_in s seat Copy (offers_of rows) in
-    let count = spread_count s seat rows sp is in
-    let taken : length end.entries - length s.entries ≡ length sp.batch.entries.items = omega (arith, count) in
-    let known : (length s.entries + length (offers_of rows)) - length end.entries ≡ sp.batch.known = omega (arith, count, is.spread_is.count) in
-    load_by s seat rows sp true is (le-leb _ _ (omega (arith, count, room))) ∙ (λ i. gives (record { taken = taken i; known = known i }) (sym (spread_is s seat rows sp is) i))
-
-spread_full : (s : State) (seat : ℕ) (rows : List Row) (sp : Spread) → IsSpreadable s seat rows sp → s.config.limit < length s.entries + length sp.batch.entries.items → load_rows s seat rows ≡ refuses JournalFull
-spread_full s seat rows sp is full = load_by s seat rows sp false is (not_within _ _ (omega (arith, spread_count s seat rows sp is, full)))
-  where
-    not_within : (a b : ℕ) → b < a → nat_le a b ≡ false
-    not_within a b h = grind (arith, nat_tests)
-
--- versions for which the journal has no room, or there is no memory
-pub spread_refused : (s : State) (seat : ℕ) (rows : List Row) (sp : Spread) (e : Refusal) (log : Log) → IsSpreadable s seat rows sp → log.entries ≡ s.entries → log.limit ≡ s.config.limit
-    → ((e ≡ NoMemory) × IsTrue (is_given (reserve log (length sp.batch.entries.items)))) ⊎ (reserve log (length sp.batch.entries.items) ≡ refuses e)
-    → ((e ≡ NoMemory) × IsTrue (is_given (load_rows s seat rows))) ⊎ (load_rows s seat rows ≡ refuses e)
-spread_refused s seat rows sp e log is entries limit (inl memory) = elim (cases_lt log.limit (length log.entries + length sp.batch.entries.items)) [
-  | inl full ↦ absurd (let no = rw (lt-ltb log.limit (length log.entries + length sp.batch.entries.items) full) at memory.1 in cc)
-  | inr room ↦ inl (memory.0, subst (λ (o : Outcome Loaded State). IsTrue (is_given o)) (sym (spread_given s seat rows sp is (omega (arith, room, limit, ap length entries)))) refl)
-]
-spread_refused s seat rows sp e log is entries limit (inr full) =
-    let both = reserve_err log (length sp.batch.entries.items) e full in
-    inr (spread_full s seat rows sp is (omega (arith, both.0, limit, ap length entries)) ∙ ap (λ (x : Refusal). refuses x) (sym both.1))
+pub spread_entries : (s : State) (seat : ℕ) (rows : List Row) (sp : Spread) → IsSpreadable s seat rows sp → AreEntriesOf s seat (offers_of rows) sp.entries.items sp.known
+spread_entries s seat rows sp is = record { fits = is.spread_is.fits; entries = is.spread_is.entries; count = is.spread_is.count }
 
 -- ---- what a load answers
 

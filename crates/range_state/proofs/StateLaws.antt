@@ -1,11 +1,11 @@
 -- What a step keeps, and why it is refused.
-use Rattle.std.proofs.Common.{◌≡◌, ◌≢◌, ℕ, zero, suc, ◌<◌, ◌≤◌, ◌%◌, ◌^◌, Bool, true, false, cond, set, List, [], ◌∷◌, ◌++◌, length, get_or, take, refl, ap, sym, subst, ◌∙◌, arith, inl, inr, Option, Some, None, Decides, length-set, replicate}
+use Rattle.std.proofs.Common.{◌≡◌, ℕ, zero, suc, ◌<◌, ◌≤◌, ◌%◌, ◌^◌, Bool, true, false, cond, set, List, [], ◌∷◌, ◌++◌, length, take, refl, ap, sym, subst, ◌∙◌, arith, inl, inr, Option, Some, None, Decides}
 use Rattle.std.specs.Prelude.{nat_eq, IsTrue}
 use Rattle.std.specs.Cmp.Lexicographic.{pointwise}
-use Rattle.std.proofs.lemmas.Bool.{cases_eq, cases_Bool, cases_lt, lt-ltb, or_parts, both_ways, eqb-true}
+use Rattle.std.proofs.lemmas.Bool.{cases_Bool, cases_lt, lt-ltb, or_parts, both_ways, eqb-true}
 use Rattle.std.proofs.lemmas.Bool.Decides.{nat_tests}
 use Rattle.std.proofs.lemmas.Slice.Eq.{bytes_eq-Decides}
-use Rattle.std.proofs.lemmas.List.{take_all, take-append-le, length-append, get_or-set_same, get_or-set_other, get_or_default, get_or-replicate, length-replicate}
+use Rattle.std.proofs.lemmas.List.{take_all, take-append-le, length-append}
 use Rattle.std.specs.List.{AllByRecursion, list_any}
 use Rattle.vclock.specs.Answer.{first_fault}
 use Rattle.vclock.specs.Clock.{at_most, Rises, IsClock}
@@ -31,19 +31,20 @@ use Rattle.row_bytes.specs.Rows.{IsRow}
 use Rattle.row_bytes.proofs.LimitLaws.{no_fault, no_fault_else}
 use Rattle.row_bytes.specs.declared.row.Row.{Row}
 use Rattle.key_ring.specs.Places.{leaf_at, leaf_bits, range_at}
-use Rattle.hash_tree.specs.Leaves.{Bucket, rows_in_leaf, with_offer, versions_in}
-use Rattle.hash_tree.specs.Blocks.{nth_leaf}
-use Rattle.tree_nodes.specs.Nodes.{Tree, tree_depth, node_count, dirtied}
-use Rattle.hash_tree.specs.Texts.{AreTrue, IsTreeFor}
-use Rattle.tree_nodes.proofs.TreeLaws.{tree_fresh, tree_dirtied}
-use Rattle.hash_tree.proofs.DigestLaws.{true_kept, true_fresh}
+use Rattle.tree_nodes.specs.Nodes.{tree_depth, node_count}
+use Rattle.hash_tree.specs.Texts.{IsTreeFor}
+use Rattle.tree_nodes.proofs.TreeLaws.{tree_fresh}
+use Rattle.hash_tree.proofs.DigestLaws.{true_fresh}
 use Rattle.range_state.specs.Config.{Config, is_config}
 use Rattle.range_state.specs.Rows.{rows_of}
-use Rattle.range_state.specs.State.{State, all_dirty, fresh, tree_of, bucket_of, leaf_in, leaf_count, place_fault, journaled, full_fault, knows, admit, stale_fault, IsOwn, IsRight, IsFromPartner, AreLeaves}
+use Rattle.range_state.specs.State.{State, fresh, tree_of, tree_in, rows_now, leaf_in, leaf_count, place_fault, journaled, full_fault, knows, admit, stale_fault, IsOwn, IsRight, IsFromPartner}
 use Rattle.range_state.specs.declared.«record».Record.{Record}
 use Rattle.range_state.proofs.RecordLaws.{all_kept}
-use Rattle.range_state.proofs.RowLaws.{leaf_holds, leaf-push, rows_of-push, rows_of-ascend, versions_in-rows_of}
-use Rattle.range_state.proofs.RowTexts.{offered_short, rows_offered, no_row}
+use Rattle.range_state.proofs.RowLaws.{rows_of-push, versions_in-rows_of}
+use Rattle.range_tree.proofs.RowTextLaws.{offered_short}
+use Rattle.range_tree.proofs.TreeLaws.{offered_right}
+use Rattle.range_tree.specs.Trees.{RangeTree, all_dirty, bare, offered_to}
+use Rattle.range_state.proofs.OfferLaws.{no_row, tree_right}
 
 -- ---- leaves
 
@@ -55,30 +56,6 @@ leaf_below c key = below c.format _
     below : (f : Format) (n : ℕ) → n % 2 ^ leaf_bits f < 2 ^ leaf_bits f
     below One n = omega arith
     below Two n = omega arith
-
--- the leaf of a key is one of the leaves
-pub leaf_within : (s : State) (leaves : List Bucket) (leaf : ℕ) (key : List ℕ) → AreLeaves s.config s.entries leaves → leaf ≡ leaf_in s.config key → leaf < length leaves
-leaf_within s leaves leaf key ok at = omega (arith, ok.all, at, leaf_below s.config key)
-
--- the leaf at an index is there
-pub nth_is : (leaves : List Bucket) (leaf : ℕ) → leaf < length leaves → nth_leaf leaves leaf ≡ get_or leaves leaf (nth_leaf leaves leaf)
-nth_is leaves leaf within = get_or_default leaves leaf (record { format = One; rows = [] }) (nth_leaf leaves leaf) within
-
--- a tree has a leaf for each of the range
-pub leaves_of_tree : (format : Format) → 16 ^ tree_depth format ≡ 2 ^ leaf_bits format
-leaves_of_tree One = refl
-leaves_of_tree Two = refl
-
--- the rows of the leaf of a key
-pub rows_here : (s : State) (leaves : List Bucket) (leaf : ℕ) (key : List ℕ) (b : Bucket) → AreLeaves s.config s.entries leaves → leaf ≡ leaf_in s.config key → b ≡ get_or leaves leaf b → b ≡ bucket_of s.config s.entries leaf
-rows_here s leaves leaf key b ok at is = is ∙ ok.each leaf b (omega (arith, at, leaf_below s.config key))
-
--- what the leaf of a key has for it is what is held for it
-pub set_here : (s : State) (leaves : List Bucket) (leaf : ℕ) (key : List ℕ) (b : Bucket) → AreLeaves s.config s.entries leaves → leaf ≡ leaf_in s.config key → b ≡ get_or leaves leaf b → versions_in key b.rows ≡ held s.entries key
-set_here s leaves leaf key b ok at is =
-    ap (λ (x : Bucket). versions_in key x.rows) (rows_here s leaves leaf key b ok at is)
-    ∙ ap (λ (n : ℕ). versions_in key (rows_in_leaf (leaf_in s.config) n (rows_of s.entries))) at
-    ∙ leaf_holds (leaf_in s.config) s.entries key
 
 -- ---- what holds of the entries
 
@@ -107,13 +84,6 @@ held_fit s key ok = all-held (Fits s.config) s.entries key (own_values s.config 
 
 -- ---- a new range
 
-abbrev pub no_rows : List Row
-no_rows = []
-
-leaf_of_none : (leaf : List ℕ → ℕ) (i : ℕ) → no_rows ≡ rows_in_leaf leaf i (rows_of [])
-unfolding rows_of
-leaf_of_none leaf i = refl
-
 none_crowded : (key : List ℕ) → NeverCrowded [] key
 none_crowded key zero = omega arith
 none_crowded key (suc n) = omega arith
@@ -133,34 +103,16 @@ fresh_right c h = record {
   partners = tt;
 }
 
-abbrev pub no_bucket : Config → Bucket
-no_bucket c = record { format = c.format; rows = [] }
-
-pub fresh_leaves : (c : Config) (leaves : List Bucket) → leaves ≡ replicate (leaf_count c) (no_bucket c) → AreLeaves c [] leaves
-fresh_leaves c leaves is = record {
-  all = ap length is ∙ length-replicate (leaf_count c) (no_bucket c);
-  each = λ i d lt.
-      ap (λ (t : List Bucket). get_or t i d) is
-      ∙ get_or-replicate (leaf_count c) i (no_bucket c) d lt
-      ∙ ap (λ (rows : List Row). record { format = c.format; rows = rows }) (leaf_of_none (leaf_in c) i);
-}
-
 pub eq_itself : (n : ℕ) → nat_eq n n ≡ true
 eq_itself n = grind (arith, nat_tests)
 
-abbrev pub Marks : Type 0
-Marks = List (Option (List ℕ))
-
-abbrev dirty_tree : Format → Tree
-dirty_tree format = record { format = format; digests = replicate (node_count format) None }
-
--- what a new range has
-pub new_range : (c : Config) (entries : List Entry) (leaves : List Bucket) (marks : Tree) (records : List Record) → IsTrue (is_config c) → entries ≡ [] → records ≡ [] → leaves ≡ replicate (leaf_count c) (no_bucket c) → marks ≡ dirty_tree c.format
-    → IsRight (record { config = c; entries = entries; marks = marks.digests; records = records }) × AreLeaves c entries leaves × (record { config = c; entries = entries; marks = marks.digests; records = records } ≡ fresh c)
-unfolding all_dirty
-new_range c entries leaves marks records h none no_records rows dirty =
-    let back : record { config = c; entries = entries; marks = marks.digests; records = records } ≡ fresh c = λ i. record { config = c; entries = none i; marks = (dirty i).digests; records = no_records i } in
-    (subst IsRight (sym back) (fresh_right c h), subst (λ (t : List Entry). AreLeaves c t leaves) (sym none) (fresh_leaves c leaves rows), back)
+-- a new range
+pub new_range : (c : Config) (entries : List Entry) (tree : RangeTree) (records : List Record) → IsTrue (is_config c) → entries ≡ [] → records ≡ [] → tree ≡ bare c.format c.bits c.range
+    → IsRight (record { config = c; entries = entries; marks = tree.marks; records = records }) × (tree.map ≡ rows_now (record { config = c; entries = entries; marks = tree.marks; records = records })) × (record { config = c; entries = entries; marks = tree.marks; records = records } ≡ fresh c)
+unfolding rows_of
+new_range c entries tree records h none no_records is =
+    let back : record { config = c; entries = entries; marks = tree.marks; records = records } ≡ fresh c = λ i. record { config = c; entries = none i; marks = (is i).marks; records = no_records i } in
+    (subst IsRight (sym back) (fresh_right c h), ap (λ (t : RangeTree). t.map) is ∙ ap rows_now (sym back), back)
 
 -- ---- causes
 
@@ -234,24 +186,23 @@ pub record IsSound (s : State) : Type 0 where
 pub sound_of : (s : State) → IsRight s → IsSound s
 sound_of s ok = record { own = ok.own; news = ok.news; short = ok.short; rows = ok.rows; marks = ok.marks }
 
-pub grown_sound : (s : State) (e : Entry) → IsSound s → place_fault s.config e.key e.version.kind e.version.value ≡ None → covered e.version (held s.entries e.key) ≡ false → IsClock e.version.clock → offer_fault e.version (held s.entries e.key) ≡ None → IsSound (journaled s e)
-grown_sound s e ok here unknown clock fits = record {
-  own = all-push (IsOwn s.config) s.entries e ok.own (own s.config e here);
-  news = AreNews-push s.entries e ok.news (sym (covered-held e.version s.entries e.key) ∙ unknown);
-  short = λ key. never_more s.entries e key (ok.short key) fits;
-  rows = subst (AllByRecursion (IsRow s.config.format)) (sym (rows_of-push s.entries e))
-      (rows_offered s.config.format e.key e.version (rows_of s.entries) (in_limits s.config e.key e.version.kind e.version.value here).0 (in_limits s.config e.key e.version.kind e.version.value here).1 clock
-      (ap (offer_fault e.version) (versions_in-rows_of s.entries e.key) ∙ fits) ok.rows);
-  marks = record {
-    tree = tree_dirtied s.config.format (leaf_in s.config e.key) s.marks (leaf_in_tree s.config e.key) ok.marks.tree;
-    digests = subst (λ (rows : List Row). AreTrue s.config.format (leaf_in s.config) rows (dirtied s.config.format (leaf_in s.config e.key) s.marks)) (sym (rows_of-push s.entries e))
-        (true_kept s.config.format (leaf_in s.config) (rows_of s.entries) e.key e.version s.marks (rows_of-ascend s.entries) ok.marks.digests (leaf_in_tree s.config e.key));
-  };
-}
+pub grown_sound : (s : State) (e : Entry) → IsTrue (is_config s.config) → IsSound s → place_fault s.config e.key e.version.kind e.version.value ≡ None → covered e.version (held s.entries e.key) ≡ false → IsClock e.version.clock → offer_fault e.version (held s.entries e.key) ≡ None → IsSound (journaled s e)
+grown_sound s e config ok here unknown clock fits =
+    let limits = in_limits s.config e.key e.version.kind e.version.value here in
+    let e_own = own s.config e here in
+    let tree = offered_right (tree_in s) e.key e.version (tree_right s config ok.own ok.rows ok.marks) e_own.here limits.0 limits.1 clock (ap (offer_fault e.version) (versions_in-rows_of s.entries e.key) ∙ fits) in
+    let rows = sym (rows_of-push s.entries e) in
+    record {
+      own = all-push (IsOwn s.config) s.entries e ok.own e_own;
+      news = AreNews-push s.entries e ok.news (sym (covered-held e.version s.entries e.key) ∙ unknown);
+      short = λ key. never_more s.entries e key (ok.short key) fits;
+      rows = subst (AllByRecursion (IsRow s.config.format)) rows tree.rows.each;
+      marks = subst (λ (rs : List Row). IsTreeFor (leaf_in s.config) rs (tree_of (journaled s e))) rows tree.marks;
+    }
 
 pub grown-right : (s : State) (e : Entry) → IsRight s → ¬ (e.source ≡ Partner) → place_fault s.config e.key e.version.kind e.version.value ≡ None → covered e.version (held s.entries e.key) ≡ false → IsClock e.version.clock → offer_fault e.version (held s.entries e.key) ≡ None → IsRight (journaled s e)
 grown-right s e ok other here unknown clock fits =
-    let sound = grown_sound s e (sound_of s ok) here unknown clock fits in
+    let sound = grown_sound s e ok.config (sound_of s ok) here unknown clock fits in
     record {
       config = ok.config;
       own = sound.own;
@@ -265,63 +216,30 @@ grown-right s e ok other here unknown clock fits =
       partners = all-push (λ (x : Entry). x.source ≡ Partner → IsFromPartner s x) s.entries e ok.partners (λ from. absurd (other from));
     }
 
-pub grown-leaves : (s : State) (leaves : List Bucket) (e : Entry) (new : Bucket) → AreLeaves s.config s.entries leaves
-    → new ≡ record { format = s.config.format; rows = with_offer e.key e.version (rows_in_leaf (leaf_in s.config) (leaf_in s.config e.key) (rows_of s.entries)) }
-    → AreLeaves s.config (s.entries ++ e ∷ []) (set leaves (leaf_in s.config e.key) new)
-grown-leaves s leaves e new ok is = record {
-  all = simp length-set ok.all;
-  each = λ i d lt. each_leaf i d lt;
-}
-  where
-    apart : (a b : ℕ) → a ≢ b → nat_eq a b ≡ false
-    apart a b h = grind (arith, nat_tests)
-
-    of_rows : List Row → Bucket
-    of_rows rows = record { format = s.config.format; rows = rows }
-
-    -- the rows of a leaf after the entry
-    grown : (i : ℕ) (b : Bool) → nat_eq (leaf_in s.config e.key) i ≡ b → bucket_of s.config (s.entries ++ e ∷ []) i ≡ of_rows (cond b (with_offer e.key e.version (rows_in_leaf (leaf_in s.config) i (rows_of s.entries))) (rows_in_leaf (leaf_in s.config) i (rows_of s.entries)))
-    grown i b h = ap of_rows (leaf-push (leaf_in s.config) s.entries e i ∙ ap (λ t. cond t (with_offer e.key e.version (rows_in_leaf (leaf_in s.config) i (rows_of s.entries))) (rows_in_leaf (leaf_in s.config) i (rows_of s.entries))) h)
-
-    each_leaf : (i : ℕ) (d : Bucket) → i < leaf_count s.config → get_or (set leaves (leaf_in s.config e.key) new) i d ≡ bucket_of s.config (s.entries ++ e ∷ []) i
-    each_leaf i d lt =
-        let l = leaf_in s.config e.key in
-        let below = leaf_below s.config e.key in
-        elim (cases_eq i l) [
-          | inl same ↦
-              let got : get_or (set leaves l new) l d ≡ new = get_or-set_same leaves l new d (omega (arith, ok.all, below)) in
-              subst (λ (j : ℕ). get_or (set leaves l new) j d ≡ bucket_of s.config (s.entries ++ e ∷ []) j) (sym same)
-              (got ∙ is ∙ sym (grown l true (eq_itself l)))
-          | inr other ↦
-              let off : nat_eq l i ≡ false = apart l i (λ h. other (sym h)) in
-              get_or-set_other leaves l i new d other ∙ ok.each i d lt ∙ sym (grown i false off)
-        ]
+-- the rows after an entry are those after an offer
+pub rows_after : (s : State) (e : Entry) → (offered_to (tree_in s) e.key e.version).map ≡ rows_now (journaled s e)
+rows_after s e = ap (λ (rows : List Row). record { format = s.config.format; bits = s.config.bits; range = s.config.range; rows = rows }) (sym (rows_of-push s.entries e))
 
 -- a range after an entry that is news
-pub admitted : (s : State) (leaves : List Bucket) (leaf : ℕ) (e : Entry) (entries : List Entry) (marks : Marks) (b new : Bucket) (key : List ℕ) (w : Version) → IsRight s → AreLeaves s.config s.entries leaves → ¬ (e.source ≡ Partner)
-    → leaf ≡ leaf_in s.config e.key → place_fault s.config e.key e.version.kind e.version.value ≡ None → knows s e.key e.version ≡ false → IsClock e.version.clock → offer_fault e.version (held s.entries e.key) ≡ None
-    → b ≡ get_or leaves leaf b → key ≡ e.key → w ≡ e.version → new ≡ record { format = b.format; rows = with_offer key w b.rows } → entries ≡ s.entries ++ e ∷ []
-    → marks ≡ dirtied s.config.format leaf s.marks
-    → IsRight (record { config = s.config; entries = entries; marks = marks; records = s.records }) × AreLeaves s.config entries (set leaves leaf new)
-admitted s leaves leaf e entries marks b new key w ok are other at here news clock fits was k copy now es path =
-    let rows = rows_here s leaves leaf e.key b are at was in
-    let made : new ≡ record { format = s.config.format; rows = with_offer e.key e.version (rows_in_leaf (leaf_in s.config) (leaf_in s.config e.key) (rows_of s.entries)) } =
-    now ∙ (λ i. record { format = (rows i).format; rows = with_offer (k i) (copy i) (rows i).rows }) ∙ ap (λ (n : ℕ). record { format = s.config.format; rows = with_offer e.key e.version (rows_in_leaf (leaf_in s.config) n (rows_of s.entries)) }) at in
-    let dirty : marks ≡ dirtied s.config.format (leaf_in s.config e.key) s.marks = path ∙ ap (λ (n : ℕ). dirtied s.config.format n s.marks) at in
-    let right = grown-right s e ok other here (covered-maximal e.version (accepted s.entries e.key) ∙ news) clock fits in (
-      subst (λ (m : Marks). IsRight (record { config = s.config; entries = entries; marks = m; records = s.records })) (sym dirty)
-          (subst (λ (t : List Entry). IsRight (record { config = s.config; entries = t; marks = dirtied s.config.format (leaf_in s.config e.key) s.marks; records = s.records })) (sym es) right),
-      subst (λ (n : ℕ). AreLeaves s.config entries (set leaves n new)) (sym at)
-          (subst (λ (t : List Entry). AreLeaves s.config t (set leaves (leaf_in s.config e.key) new)) (sym es) (grown-leaves s leaves e new are made)),
-    )
+pub record IsAdmitted (s : State) (e : Entry) (t : State) (tree : RangeTree) : Type 0 where
+  pub right : IsRight t
+  pub rows : tree.map ≡ rows_now t
+  pub is : t ≡ journaled s e
 
--- a range where a leaf was offered a version in vain
-pub in_vain : (s : State) (leaves new : List Bucket) (entries : List Entry) → IsRight s → AreLeaves s.config s.entries leaves → new ≡ leaves → entries ≡ s.entries
-    → IsRight (record { config = s.config; entries = entries; marks = s.marks; records = s.records }) × AreLeaves s.config entries new
-in_vain s leaves new entries ok are same es = (
-  subst (λ (t : List Entry). IsRight (record { config = s.config; entries = t; marks = s.marks; records = s.records })) (sym es) ok,
-  subst (AreLeaves s.config entries) (sym same) (subst (λ (t : List Entry). AreLeaves s.config t leaves) (sym es) are),
-)
+pub admitted : (s : State) (e : Entry) (entries : List Entry) (was now : RangeTree) (key : List ℕ) (w : Version) → IsRight s → was ≡ tree_in s → ¬ (e.source ≡ Partner) → place_fault s.config e.key e.version.kind e.version.value ≡ None → knows s e.key e.version ≡ false → IsClock e.version.clock
+    → offer_fault e.version (held s.entries e.key) ≡ None → key ≡ e.key → w ≡ e.version → now ≡ offered_to was key w → entries ≡ s.entries ++ e ∷ [] → IsAdmitted s e (record { config = s.config; entries = entries; marks = now.marks; records = s.records }) now
+admitted s e entries was now key w ok tree other here news clock fits k copy offer es =
+    let offered : now ≡ offered_to (tree_in s) e.key e.version = offer ∙ (λ i. offered_to (tree i) (k i) (copy i)) in
+    let back : record { config = s.config; entries = entries; marks = now.marks; records = s.records } ≡ journaled s e = λ i. record { config = s.config; entries = es i; marks = (offered i).marks; records = s.records } in
+    record {
+      right = subst IsRight (sym back) (grown-right s e ok other here (covered-maximal e.version (accepted s.entries e.key) ∙ news) clock fits);
+      rows = ap (λ (t : RangeTree). t.map) offered ∙ rows_after s e ∙ ap rows_now (sym back);
+      is = back;
+    }
+
+-- a version with a place here is of this range
+pub here_of : (c : Config) (key : List ℕ) (kind : Kind) (value : List ℕ) → place_fault c key kind value ≡ None → range_at c.bits key ≡ c.range
+here_of c key kind value h = eqb-true (range_at c.bits key) c.range (no_fault_else _ OtherRange (later_none (value_fault c.format kind value) _ (later_none (key_fault key) _ h)))
 
 -- ---- what is known
 

@@ -11,10 +11,9 @@ use Rattle.vclock.specs.declared.refusal.Refusal.TheVariants as refusals
 use Rattle.version_set.proofs.ListLaws.{all-push}
 use Rattle.range_journal.specs.Journal.{held}
 use Rattle.row_bytes.specs.declared.row.Row.{Row}
-use Rattle.tree_nodes.specs.Nodes.{tree_depth}
-use Rattle.tree_nodes.specs.declared.node.NodeAt.{NodeAt}
+use Rattle.tree_nodes.specs.Nodes.{Node, contains_node, is_same_node, place_of, tree_depth}
 use Rattle.snapshot.specs.RowMaps.{RowMap, IsRowMap, root_of}
-use Rattle.sync_session.specs.TreeNodes.{as_node, Node, contains_node, is_same_node, place_of, text_of}
+use Rattle.sync_session.specs.TreeNodes.{text_of}
 use Rattle.sync_session.specs.Walks.{TakenText, IsPartners, IsCanonical, asks}
 use Rattle.sync_session.specs.Steps.{started, after, state_by, IsDue}
 use Rattle.sync_session.specs.Differing.{nodes_of, differ, AscendByPlace, IsTraced, IsHonest, IsNearlyDone}
@@ -134,7 +133,7 @@ known_session {s = s} {now = now} {seat = seat} {known = known} {id = id} {other
 first_has : (nodes : List Node) (n : Node) (rest : List Node) → nodes ≡ n ∷ rest → contains_node n nodes ≡ true
 first_has nodes n rest is = ap (contains_node n) is ∙ has_head n rest
 
-first_is : (s now : State) (seat known id : ℕ) (other : RowMap) (u : IsUnderWay s seat other known now) → id ≡ length s.records → (o : Option NodeAt) → MatchOption (slice_get now.records id) ⊥ (λ r. IsFirstOf r.session.outstanding o) → IsFirstOf u.r.session.outstanding o
+first_is : (s now : State) (seat known id : ℕ) (other : RowMap) (u : IsUnderWay s seat other known now) → id ≡ length s.records → (o : Option Node) → MatchOption (slice_get now.records id) ⊥ (λ r. IsFirstOf r.session.outstanding o) → IsFirstOf u.r.session.outstanding o
 first_is s now seat known id other u at o h = subst (λ (x : Option Record). MatchOption x ⊥ (λ r. IsFirstOf r.session.outstanding o)) (here_is s now seat known id other u at) h
 
 -- the next node of a session on its way: the first outstanding one
@@ -144,10 +143,10 @@ pub record IsNext (s now : State) (seat id known : ℕ) (other : RowMap) (u : Is
   pub rest : List Node
   pub first : u.r.session.outstanding ≡ n ∷ rest
 
-pub next_is : {s now : State} {seat known id : ℕ} {other : RowMap} {o : Option NodeAt} {node : NodeAt} (u : IsUnderWay s seat other known now) → id ≡ length s.records → IsRight now → IsOfRange s.config other → IsRowMap other → MatchOption (slice_get now.records id) ⊥ (λ r. IsFirstOf r.session.outstanding o) → o ≡ Some node
-    → IsNext s now seat id known other u (as_node node)
+pub next_is : {s now : State} {seat known id : ℕ} {other : RowMap} {o : Option Node} {node : Node} (u : IsUnderWay s seat other known now) → id ≡ length s.records → IsRight now → IsOfRange s.config other → IsRowMap other → MatchOption (slice_get now.records id) ⊥ (λ r. IsFirstOf r.session.outstanding o) → o ≡ Some node
+    → IsNext s now seat id known other u node
 next_is {s = s} {now = now} {seat = seat} {known = known} {id = id} {other = other} {o = o} {node = node} u at ok here map h some =
-    let first : IsFirstOf u.r.session.outstanding (Some node) = subst (λ (x : Option NodeAt). IsFirstOf u.r.session.outstanding x) some (first_is s now seat known id other u at o h) in
+    let first : IsFirstOf u.r.session.outstanding (Some node) = subst (λ (x : Option Node). IsFirstOf u.r.session.outstanding x) some (first_is s now seat known id other u at o h) in
     record { at = at; is = true_walk s now seat known other u ok here map; rest = first.0; first = first.1 }
 
 -- a session on its way that has no next node

@@ -3,10 +3,9 @@ use Rattle.std.proofs.Common.{◌≡◌, ℕ, zero, suc, ◌+◌, ◌^◌, ◌<�
 use Rattle.std.specs.List.{filter, AllByRecursion}
 use Rattle.std.proofs.lemmas.Bool.{cases_lt, or_cases, or_left, or_right, false_from_ne_true}
 use Rattle.version_set.proofs.ListLaws.{all-append, all-filter}
-use Rattle.tree_nodes.specs.Nodes.{tree_depth, nodes_above}
+use Rattle.tree_nodes.specs.Nodes.{Node, is_same_node, contains_node, place_of, tree_depth, nodes_above}
 use Rattle.tree_nodes.proofs.PlaceLaws.{above_below}
 use Rattle.snapshot.specs.RowMaps.{RowMap}
-use Rattle.sync_session.specs.TreeNodes.{Node, is_same_node, contains_node, place_of}
 use Rattle.sync_session.specs.Differing.{first_of_level, nodes_above_depth, all_nodes, differ, AscendByPlace}
 use Rattle.sync_session.proofs.StepLaws.{All-weaker}
 use Rattle.sync_session.proofs.DescentLaws.{is_node-true, is_node-same}

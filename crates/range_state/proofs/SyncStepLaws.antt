@@ -14,11 +14,11 @@ use Rattle.range_journal.specs.declared.journal.Source.TheVariants.{Partner}
 use Rattle.row_bytes.specs.declared.row.Row.{Row}
 use Rattle.row_bytes.specs.Rows.{IsRow}
 use Rattle.hash_tree.specs.Leaves.{rows_in_leaf}
-use Rattle.tree_nodes.specs.Nodes.{tree_depth}
+use Rattle.tree_nodes.specs.Nodes.{Node, tree_depth}
 use Rattle.hash_tree.specs.Texts.{leaf_text}
 use Rattle.hash_tree.proofs.TextLaws.{leaf_node, same_leaf}
 use Rattle.snapshot.specs.RowMaps.{RowMap, leaf_in}
-use Rattle.sync_session.specs.TreeNodes.{Node, text_of}
+use Rattle.sync_session.specs.TreeNodes.{text_of}
 use Rattle.sync_session.specs.Walks.{Walk, TakenText, AreSpelled, IsPartners}
 use Rattle.sync_session.specs.Differing.{nodes_of}
 use Rattle.sync_session.proofs.TextLaws.{text_above, leaf_rows, leaf_are}

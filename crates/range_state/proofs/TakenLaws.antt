@@ -1,4 +1,5 @@
 -- What becomes of a range when the versions of a leaf are accepted.
+use Rattle.std.specs.Prelude.{IsTrue}
 use Rattle.std.proofs.Common.{◌≡◌, ◌≢◌, ℕ, ◌<◌, ◌≤◌, ◌⊎◌, Bool, true, false, cond, Option, None, List, [], ◌∷◌, ◌++◌, length, map, set, get_or, refl, sym, ap, subst, ◌∙◌, inl, inr, arith, append_assoc, append-nil, Any, Contains, ◌||◌}
 use Rattle.std.specs.List.{AllByRecursion, flat_map}
 use Rattle.std.proofs.lemmas.Bool.{or_left, or_right, both_ways}
@@ -22,13 +23,12 @@ use Rattle.range_journal.proofs.JournalLaws.{covered-held, versions_of-push, con
 use Rattle.key_ring.specs.Places.{range_at, leaf_at}
 use Rattle.row_bytes.specs.declared.row.Row.{Row}
 use Rattle.row_bytes.specs.Rows.{IsRow, IsVersion, row_text}
-use Rattle.tree_nodes.specs.Nodes.{tree_depth, kept_digest, is_on_path, dirtied}
+use Rattle.tree_nodes.specs.Nodes.{Node, contains_node, tree_depth, kept_digest, is_on_path, dirtied}
 use Rattle.hash_tree.specs.Texts.{leaf_text}
 use Rattle.hash_tree.proofs.KeyLaws.{all_get}
 use Rattle.tree_nodes.proofs.TreeLaws.{dirtied-at, length-dirtied}
 use Rattle.snapshot.specs.RowMaps.{RowMap}
 use Rattle.snapshot.specs.RowMaps as maps
-use Rattle.sync_session.specs.TreeNodes.{Node, contains_node}
 use Rattle.sync_session.specs.Walks.{Walk, TakenText, AreSpelled, IsCanonical, IsInnerText, IsLeafHeld}
 use Rattle.sync_session.specs.Steps.{IsDue, left_after, after, failed}
 use Rattle.sync_session.specs.declared.state.SessionState.{SessionState}
@@ -37,7 +37,7 @@ use Rattle.row_bytes.proofs.TextLengthLaws.{row_short}
 use Rattle.sync_session.proofs.StepLaws.{All-weaker, walked_grows, walked_after, spelled_held}
 use Rattle.sync_session.proofs.CountLaws.{orderly_after}
 use Rattle.sync_session.proofs.TraceLaws.{traced, traced_failed}
-use Rattle.range_state.specs.Config.{Config}
+use Rattle.range_state.specs.Config.{Config, is_config}
 use Rattle.range_state.specs.declared.«record».Record.{Record}
 use Rattle.range_state.specs.Records.{IsOver, IsHere, IsGoing, IsKept, is_open_state, is_open}
 use Rattle.range_state.specs.State.{State, IsRight, IsLeafWith, HasTaken, leaf_in, place_fault, knows, entry_of, journaled, accept_step}
@@ -105,22 +105,22 @@ pub record IsOfferFor (c : Config) (leaf : ℕ) (key : List ℕ) (v : Version) :
   pub here : place_fault c key v.kind v.value ≡ None
   pub clock : IsClock v.clock
 
-step_sound : (t : State) (seat : ℕ) (source : Source) (key : List ℕ) (v : Version) → IsSound t → place_fault t.config key v.kind v.value ≡ None → IsClock v.clock → offer_fault v (held t.entries key) ≡ None → IsSound (accept_step t seat source key v)
-step_sound t seat source key v ok here clock fits = elim (knows t key v) as (λ b. knows t key v ≡ b → IsSound (cond b t (journaled t (entry_of t seat source key v)))) [
+step_sound : (t : State) (seat : ℕ) (source : Source) (key : List ℕ) (v : Version) → IsTrue (is_config t.config) → IsSound t → place_fault t.config key v.kind v.value ≡ None → IsClock v.clock → offer_fault v (held t.entries key) ≡ None → IsSound (accept_step t seat source key v)
+step_sound t seat source key v config ok here clock fits = elim (knows t key v) as (λ b. knows t key v ≡ b → IsSound (cond b t (journaled t (entry_of t seat source key v)))) [
   | true ↦ λ known. ok
-  | false ↦ λ fresh. grown_sound t (entry_of t seat source key v) ok here (knows_held t key v ∙ fresh) clock fits
+  | false ↦ λ fresh. grown_sound t (entry_of t seat source key v) config ok here (knows_held t key v ∙ fresh) clock fits
 ] refl
 
 -- A step keeps the configuration.
 pub step_config : (t : State) (seat : ℕ) (source : Source) (key : List ℕ) (v : Version) → (accept_step t seat source key v).config ≡ t.config
 step_config t seat source key v = elim (knows t key v) as (λ b. (cond b t (journaled t (entry_of t seat source key v))).config ≡ t.config) [ true ↦ refl | false ↦ refl ]
 
-pub taken_sound : (c : Config) (t : State) (leaf seat : ℕ) (source : Source) (offers : Offers) → t.config ≡ c → IsSound t → AllByRecursion (λ o. IsOfferFor c leaf o.0 o.1) offers → crowded_in t seat source offers ≡ None → IsSound (accepted_in t seat source offers)
-taken_sound c t leaf seat source [] same ok all none = ok
-taken_sound c t leaf seat source (o ∷ offers) same ok all none =
+pub taken_sound : (c : Config) (t : State) (leaf seat : ℕ) (source : Source) (offers : Offers) → t.config ≡ c → IsTrue (is_config c) → IsSound t → AllByRecursion (λ o. IsOfferFor c leaf o.0 o.1) offers → crowded_in t seat source offers ≡ None → IsSound (accepted_in t seat source offers)
+taken_sound c t leaf seat source [] same config ok all none = ok
+taken_sound c t leaf seat source (o ∷ offers) same config ok all none =
     let here = ap (λ (x : Config). place_fault x o.0 o.1.kind o.1.value) same ∙ all.0.here in
     let fits = first_none (offer_fault o.1 (held t.entries o.0)) _ none in
-    taken_sound c (accept_step t seat source o.0 o.1) leaf seat source offers (step_config t seat source o.0 o.1 ∙ same) (step_sound t seat source o.0 o.1 ok here all.0.clock fits) all.1 (later_none (offer_fault o.1 (held t.entries o.0)) _ none)
+    taken_sound c (accept_step t seat source o.0 o.1) leaf seat source offers (step_config t seat source o.0 o.1 ∙ same) config (step_sound t seat source o.0 o.1 (subst (λ (x : Config). IsTrue (is_config x)) (sym same) config) ok here all.0.clock fits) all.1 (later_none (offer_fault o.1 (held t.entries o.0)) _ none)
 
 -- ---- the entries that came
 
@@ -349,7 +349,7 @@ leaf_right s seat id r t rows ok within was read none =
     let same = same_range s t.node.index end moved in
     let grown = taken_grown (IsAmong rows) s seat Partner (offers_of rows) (offers_among rows) in
     let more = grown.more in
-    let sound = taken_sound s.config s t.node.index seat Partner (offers_of rows) refl (sound_of s ok) offers none in
+    let sound = taken_sound s.config s t.node.index seat Partner (offers_of rows) refl ok.config (sound_of s ok) offers none in
     let here : end ≡ record { config = s.config; entries = s.entries ++ more; marks = end.marks; records = s.records } = λ i. record { config = same.0 i; entries = grown.entries i; marks = end.marks; records = same.1 i } in
     let depth : tree_depth r.session.own.format ≡ tree_depth s.config.format = ap tree_depth format in
     let canonical : IsCanonical r.session.own t.node t.text = inr (omega (arith, depth, read.leaf), (rows, read.spelled)) in

@@ -24,7 +24,7 @@ use Rattle.hash_tree.specs.Leaves.{key_cmp, AscendByKey, rows_in_leaf, versions_
 use Rattle.hash_tree.proofs.KeyLaws.{key_exact, turned, less_rows}
 use Rattle.hash_tree.proofs.LeafLaws.{versions_in-rows_at}
 use Rattle.snapshot.specs.RowMaps.{RowMap, leaf_in}
-use Rattle.sync_session.specs.TreeNodes.{Node}
+use Rattle.tree_nodes.specs.Nodes.{Node}
 use Rattle.range_state.specs.State.{State, knows, entry_of, journaled, accept_step}
 use Rattle.range_state.specs.Sessions.{offers_in, offers_of, taken_in, leaf_fault}
 use Rattle.range_state.specs.Syncs.{offers_at, Progress, known_in, unless_refused, taken_leaves}

@@ -1,25 +1,22 @@
 -- Loading rows of a named format, of any leaves of a range: their versions are accepted as copies, all or none. So what
 -- was saved before a migration is loaded after it.
-use Rattle.std.specs.Prelude.{◌≡◌, ℕ, ◌-◌, Bool, ◌==◌, List, [], ◌∷◌, length, Option, Some, None, Result, Ok, Err, if◌then◌else◌}
+use Rattle.std.specs.Prelude.{◌≡◌, ℕ, ◌-◌, ◌+◌, ◌++◌, Bool, ◌==◌, List, length, Option, Some, None, Result, Ok, Err, if◌then◌else◌}
 use Rattle.std.specs.List.{list_all}
-use Rattle.vclock.specs.Outcome.{Outcome, gives, refuses, ◌>>◌}
+use Rattle.vclock.specs.Outcome.{Outcome, refuses, ◌>>◌}
 use Rattle.vclock.specs.declared.format.Format.{Format}
 use Rattle.vclock.specs.declared.format.Format.TheVariants.{One, Two}
 use Rattle.vclock.specs.declared.refusal.Refusal.{Refusal}
 use Rattle.vclock.specs.declared.refusal.Refusal.TheVariants.{OtherFormat, OtherRange, RowBroken}
 use Rattle.version_set.specs.declared.version.Version.{Version}
-use Rattle.range_journal.specs.declared.journal.Entry.{Entry}
 use Rattle.range_journal.specs.declared.journal.Source.TheVariants.{Copy}
 use Rattle.range_journal.specs.Log.{AreNumberedFrom}
 use Rattle.key_ring.specs.Places.{range_at}
 use Rattle.row_bytes.specs.Rows.{AreRows}
 use Rattle.row_bytes.specs.declared.row.Row.{Row}
-use Rattle.tree_nodes.specs.Nodes.{dirtied}
-use Rattle.range_state.specs.Batches.{ahead, seen_count}
 use Rattle.range_state.specs.Config.{Config}
-use Rattle.range_state.specs.Loads.{rows_in, loaded}
-use Rattle.range_state.specs.Sessions.{offers_of, accepted_in, crowded_in, accept_fault}
-use Rattle.range_state.specs.State.{State, AreLeaves, leaf_in}
+use Rattle.range_state.specs.Loads.{rows_in, load_offers}
+use Rattle.range_state.specs.Sessions.{offers_of, accepted_in, crowded_in}
+use Rattle.range_state.specs.State.{State, tree_in}
 use Rattle.range_state.specs.declared.state.loading.Loaded.{Loaded}
 use Rattle.range_state.specs.declared.state.format_loading.Spread.{Spread}
 
@@ -37,12 +34,11 @@ are_here c rows = list_all (λ (r : Row). range_at c.bits r.key == c.range) rows
 abbrev pub astray_fault : Config → List Row → Option Refusal
 astray_fault c rows = if are_here c rows then None else Some OtherRange
 
--- the versions of rows are accepted, each in its turn, as copies by a seat
+-- the versions of rows are accepted
 abbrev pub load_rows : State → ℕ → List Row → Outcome Loaded State
 load_rows s seat rows = do
   astray_fault s.config rows
-  accept_fault s seat Copy (offers_of rows)
-  gives (loaded s (accepted_in s seat Copy (offers_of rows)) (offers_of rows)) (accepted_in s seat Copy (offers_of rows))
+  load_offers s seat (offers_of rows)
 
 -- the same, if rows were read from a text of so many bytes
 abbrev pub load_rows_read : State → ℕ → ℕ → Result (List Row) ℕ → Outcome Loaded State
@@ -55,13 +51,17 @@ load_format s seat format text = do
   newer_fault s.config.format format
   load_rows_read s seat (length text) (rows_in format text)
 
--- the leaves have the rows with the entries that are prepared for these versions, none of which is refused
+-- the number of versions that were looked at
+abbrev pub seen_count : Spread → ℕ
+seen_count spread = length spread.entries.items + spread.known
+
+-- the tree and the entries are those after these versions were accepted in their turn, none of which is refused
 pub record IsSpread (s : State) (seat : ℕ) (offers : List (List ℕ × Version)) (spread : Spread) : Type 0 where
-  pub leaves : AreLeaves s.config (ahead s spread.batch).entries spread.leaves
-  pub numbered : AreNumberedFrom (length s.entries) spread.batch.entries.items
-  pub entries : (ahead s spread.batch).entries ≡ (accepted_in s seat Copy offers).entries
+  pub tree : spread.tree ≡ tree_in (accepted_in s seat Copy offers)
+  pub entries : s.entries ++ spread.entries.items ≡ (accepted_in s seat Copy offers).entries
+  pub numbered : AreNumberedFrom (length s.entries) spread.entries.items
   pub fits : crowded_in s seat Copy offers ≡ None
-  pub count : seen_count spread.batch ≡ length offers
+  pub count : seen_count spread ≡ length offers
 
 -- all versions of rows of the range are prepared
 pub record IsSpreadable (s : State) (seat : ℕ) (rows : List Row) (spread : Spread) : Type 0 where
@@ -70,8 +70,3 @@ pub record IsSpreadable (s : State) (seat : ℕ) (rows : List Row) (spread : Spr
   pub rows_are : AreRows format rows
   pub here : astray_fault s.config rows ≡ None
   pub spread_is : IsSpread s seat (offers_of rows) spread
-
--- the leaf of each entry's key is dirty, and so is each node above
-abbrev pub dirtied_by : Config → List Entry → List (Option (List ℕ)) → List (Option (List ℕ))
-dirtied_by c [] marks = marks
-dirtied_by c (e ∷ es) marks = dirtied_by c es (dirtied c.format (leaf_in c e.key) marks)

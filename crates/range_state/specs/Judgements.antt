@@ -7,7 +7,7 @@ use Rattle.vclock.specs.declared.refusal.Refusal.TheVariants as refusals
 use Rattle.range_journal.specs.declared.journal.Source.TheVariants.{Partner}
 use Rattle.row_bytes.specs.declared.row.Row.{Row}
 use Rattle.snapshot.specs.RowMaps.{RowMap}
-use Rattle.sync_session.specs.TreeNodes.{Node}
+use Rattle.tree_nodes.specs.Nodes.{Node}
 use Rattle.sync_session.specs.Walks.{AreSpelled}
 use Rattle.range_state.specs.Config.{Config}
 use Rattle.range_state.specs.State.{State}

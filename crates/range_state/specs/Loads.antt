@@ -59,12 +59,17 @@ read_fault c len (Err left) = Some (RowBroken (len - left))
 abbrev pub loaded : State → State → List (List ℕ × Version) → Loaded
 loaded s new offers = record { taken = length new.entries - length s.entries; known = (length s.entries + length offers) - length new.entries }
 
--- the versions of rows of one leaf are accepted, each in its turn, as copies by a seat
+-- versions are accepted, each in its turn, as copies by a seat
+abbrev pub load_offers : State → ℕ → List (List ℕ × Version) → Outcome Loaded State
+load_offers s seat offers = do
+  accept_fault s seat Copy offers
+  gives (loaded s (accepted_in s seat Copy offers) offers) (accepted_in s seat Copy offers)
+
+-- the versions of rows of one leaf are accepted
 abbrev pub load : State → ℕ → List Row → Outcome Loaded State
 load s seat rows = do
   apart_fault s.config rows
-  accept_fault s seat Copy (offers_of rows)
-  gives (loaded s (accepted_in s seat Copy (offers_of rows)) (offers_of rows)) (accepted_in s seat Copy (offers_of rows))
+  load_offers s seat (offers_of rows)
 
 -- the same, if rows were read from a text of so many bytes
 abbrev pub load_read : State → ℕ → ℕ → Result (List Row) ℕ → Outcome Loaded State

@@ -6,7 +6,8 @@ use Rattle.vclock.specs.declared.format.Format.TheVariants.{One, Two}
 use Rattle.sync_session.specs.Steps.{cancelled_by}
 use Rattle.range_state.specs.declared.«record».Record.{Record}
 use Rattle.range_state.specs.Config.{Config}
-use Rattle.range_state.specs.State.{State, all_dirty}
+use Rattle.range_state.specs.State.{State}
+use Rattle.range_tree.specs.Trees.{all_dirty}
 
 -- the configuration in format 2
 abbrev pub config_in_two : Config → Config

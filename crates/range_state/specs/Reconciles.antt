@@ -5,9 +5,8 @@ use Rattle.vclock.specs.Outcome.{gives}
 use Rattle.vclock.specs.declared.refusal.Refusal.{Refusal}
 use Rattle.vclock.specs.declared.refusal.Refusal.TheVariants.{NoMemory}
 use Rattle.range_journal.specs.Journal.{held}
-use Rattle.tree_nodes.specs.Nodes.{kept_digest}
+use Rattle.tree_nodes.specs.Nodes.{Node, kept_digest}
 use Rattle.snapshot.specs.RowMaps.{RowMap}
-use Rattle.sync_session.specs.TreeNodes.{Node}
 use Rattle.sync_session.specs.Differing.{differ}
 use Rattle.range_state.specs.declared.«record».Record.{Record}
 use Rattle.range_state.specs.declared.state.reconciliation.Reconciled.{Reconciled}

@@ -1,10 +1,12 @@
 -- Replays of journals.
-use Rattle.std.specs.Prelude.{ℕ, ◌≤◌, List, length, IsTrue}
+use Rattle.std.specs.Prelude.{ℕ, ◌≤◌, List, length, take, IsTrue}
 use Rattle.std.specs.List.{AllByRecursion}
 use Rattle.range_journal.specs.Journal.{NeverCrowded}
 use Rattle.range_journal.specs.declared.journal.Entry.{Entry}
 use Rattle.range_state.specs.Config.{Config, is_config}
+use Rattle.range_state.specs.Rows.{rows_of}
 use Rattle.range_state.specs.State.{IsOwn}
+use Rattle.range_tree.specs.Trees.{RangeTree, all_dirty}
 
 -- the entries of a range, and the number of those that are replayed
 pub record Replayed : Type 0 where
@@ -19,3 +21,7 @@ pub record IsReplay (r : Replayed) : Type 0 where
   pub own : AllByRecursion (IsOwn r.config) r.entries
   pub short : (key : List ℕ) → NeverCrowded r.entries key
   pub within : r.front ≤ length r.entries
+
+-- the tree of the rows that the replayed entries make: no node is clean
+abbrev pub replayed_tree : Replayed → RangeTree
+replayed_tree r = record { map = record { format = r.config.format; bits = r.config.bits; range = r.config.range; rows = rows_of (take r.front r.entries) }; marks = all_dirty r.config.format }

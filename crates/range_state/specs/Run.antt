@@ -22,10 +22,10 @@ use Rattle.range_state.specs.declared.event.AnswerEvent.{AnswerEvent}
 use Rattle.range_state.specs.declared.event.AnswerTaken.{AnswerTaken}
 use Rattle.range_state.specs.declared.event.Reply.{Reply}
 use Rattle.range_state.specs.declared.event.Reply.TheVariants as replies
-use Rattle.range_state.specs.State.{State, IsRight, GivesJob, ask_fault, put, accept, install, rows_now, dirty_fault}
+use Rattle.range_state.specs.State.{State, IsRight, ask_fault, put, accept, install, tree_in, rows_now, dirty_fault}
+use Rattle.range_tree.specs.Jobs.{GivesJob}
 use Rattle.range_state.specs.Sessions.{open_session, cancel_session, TakesAnswer}
 use Rattle.range_state.specs.Migrates.{migrate}
-use Rattle.sync_session.specs.TreeNodes.{as_node}
 use Rattle.rehash.specs.Jobs.{NodeText}
 use Rattle.snapshot.specs.RowMaps.{RowMap}
 
@@ -43,7 +43,7 @@ GetStep s key r t = Answers r None (λ set. set ≡ held s.entries key) × (t �
 
 -- the result is a job or None, and nothing changed
 abbrev pub TakeJobStep : State → Result (Option NodeText) Refusal → State → Type 0
-TakeJobStep s r t = Answers r None (GivesJob s) × (t ≡ s)
+TakeJobStep s r t = Answers r None (GivesJob (tree_in s)) × (t ≡ s)
 
 -- the digest of a node's text is installed
 abbrev pub InstallStep : State → InstallEvent → Result ⊤ Refusal → State → Type 0
@@ -59,7 +59,7 @@ OpenStep s o r t = Does r s t (open_session s o.partner o.offer)
 
 -- a partner's text was taken or refused
 abbrev pub TakeAnswerStep : State → AnswerEvent → Result AnswerTaken Refusal → State → Type 0
-TakeAnswerStep s a r t = TakesAnswer s a.seat a.id (record { node = as_node a.node; text = a.text }) r t
+TakeAnswerStep s a r t = TakesAnswer s a.seat a.id (record { node = a.node; text = a.text }) r t
 
 -- a session is cancelled
 abbrev pub CancelStep : State → ℕ → Result ⊤ Refusal → State → Type 0

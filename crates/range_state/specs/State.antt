@@ -1,16 +1,14 @@
 -- The range machine: its state, which has no rows, and the results and changes of its calls. Trees are those of the
 -- paper of 2007, section 4.7.
-use Rattle.std.specs.Prelude.{◌≡◌, Any, Contains, ℕ, ◌<◌, ◌≤◌, ◌-◌, ◌^◌, Bool, ◌==◌, ◌&&◌, nat_eq, nat_le, nat_lt, ◌++◌, List, [], ◌∷◌, length, map, take, replicate, slice_index_or, slice_set, IsTrue, Option, Some, None, if◌then◌else◌, true, false}
+use Rattle.std.specs.Prelude.{◌≡◌, Any, Contains, ℕ, ◌≤◌, ◌^◌, Bool, ◌==◌, nat_lt, ◌++◌, List, [], ◌∷◌, length, map, IsTrue, Option, Some, None, if◌then◌else◌, true, false}
 use Rattle.std.specs.List.{list_any, AllByRecursion}
-use Rattle.std.specs.Cmp.Lexicographic.{pointwise}
-use Rattle.sha2.specs.Sha256.{sha256}
 use Rattle.vclock.specs.Answer.{first_fault}
-use Rattle.vclock.specs.Outcome.{Outcome, gives, refuses, ◌>>=◌, ◌>>◌}
+use Rattle.vclock.specs.Outcome.{Outcome, gives, through, ◌>>=◌, ◌>>◌}
 use Rattle.vclock.specs.Clock.{at_most, raised, raise_fault, Pairs}
 use Rattle.vclock.specs.Bytes.{key_fault}
 use Rattle.vclock.specs.declared.format.Format.{Format}
 use Rattle.vclock.specs.declared.refusal.Refusal.{Refusal}
-use Rattle.vclock.specs.declared.refusal.Refusal.TheVariants.{OtherRange, JournalFull, Stale, StaleContext, Dirty}
+use Rattle.vclock.specs.declared.refusal.Refusal.TheVariants.{OtherRange, JournalFull, StaleContext}
 use Rattle.version_set.specs.Kind.{value_fault}
 use Rattle.version_set.specs.Version.{covered, offer_fault}
 use Rattle.version_set.specs.declared.kind.Kind.{Kind}
@@ -23,11 +21,11 @@ use Rattle.key_ring.specs.Places.{range_at, leaf_at, leaf_bits}
 use Rattle.row_bytes.specs.Rows.{IsRow, AreRows}
 use Rattle.row_bytes.specs.declared.row.Row.{Row}
 use Rattle.hash_tree.specs.Leaves.{Bucket, rows_in_leaf}
-use Rattle.tree_nodes.specs.Nodes.{Tree, tree_depth, node_count, place_at, children_of, are_clean, is_ready, ready_from, dirtied}
-use Rattle.hash_tree.specs.Texts.{node_text, leaf_text, IsTreeFor}
-use Rattle.tree_nodes.specs.declared.node.NodeAt.{NodeAt}
-use Rattle.rehash.specs.Jobs.{NodeText}
+use Rattle.tree_nodes.specs.Nodes.{Node, Tree, tree_depth, dirtied}
+use Rattle.hash_tree.specs.Texts.{leaf_text, IsTreeFor}
 use Rattle.snapshot.specs.RowMaps.{RowMap}
+use Rattle.range_tree.specs.Trees.{RangeTree, all_dirty}
+use Rattle.range_tree.specs.Jobs as jobs
 use Rattle.range_state.specs.declared.«record».Record.{Record}
 use Rattle.range_state.specs.declared.event.Accepted.{Accepted}
 use Rattle.range_state.specs.declared.event.Accepted.TheVariants.{Taken, Known}
@@ -43,10 +41,6 @@ pub record State : Type 0 where
   pub entries : List Entry
   pub marks : List (Option (List ℕ))
   pub records : List Record
-
--- no node is clean
-unfoldable pub all_dirty : Format → List (Option (List ℕ))
-all_dirty format = replicate (node_count format) None
 
 -- a range that has accepted nothing
 abbrev pub fresh : Config → State
@@ -124,53 +118,25 @@ put s seat at key context kind value = do
   offer_fault (put_version at context kind value) (held s.entries key)
   admit s (put_entry s seat at key context kind value)
 
--- the range's tree has a node
-abbrev pub has_tree_node : Config → NodeAt → Bool
-has_tree_node c node = nat_le node.depth (tree_depth c.format)
-
--- the place of a node
-abbrev pub place_of : NodeAt → ℕ
-place_of node = place_at node.depth node.index
-
--- the text of a node for the rows now
-abbrev pub text_in : State → NodeAt → List ℕ
-text_in s node = node_text s.config.format (leaf_in s.config) (rows_of s.entries) (tree_depth s.config.format - node.depth) node.index
-
--- a job: a dirty node with clean children, and its text
-pub record IsJob (s : State) (job : NodeText) : Type 0 where
-  pub has : IsTrue (has_tree_node s.config job.node)
-  pub ready : IsTrue (is_ready s.marks (place_of job.node))
-  pub text : job.text ≡ text_in s job.node
-
--- a job, or None if no node is dirty
-abbrev pub GivesJob : State → Option NodeText → Type 0
-GivesJob s (Some job) = IsJob s job
-GivesJob s None = IsTrue (are_clean s.marks)
-
--- jobs of different nodes: of all dirty nodes with clean children, or of the first `most` if there are more
-pub record AreJobs (s : State) (most : ℕ) (jobs : List NodeText) : Type 0 where
-  pub nodes : map (λ (job : NodeText). place_of job.node) jobs ≡ take most (ready_from s.marks 0)
-  pub each : AllByRecursion (IsJob s) jobs
-
--- a node's digest can be that of a text: the tree has the node, its children are clean, and it has that text now
-abbrev pub is_current : State → NodeAt → List ℕ → Bool
-is_current s node text = has_tree_node s.config node && are_clean (children_of s.marks (place_of node)) && pointwise nat_eq text (text_in s node)
-
--- the state with the digest of a text
-abbrev pub installed : State → NodeAt → List ℕ → State
-installed s node text = record s { marks = slice_set s.marks (place_of node) (Some (sha256 text)) }
-
--- the digest of a text is installed
-abbrev pub install : State → NodeAt → List ℕ → Outcome (Unit {0}) State
-install s node text = if is_current s node text then gives tt (installed s node text) else refuses Stale
-
 -- the rows now
 abbrev pub rows_now : State → RowMap
 rows_now s = record { format = s.config.format; bits = s.config.bits; range = s.config.range; rows = rows_of s.entries }
 
+-- the tree over them
+abbrev pub tree_in : State → RangeTree
+tree_in s = record { map = rows_now s; marks = s.marks }
+
+-- the state with another tree over the same rows
+abbrev pub with_tree : State → RangeTree → State
+with_tree s t = record s { marks = t.marks }
+
+-- the digest of a text is installed at a node
+abbrev pub install : State → Node → List ℕ → Outcome (Unit {0}) State
+install s node text = through (with_tree s) (jobs.install (tree_in s) node text)
+
 -- the fault of rows that cannot be offered to another replica: some node has no digest
 abbrev pub dirty_fault : State → Option Refusal
-dirty_fault s = if are_clean s.marks then None else Some Dirty
+dirty_fault s = jobs.dirty_fault (tree_in s)
 
 -- an entry within the limits, of this range
 pub record IsOwn (c : Config) (e : Entry) : Type 0 where
@@ -217,11 +183,6 @@ pub record IsRight (s : State) : Type 0 where
 -- the rows of a leaf
 abbrev pub bucket_of : Config → List Entry → ℕ → Bucket
 bucket_of c entries leaf = record { format = c.format; rows = rows_in_leaf (leaf_in c) leaf (rows_of entries) }
-
--- the leaves have the journal's rows, each row in its leaf
-pub record AreLeaves (c : Config) (entries : List Entry) (leaves : List Bucket) : Type 0 where
-  pub all : length leaves ≡ leaf_count c
-  pub each : (i : ℕ) (d : Bucket) → i < leaf_count c → slice_index_or leaves i d ≡ bucket_of c entries i
 
 -- as a copy or as a hint
 abbrev pub is_sent : Source → Bool

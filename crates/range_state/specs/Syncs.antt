@@ -5,10 +5,8 @@ use Rattle.vclock.specs.declared.refusal.Refusal.{Refusal}
 use Rattle.vclock.specs.declared.format.Format.{Format}
 use Rattle.version_set.specs.declared.version.Version.{Version}
 use Rattle.hash_tree.specs.Leaves.{rows_in_leaf}
-use Rattle.tree_nodes.specs.Nodes.{tree_depth}
+use Rattle.tree_nodes.specs.Nodes.{Node, tree_depth}
 use Rattle.snapshot.specs.RowMaps.{RowMap, leaf_in, root_of}
-use Rattle.tree_nodes.specs.declared.node.NodeAt.{NodeAt}
-use Rattle.sync_session.specs.TreeNodes.{Node, as_node}
 use Rattle.sync_session.specs.Differing.{differ, nodes_of, IsHonest}
 use Rattle.sync_session.specs.Steps.{state_by}
 use Rattle.sync_session.specs.declared.state.SessionState.{SessionState}
@@ -110,6 +108,6 @@ pub record IsPartWay (s : State) (seat partner : ℕ) (other : RowMap) (new : St
   pub session : HasOneMore s partner other new.records
 
 -- the first of some nodes, if any
-abbrev pub IsFirstOf : List Node → Option NodeAt → Type 0
+abbrev pub IsFirstOf : List Node → Option Node → Type 0
 IsFirstOf nodes None = nodes ≡ []
-IsFirstOf nodes (Some n) = (rest : List Node) × (nodes ≡ as_node n ∷ rest)
+IsFirstOf nodes (Some n) = (rest : List Node) × (nodes ≡ n ∷ rest)

@@ -2,13 +2,13 @@
 ghost use Rattle.std.specs.Prelude.{◌≤◌, IsTrue};
 ghost use Rattle.range_state.specs.State.{is_sent};
 
-use hash_tree::{Hashed, NodeAt};
 use range_journal::{Entry, Source};
 use rehash::Job;
 use snapshot::Snapshot;
 use std::alloc::Global;
 use std::sync::Arc;
 use sync_session::SessionState;
+use tree_nodes::{Hashed, NodeAt};
 use vclock::{Bytes, Clock, Refusal};
 use version_set::{Kind, Version, VersionSet};
 use walk_messages::Offer;

@@ -1,41 +1,41 @@
-//! The leaves of the rows that a journal makes.
+//! The tree of the rows that a journal makes.
 ghost use Rattle.std.specs.Prelude.{◌≡◌, ◌+◌, ◌<◌, ◌≤◌, length, take, None};
 ghost use Rattle.vclock.specs.Answer.{Answers};
 ghost use Rattle.vclock.specs.Outcome.{Does, DoesOrBreaksOff, gives};
-ghost use Rattle.range_state.specs.State.{leaf_in, AreLeaves};
-ghost use Rattle.range_state.specs.Replays.{IsReplay};
+ghost use Rattle.range_state.specs.State.{leaf_in};
+ghost use Rattle.range_state.specs.Replays.{IsReplay, replayed_tree};
 
 use crate::config::RangeConfig;
-use hash_tree::{Leaves, Spot};
+use hash_tree::Spot;
 use key_ring::place;
 use range_journal::Entry;
+use range_tree::Tree;
 use std::alloc::Global;
 use std::marker::Model;
 use vclock::Refusal;
 
-/// The leaves of the rows that the first entries of a journal make.
+/// The tree of the rows that the first entries of a journal make.
 #[derive(Drop)]
-struct Replay<'a> {
+struct Rebuild<'a> {
     config: RangeConfig,
     entries: &'a [Entry],
     front: u64,
-    leaves: Leaves,
+    tree: Tree,
 }
 
-impl<'a> Model for Replay<'a> {
-    ghost use Rattle.std.specs.Prelude.{take};
-    ghost use Rattle.range_state.specs.State.{AreLeaves};
-    ghost use Rattle.range_state.specs.Replays.{Replayed, IsReplay};
+impl<'a> Model for Rebuild<'a> {
+    ghost use Rattle.std.specs.Prelude.{◌≡◌};
+    ghost use Rattle.range_state.specs.Replays.{Replayed, IsReplay, replayed_tree};
 
     ghost Value = { Replayed };
 
     ghost view = { λ r. record { config = r.config; entries = r.entries.now; front = r.front } };
 
     ghost invariant = { λ r. IsReplay (record { config = r.config; entries = r.entries.now; front = r.front })
-        × AreLeaves r.config (take r.front r.entries.now) r.leaves };
+        × (r.tree ≡ replayed_tree (record { config = r.config; entries = r.entries.now; front = r.front })) };
 }
 
-impl<'a> Replay<'a> {
+impl<'a> Rebuild<'a> {
     /// Replays entries until `front` of them are replayed. Refused: NoMemory, and then fewer may be replayed.
     fn advance(&mut self, alloc: Global, front: u64) -> Result<(), Refusal>
         requires later { self.old.front ≤ front }
@@ -56,7 +56,7 @@ impl<'a> Replay<'a> {
         let entry = &self.entries[self.front as usize];
         let version = entry.version.try_clone()?;
         let leaf = self.leaf_of(entry.key.as_slice());
-        self.leaves
+        self.tree
             .offer(alloc, leaf, Spot::default(), &entry.key, version)?;
         self.front += 1;
         Ok(())
@@ -70,22 +70,24 @@ impl<'a> Replay<'a> {
     }
 }
 
-/// Makes the leaves of the rows that entries make in a configuration. Each entry is looked at once. Refused: NoMemory.
-pub(crate) fn leaves_of(
+/// Makes the tree of the rows that entries make in a configuration. Every node is dirty. Each entry is looked at once.
+/// Refused: NoMemory.
+pub(crate) fn tree_of(
     alloc: Global,
     config: RangeConfig,
     entries: &[Entry],
-) -> Result<Leaves, Refusal>
+) -> Result<Tree, Refusal>
     requires { IsReplay (record { config = config; entries = entries.now; front = 0 }) }
-    ensures { Answers result None (λ leaves. AreLeaves config entries.now leaves) }
+    ensures { Answers result None (λ tree.
+        tree ≡ replayed_tree (record { config = config; entries = entries.now; front = length entries.now })) }
 {
-    let mut replay = Replay {
+    let mut replay = Rebuild {
         config,
         entries,
         front: 0,
-        leaves: Leaves::empty(alloc, config.format())?,
+        tree: Tree::empty(alloc, config.format(), config.bits(), config.range())?,
     };
     replay.advance(alloc, entries.len() as u64)?;
-    let Replay { leaves, .. } = replay;
-    Ok(leaves)
+    let Rebuild { tree, .. } = replay;
+    Ok(tree)
 }

@@ -19,16 +19,16 @@ use crate::config::RangeConfig;
 use crate::context_test::ContextTest;
 use crate::event::{Accepted, Receipt};
 use crate::record::Record;
-use hash_tree::{Leaves, Marks, SharedLeaf, Spot};
+use hash_tree::{SharedLeaf, Spot};
 use key_ring::HashedKey;
 use range_journal::{Journal, Source};
+use range_tree::Tree;
 use std::alloc::Global;
 use std::marker::Model;
 use vclock::{Bytes, Clock, ClockOrder, Format, Refusal, check_key};
-use version_set::{Kind, Version, VersionSet};
+use version_set::{Held, Kind, Version, VersionSet};
 
 mod answers;
-mod bulk;
 pub mod counts;
 mod format_loading;
 mod judgement;
@@ -39,7 +39,6 @@ mod receipts;
 pub mod reconciliation;
 mod renewal;
 mod sessions;
-mod snapshots;
 pub mod sync;
 mod tree;
 
@@ -59,28 +58,26 @@ mod tree;
 pub struct RangeState {
     config: RangeConfig,
     journal: Journal,
-    leaves: Leaves,
-    marks: Marks,
+    tree: Tree,
     records: Vec<Record>,
 }
 
 impl Model for RangeState {
     ghost use Rattle.std.specs.Prelude.{◌≡◌};
-    ghost use Rattle.range_state.specs.State.{State, IsRight, AreLeaves};
+    ghost use Rattle.range_state.specs.State.{State, IsRight, rows_now};
 
     ghost Value = { State };
 
-    ghost view = { λ r. record { config = r.config; entries = r.journal.entries; marks = r.marks.digests; records = r.records.items } };
+    ghost view = { λ r. record { config = r.config; entries = r.journal.entries; marks = r.tree.marks; records = r.records.items } };
 
-    ghost invariant = { λ r. IsRight (record { config = r.config; entries = r.journal.entries; marks = r.marks.digests; records = r.records.items })
-        × AreLeaves r.config r.journal.entries r.leaves
-        × (r.journal.limit ≡ r.config.limit)
-        × (r.marks.format ≡ r.config.format) };
+    ghost invariant = { λ r. IsRight (record { config = r.config; entries = r.journal.entries; marks = r.tree.marks; records = r.records.items })
+        × (r.tree.map ≡ rows_now (record { config = r.config; entries = r.journal.entries; marks = r.tree.marks; records = r.records.items }))
+        × (r.journal.limit ≡ r.config.limit) };
 }
 
 /// The leaf of a key, and the place in it at which its row was found, or at which one would be inserted.
 #[derive(Clone, Copy)]
-struct Home {
+struct RowHome {
     leaf: u16,
     near: Spot,
 }
@@ -90,12 +87,10 @@ impl RangeState {
     pub fn new(alloc: Global, config: RangeConfig) -> Result<RangeState, Refusal>
         ensures { Answers result None (λ state. state ≡ fresh config) }
     {
-        let format = config.format();
         Ok(RangeState {
             config,
             journal: Journal::new(alloc, config.limit()),
-            leaves: Leaves::empty(alloc, format)?,
-            marks: Marks::new(alloc, format)?,
+            tree: Tree::empty(alloc, config.format(), config.bits(), config.range())?,
             records: Vec::new(alloc),
         })
     }
@@ -122,7 +117,7 @@ impl RangeState {
         requires { leaf < leaf_count self.now.config }
         ensures { result.now ≡ record { format = self.now.config.format; rows = rows_in_leaf (leaf_in self.now.config) leaf (rows_of self.now.entries) } }
     {
-        self.leaves.get(leaf)
+        self.tree.rows(leaf)
     }
 
     /// The versions that are held for a key, in the order of their texts: empty if the key isn't held. Doesn't
@@ -131,10 +126,7 @@ impl RangeState {
         ensures held { result.now ≡ held self.now.entries key.now }
         ensures fit { AllByRecursion (λ v. value_fault self.now.config.format v.kind v.value ≡ None) result.now }
     {
-        match self.find(&HashedKey::new(key)) {
-            Some(set) => set.as_slice(),
-            None => &[],
-        }
+        self.find(&HashedKey::new(key)).as_slice()
     }
 
     /// Copies the versions that are held for a key: an empty set if the key isn't held. Refused: NoMemory.
@@ -142,21 +134,17 @@ impl RangeState {
         ensures held { Answers result None (λ set. set ≡ held self.now.entries key.now) }
         ensures fit { IfOk result (AllByRecursion (λ v. value_fault self.now.config.format v.kind v.value ≡ None)) }
     {
-        match self.find(&HashedKey::new(key)) {
-            Some(set) => set.try_clone(alloc),
-            None => Ok(VersionSet::empty(alloc)),
-        }
+        self.find(&HashedKey::new(key)).to_set(alloc)
     }
 
-    /// Returns the versions that are held for a key that was hashed before, or `None` if the key isn't held. Doesn't
-    /// allocate or hash.
-    pub fn find(&self, key: &HashedKey) -> Option<&VersionSet>
-        ensures set { unwrap_or (option_map (λ s. s.now) result) [] ≡ held self.now.entries key.now }
+    /// Returns the versions that are held for a key that was hashed before. Doesn't allocate or hash.
+    pub fn find(&self, key: &HashedKey) -> Held<'_>
+        ensures held { result ≡ held self.now.entries key.now }
         ensures fit { AllByRecursion (λ v. value_fault self.now.config.format v.kind v.value ≡ None)
             (held self.now.entries key.now) }
     {
-        let (set, _) = self.search(self.leaf_of(key), key);
-        set
+        let (held, _) = self.search(self.leaf_of(key), key);
+        held
     }
 
     /// Accepts a version that another node sent, as a copy or as a hint. A version that is equal to or below one
@@ -285,7 +273,7 @@ impl RangeState {
         context: &Clock,
         kind: Kind,
         value: Bytes,
-    ) -> Result<(Home, Version), Refusal>
+    ) -> Result<(RowHome, Version), Refusal>
         requires { 1 ≤ at }
         ensures made { AnswersOrNoMemory result (made_fault test self.now at key.now context.now kind value)
             (λ made. IsFitting self.now made.0.leaf key.now made.1 × (made.1 ≡ put_version at context.now kind value)) }
@@ -296,30 +284,30 @@ impl RangeState {
         let clock = context.raise(alloc, at)?;
         // Called for its clause alone: the pairs are those of a clock.
         let _valid = clock.pairs();
-        let (set, near) = self.search(leaf, key);
-        check_context(alloc, test, set, at, context, &clock)?;
+        let (held, near) = self.search(leaf, key);
+        check_context(alloc, test, &held, at, context, &clock)?;
         let version = Version { clock, kind, value };
-        if crowds(set, &version) {
+        if held.crowds(&version) {
             return Err(Refusal::Crowded);
         }
-        Ok((Home { leaf, near }, version))
+        Ok((RowHome { leaf, near }, version))
     }
 
     /// Returns the home of a version that another node sent, or `None` if the version is known.
-    fn home_of_news(&self, key: &HashedKey, version: &Version) -> Result<Option<Home>, Refusal>
+    fn home_of_news(&self, key: &HashedKey, version: &Version) -> Result<Option<RowHome>, Refusal>
         ensures { AnswersAtOnce result (sent_fault self.now key.now version.now)
             (λ home. MatchOption home (knows self.now key.now version.now ≡ true)
             (λ h. IsFitting self.now h.leaf key.now version.now)) }
     {
         let leaf = self.home(key, version.kind, version.value.as_slice())?;
-        let (set, near) = self.search(leaf, key);
-        if covers(set, version) {
+        let (held, near) = self.search(leaf, key);
+        if held.covers(version) {
             return Ok(None);
         }
-        if crowds(set, version) {
+        if held.crowds(version) {
             return Err(Refusal::Crowded);
         }
-        Ok(Some(Home { leaf, near }))
+        Ok(Some(RowHome { leaf, near }))
     }
 
     /// Returns the leaf of a key.
@@ -343,14 +331,15 @@ impl RangeState {
         Ok(at.leaf)
     }
 
-    /// Returns the set that is held for a key of that leaf, and the place of its row, or where one would be inserted.
-    fn search(&self, at: u16, key: &HashedKey) -> (Option<&VersionSet>, Spot)
-        requires { at ≡ leaf_in self.now.config key.now }
-        ensures set { unwrap_or (option_map (λ s. s.now) result.0) [] ≡ held self.now.entries key.now }
+    /// Returns the versions that are held for a key of that leaf, and the place of its row, or the one at which it would be
+    /// inserted.
+    fn search(&self, leaf: u16, key: &HashedKey) -> (Held<'_>, Spot)
+        requires { leaf ≡ leaf_in self.now.config key.now }
+        ensures held { result.0 ≡ held self.now.entries key.now }
         ensures fit { AllByRecursion (λ v. value_fault self.now.config.format v.kind v.value ≡ None)
             (held self.now.entries key.now) }
     {
-        self.leaves.get(at).search(key.bytes())
+        self.tree.search(leaf, key.bytes())
     }
 
     /// Makes room for an entry. Refused, in order: JournalFull, NoMemory.
@@ -365,7 +354,7 @@ impl RangeState {
     fn admit(
         &mut self,
         alloc: Global,
-        home: Home,
+        home: RowHome,
         seat: u16,
         source: Source,
         key: &[u8],
@@ -386,7 +375,7 @@ impl RangeState {
     fn admit_key(
         &mut self,
         alloc: Global,
-        home: Home,
+        home: RowHome,
         seat: u16,
         source: Source,
         key: &Bytes,
@@ -409,54 +398,28 @@ impl RangeState {
             version: version.try_clone()?,
         };
         let row_version = version.try_clone()?;
-        self.leaves
+        self.tree
             .offer(alloc, home.leaf, home.near, key, row_version)?;
         self.journal
             .append_reserved(seat, source, entry_key, version);
-        self.marks.dirty(home.leaf);
         Ok(receipt)
     }
 }
 
-/// Returns true if a set, if any, covers the version: it has the version as a member, or a member above it.
-fn covers(found: Option<&VersionSet>, version: &Version) -> bool
-    ensures { result ≡ covered version.now (unwrap_or (option_map (λ s. s.now) found.entry) []) }
-{
-    match found {
-        Some(set) => set.covers(version),
-        None => false,
-    }
-}
-
-/// Returns true if a set, which may be absent, would have too many members with the version.
-fn crowds(found: Option<&VersionSet>, version: &Version) -> bool
-    ensures { offer_fault version.now (unwrap_or (option_map (λ s. s.now) found.entry) [])
-        ≡ (if result then Some Refusal.Crowded else None) }
-{
-    match found {
-        Some(set) => set.crowds(version),
-        None => false,
-    }
-}
-
-/// Refuses a context by a test, for the members of a set, if any. The clock is the context with the node's counter
-/// raised.
+/// Refuses a context by a test against held versions. The clock is the context with the node's counter raised.
 fn check_context(
     alloc: Global,
     test: ContextTest,
-    found: Option<&VersionSet>,
+    held: &Held<'_>,
     at: u16,
     context: &Clock,
     clock: &Clock,
 ) -> Result<(), Refusal>
     requires { clock.now ≡ raised context.now at }
-    ensures { AnswersOrNoMemory result
-        (context_fault test (unwrap_or (option_map (λ s. s.now) found.entry) []) at context.now) (λ _. ⊤) }
+    ensures { AnswersOrNoMemory result (context_fault test held.now at context.now) (λ _. ⊤) }
 {
-    if let Some(set) = found
-        && fails(test, set.as_slice(), at, context, clock)
-    {
-        return Err(Refusal::StaleContext(set.clocks(alloc)?));
+    if fails(test, held.as_slice(), at, context, clock) {
+        return Err(Refusal::StaleContext(held.clocks(alloc)?));
     }
     Ok(())
 }
@@ -511,8 +474,7 @@ impl Drop for RangeState {
         let RangeState {
             config: _config,
             journal: _journal,
-            leaves: _leaves,
-            marks: _marks,
+            tree: _tree,
             records: _records,
         } = self;
     }

@@ -1,20 +1,21 @@
 //! Texts that partners send.
 ghost use Rattle.std.specs.Prelude.{ℕ, ◌≡◌, ◌+◌, ◌<◌, ◌≤◌, ◌^◌, ◌++◌, ◌⊎◌, [], nat_eq, length, slice_get, MatchOption, IfOk, if◌then◌else◌};
 ghost use Rattle.std.specs.Vec.{vec_len, vec_capacity};
-ghost use Rattle.range_journal.specs.Log.{AreNumberedFrom};
-ghost use Rattle.tree_nodes.specs.Nodes.{dirtied, tree_depth};
-ghost use Rattle.sync_session.specs.TreeNodes.{as_node};
 ghost use Rattle.sync_session.specs.Steps.{failed, IsDue};
 ghost use Rattle.sync_session.specs.Walks.{TakenText, IsCanonical};
+ghost use Rattle.snapshot.specs.RowMaps.{RowMap};
+ghost use Rattle.range_tree.specs.Trees.{IsChange, with_rows};
 ghost use Rattle.range_state.specs.Sessions.{walked_to, IsInnerRead, IsNewsRead, TakesAnswer};
 
 use crate::event::{AnswerTaken, Receipt};
 use crate::state::RangeState;
 use crate::state::preparation::{Batch, receipts_beside};
-use hash_tree::{Hashed, Marks, NodeAt, tree_depth};
-use range_journal::{Entry, Journal};
+use hash_tree::Leaves;
+use range_journal::Entry;
+use range_tree::Tree;
 use std::alloc::Global;
 use sync_session::News;
+use tree_nodes::{Hashed, NodeAt, tree_depth};
 use vclock::Refusal;
 
 impl RangeState {
@@ -37,7 +38,7 @@ impl RangeState {
         text: Hashed,
     ) -> Result<AnswerTaken, Refusal>
         ensures { TakesAnswer self.old seat id
-            (record { node = as_node node; text = text }) result self.new }
+            (record { node = node; text = text }) result self.new }
     {
         let mut told = Vec::new(alloc);
         self.take_answer_beside(alloc, &mut told, seat, id, node, text)
@@ -54,7 +55,7 @@ impl RangeState {
         text: Hashed,
     ) -> Result<AnswerTaken, Refusal>
         ensures answers { TakesAnswer self.old seat id
-            (record { node = as_node node; text = text }) result self.new }
+            (record { node = node; text = text }) result self.new }
         ensures same { told.new.items ≡ told.old.items }
         ensures room { IfOk result (λ taken. (told.new.items ≡ [])
             ⊎ (vec_len told.new + vec_len taken.receipts ≤ vec_capacity told.new)) }
@@ -85,9 +86,9 @@ impl RangeState {
         text: Hashed,
     ) -> Result<AnswerTaken, Refusal>
         requires { MatchOption (slice_get self.old.records id) ⊥
-            (λ r. IsInnerRead self.old r (record { node = as_node node; text = text })) }
+            (λ r. IsInnerRead self.old r (record { node = node; text = text })) }
         ensures answers { (seat : ℕ) → TakesAnswer self.old seat id
-            (record { node = as_node node; text = text }) result self.new }
+            (record { node = node; text = text }) result self.new }
         ensures none { IfOk result (λ taken. vec_len taken.receipts ≡ 0) }
     {
         let session = &mut self.records[id as usize].session;
@@ -112,16 +113,17 @@ impl RangeState {
         news: &News,
     ) -> Result<AnswerTaken, Refusal>
         requires { MatchOption (slice_get self.old.records id) ⊥
-            (λ r. IsNewsRead self.old r (record { node = as_node node; text = text }) news.now) }
+            (λ r. IsNewsRead self.old r (record { node = node; text = text }) news.now) }
         ensures answers { TakesAnswer self.old seat id
-            (record { node = as_node node; text = text }) result self.new }
+            (record { node = node; text = text }) result self.new }
         ensures same { told.new.items ≡ told.old.items }
         ensures room { IfOk result (λ taken. (told.new.items ≡ [])
             ⊎ (vec_len told.new + vec_len taken.receipts ≤ vec_capacity told.new)) }
     {
         // Called for its clause alone: the digest is that of the text.
         let _bytes = text.text();
-        let batch = self.prepare_news(alloc, seat, node.index, news)?;
+        let index = node.index;
+        let batch = self.prepare_news(alloc, seat, index, news)?;
         self.journal.reserve(batch.entries.len() as u64)?;
         let receipts = receipts_beside(alloc, told, &batch.entries)?;
         let Batch {
@@ -129,13 +131,12 @@ impl RangeState {
             entries,
             known,
         } = batch;
-        let leaves = self.leaves.with_leaf(alloc, node.index, leaf)?;
+        let leaves = self.tree.with_leaf(alloc, index, leaf)?;
         let session = &mut self.records[id as usize].session;
         session.take_leaf(node, text)?;
         let state = session.state();
-        mark_news(&mut self.marks, node.index, &entries);
-        self.leaves = leaves;
-        append_all(&mut self.journal, entries);
+        keep_leaves(&mut self.tree, index, leaves, &entries);
+        self.journal.append_entries(entries);
         Ok(AnswerTaken {
             receipts,
             known,
@@ -154,24 +155,13 @@ impl RangeState {
     }
 }
 
-/// Makes a leaf and every node above it dirty, if there are new entries for it.
-pub(super) fn mark_news(marks: &mut Marks, leaf: u16, entries: &[Entry])
-    requires { leaf < 16 ^ tree_depth marks.old.format }
-    ensures { marks.new ≡ record marks.old { digests = (if nat_eq (length entries.now) 0 then marks.old.digests else dirtied marks.old.format leaf marks.old.digests) } }
+/// Changes to the leaves of a batch for a leaf, if the batch has new entries.
+pub(super) fn keep_leaves(tree: &mut Tree, leaf: u16, leaves: Leaves, entries: &[Entry])
+    requires { (m : RowMap) × IsChange tree.old.map leaf leaves m }
+    ensures { (m : RowMap) → IsChange tree.old.map leaf leaves m
+        → tree.new ≡ (if nat_eq (length entries.now) 0 then tree.old else with_rows tree.old leaf m) }
 {
     if !entries.is_empty() {
-        marks.dirty(leaf);
-    }
-}
-
-/// Appends entries, which have the next numbers, and for which room was made.
-pub(super) fn append_all(journal: &mut Journal, entries: Vec<Entry>)
-    requires numbered { AreNumberedFrom (length journal.old.entries) entries.items }
-    requires room { length entries.items ≤ journal.old.room }
-    ensures entries { journal.new.entries ≡ journal.old.entries ++ entries.items }
-    ensures limit { journal.new.limit ≡ journal.old.limit }
-{
-    for entry in entries {
-        journal.append_reserved(entry.seat, entry.source, entry.key, entry.version);
+        tree.change_leaf(leaf, leaves);
     }
 }

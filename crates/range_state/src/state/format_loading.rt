@@ -1,5 +1,5 @@
 //! Loading rows of a named format, of any leaves of a range.
-ghost use Rattle.std.specs.Prelude.{◌≡◌, ◌+◌, ◌<◌, ◌^◌, ◌==◌, ◌++◌, ⊤, [], ℕ, List, None, length};
+ghost use Rattle.std.specs.Prelude.{◌≡◌, ◌+◌, ◌<◌, ◌^◌, ◌==◌, ◌++◌, ◌∷◌, ⊤, [], ℕ, List, None, length};
 ghost use Rattle.std.specs.List.{AllByRecursion};
 ghost use Rattle.vclock.specs.Answer.{Answers, AnswersAtOnce, AnswersOrNoMemory, first_fault};
 ghost use Rattle.vclock.specs.Outcome.{Does, DoesOrNoMemory};
@@ -8,30 +8,30 @@ ghost use Rattle.range_journal.specs.declared.journal.Source.TheVariants.{Copy};
 ghost use Rattle.key_ring.specs.Places.{range_at};
 ghost use Rattle.row_bytes.specs.Rows.{AreRows};
 ghost use Rattle.row_bytes.specs.declared.row.Row.{Row};
-ghost use Rattle.range_state.specs.Batches.{seen_count};
-ghost use Rattle.range_state.specs.FormatLoads.{newer_fault, are_here, astray_fault, load_rows, load_format, IsSpread, IsSpreadable, dirtied_by};
+ghost use Rattle.range_state.specs.FormatLoads.{newer_fault, are_here, astray_fault, load_rows, load_format, seen_count, IsSpread, IsSpreadable};
 ghost use Rattle.range_state.specs.Sessions.{offers_in, offers_of, crowded_in};
-ghost use Rattle.range_state.specs.State.{place_fault};
+ghost use Rattle.range_state.specs.State.{leaf_in, place_fault};
 
 use crate::config::RangeConfig;
 use crate::leaf_rows::place_in;
 use crate::state::RangeState;
-use crate::state::answers::append_all;
 use crate::state::loading::Loaded;
-use crate::state::preparation::Batch;
-use hash_tree::{Leaves, Marks};
 use range_journal::{Entry, Source};
+use range_tree::Tree;
 use row_bytes::{Row, read_rows};
 use std::alloc::Global;
-use vclock::{Format, Refusal};
+use vclock::{Bytes, Format, Refusal};
+use version_set::Version;
 
 /// Versions of any leaves that are to be accepted together.
 #[derive(Drop)]
 pub(super) struct Spread {
-    /// The leaves with them.
-    leaves: Leaves,
-    /// Their entries, beside the leaf of the last row.
-    batch: Batch,
+    /// The tree with them.
+    tree: Tree,
+    /// Their entries, which have the next numbers.
+    entries: Vec<Entry>,
+    /// The number of versions that were looked at and are known already.
+    known: u64,
 }
 
 impl RangeState {
@@ -77,27 +77,18 @@ impl RangeState {
         if !are_here(&self.config, rows) {
             return Err(Refusal::OtherRange);
         }
-        let mut spread = self.nothing_spread(alloc)?;
+        let mut spread = Spread {
+            tree: self.tree.share(alloc)?,
+            entries: Vec::new(alloc),
+            known: 0,
+        };
         for row in rows {
             self.spread_row(alloc, seat, row, &mut spread)?;
         }
         Ok(spread)
     }
 
-    /// Prepares no version. Refused: NoMemory.
-    fn nothing_spread(&self, alloc: Global) -> Result<Spread, Refusal>
-        ensures { Answers result None (λ spread. (seat : ℕ) → IsSpread self.now seat [] spread) }
-    {
-        let batch = Batch {
-            leaf: self.leaves.get(0).share()?,
-            entries: Vec::new(alloc),
-            known: 0,
-        };
-        let leaves = self.leaves.share()?;
-        Ok(Spread { leaves, batch })
-    }
-
-    /// Prepares the versions of one more row, in its leaf. Refused: Crowded, NoMemory, which may replace Crowded.
+    /// Prepares the versions of one more row. Refused: Crowded, NoMemory, which may replace Crowded.
     fn spread_row(
         &self,
         alloc: Global,
@@ -108,16 +99,55 @@ impl RangeState {
         requires here { AllByRecursion (λ (v : Version). place_fault self.now.config row.now.key v.kind v.value ≡ None)
             row.now.versions }
         requires before { (offers : List (List ℕ × Version)) × IsSpread self.now seat offers spread.old }
-        requires few { seen_count spread.old.batch + length (offers_in row.now) < 2 ^ 64 }
+        requires few { seen_count spread.old + length (offers_in row.now) < 2 ^ 64 }
         ensures { (offers : List (List ℕ × Version)) → IsSpread self.now seat offers spread.old
             → AnswersOrNoMemory result (crowded_in self.now seat Copy (offers ++ offers_in row.now))
             (λ _. IsSpread self.now seat (offers ++ offers_in row.now) spread.new) }
     {
         let leaf = place_in(&self.config, row.key.as_slice()).leaf;
-        spread.batch.leaf = spread.leaves.get(leaf).share()?;
-        self.prepare_row(alloc, seat, Source::Copy, leaf, row, &mut spread.batch)?;
-        let changed = spread.batch.leaf.share()?;
-        spread.leaves = spread.leaves.with_leaf(alloc, leaf, changed)?;
+        for version in row.versions.as_slice() {
+            self.spread_version(alloc, seat, leaf, &row.key, version, spread)?;
+        }
+        Ok(())
+    }
+
+    /// Prepares one more version. Refused: Crowded, NoMemory, which may replace Crowded.
+    fn spread_version(
+        &self,
+        alloc: Global,
+        seat: u16,
+        leaf: u16,
+        key: &Bytes,
+        version: &Version,
+        spread: &mut Spread,
+    ) -> Result<(), Refusal>
+        requires leaf { leaf ≡ leaf_in self.now.config key.now }
+        requires here { place_fault self.now.config key.now version.now.kind version.now.value ≡ None }
+        requires before { (offers : List (List ℕ × Version)) × IsSpread self.now seat offers spread.old }
+        requires few { seen_count spread.old + 1 < 2 ^ 64 }
+        ensures { (offers : List (List ℕ × Version)) → IsSpread self.now seat offers spread.old
+            → AnswersOrNoMemory result (crowded_in self.now seat Copy (offers ++ (key.now, version.now) ∷ []))
+            (λ _. IsSpread self.now seat (offers ++ (key.now, version.now) ∷ []) spread.new) }
+    {
+        let (held, near) = spread.tree.search(leaf, key.as_slice());
+        if held.covers(version) {
+            spread.known += 1;
+            return Ok(());
+        }
+        if held.crowds(version) {
+            return Err(Refusal::Crowded);
+        }
+        let entry = Entry {
+            number: self.journal.len() + spread.entries.len() as u64,
+            seat,
+            source: Source::Copy,
+            key: key.try_clone()?,
+            version: version.try_clone()?,
+        };
+        let row_version = version.try_clone()?;
+        spread.entries.reserve(1)?;
+        spread.tree.offer(alloc, leaf, near, key, row_version)?;
+        spread.entries.push_reserved(entry);
         Ok(())
     }
 
@@ -127,17 +157,15 @@ impl RangeState {
         ensures { (seat : ℕ) (rows : List Row) → IsSpreadable self.old seat rows spread
             → Does result self.old self.new (load_rows self.old seat rows) }
     {
-        let Spread { leaves, batch } = spread;
-        let Batch {
-            leaf: _leaf,
+        let Spread {
+            tree,
             entries,
             known,
-        } = batch;
+        } = spread;
         let taken = entries.len() as u64;
         self.journal.reserve(taken)?;
-        dirty_each(&mut self.marks, &self.config, &entries);
-        self.leaves = leaves;
-        append_all(&mut self.journal, entries);
+        self.tree = tree;
+        self.journal.append_entries(entries);
         Ok(Loaded { taken, known })
     }
 }
@@ -164,14 +192,4 @@ fn is_here(config: &RangeConfig, row: &Row) -> bool
     ensures { result ≡ (range_at config.now.bits row.now.key == config.now.range) }
 {
     place_in(config, row.key.as_slice()).range == config.range()
-}
-
-/// Makes the leaf of each entry's key dirty, and every node above it.
-fn dirty_each(marks: &mut Marks, config: &RangeConfig, entries: &[Entry])
-    requires { marks.old.format ≡ config.now.format }
-    ensures { marks.new ≡ record marks.old { digests = dirtied_by config.now entries.now marks.old.digests } }
-{
-    for entry in entries {
-        marks.dirty(place_in(config, entry.key.as_slice()).leaf);
-    }
 }

@@ -5,7 +5,6 @@ ghost use Rattle.range_journal.specs.Journal.{held};
 ghost use Rattle.range_journal.specs.declared.journal.Source.TheVariants as sources;
 ghost use Rattle.row_bytes.specs.declared.row.Row.{Row};
 ghost use Rattle.tree_nodes.specs.Nodes.{tree_depth};
-ghost use Rattle.sync_session.specs.TreeNodes.{as_node};
 ghost use Rattle.sync_session.specs.Readings.{IsReadTo};
 ghost use Rattle.sync_session.specs.Walks.{Held};
 ghost use Rattle.range_state.specs.Records.{IsKept};
@@ -16,10 +15,10 @@ ghost use Rattle.range_state.specs.Judgements.{HasOtherKeys, IsCounted, IsOfRang
 use crate::record::Record;
 use crate::state::RangeState;
 use crate::state::sync::sum;
-use hash_tree::{Hashed, NodeAt};
 use row_bytes::Row;
 use std::alloc::Global;
 use sync_session::{News, NewsPlace, NewsStep, Session};
+use tree_nodes::{Hashed, NodeAt};
 use vclock::Refusal;
 use version_set::{Offered, VersionSet};
 
@@ -38,7 +37,7 @@ impl RangeState {
     ) -> Result<News, Refusal>
         requires { IsKept self.now.config self.now.entries kept.now }
         ensures { (seat : ℕ) → TellsText self.now seat kept.now
-            (record { node = as_node node; text = text.now }) result }
+            (record { node = node; text = text.now }) result }
     {
         if let Some(first) = kept.session.begin_news(node, text)? {
             self.judge_leaf(alloc, &kept.session, node, first)?;
@@ -59,18 +58,19 @@ impl RangeState {
         requires leaf { node.depth ≡ tree_depth session.now.own.format }
         requires own { Held session.now.own.rows (held self.now.entries) }
         requires read { (text : List ℕ)
-            × IsReadTo session.now.own (as_node node) text first.last.now first.rest.now [] first.known }
+            × IsReadTo session.now.own node text first.last.now first.rest.now [] first.known }
         ensures { (text : List ℕ) (seat : ℕ)
-            → IsReadTo session.now.own (as_node node) text first.entry.last.now first.entry.rest.now [] first.entry.known
-            → JudgesLeaf self.now seat session.now.own (as_node node) text result }
+            → IsReadTo session.now.own node text first.entry.last.now first.entry.rest.now [] first.entry.known
+            → JudgesLeaf self.now seat session.now.own node text result }
     {
+        let leaf = node.index;
         let mut place = first;
         let mut news = Some(0);
         'rows: loop {
             let NewsStep { row, place: after } = session.next_news(alloc, node, place)?;
             place = after;
             match row {
-                Some(row) => news = self.with_news(alloc, node.index, &row, news)?,
+                Some(row) => news = self.with_news(alloc, leaf, &row, news)?,
                 None => return self.judge(news),
             }
         }
@@ -137,9 +137,7 @@ impl RangeState {
         requires { leaf ≡ leaf_in self.now.config key.now }
         ensures { Answers result None (λ set. set ≡ held self.now.entries key.now) }
     {
-        match self.leaves.get(leaf).search(key) {
-            (Some(set), _) => set.try_clone(alloc),
-            (None, _) => Ok(VersionSet::empty(alloc)),
-        }
+        let (held, _) = self.tree.search(leaf, key);
+        held.to_set(alloc)
     }
 }

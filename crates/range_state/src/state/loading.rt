@@ -16,10 +16,9 @@ ghost use Rattle.range_state.specs.State.{leaf_in};
 use crate::event::Receipt;
 use crate::leaf_rows::LeafRows;
 use crate::state::RangeState;
-use crate::state::answers::{append_all, mark_news};
+use crate::state::answers::keep_leaves;
 use crate::state::preparation::{Batch, receipts_beside};
 use crate::state::receipts::move_to;
-use key_ring::leaf_count;
 use range_journal::Source;
 use std::alloc::Global;
 use vclock::Refusal;
@@ -43,12 +42,7 @@ impl RangeState {
             (λ text. text.items ≡ flat_map (row_text self.now.config.format)
             (rows_in_leaf (leaf_in self.now.config) leaf (rows_of self.now.entries))) }
     {
-        if leaf >= leaf_count(self.config.format()) {
-            return Err(Refusal::BadMessage);
-        }
-        let mut text = Vec::new(alloc);
-        self.rows(leaf).put_rows(&mut text)?;
-        Ok(text)
+        self.tree().rows_text(alloc, leaf)
     }
 
     /// Loads rows of one leaf from their texts, which are one after another in ascending order of key: accepts each of
@@ -111,10 +105,9 @@ impl RangeState {
         } = batch;
         let taken = entries.len() as u64;
         self.journal.reserve(taken)?;
-        let leaves = self.leaves.with_leaf(alloc, leaf, changed)?;
-        mark_news(&mut self.marks, leaf, &entries);
-        self.leaves = leaves;
-        append_all(&mut self.journal, entries);
+        let leaves = self.tree.with_leaf(alloc, leaf, changed)?;
+        keep_leaves(&mut self.tree, leaf, leaves, &entries);
+        self.journal.append_entries(entries);
         Ok(Loaded { taken, known })
     }
 }

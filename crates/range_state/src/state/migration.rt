@@ -5,9 +5,8 @@ ghost use Rattle.vclock.specs.declared.format.Format.TheVariants as formats;
 ghost use Rattle.range_state.specs.Migrates.{cancelled, in_two, migrate};
 
 use crate::record::Record;
-use crate::replay::leaves_of;
+use crate::replay::tree_of;
 use crate::state::RangeState;
-use hash_tree::Marks;
 use std::alloc::Global;
 use vclock::{Format, Refusal};
 
@@ -33,11 +32,9 @@ impl RangeState {
         ensures { Does result self.old self.new (gives tt (in_two self.old)) }
     {
         let config = self.config.in_format_2();
-        let leaves = leaves_of(alloc, config, self.journal.entries())?;
-        let marks = Marks::new(alloc, Format::Two)?;
+        let tree = tree_of(alloc, config, self.journal.entries())?;
         self.config = config;
-        self.leaves = leaves;
-        self.marks = marks;
+        self.tree = tree;
         cancel_all(&mut self.records);
         Ok(())
     }

@@ -13,9 +13,9 @@ ghost use Rattle.range_state.specs.Sessions.{offers_in, offers_of, accepted_in, 
 ghost use Rattle.range_state.specs.Batches.{IsRowFor, ahead, IsBatch, seen_count, IsPrepared};
 
 use crate::event::Receipt;
-use crate::state::{RangeState, covers, crowds};
+use crate::state::RangeState;
 use hash_tree::SharedLeaf;
-use range_journal::{Entry, Source};
+use range_journal::{Entry, Source, copy_entries};
 use row_bytes::Row;
 use std::alloc::Global;
 use sync_session::News;
@@ -53,7 +53,7 @@ impl RangeState {
             × (seen_count batch ≡ length (offers_of rows.now))) }
     {
         let mut batch = Batch {
-            leaf: self.leaves.get(leaf).share()?,
+            leaf: self.tree.rows(leaf).share()?,
             entries: Vec::new(alloc),
             known: 0,
         };
@@ -131,15 +131,22 @@ impl RangeState {
             (IsPrepared self.now seat source leaf ((key.now, version.now) ∷ []) batch.old batch.new) }
     {
         let (set, near) = batch.leaf.search(key.as_slice());
-        if covers(set, version) {
+        let held = version_set::Held::new(set);
+        if held.covers(version) {
             batch.known += 1;
             return Ok(());
         }
-        if crowds(set, version) {
+        if held.crowds(version) {
             return Err(Refusal::Crowded);
         }
         let number = self.journal.len() + batch.entries.len() as u64;
-        let entry = new_entry(number, seat, source, key, version)?;
+        let entry = Entry {
+            number,
+            seat,
+            source,
+            key: key.try_clone()?,
+            version: version.try_clone()?,
+        };
         let row_version = version.try_clone()?;
         batch.leaf.offer(alloc, near, key, row_version)?;
         batch.entries.push(entry)?;
@@ -161,42 +168,5 @@ pub(super) fn receipts_beside(
     if !told.is_empty() {
         told.reserve(entries.len())?;
     }
-    copies_of(alloc, entries)
-}
-
-/// Copies entries. Refused: NoMemory.
-fn copies_of(alloc: Global, entries: &[Entry]) -> Result<Vec<Receipt>, Refusal>
-    ensures { Answers result None (λ copies. copies.items ≡ entries.now) }
-{
-    let mut copies = Vec::with_capacity(alloc, entries.len())?;
-    for entry in entries {
-        let Entry {
-            number,
-            seat,
-            source,
-            key,
-            version,
-        } = entry;
-        copies.push(new_entry(*number, *seat, *source, key, version)?)?;
-    }
-    Ok(copies)
-}
-
-/// Makes an entry. Refused: NoMemory.
-fn new_entry(
-    number: u64,
-    seat: u16,
-    source: Source,
-    key: &Bytes,
-    version: &Version,
-) -> Result<Entry, Refusal>
-    ensures { Answers result None (λ entry. entry ≡ record { number = number; seat = seat; source = source; key = key.now; version = version.now }) }
-{
-    Ok(Entry {
-        number,
-        seat,
-        source,
-        key: key.try_clone()?,
-        version: version.try_clone()?,
-    })
+    copy_entries(alloc, entries)
 }

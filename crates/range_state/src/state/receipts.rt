@@ -2,7 +2,6 @@
 ghost use Rattle.std.specs.Prelude.{◌≡◌, ◌+◌, ◌≤◌, ◌++◌, ◌⊎◌, [], None, IfErr, IsTrue};
 ghost use Rattle.std.specs.Vec.{vec_len, vec_capacity};
 ghost use Rattle.vclock.specs.Outcome.{Does, DoesOrNoMemory};
-ghost use Rattle.sync_session.specs.TreeNodes.{as_node};
 ghost use Rattle.range_state.specs.ContextTests.{put_by};
 ghost use Rattle.range_state.specs.State.{is_sent, ask_fault, entry_of, admit, accept};
 ghost use Rattle.range_state.specs.Fitting.{IsFitting};
@@ -10,11 +9,11 @@ ghost use Rattle.range_state.specs.Told.{with_put, with_sent, CountsAnswer};
 
 use crate::context_test::ContextTest;
 use crate::event::{Accepted, AnswerCounted, AnswerTaken, Receipt};
-use crate::state::{Home, RangeState};
-use hash_tree::{Hashed, NodeAt};
+use crate::state::{RangeState, RowHome};
 use key_ring::HashedKey;
 use range_journal::Source;
 use std::alloc::Global;
+use tree_nodes::{Hashed, NodeAt};
 use vclock::{Bytes, Clock, Refusal};
 use version_set::{Kind, Version};
 
@@ -79,7 +78,7 @@ impl RangeState {
         node: NodeAt,
         text: Hashed,
     ) -> Result<AnswerCounted, Refusal>
-        ensures { CountsAnswer self.old seat id (record { node = as_node node; text = text }) result self.new receipts.old.items receipts.new.items }
+        ensures { CountsAnswer self.old seat id (record { node = node; text = text }) result self.new receipts.old.items receipts.new.items }
     {
         let AnswerTaken {
             receipts: told,
@@ -100,7 +99,7 @@ impl RangeState {
         &mut self,
         alloc: Global,
         receipts: &mut Vec<Receipt>,
-        home: Home,
+        home: RowHome,
         seat: u16,
         source: Source,
         key: &[u8],

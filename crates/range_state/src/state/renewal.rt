@@ -28,14 +28,12 @@ impl RangeState {
     {
         let (config, count) = self.new_limit(limit)?;
         let journal = self.held_journal(alloc, seat, limit, count)?;
-        let leaves = self.leaves.share()?;
-        let marks = self.marks.try_clone(alloc)?;
+        let tree = self.tree.share(alloc)?;
         let records = Vec::new(alloc);
         Ok(RangeState {
             config,
             journal,
-            leaves,
-            marks,
+            tree,
             records,
         })
     }

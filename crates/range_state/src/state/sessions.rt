@@ -9,9 +9,9 @@ ghost use Rattle.range_state.specs.Syncs.{IsFirstOf};
 
 use crate::record::Record;
 use crate::state::RangeState;
-use hash_tree::{Digest, NodeAt};
 use std::alloc::Global;
 use sync_session::{Session, SessionState};
+use tree_nodes::{Digest, NodeAt};
 use vclock::Refusal;
 use vclock::limits::{OPEN_SESSIONS_MAX, SESSIONS_MAX};
 use walk_messages::Offer;
@@ -60,7 +60,7 @@ impl RangeState {
         ensures { Does result self.old self.new (open_with self.old partner root) }
     {
         check_crowd(&self.records)?;
-        let own = self.kept_snapshot(alloc)?;
+        let own = self.tree.kept_snapshot(alloc)?;
         let session = Session::start(alloc, own, root)?;
         let id = self.records.len() as u64;
         self.records.push(Record { partner, session })?;

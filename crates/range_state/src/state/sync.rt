@@ -2,16 +2,16 @@
 ghost use Rattle.std.specs.Prelude.{◌≡◌, ◌≢◌, ◌⊎◌, ◌+◌, ◌≤◌, ⊤, None, length, slice_get, MatchOption, IfOk, IfErr, OnOk, OnErr, Err};
 ghost use Rattle.vclock.specs.Answer.{Answers, AnswersOrNoMemory, first_fault};
 ghost use Rattle.tree_nodes.specs.Nodes.{tree_depth};
-ghost use Rattle.sync_session.specs.TreeNodes.{as_node, text_of};
+ghost use Rattle.sync_session.specs.TreeNodes.{text_of};
 ghost use Rattle.range_state.specs.State.{dirty_fault};
 ghost use Rattle.range_state.specs.Sessions.{standings, crowd_fault, unknown_fault, TakesFor};
 ghost use Rattle.range_state.specs.Syncs.{IsOfRange, HasAskedAll, IsSyncedTo, IsPartWay};
 
 use crate::event::AnswerTaken;
 use crate::state::RangeState;
-use hash_tree::NodeAt;
 use snapshot::Snapshot;
 use std::alloc::Global;
+use tree_nodes::NodeAt;
 use vclock::Refusal;
 use walk_messages::Ask;
 
@@ -78,7 +78,7 @@ impl RangeState {
         requires { node.depth ≤ tree_depth other.now.format }
         ensures { ((result ≡ Err Refusal.NoMemory) × (self.new ≡ self.old))
             ⊎ TakesFor self.old seat id (slice_get self.old.records id)
-            (record { node = as_node node; text = text_of other.now (as_node node) }) result self.new }
+            (record { node = node; text = text_of other.now node }) result self.new }
     {
         let text = other.hashed_answer(alloc, Ask { offer: 0, node })?;
         self.take_answer(alloc, seat, id, node, text)

@@ -1,15 +1,22 @@
-//! The tree of a range: jobs of hashing, and their digests.
-ghost use Rattle.std.specs.Prelude.{◌≡◌, ◌+◌, ◌∷◌, [], None, IsTrue, IfSome, MatchOption};
+//! The tree of a range: hashing its nodes, and snapshots of its rows.
+ghost use Rattle.std.specs.Prelude.{◌≡◌, None, IfSome, OnOk};
+ghost use Rattle.std.specs.Arc.{arc_value};
 ghost use Rattle.sha2.specs.Sha256.{sha256};
 ghost use Rattle.vclock.specs.Answer.{Answers};
 ghost use Rattle.vclock.specs.Outcome.{DoesAtOnce};
-ghost use Rattle.tree_nodes.specs.Nodes.{kept_digest, is_ready, ready_from};
-ghost use Rattle.range_state.specs.State.{has_tree_node, place_of, text_in, GivesJob, AreJobs, is_current, install, installed};
+ghost use Rattle.tree_nodes.specs.Nodes.{place_of, kept_digest, dirty_count};
+ghost use Rattle.range_tree.specs.Jobs.{text_in, GivesJob, AreJobs};
+ghost use Rattle.range_state.specs.State.{tree_in, install, rows_now, dirty_fault};
+ghost use Rattle.range_state.specs.Trees.{rehashed, HashesSome, IsSameRange};
 
 use crate::state::RangeState;
-use hash_tree::{Digest, Hashed, NodeAt, is_inner_text, tree_depth};
+use range_tree::Tree;
 use rehash::Job;
+use snapshot::Snapshot;
 use std::alloc::Global;
+use std::sync::Arc;
+use std::thread::Threads;
+use tree_nodes::{Digest, Hashed, NodeAt};
 use vclock::Refusal;
 
 impl RangeState {
@@ -17,38 +24,26 @@ impl RangeState {
     /// range's tree has no such node. Doesn't allocate.
     pub fn digest_at(&self, node: NodeAt) -> Option<Digest>
         ensures digest { result ≡ kept_digest self.now.marks (place_of node) }
-        ensures right { IfSome result (λ digest. digest ≡ sha256 (text_in self.now node)) }
+        ensures right { IfSome result (λ digest. digest ≡ sha256 (text_in (tree_in self.now) node)) }
     {
-        self.marks.get(node)
+        self.tree().digest_at(node)
     }
 
     /// Returns a job: a dirty node whose children are clean, and its text now. Returns `None` if no node is dirty. If
     /// there are several, it takes the one at `skip`, counted round and round, so workers that are numbered from 0 get
     /// different jobs as long as there are enough. Refused: NoMemory.
     pub fn take_job(&self, alloc: Global, skip: u64) -> Result<Option<Job>, Refusal>
-        ensures { Answers result None (GivesJob self.now) }
+        ensures { Answers result None (GivesJob (tree_in self.now)) }
     {
-        match self.choose(skip) {
-            Some(node) => Ok(Some(self.job_of(alloc, node)?)),
-            None => Ok(None),
-        }
+        self.tree().take_job(alloc, skip)
     }
 
     /// Returns jobs of different nodes: of all dirty nodes whose children are clean, or of the first `most` of them if
     /// there are more. Refused: NoMemory.
     pub fn take_jobs(&self, alloc: Global, most: usize) -> Result<Vec<Job>, Refusal>
-        ensures { Answers result None (λ jobs. AreJobs self.now most jobs.items) }
+        ensures { Answers result None (λ jobs. AreJobs (tree_in self.now) most jobs.items) }
     {
-        let mut jobs = Vec::new(alloc);
-        let mut from = 0;
-        while jobs.len() < most {
-            let Some(node) = self.next_ready(from) else {
-                return Ok(jobs);
-            };
-            jobs.push(self.job_of(alloc, node)?)?;
-            from = node.place() + 1;
-        }
-        Ok(jobs)
+        self.tree().take_jobs(alloc, most)
     }
 
     /// Installs the digest of a text at a node.
@@ -58,77 +53,63 @@ impl RangeState {
     pub fn install(&mut self, node: NodeAt, hashed: &Hashed) -> Result<(), Refusal>
         ensures { DoesAtOnce result self.old self.new (install self.old node hashed.now) }
     {
-        if !self.is_current(node, hashed.text()) {
-            return Err(Refusal::Stale);
-        }
-        self.make_clean(node, hashed);
-        Ok(())
+        self.tree.install(node, hashed)
     }
 
-    /// Installs the digest of a node's text.
-    pub(super) fn make_clean(&mut self, node: NodeAt, hashed: &Hashed)
-        requires { IsTrue (is_current self.old node hashed.now) }
-        ensures { self.new ≡ installed self.old node hashed.now }
+    /// Returns the number of nodes of the tree that have no digest. Doesn't allocate.
+    pub fn dirty_count(&self) -> usize
+        ensures { result ≡ dirty_count self.now.marks }
     {
-        self.marks.set(node, hashed.digest());
+        self.tree().dirty_count()
     }
 
-    /// Returns true if the range's tree has the node, its children are clean, and this is its text now.
-    fn is_current(&self, node: NodeAt, text: &[u8]) -> bool
-        ensures { result ≡ is_current self.now node text.now }
+    /// Hashes every dirty node, installs the digests, and returns the number of nodes that were dirty. Each round
+    /// hashes the nodes whose children are clean, in several threads if there is enough to hash.
+    ///
+    /// Refused: NoMemory. Then some of the dirty nodes may be clean, and everything else is unchanged.
+    pub fn rehash(&mut self, rt: &(impl Threads + Sync), alloc: Global) -> Result<u64, Refusal>
+        ensures count { Answers result None (λ hashed. hashed ≡ dirty_count self.old.marks) }
+        ensures ok { OnOk result (self.new ≡ rehashed self.old) }
+        ensures same { IsSameRange self.old self.new }
     {
-        let format = self.config.format();
-        if node.depth == tree_depth(format) {
-            return self.leaves.get(node.index).is_text(text);
-        }
-        node.depth < tree_depth(format)
-            && match self.marks.children(node) {
-                Some(digests) => is_inner_text(format, text, &digests),
-                None => false,
-            }
+        self.tree.rehash(rt, alloc)
     }
 
-    /// Chooses a node for a job, if any: of several, the one at `skip`, counted round and round.
-    fn choose(&self, skip: u64) -> Option<NodeAt>
-        ensures { MatchOption result (ready_from self.now.marks 0 ≡ [])
-            (λ node. IsTrue (has_tree_node self.now.config node) × IsTrue (is_ready self.now.marks (place_of node))) }
+    /// Hashes every dirty node as `rehash` does, in the caller's thread alone.
+    ///
+    /// Refused: NoMemory. Then some of the dirty nodes may be clean, and everything else is unchanged.
+    pub fn rehash_here(&mut self, alloc: Global) -> Result<u64, Refusal>
+        ensures count { Answers result None (λ hashed. hashed ≡ dirty_count self.old.marks) }
+        ensures ok { OnOk result (self.new ≡ rehashed self.old) }
+        ensures same { IsSameRange self.old self.new }
     {
-        let mut chosen = self.next_ready(0)?;
-        let round = self.marks.ready_count() as u64;
-        for _ in 0..skip % round {
-            match self.next_ready(chosen.place() + 1) {
-                Some(next) => chosen = next,
-                None => return Some(chosen),
-            }
-        }
-        Some(chosen)
+        self.tree.rehash_here(alloc)
     }
 
-    /// Finds the first node from a place on that is ready for a job.
-    fn next_ready(&self, from: usize) -> Option<NodeAt>
-        ensures order { MatchOption result (ready_from self.now.marks from ≡ [])
-            (λ node. ready_from self.now.marks from
-            ≡ place_of node ∷ ready_from self.now.marks (place_of node + 1)) }
-        ensures has { IfSome result (λ node. IsTrue (has_tree_node self.now.config node)) }
-        ensures ready { IfSome result (λ node. IsTrue (is_ready self.now.marks (place_of node))) }
+    /// Hashes at most `most` of the dirty nodes whose children are clean, in the order of their places, in the caller's
+    /// thread, and returns the number of nodes that are dirty then. So a new tree's leaves are first. A caller that
+    /// repeats it until that number is 0 can do other work between.
+    ///
+    /// Refused: NoMemory. Then the state is unchanged.
+    pub fn rehash_some(&mut self, alloc: Global, most: usize) -> Result<usize, Refusal>
+        ensures { HashesSome result most self.old self.new }
     {
-        self.marks.next_ready(from)
+        self.tree.rehash_some(alloc, most)
     }
 
-    /// Makes the job of a node whose children are clean.
-    fn job_of(&self, alloc: Global, node: NodeAt) -> Result<Job, Refusal>
-        requires has { IsTrue (has_tree_node self.now.config node) }
-        requires ready { IsTrue (is_ready self.now.marks (place_of node)) }
-        ensures { Answers result None (λ job. job ≡ record { node = node; text = text_in self.now node }) }
+    /// Makes a snapshot of the rows now with the digests of the whole tree, to offer to another replica. Copies no row,
+    /// and shares with the range the leaves, and the digests that haven't changed since a session was opened. Refused,
+    /// in order: Dirty (some node has no digest), NoMemory.
+    pub fn snapshot(&self, alloc: Global) -> Result<Arc<Snapshot, Global>, Refusal>
+        ensures { Answers result (dirty_fault self.now) (λ snapshot. arc_value snapshot ≡ rows_now self.now) }
     {
-        let format = self.config.format();
-        if node.depth == tree_depth(format) {
-            let leaf = self.leaves.get(node.index).share()?;
-            return Job::of_leaf(alloc, node, leaf);
-        }
-        let Some(digests) = self.marks.children(node) else {
-            unreachable!()
-        };
-        Job::of_children(alloc, format, node, digests)
+        self.tree().snapshot(alloc)
+    }
+
+    /// Returns the tree.
+    pub(super) fn tree(&self) -> &Tree
+        ensures { result.now ≡ tree_in self.now }
+    {
+        &self.tree
     }
 }

@@ -15,22 +15,22 @@ Broken r = (t : TakenText) × IsDue r.session t × (IsCanonical r.session.own t.
 
 pub fail-requires : goal.fail-requires
 fail-requires c =
-    let s : State = record { config = c.self.inside.config; entries = c.self.inside.journal.entries; marks = c.self.inside.marks.digests; records = c.self.inside.records.items } in
+    let s : State = record { config = c.self.inside.config; entries = c.self.inside.journal.entries; marks = c.self.inside.tree.marks; records = c.self.inside.records.items } in
     let r : Record = c.index_mut.result.now in
     let asked = subst (λ (u : State). MatchOption (slice_get u.records c.args.id) ⊥ Broken) (sym c.self.view_is) c.requires in
     the_record s.records c.args.id r Broken (has_record s.records c.args.id Broken asked) c.index_mut.ensures.value asked
 
 pub invariant_of-self : goal.invariant_of-self
 invariant_of-self c =
-    let s : State = record { config = c.self.inside.config; entries = c.self.inside.journal.entries; marks = c.self.inside.marks.digests; records = c.self.inside.records.items } in
+    let s : State = record { config = c.self.inside.config; entries = c.self.inside.journal.entries; marks = c.self.inside.tree.marks; records = c.self.inside.records.items } in
     let r : Record = c.index_mut.result.now in
     let asked = subst (λ (u : State). MatchOption (slice_get u.records c.args.id) ⊥ Broken) (sym c.self.view_is) c.requires in
     let right = failed_right s c.args.id r c.self.invariant.0 (has_record s.records c.args.id Broken asked) c.index_mut.ensures.value in
-    (subst (λ (w : Walk). IsRight (walked_to s c.args.id r w)) (sym c.fail.ensures) right, c.self.invariant.1, c.self.invariant.2, c.self.invariant.3)
+    (subst (λ (w : Walk). IsRight (walked_to s c.args.id r w)) (sym c.fail.ensures) right, c.self.invariant.1, c.self.invariant.2)
 
 pub returns : goal.returns
 returns c =
-    let s : State = record { config = c.self.inside.config; entries = c.self.inside.journal.entries; marks = c.self.inside.marks.digests; records = c.self.inside.records.items } in
+    let s : State = record { config = c.self.inside.config; entries = c.self.inside.journal.entries; marks = c.self.inside.tree.marks; records = c.self.inside.records.items } in
     let r : Record = c.index_mut.result.now in
     let new : State = walked_to s c.args.id r c.fail.new.self in
     let asked = subst (λ (u : State). MatchOption (slice_get u.records c.args.id) ⊥ Broken) (sym c.self.view_is) c.requires in

@@ -1,7 +1,7 @@
-use Rattle.std.proofs.Common.{◌∷◌, ◌++◌, [], sym, ◌∙◌}
+use Rattle.std.proofs.Common.{◌∷◌, ◌++◌, [], sym, ap, ◌∙◌}
 use Rattle.std.proofs.lemmas.Result.{err_from_is_err_and}
 use Rattle.key_ring.specs.Places.{leaf_at}
-use Rattle.sync_session.specs.TreeNodes.{as_node}
+use Rattle.tree_nodes.specs.Nodes.{Node}
 use Rattle.sync_session.proofs.NewsLaws.{read_done}
 use Rattle.sync_session.proofs.NewsRowLaws.{read_apart, read_lies}
 use Rattle.range_state.proofs.JudgementLaws.{judge_fault, judge_memory, judged}
@@ -19,7 +19,7 @@ returns-in_err-row c =
     λ text seat read.
     let so_far = c.rows.invariant text read in
     let p = err_from_is_err_and c.from_residual.result c.from_residual.ensures.1 in
-    rw (p.1, p.2) (judge_fault c.args.self.now seat c.args.session.now.own (as_node c.args.node) text c.in_err-row.field-0.0 (c.in_err-row.ensures text so_far.others so_far.read))
+    rw (p.1, p.2) (judge_fault c.args.self.now seat c.args.session.now.own c.args.node text c.in_err-row.field-0.0 (c.in_err-row.ensures text so_far.others so_far.read))
 
 pub with_news-requires : goal.with_news-requires
 with_news-requires c =
@@ -27,7 +27,7 @@ with_news-requires c =
     let so_far = c.rows.invariant w.0 w.1 in
     let step = rw c.in-Some.is at c.in_ok-row.ensures w.0 so_far.others so_far.read in
     let lies = read_lies so_far.others c.in-Some.row step.0 in
-    sym lies.leaf_is ∙ (λ i. leaf_at (c.requires.range.format i) (c.requires.range.bits i) c.in-Some.row.key)
+    ap (λ (n : Node). n.index) c.node.view_is ∙ sym lies.leaf_is ∙ (λ i. leaf_at (c.requires.range.format i) (c.requires.range.bits i) c.in-Some.row.key)
 
 pub returns-in_err-news-in-Some : goal.returns-in_err-news-in-Some
 returns-in_err-news-in-Some c =
@@ -35,7 +35,7 @@ returns-in_err-news-in-Some c =
     let so_far = c.rows.invariant text read in
     let step = rw c.in-Some.is at c.in_ok-row.ensures text so_far.others so_far.read in
     let p = err_from_is_err_and c.from_residual-in_err-news-in-Some.result c.from_residual-in_err-news-in-Some.ensures.1 in
-    rw (p.1, p.2) (judge_memory c.args.self.now seat c.args.session.now.own (as_node c.args.node) text c.in_err-news-in-Some.field-0.0
+    rw (p.1, p.2) (judge_memory c.args.self.now seat c.args.session.now.own c.args.node text c.in_err-news-in-Some.field-0.0
     (c.in_err-news-in-Some.ensures seat so_far.others (so_far.counted seat) (read_apart so_far.others c.in-Some.row step.0)))
 
 pub rows-smaller : goal.rows-smaller
@@ -62,4 +62,4 @@ returns-in-None c =
     let step = rw c.in-None.is at c.in_ok-row.ensures text so_far.others so_far.read in
     let whole = read_done step.0 step.1 in
     let same = news_stand c.args.self.now seat c.args.session.now.own.rows whole.0 so_far.others _ c.requires.own whole.2 in
-    judged c.args.self.now seat c.args.session.now.own (as_node c.args.node) text whole.0 so_far.others _ c.judge.result whole.1 same (c.judge.ensures seat so_far.others (so_far.counted seat))
+    judged c.args.self.now seat c.args.session.now.own c.args.node text whole.0 so_far.others _ c.judge.result whole.1 same (c.judge.ensures seat so_far.others (so_far.counted seat))

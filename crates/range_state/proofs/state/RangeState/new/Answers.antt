@@ -1,24 +1,23 @@
-use Rattle.std.proofs.Common.{ℕ, ◌^◌, None, [], replicate, refl, ap, ◌∙◌}
-use Rattle.vclock.specs.declared.format.Format.{Format}
+use Rattle.std.proofs.Common.{ap, ◌∙◌, refl}
 use Rattle.range_journal.specs.Log.{Log}
-use Rattle.tree_nodes.specs.Nodes.{Tree, tree_depth, node_count}
-use Rattle.range_state.proofs.StateLaws.{new_range, leaves_of_tree}
+use Rattle.range_tree.specs.Trees.{bare}
+use Rattle.range_state.proofs.OfferLaws.{bits_fit, range_fits}
+use Rattle.range_state.proofs.StateLaws.{new_range}
 use Rattle.range_state.proofs.state.RangeState.new.Goals as goal
+
+pub empty-requires-clause-few : goal.empty-requires-clause-few
+empty-requires-clause-few c = rw c.bits.ensures (bits_fit c.args.config c.limit.ensures.valid)
+
+pub empty-requires-clause-range : goal.empty-requires-clause-range
+empty-requires-clause-range c = rw (c.bits.ensures, c.range.ensures) (range_fits c.args.config c.limit.ensures.valid)
 
 pub invariant_of-result : goal.invariant_of-result
 invariant_of-result c =
-    let none = ap (λ (t : Log). t.entries) c.new.ensures in
-    let format = c.format-format.ensures in
-    let leaves = c.in_ok-empty.ensures.1 ∙ ap (λ (f : Format). replicate (16 ^ tree_depth f) (record { format = f; rows = [] })) format ∙ ap (λ (n : ℕ). replicate n (record { format = c.args.config.format; rows = [] })) (leaves_of_tree c.args.config.format) in
-    let marks = c.in_ok-new.ensures.1 ∙ ap (λ (f : Format). record { format = f; digests = replicate (node_count f) None }) format in
-    let all = new_range c.args.config c.new.result.entries c.in_ok-empty.field-0 c.in_ok-new.field-0 c.new-3.result.items c.limit.ensures.valid none c.new-3.ensures.items leaves marks in
-    (all.0, all.1, ap (λ (t : Log). t.limit) c.new.ensures ∙ c.limit.ensures.limit, ap (λ (t : Tree). t.format) marks)
+    let tree = c.in_ok-empty.ensures.1 ∙ (λ i. bare (c.format.ensures i) (c.bits.ensures i) (c.range.ensures i)) in
+    let all = new_range c.args.config c.new.result.entries c.in_ok-empty.field-0 c.new-2.result.items c.limit.ensures.valid (ap (λ (t : Log). t.entries) c.new.ensures) c.new-2.ensures.items tree in
+    (all.0, all.1, ap (λ (t : Log). t.limit) c.new.ensures ∙ c.limit.ensures.limit)
 
 pub returns : goal.returns
 returns c =
-    let none = ap (λ (t : Log). t.entries) c.new.ensures in
-    let format = c.format-format.ensures in
-    let leaves = c.in_ok-empty.ensures.1 ∙ ap (λ (f : Format). replicate (16 ^ tree_depth f) (record { format = f; rows = [] })) format ∙ ap (λ (n : ℕ). replicate n (record { format = c.args.config.format; rows = [] })) (leaves_of_tree c.args.config.format) in
-    let marks = c.in_ok-new.ensures.1 ∙ ap (λ (f : Format). record { format = f; digests = replicate (node_count f) None }) format in
-    let all = new_range c.args.config c.new.result.entries c.in_ok-empty.field-0 c.in_ok-new.field-0 c.new-3.result.items c.limit.ensures.valid none c.new-3.ensures.items leaves marks in
-    (refl, all.2)
+    let tree = c.in_ok-empty.ensures.1 ∙ (λ i. bare (c.format.ensures i) (c.bits.ensures i) (c.range.ensures i)) in
+    (refl, (new_range c.args.config c.new.result.entries c.in_ok-empty.field-0 c.new-2.result.items c.limit.ensures.valid (ap (λ (t : Log). t.entries) c.new.ensures) c.new-2.ensures.items tree).2)

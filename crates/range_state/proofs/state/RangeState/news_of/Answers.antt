@@ -1,6 +1,5 @@
 use Rattle.std.proofs.lemmas.Result.{err_from_is_err_and}
 use Rattle.range_state.specs.declared.«record».Record.{Record}
-use Rattle.sync_session.specs.TreeNodes.{as_node}
 use Rattle.sync_session.specs.Walks.{TakenText}
 use Rattle.range_state.proofs.JudgementLaws.{text_fault, text_told, leaf_takable, inner_takable}
 use Rattle.range_state.proofs.TakenLaws.{format_now}
@@ -12,7 +11,7 @@ returns-in_err-judge_leaf c =
     λ seat.
     let s = c.args.self.now in
     let r : Record = c.args.kept.now in
-    let t : TakenText = record { node = as_node c.args.node; text = c.args.text.now } in
+    let t : TakenText = record { node = c.args.node; text = c.args.text.now } in
     let begun = rw c.in-Some.is at c.in_ok-first.ensures in
     let format = format_now s.config s.entries r t c.requires begun.0 in
     let p = err_from_is_err_and c.from_residual-in_err-judge_leaf.result c.from_residual-in_err-judge_leaf.ensures.1 in
@@ -23,7 +22,7 @@ returns c =
     λ seat.
     let s = c.args.self.now in
     let r : Record = c.args.kept.now in
-    let t : TakenText = record { node = as_node c.args.node; text = c.args.text.now } in
+    let t : TakenText = record { node = c.args.node; text = c.args.text.now } in
     elim c.match-branch-2.branch [
       | in-Some+in_ok-judge_leaf w ↦
           let begun = rw w.in-Some.is at c.in_ok-first.ensures in

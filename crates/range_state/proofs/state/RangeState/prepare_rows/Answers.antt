@@ -5,7 +5,9 @@ use Rattle.row_bytes.specs.declared.row.Row.{Row}
 use Rattle.range_state.specs.declared.state.preparation.Batch.{Batch}
 use Rattle.range_journal.specs.declared.journal.Entry.{Entry}
 use Rattle.range_journal.specs.Log.{AreNumberedFrom}
-use Rattle.range_state.specs.State.{State, AreLeaves, bucket_of}
+use Rattle.snapshot.specs.RowMaps.{RowMap}
+use Rattle.range_tree.specs.Trees as trees
+use Rattle.range_state.specs.State.{bucket_of, rows_now}
 use Rattle.range_state.specs.Sessions.{offers_in, offers_of}
 use Rattle.range_state.proofs.BatchLaws.{Offers, going_err, going_more, from_none, offers_next, offers_split}
 use Rattle.range_state.proofs.state.RangeState.prepare_rows.Goals as goal
@@ -46,8 +48,8 @@ loop-row-preserved c =
 pub loop-row-init : goal.loop-row-init
 loop-row-init c =
     let s = c.args.self.now in
-    let are = subst (λ (u : State). AreLeaves u.config u.entries c.self.inside.leaves) c.self.view_is c.self.invariant.1 in
-    let leaf = c.in_ok-share.ensures.1 ∙ c.get.ensures c.get.result.now ∙ are.each c.args.leaf c.get.result.now c.requires.inside in
+    let now : rows_now (record { config = c.self.inside.config; entries = c.self.inside.journal.entries; marks = c.self.inside.tree.marks; records = c.self.inside.records.items }) ≡ rows_now s = ap rows_now c.self.view_is in
+    let leaf = c.in_ok-share.ensures.1 ∙ c.rows.ensures ∙ ap (λ (m : RowMap). trees.bucket_of m c.args.leaf) (c.self.invariant.1 ∙ now) in
     let whole : s.entries ++ c.new.result.items ≡ s.entries = ap (λ (es : List Entry). s.entries ++ es) c.new.ensures.items ∙ append-nil s.entries in
     record {
       prepared = record {

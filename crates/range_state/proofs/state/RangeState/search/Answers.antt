@@ -1,19 +1,16 @@
-use Rattle.std.proofs.Common.{subst, ◌∙◌}
-use Rattle.range_state.specs.State.{State, IsRight, AreLeaves}
-use Rattle.range_state.proofs.StateLaws.{set_here, leaf_within, held_fit}
+use Rattle.std.proofs.Common.{ap, subst, sym, ◌∙◌}
+use Rattle.hash_tree.specs.Leaves.{versions_in}
+use Rattle.snapshot.specs.RowMaps.{leaf_in}
+use Rattle.range_state.specs.State.{IsRight, rows_now}
+use Rattle.range_state.proofs.RowLaws.{versions_in-rows_of}
+use Rattle.range_state.proofs.StateLaws.{held_fit}
 use Rattle.range_state.proofs.state.RangeState.search.Goals as goal
 
-pub get-requires : goal.get-requires
-get-requires c =
-    let ok = subst (λ (s : State). AreLeaves s.config s.entries c.self.inside.leaves) c.self.view_is c.self.invariant.1 in
-    leaf_within c.args.self.now c.self.inside.leaves c.args.at c.args.key.now ok c.requires
+pub search-requires : goal.search-requires
+search-requires c = c.requires ∙ sym (λ i. leaf_in ((c.self.invariant.1 ∙ ap rows_now c.self.view_is) i) (c.bytes.ensures i))
 
-pub returns-clause-set : goal.returns-clause-set
-returns-clause-set c =
-    let ok = subst (λ (s : State). AreLeaves s.config s.entries c.self.inside.leaves) c.self.view_is c.self.invariant.1 in
-    (rw c.bytes.ensures at c.search.ensures.found) ∙ set_here c.args.self.now c.self.inside.leaves c.args.at c.args.key.now c.get.result.now ok c.requires (c.get.ensures c.get.result.now)
+pub returns-clause-held : goal.returns-clause-held
+returns-clause-held c = c.search.ensures ∙ (λ i. versions_in (c.bytes.ensures i) ((c.self.invariant.1 ∙ ap rows_now c.self.view_is) i).rows) ∙ versions_in-rows_of c.args.self.now.entries c.args.key.now
 
 pub returns-clause-fit : goal.returns-clause-fit
-returns-clause-fit c =
-    let right = subst (λ (s : State). IsRight s) c.self.view_is c.self.invariant.0 in
-    held_fit c.args.self.now c.args.key.now right
+returns-clause-fit c = held_fit c.args.self.now c.args.key.now (subst IsRight c.self.view_is c.self.invariant.0)

@@ -1,4 +1,4 @@
-use Rattle.std.proofs.Common.{rules, ◌≡◌, ◌+◌, ◌++◌, true, length, take, drop, sym, subst, ap, ◌∙◌, arith}
+use Rattle.std.proofs.Common.{rules, ◌≡◌, ◌+◌, ◌++◌, true, length, take, drop, refl, sym, subst, ap, ◌∙◌, arith}
 use Rattle.std.proofs.lemmas.List.Elements.{All-from_recursion}
 use Rattle.std.proofs.lemmas.List.Folds.{length-flat_map-take}
 use Rattle.std.proofs.lemmas.Result.{err_from_is_err_and}
@@ -8,13 +8,16 @@ use Rattle.row_bytes.specs.declared.row.Row.{Row}
 use Rattle.range_state.specs.Config.{Config}
 use Rattle.range_state.specs.FormatLoads.{are_here, IsSpread}
 use Rattle.range_state.specs.Sessions.{offers_in, offers_of}
-use Rattle.range_state.specs.State.{State}
+use Rattle.range_state.specs.State.{State, tree_in}
 use Rattle.range_state.proofs.BatchLaws.{Offers, offers_next, offers_split}
-use Rattle.range_state.proofs.SpreadLaws.{here_none, row_here, rows_here, rows_stop}
+use Rattle.range_state.proofs.SpreadLaws.{here_none, row_here, rows_here, rows_stop, spread_start}
 use Rattle.range_state.proofs.state.RangeState.spread.Goals as goal
 
 pub loop-row-init : goal.loop-row-init
-loop-row-init c = c.in_ok-spread.ensures.1 c.args.seat
+loop-row-init c =
+    let s = c.args.self.now in
+    let tree : c.in_ok-share.field-0 ≡ tree_in s = c.in_ok-share.ensures.1 ∙ (λ i. record { map = c.self.invariant.1 i; marks = c.self.inside.tree.marks }) ∙ ap tree_in c.self.view_is in
+    spread_start s c.args.seat (record { tree = c.in_ok-share.field-0; entries = c.new.result; known = 0 }) tree c.new.ensures.items refl
 
 pub spread_row-requires-clause-here : goal.spread_row-requires-clause-here
 spread_row-requires-clause-here c =

@@ -1,6 +1,5 @@
 use Rattle.std.proofs.Common.{rules, ◌+◌, length, sym, ap, ◌∙◌, inr, arith, refl}
 use Rattle.std.specs.Prelude.{Result, Ok, Err, OnErr}
-use Rattle.sync_session.specs.TreeNodes.{as_node}
 use Rattle.range_state.specs.State.{State}
 use Rattle.range_state.specs.Sessions.{unknown_fault}
 use Rattle.range_state.proofs.SyncLaws.{IsNext, IsDone, open_ok, begun, known_session, next_is, done_is, is_told, shallow, fewer_left, answered, stopped, finished, refused_at, all_asked, all_asked_at, stopped_before, stopped_after}
@@ -26,7 +25,7 @@ pub returns-in_err-node : goal.returns-in_err-node
 returns-in_err-node c = absurd (let known = known_session c.loop-node.invariant.under c.loop-node.invariant.at in let clash = sym known ∙ c.in_err-node.ensures.first in cc)
 
 -- the next node
-next : (c : In-Some) → IsNext c.args.self.now c.loop-node.self c.args.seat c.in_ok-id.id c.loop-node.known c.args.other.now c.loop-node.invariant.under (as_node c.in-Some.node)
+next : (c : In-Some) → IsNext c.args.self.now c.loop-node.self c.args.seat c.in_ok-id.id c.loop-node.known c.args.other.now c.loop-node.invariant.under c.in-Some.node
 next c = next_is c.loop-node.invariant.under c.loop-node.invariant.at c.outstanding.ensures.valid c.requires c.format-format.ensures.valid c.in_ok-node.ensures.first.1 c.in-Some.is
 
 -- there is none

@@ -2,7 +2,6 @@ use Rattle.std.proofs.Common.{◌≡◌, ℕ, get_or, refl, sym, subst, Ok, Err,
 use Rattle.std.specs.Prelude.{MatchOption}
 use Rattle.std.proofs.lemmas.Result.{err_from_is_err_and}
 use Rattle.sync_session.specs.Walks.{TakenText, Walk}
-use Rattle.sync_session.specs.TreeNodes.{as_node}
 use Rattle.range_state.specs.declared.«record».Record.{Record}
 use Rattle.range_state.specs.declared.event.AnswerTaken.{AnswerTaken}
 use Rattle.range_state.specs.State.{State, IsRight}
@@ -17,30 +16,30 @@ awaits s now id r t view ok was h = inner_at s id r t ok was (subst (λ (u : Sta
 
 pub take_inner-requires-clause-inner : goal.take_inner-requires-clause-inner
 take_inner-requires-clause-inner c =
-    let s : State = record { config = c.self.inside.config; entries = c.self.inside.journal.entries; marks = c.self.inside.marks.digests; records = c.self.inside.records.items } in
-    (awaits s c.args.self.now c.args.id c.index_mut.result.now (record { node = as_node c.args.node; text = c.args.text }) c.self.view_is c.self.invariant.0 c.index_mut.ensures.value c.requires).inner
+    let s : State = record { config = c.self.inside.config; entries = c.self.inside.journal.entries; marks = c.self.inside.tree.marks; records = c.self.inside.records.items } in
+    (awaits s c.args.self.now c.args.id c.index_mut.result.now (record { node = c.args.node; text = c.args.text }) c.self.view_is c.self.invariant.0 c.index_mut.ensures.value c.requires).inner
 
 pub take_inner-requires-clause-due : goal.take_inner-requires-clause-due
 take_inner-requires-clause-due c =
-    let s : State = record { config = c.self.inside.config; entries = c.self.inside.journal.entries; marks = c.self.inside.marks.digests; records = c.self.inside.records.items } in
-    (awaits s c.args.self.now c.args.id c.index_mut.result.now (record { node = as_node c.args.node; text = c.args.text }) c.self.view_is c.self.invariant.0 c.index_mut.ensures.value c.requires).read.due
+    let s : State = record { config = c.self.inside.config; entries = c.self.inside.journal.entries; marks = c.self.inside.tree.marks; records = c.self.inside.records.items } in
+    (awaits s c.args.self.now c.args.id c.index_mut.result.now (record { node = c.args.node; text = c.args.text }) c.self.view_is c.self.invariant.0 c.index_mut.ensures.value c.requires).read.due
 
 pub take_inner-requires-clause-form : goal.take_inner-requires-clause-form
 take_inner-requires-clause-form c =
-    let s : State = record { config = c.self.inside.config; entries = c.self.inside.journal.entries; marks = c.self.inside.marks.digests; records = c.self.inside.records.items } in
-    (awaits s c.args.self.now c.args.id c.index_mut.result.now (record { node = as_node c.args.node; text = c.args.text }) c.self.view_is c.self.invariant.0 c.index_mut.ensures.value c.requires).form
+    let s : State = record { config = c.self.inside.config; entries = c.self.inside.journal.entries; marks = c.self.inside.tree.marks; records = c.self.inside.records.items } in
+    (awaits s c.args.self.now c.args.id c.index_mut.result.now (record { node = c.args.node; text = c.args.text }) c.self.view_is c.self.invariant.0 c.index_mut.ensures.value c.requires).form
 
 pub invariant_of-self : goal.invariant_of-self
 invariant_of-self c =
-    let s : State = record { config = c.self.inside.config; entries = c.self.inside.journal.entries; marks = c.self.inside.marks.digests; records = c.self.inside.records.items } in
+    let s : State = record { config = c.self.inside.config; entries = c.self.inside.journal.entries; marks = c.self.inside.tree.marks; records = c.self.inside.records.items } in
     let same = stayed s c.args.id c.index_mut.result.now c.take_inner.new.self c.index_mut.ensures.value c.in_err-take_inner.ensures.0 in
-    (subst IsRight same c.self.invariant.0, c.self.invariant.1, c.self.invariant.2, c.self.invariant.3)
+    (subst IsRight same c.self.invariant.0, c.self.invariant.1, c.self.invariant.2)
 
 pub returns-in_err-take_inner-clause-answers : goal.returns-in_err-take_inner-clause-answers
 returns-in_err-take_inner-clause-answers c = λ seat.
-    let s : State = record { config = c.self.inside.config; entries = c.self.inside.journal.entries; marks = c.self.inside.marks.digests; records = c.self.inside.records.items } in
+    let s : State = record { config = c.self.inside.config; entries = c.self.inside.journal.entries; marks = c.self.inside.tree.marks; records = c.self.inside.records.items } in
     let r : Record = c.index_mut.result.now in
-    let t : TakenText = record { node = as_node c.args.node; text = c.args.text } in
+    let t : TakenText = record { node = c.args.node; text = c.args.text } in
     let e = c.in_err-take_inner.field-0.0 in
     let p = err_from_is_err_and c.from_residual.result c.from_residual.ensures.1 in
     let at = awaits s c.args.self.now c.args.id r t c.self.view_is c.self.invariant.0 c.index_mut.ensures.value c.requires in
@@ -52,18 +51,18 @@ returns-in_err-take_inner-clause-answers c = λ seat.
 
 pub invariant_of-self-2 : goal.invariant_of-self-2
 invariant_of-self-2 c =
-    let s : State = record { config = c.self.inside.config; entries = c.self.inside.journal.entries; marks = c.self.inside.marks.digests; records = c.self.inside.records.items } in
+    let s : State = record { config = c.self.inside.config; entries = c.self.inside.journal.entries; marks = c.self.inside.tree.marks; records = c.self.inside.records.items } in
     let r : Record = c.index_mut.result.now in
-    let t : TakenText = record { node = as_node c.args.node; text = c.args.text } in
+    let t : TakenText = record { node = c.args.node; text = c.args.text } in
     let at = awaits s c.args.self.now c.args.id r t c.self.view_is c.self.invariant.0 c.index_mut.ensures.value c.requires in
     let right = inner_right s c.args.id r t c.self.invariant.0 at.within c.index_mut.ensures.value at.read in
-    (subst (λ (w : Walk). IsRight (walked_to s c.args.id r w)) (sym (given_state c.in_ok-take_inner.ensures)) right, c.self.invariant.1, c.self.invariant.2, c.self.invariant.3)
+    (subst (λ (w : Walk). IsRight (walked_to s c.args.id r w)) (sym (given_state c.in_ok-take_inner.ensures)) right, c.self.invariant.1, c.self.invariant.2)
 
 pub returns-clause-answers : goal.returns-clause-answers
 returns-clause-answers c = λ seat.
-    let s : State = record { config = c.self.inside.config; entries = c.self.inside.journal.entries; marks = c.self.inside.marks.digests; records = c.self.inside.records.items } in
+    let s : State = record { config = c.self.inside.config; entries = c.self.inside.journal.entries; marks = c.self.inside.tree.marks; records = c.self.inside.records.items } in
     let r : Record = c.index_mut.result.now in
-    let t : TakenText = record { node = as_node c.args.node; text = c.args.text } in
+    let t : TakenText = record { node = c.args.node; text = c.args.text } in
     let a : AnswerTaken = record { receipts = c.new.result; known = 0; state = c.state.result } in
     let at = awaits s c.args.self.now c.args.id r t c.self.view_is c.self.invariant.0 c.index_mut.ensures.value c.requires in
     subst (λ (u : State). TakesFor u seat c.args.id (slice_get u.records c.args.id) t (Ok a) (walked_to s c.args.id r c.take_inner.new.self)) c.self.view_is
