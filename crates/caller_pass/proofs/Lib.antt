@@ -7,3 +7,4 @@ pub mod Walk
 pub mod CallerLaws
 pub mod IndexLaws
 pub mod RenewalLaws
+pub mod NextLaws

@@ -1,5 +1,5 @@
 -- The range that a lock keeps, and the changes that its calls make to it and to the pass that they are lent.
-use Rattle.std.specs.Prelude.{◌≡◌, ℕ, ◌<◌, Bool, ◌&&◌, not, nat_lt, List, [], ◌∷◌, length, Option, Some, None, Result, Ok, Err, bytes_eq, if◌then◌else◌}
+use Rattle.std.specs.Prelude.{◌≡◌, ℕ, ◌<◌, Bool, ◌&&◌, not, nat_lt, List, [], ◌∷◌, length, Option, Some, None, Result, Ok, Err, MatchOption, slice_get, bytes_eq, if◌then◌else◌}
 use Rattle.std.specs.List.{AllByRecursion}
 use Rattle.vclock.specs.Clock.{Pairs}
 use Rattle.vclock.specs.Outcome.{Outcome, gives, ◌>>=◌, ◌>>◌}
@@ -11,6 +11,7 @@ use Rattle.version_set.specs.declared.version.Version.{Version}
 use Rattle.range_journal.specs.declared.journal.Entry.{Entry}
 use Rattle.range_journal.specs.declared.journal.Source.{Source}
 use Rattle.range_journal.specs.Journal.{held}
+use Rattle.tree_nodes.specs.Nodes.{Node}
 use Rattle.sync_session.specs.Walks.{TakenText}
 use Rattle.range_state.specs.declared.event.Accepted.{Accepted}
 use Rattle.range_state.specs.declared.event.Accepted.TheVariants.{Taken, Known}
@@ -21,6 +22,7 @@ use Rattle.range_state.specs.declared.context_test.ContextTest.TheVariants.{Fres
 use Rattle.range_state.specs.ContextTests.{put_by}
 use Rattle.range_state.specs.State.{State, IsRight, accept}
 use Rattle.range_state.specs.Sessions.{TakesAnswer}
+use Rattle.range_state.specs.Syncs.{IsFirstOf}
 use Rattle.range_state.specs.Told.{count_of}
 use Rattle.caller_pass.specs.Passes.{PassView, BookView, counted, with_receipts, with_reading}
 
@@ -115,3 +117,12 @@ pub record IsToldOf (l : Locked) (p : PassView) (id : ℕ) (t : TakenText) (a : 
 abbrev pub TellsAnswer : Locked → PassView → ℕ → TakenText → Result AnswerCounted Refusal → Locked → PassView → Type 0
 TellsAnswer l p id t (Ok a) m q = IsToldOf l p id t a m q
 TellsAnswer l p id t (Err e) m q = TakesAnswer l.state p.seat id t (Err e) m.state × (m ≡ moved l m.state) × (q ≡ p)
+
+-- the first outstanding node of a session, which is known
+abbrev pub IsNext : Locked → ℕ → Option Node → Type 0
+IsNext l id first = MatchOption (slice_get l.state.records id) ⊥ (λ r. IsFirstOf r.session.outstanding first)
+
+-- the same, and with a text that was taken the first outstanding node of the session afterwards
+abbrev pub TellsAnswerNext : Locked → PassView → ℕ → TakenText → Result (AnswerCounted × Option Node) Refusal → Locked → PassView → Type 0
+TellsAnswerNext l p id t (Ok both) m q = TellsAnswer l p id t (Ok both.0) m q × IsNext m id both.1
+TellsAnswerNext l p id t (Err e) m q = TellsAnswer l p id t (Err e) m q

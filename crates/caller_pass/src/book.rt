@@ -2,13 +2,14 @@
 ghost use Rattle.std.specs.Prelude.{◌≡◌, ◌+◌, ◌<◌, ◌≤◌, ◌++◌, [], length, map, vec_len, None, OnOk, IfErr};
 ghost use Rattle.std.specs.Vec.{vec_capacity};
 ghost use Rattle.vclock.specs.Answer.{Answers};
-ghost use Rattle.caller_pass.specs.Passes.{new_book, new_passes, counted, absorbed, receipts_of};
+ghost use Rattle.caller_pass.specs.Passes.{new_book, new_passes, counted, absorbed, receipts_of, seen_after};
 ghost use Rattle.caller_pass.specs.Closings.{AllThere};
 ghost use Rattle.caller_pass.specs.Renewals.{carried_passes, pass_of};
 
 use crate::pass::Pass;
 use crate::reading::Reading;
 use crate::receipt_index::ByKey;
+use range_journal::Journal;
 use range_state::Receipt;
 use std::alloc::Global;
 use std::marker::Model;
@@ -126,14 +127,25 @@ impl<L: Ledger> Book<L> {
         self.seats
     }
 
-    /// Counts new entries of a caller.
-    pub(crate) fn count(&mut self, share: &mut Share<L>, entries: u64)
+    /// Counts new entries of a caller, in the caller's share, too. The caller has then seen the journal with them, if
+    /// there are any.
+    pub(crate) fn count(
+        &mut self,
+        share: &mut Share<L>,
+        seen: &mut u64,
+        journal: &Journal,
+        entries: u64,
+    )
         requires { 0 < share.old.parts }
         ensures book { self.new ≡ counted self.old entries }
         ensures amount { share.new.amount ≡ share.old.amount + entries }
         ensures parts { share.new.parts ≡ share.old.parts }
+        ensures seen { seen.new ≡ seen_after seen.old (length journal.now.entries) entries }
     {
         self.count.add(share, entries);
+        if entries > 0 {
+            *seen = (*seen).max(journal.len());
+        }
     }
 
     /// Takes a pass back. Refused: NoMemory, and then returns the pass.

@@ -1,25 +1,23 @@
 //! The range that a lock keeps.
-ghost use Rattle.std.specs.Prelude.{◌≡◌, ◌≤◌, [], None, IfErr, IsTrue, MatchOption, option_map, slice_get, unwrap_or};
+ghost use Rattle.std.specs.Prelude.{◌≡◌, ◌≤◌, [], None, IfErr, IsTrue, MatchOption, slice_get};
 ghost use Rattle.std.specs.Arc.{arc_value};
 ghost use Rattle.vclock.specs.Answer.{Answers, AnswersAtOnce};
 ghost use Rattle.vclock.specs.Outcome.{Does, DoesAtOnce, DoesOrNoMemory, through};
 ghost use Rattle.range_journal.specs.Journal.{held};
-ghost use Rattle.sync_session.specs.TreeNodes.{as_node};
 ghost use Rattle.range_state.specs.Counts.{counts_of};
-ghost use Rattle.range_state.specs.State.{is_sent, GivesJob, ask_fault, install, dirty_fault, rows_now};
+ghost use Rattle.range_tree.specs.Jobs.{GivesJob};
+ghost use Rattle.range_state.specs.State.{is_sent, ask_fault, install, dirty_fault, rows_now, tree_in};
 ghost use Rattle.range_state.specs.Sessions.{open_session, cancel_session, unknown_fault};
 ghost use Rattle.range_state.specs.Migrates.{migrate};
 ghost use Rattle.range_state.specs.Syncs.{IsFirstOf};
 ghost use Rattle.caller_pass.specs.Loads.{load_in, load_text_in};
-ghost use Rattle.caller_pass.specs.Passes.{seen_after};
-ghost use Rattle.caller_pass.specs.Locks.{IsLocked, moved, put_in_by, put_in, put_read_in, accept_in, get_in, plainly, TellsAnswer};
+ghost use Rattle.caller_pass.specs.Locks.{IsLocked, moved, put_in_by, put_in, put_read_in, accept_in, get_in, plainly, TellsAnswer, TellsAnswerNext};
 
 use crate::book::Book;
 use crate::missing::find_missing;
 use crate::pass::Pass;
 use crate::reading::Reading;
 use crate::unread::Unread;
-use hash_tree::{Hashed, NodeAt};
 use key_ring::HashedKey;
 use range_journal::Source;
 use range_state::{
@@ -32,6 +30,7 @@ use std::alloc::Global;
 use std::marker::Model;
 use std::sync::Arc;
 use std::sync::ledger::Ledger;
+use tree_nodes::{Hashed, NodeAt};
 use vclock::{Bytes, Clock, Refusal};
 use version_set::{Kind, Version, VersionSet};
 use walk_messages::Offer;
@@ -152,18 +151,11 @@ impl<L: Ledger> LockedRange<L> {
             → ask_fault self.old.state.config at key.now context.now kind value ≡ None) }
     {
         let LockedRange { state, book } = self;
-        let Pass {
-            seat,
-            seen,
-            receipts,
-            readings: _,
-            by_key,
-            share,
-        } = pass;
-        let receipt = state.put_into(alloc, receipts, test, *seat, at, key, context, kind, value)?;
-        by_key.note(receipts, key.front());
-        book.count(share, 1);
-        *seen = (*seen).max(state.journal().len());
+        let receipts = &mut pass.receipts;
+        let seat = pass.seat;
+        let receipt = state.put_into(alloc, receipts, test, seat, at, key, context, kind, value)?;
+        pass.by_key.note(receipts, key.front());
+        book.count(&mut pass.share, &mut pass.seen, state.journal(), 1);
         Ok(receipt)
     }
 
@@ -200,21 +192,13 @@ impl<L: Ledger> LockedRange<L> {
             (accept_in self.old pass.old source key.now version) }
     {
         let LockedRange { state, book } = self;
-        let Pass {
-            seat,
-            seen,
-            receipts,
-            readings: _,
-            by_key,
-            share,
-        } = pass;
-        let receipt = match state.accept_into(alloc, receipts, *seat, source, key, version)? {
+        let receipts = &mut pass.receipts;
+        let receipt = match state.accept_into(alloc, receipts, pass.seat, source, key, version)? {
             Accepted::Known => return Ok(Accepted::Known),
             Accepted::Taken(receipt) => receipt,
         };
-        by_key.note(receipts, key.front());
-        book.count(share, 1);
-        *seen = (*seen).max(state.journal().len());
+        pass.by_key.note(receipts, key.front());
+        book.count(&mut pass.share, &mut pass.seen, state.journal(), 1);
         Ok(Accepted::Taken(receipt))
     }
 
@@ -257,39 +241,31 @@ impl<L: Ledger> LockedRange<L> {
         ensures { Does result pass.old pass.new (get_in self.now pass.old key.now) }
     {
         pass.index();
-        let Pass {
-            seat: _,
-            seen,
-            receipts,
-            readings,
-            by_key,
-            share: _,
-        } = pass;
         let front = self.state.journal().len();
-        if front < *seen {
+        if front < pass.seen {
             return Err(Refusal::Behind {
-                seen: *seen,
+                seen: pass.seen,
                 held: front,
                 missing: None,
             });
         }
         let held = self.state.find(key);
-        if let Some(number) = find_missing(receipts, by_key, key, held) {
+        if let Some(number) = find_missing(&pass.receipts, &pass.by_key, key, &held) {
             return Err(Refusal::Behind {
-                seen: *seen,
+                seen: pass.seen,
                 held: front,
                 missing: Some(number),
             });
         }
-        readings.reserve(1)?;
-        let versions = copy_of(alloc, held)?;
+        pass.readings.reserve(1)?;
+        let versions = held.to_set(alloc)?;
         let reading = Reading {
             front,
             key: Bytes::copy_of(alloc, key.bytes())?,
             versions: versions.try_clone(alloc)?,
         };
-        *seen = front;
-        readings.push_reserved(reading);
+        pass.seen = front;
+        pass.readings.push_reserved(reading);
         Ok(versions)
     }
 
@@ -298,12 +274,12 @@ impl<L: Ledger> LockedRange<L> {
     pub fn look(&self, alloc: Global, key: &HashedKey) -> Result<VersionSet, Refusal>
         ensures { Answers result None (λ set. set ≡ held self.now.state.entries key.now) }
     {
-        copy_of(alloc, self.state.find(key))
+        self.state.find(key).to_set(alloc)
     }
 
     /// Returns a job for a node, as `RangeState::take_job` does. Refused: NoMemory.
     pub fn take_job(&self, alloc: Global, skip: u64) -> Result<Option<Job>, Refusal>
-        ensures { Answers result None (GivesJob self.now.state) }
+        ensures { Answers result None (GivesJob (tree_in self.now.state)) }
     {
         self.state.take_job(alloc, skip)
     }
@@ -355,23 +331,33 @@ impl<L: Ledger> LockedRange<L> {
         text: Hashed,
     ) -> Result<AnswerCounted, Refusal>
         ensures { TellsAnswer self.old pass.old id
-            (record { node = as_node node; text = text }) result self.new pass.new }
+            (record { node = node; text = text }) result self.new pass.new }
     {
         let LockedRange { state, book } = self;
-        let Pass {
-            seat,
-            seen,
-            receipts,
-            readings: _,
-            by_key: _,
-            share,
-        } = pass;
-        let answered = state.take_answer_into(alloc, receipts, *seat, id, node, text);
-        let journal = state.journal().len();
+        let receipts = &mut pass.receipts;
+        let answered = state.take_answer_into(alloc, receipts, pass.seat, id, node, text);
+        let journal = state.journal();
         let taken = answered?;
-        book.count(share, taken.receipts);
-        *seen = seen_after(*seen, journal, taken.receipts);
+        book.count(&mut pass.share, &mut pass.seen, journal, taken.receipts);
         Ok(taken)
+    }
+
+    /// Takes a partner's text as [`LockedRange::take_answer`] does, and returns the first outstanding node of the
+    /// session afterwards, too, as [`LockedRange::outstanding`] does. Refused as `take_answer` is.
+    pub fn take_answer_next(
+        &mut self,
+        alloc: Global,
+        pass: &mut Pass<L>,
+        id: u64,
+        node: NodeAt,
+        text: Hashed,
+    ) -> Result<(AnswerCounted, Option<NodeAt>), Refusal>
+        ensures { TellsAnswerNext self.old pass.old id
+            (record { node = node; text = text }) result self.new pass.new }
+    {
+        let taken = self.take_answer(alloc, pass, id, node, text)?;
+        let next = self.outstanding(id)?;
+        Ok((taken, next))
     }
 
     /// Loads rows of one leaf from their texts, as `RangeState::load_rows` does for the seat of the pass. Moves the
@@ -404,18 +390,9 @@ impl<L: Ledger> LockedRange<L> {
             (load_in self.old pass.old rows.now.rows) }
     {
         let LockedRange { state, book } = self;
-        let Pass {
-            seat,
-            seen,
-            receipts,
-            readings: _,
-            by_key: _,
-            share,
-        } = pass;
-        let loaded = state.load_into(alloc, receipts, *seat, rows)?;
-        let journal = state.journal().len();
-        book.count(share, loaded.taken);
-        *seen = seen_after(*seen, journal, loaded.taken);
+        let loaded = state.load_into(alloc, &mut pass.receipts, pass.seat, rows)?;
+        let journal = state.journal();
+        book.count(&mut pass.share, &mut pass.seen, journal, loaded.taken);
         Ok(loaded)
     }
 
@@ -462,22 +439,4 @@ impl<L: Ledger> LockedRange<L> {
     {
         self.state.outstanding(id)
     }
-}
-
-/// Copies a set: an empty set if there is none. Refused: NoMemory.
-fn copy_of(alloc: Global, held: Option<&VersionSet>) -> Result<VersionSet, Refusal>
-    ensures { Answers result None (λ copy. copy ≡ unwrap_or (option_map (λ s. s.now) held.entry) []) }
-{
-    match held {
-        Some(set) => set.try_clone(alloc),
-        None => Ok(VersionSet::empty(alloc)),
-    }
-}
-
-/// Returns the number of entries that a caller has seen. It had seen `seen`, and got `count` receipts from a journal of
-/// length `journal`.
-fn seen_after(seen: u64, journal: u64, count: u64) -> u64
-    ensures { result ≡ seen_after seen journal count }
-{
-    if count == 0 { seen } else { seen.max(journal) }
 }

@@ -1,25 +1,24 @@
 //! The receipts of a pass that a read would miss.
-ghost use Rattle.std.specs.Prelude.{◌≡◌, [], option_map, unwrap_or};
-ghost use Rattle.version_set.specs.Version.{covered};
+ghost use Rattle.std.specs.Prelude.{◌≡◌};
 ghost use Rattle.caller_pass.specs.Indexes.{IsIndex};
 ghost use Rattle.caller_pass.specs.Locks.{is_missing, first_missing};
 
 use crate::receipt_index::ByKey;
 use key_ring::HashedKey;
 use range_state::Receipt;
-use version_set::{Version, VersionSet};
+use version_set::Held;
 
-/// Finds the number of the first receipt of a key whose version isn't covered by the set that is held for the key, if
+/// Finds the number of the first receipt of a key whose version isn't covered by those that are held for the key, if
 /// any. It looks at the linked receipts whose keys have the front of the key, from the last one back, and at those that
 /// aren't linked.
 pub(crate) fn find_missing(
     receipts: &[Receipt],
     by_key: &ByKey,
     key: &HashedKey,
-    held: Option<&VersionSet>,
+    held: &Held,
 ) -> Option<u64>
     requires { IsIndex receipts.now by_key.now }
-    ensures { result ≡ first_missing receipts.now key.now (unwrap_or (option_map (λ s. s.now) held.entry) []) }
+    ensures { result ≡ first_missing receipts.now key.now held.now }
 {
     let bytes = key.bytes();
     let mut found = first_missing(&receipts[by_key.len()..], bytes, held);
@@ -36,8 +35,8 @@ pub(crate) fn find_missing(
 }
 
 /// Finds that number by a walk through all of the receipts.
-fn first_missing(receipts: &[Receipt], key: &[u8], held: Option<&VersionSet>) -> Option<u64>
-    ensures { result ≡ first_missing receipts.now key.now (unwrap_or (option_map (λ s. s.now) held.entry) []) }
+fn first_missing(receipts: &[Receipt], key: &[u8], held: &Held) -> Option<u64>
+    ensures { result ≡ first_missing receipts.now key.now held.now }
 {
     for receipt in receipts {
         if is_missing(receipt, key, held) {
@@ -47,20 +46,10 @@ fn first_missing(receipts: &[Receipt], key: &[u8], held: Option<&VersionSet>) ->
     None
 }
 
-/// Returns true if a receipt is of a key, and its version isn't covered by the set.
+/// Returns true if a receipt is of a key, and its version isn't covered by those that are held.
 #[tactic(auto, unfolding(crate::specs::Locks::is_missing))]
-fn is_missing(receipt: &Receipt, key: &[u8], held: Option<&VersionSet>) -> bool
-    ensures { result ≡ is_missing receipt.now key.now (unwrap_or (option_map (λ s. s.now) held.entry) []) }
+fn is_missing(receipt: &Receipt, key: &[u8], held: &Held) -> bool
+    ensures { result ≡ is_missing receipt.now key.now held.now }
 {
-    receipt.key.as_slice() == key && !covers(held, &receipt.version)
-}
-
-/// Returns true if the set covers a version.
-fn covers(held: Option<&VersionSet>, version: &Version) -> bool
-    ensures { result ≡ covered version.now (unwrap_or (option_map (λ s. s.now) held.entry) []) }
-{
-    match held {
-        Some(set) => set.covers(version),
-        None => false,
-    }
+    receipt.key.as_slice() == key && !held.covers(&receipt.version)
 }

@@ -1,8 +1,7 @@
 //! The renewal of a range.
-ghost use Rattle.std.specs.Prelude.{◌≡◌, ◌<◌, ◌≤◌, [], None, length, map, vec_len, OnOk, IfOk, IfErr, All};
+ghost use Rattle.std.specs.Prelude.{◌≡◌, ◌<◌, ◌≤◌, [], length, map, vec_len, OnOk, IfOk, IfErr, All};
 ghost use Rattle.std.specs.List.{AllByRecursion};
 ghost use Rattle.std.specs.Vec.{vec_capacity};
-ghost use Rattle.vclock.specs.Answer.{Answers};
 ghost use Rattle.range_state.specs.Renewals.{renewed_by};
 ghost use Rattle.caller_pass.specs.Closings.{IsSettled, AllThere};
 ghost use Rattle.caller_pass.specs.Renewals.{carried_passes, renewed_in, pass_of, IsUnrenewed};
@@ -11,7 +10,7 @@ use crate::book::{ReturnedPass, Room};
 use crate::close::{Unclosed, check_seats, compare_each};
 use crate::locked_range::LockedRange;
 use crate::pass::Pass;
-use range_journal::Entry;
+use range_journal::copy_entries;
 use range_state::{RangeState, Receipt};
 use std::alloc::Global;
 use std::sync::ledger::Ledger;
@@ -139,35 +138,11 @@ fn prepare<L: Ledger>(
     state.check_limit(limit)?;
     compare_each(alloc, state, seats, passes)?;
     let state = state.renewed(alloc, seat, limit)?;
-    let receipts = copy_all(alloc, state.journal().entries())?;
+    let receipts = copy_entries(alloc, state.journal().entries())?;
     let room = Room::new(alloc, seats, passes.len())?;
     Ok(Preparation {
         state,
         receipts,
         room,
-    })
-}
-
-/// Copies entries. Refused: NoMemory.
-fn copy_all(alloc: Global, entries: &[Entry]) -> Result<Vec<Receipt>, Refusal>
-    ensures { Answers result None (λ copy. copy.items ≡ entries.now) }
-{
-    let mut copy = Vec::with_capacity(alloc, entries.len())?;
-    for entry in entries {
-        copy.push_reserved(copy_of(entry)?);
-    }
-    Ok(copy)
-}
-
-/// Copies an entry. Refused: NoMemory.
-fn copy_of(entry: &Entry) -> Result<Receipt, Refusal>
-    ensures { Answers result None (λ copy. copy ≡ entry.now) }
-{
-    Ok(Receipt {
-        number: entry.number,
-        seat: entry.seat,
-        source: entry.source,
-        key: entry.key.try_clone()?,
-        version: entry.version.try_clone()?,
     })
 }

@@ -3,8 +3,7 @@ use Rattle.std.proofs.lemmas.Bool.Decides.{nat_tests}
 use Rattle.std.proofs.Common.{arith, ◌≡◌, ◌<◌, inl, inr, ℕ, List, Option, Some, None, Ok, Err, refl}
 use Rattle.vclock.specs.Answer.{Answers}
 use Rattle.vclock.specs.declared.refusal.Refusal.TheVariants as refusals
-use Rattle.tree_nodes.specs.declared.node.NodeAt.{NodeAt}
-use Rattle.tree_nodes.specs.Nodes.{tree_depth}
+use Rattle.tree_nodes.specs.Nodes.{Node, tree_depth}
 use Rattle.walk_messages.specs.Messages.{message_text}
 use Rattle.walk_messages.specs.declared.message.Answer.{Answer}
 use Rattle.walk_messages.specs.declared.message.Ask.{Ask}
@@ -17,7 +16,7 @@ use Rattle.ring_node.specs.declared.server.ServerReply.TheVariants.{Bytes, Gone,
 use Rattle.ring_node.proofs.CauseLaws.{where_fails}
 
 -- an ask is too deep for the tree that was offered
-pub too_deep : (o : Option Offered) (p : Offered) (node : NodeAt) → o ≡ Some p → tree_depth p.rows.format < node.depth → text_fault o node ≡ Some refusals.BadMessage
+pub too_deep : (o : Option Offered) (p : Offered) (node : Node) → o ≡ Some p → tree_depth p.rows.format < node.depth → text_fault o node ≡ Some refusals.BadMessage
 too_deep o p node is deep = rw is (grind (arith, nat_tests))
 
 -- what a pool answers to an ask, at some moment
@@ -33,7 +32,7 @@ replied asked ask a (Bytes bytes) asks served says = record {
 replied asked ask a Gone asks served says = absurd says
 replied asked ask a Refused asks served says = tt
 
-none_kept : (o : Option Offered) (node : NodeAt) → text_fault o node ≡ Some refusals.Gone → o ≡ None
+none_kept : (o : Option Offered) (node : Node) → text_fault o node ≡ Some refusals.Gone → o ≡ None
 none_kept None node is = refl
 none_kept (Some p) node is = absurd (let clash : refusals.Gone ≡ refusals.BadMessage = where_fails _ refusals.BadMessage refusals.Gone is in cc)
 

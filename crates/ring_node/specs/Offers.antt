@@ -7,7 +7,7 @@ use Rattle.vclock.specs.Format.{format_number}
 use Rattle.vclock.specs.Outcome.{Outcome, gives, ◌>>◌}
 use Rattle.vclock.specs.declared.refusal.Refusal.{Refusal}
 use Rattle.vclock.specs.declared.refusal.Refusal.TheVariants.{SessionsFull, Gone}
-use Rattle.tree_nodes.specs.declared.node.NodeAt.{NodeAt}
+use Rattle.tree_nodes.specs.Nodes.{Node}
 use Rattle.walk_messages.specs.declared.message.Answer.{Answer}
 use Rattle.walk_messages.specs.declared.message.Ask.{Ask}
 use Rattle.walk_messages.specs.declared.message.Offer.{Offer}
@@ -65,7 +65,7 @@ abbrev pub kept_under : Offers → ℕ → Option Offered
 kept_under o number = find (λ (p : Offered). p.number == number) o.kept
 
 -- the fault of an ask for the text of a node: the offer is not kept, or its tree has no such node
-abbrev pub text_fault : Option Offered → NodeAt → Option Refusal
+abbrev pub text_fault : Option Offered → Node → Option Refusal
 text_fault None node = Some Gone
 text_fault (Some p) node = answer_fault p.rows node
 

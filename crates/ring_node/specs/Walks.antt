@@ -1,12 +1,14 @@
 -- Sync workers: their refusals and their reports.
-use Rattle.std.specs.Prelude.{◌≡◌, ◌≢◌, ℕ, length, slice_get, List, Some}
+use Rattle.std.specs.Prelude.{◌≡◌, ◌≢◌, ℕ, length, slice_get, List, Option, Some, None, MatchOption}
 use Rattle.vclock.specs.Outcome.{gives, through}
 use Rattle.vclock.specs.declared.refusal.Refusal.{Refusal}
 use Rattle.vclock.specs.declared.refusal.Refusal.TheVariants.{Crowded, JournalFull, OtherRange, Dirty, UnknownSession, NotAsked, WrongDigest, NotCanonical, OtherFormat, SessionsFull, Gone, LinkLost, BadMessage, NoMemory}
+use Rattle.tree_nodes.specs.Nodes.{Node}
 use Rattle.sync_session.specs.declared.state.SessionState.{SessionState}
 use Rattle.sync_session.specs.declared.state.SessionState.TheVariants.{Open}
 use Rattle.walk_messages.specs.declared.message.Offer.{Offer}
 use Rattle.range_state.specs.Sessions.{open_session}
+use Rattle.range_state.specs.Syncs.{IsFirstOf}
 use Rattle.range_state.specs.declared.«record».Record.{Record}
 use Rattle.caller_pass.specs.Locks.{Locked, moved}
 
@@ -66,3 +68,7 @@ pub record IsEndIn (records : List Record) (id : ℕ) (state : SessionState) (as
   pub state_is : r.session.state ≡ state
   pub asked_is : length r.session.asked ≡ asked
   pub over : state ≢ Open
+
+-- the first outstanding node of the session of that number, if there is such a session, and it has one
+abbrev pub IsNextOrNone : List Record → ℕ → Option Node → Type 0
+IsNextOrNone records id first = MatchOption (slice_get records id) (first ≡ None) (λ r. IsFirstOf r.session.outstanding first)

@@ -2,7 +2,7 @@
 ghost use Rattle.std.specs.Prelude.{◌≡◌};
 ghost use Rattle.ring_node.specs.Deeds.{done_to, renumbered};
 
-use hash_tree::NodeAt;
+use tree_nodes::NodeAt;
 
 /// The deed of a scripted link in one call.
 ///

@@ -9,11 +9,11 @@ ghost use Rattle.snapshot.specs.RowMaps.{root_of};
 ghost use Rattle.ring_node.specs.Moments.{FoundAtSomeMoment, ChangedAtSomeMoment};
 ghost use Rattle.ring_node.specs.Offers.{Offered, AreOffers, unpublished, publish, latest, kept_under, serve_fault, IsAnswerIn, counts_of};
 
-use hash_tree::{Text, tree_depth};
 use snapshot::Snapshot;
 use std::alloc::Global;
 use std::marker::Model;
 use std::sync::{Arc, Mutex, Wait};
+use tree_nodes::{Text, tree_depth};
 use vclock::Refusal;
 use vclock::limits::OFFERS_MAX;
 use walk_messages::{Answer, Ask, Offer};
@@ -124,7 +124,8 @@ impl Offers {
         let snapshot = &published_as(&self.kept, ask.offer)
             .ok_or(Refusal::Gone)?
             .snapshot;
-        if ask.node.depth > tree_depth(snapshot.format()) {
+        let node = ask.node;
+        if node.depth > tree_depth(snapshot.format()) {
             return Err(Refusal::BadMessage);
         }
         Ok(Arc::try_clone(snapshot)?)
@@ -215,11 +216,12 @@ impl OfferPool {
         ensures moment { FoundAtSomeMoment AreOffers
             (λ offers. Answers result (serve_fault offers ask) (IsAnswerIn offers ask)) }
     {
-        let snapshot = self.find(rt, ask)?;
-        let text = snapshot.answer(alloc, ask)?;
+        let Ask { offer, node } = ask;
+        let snapshot = self.find(rt, Ask { offer, node })?;
+        let text = snapshot.answer(alloc, Ask { offer, node })?;
         Ok(Answer {
-            offer: ask.offer,
-            node: ask.node,
+            offer,
+            node,
             text: Text::from(text),
         })
     }

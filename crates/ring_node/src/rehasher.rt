@@ -1,7 +1,8 @@
 //! Workers that hash a range's tree while puts go on.
 ghost use Rattle.std.specs.Prelude.{◌≡◌, ◌+◌, ◌<◌, IfOk, IfErr, IsTrue};
 ghost use Rattle.tree_nodes.specs.Nodes.{are_clean};
-ghost use Rattle.range_state.specs.State.{GivesJob};
+ghost use Rattle.range_tree.specs.Jobs.{GivesJob};
+ghost use Rattle.range_state.specs.State.{tree_in};
 ghost use Rattle.caller_pass.specs.Locks.{IsLocked};
 ghost use Rattle.ring_node.specs.Moments.{FoundAtSomeMoment};
 ghost use Rattle.ring_node.specs.Reports.{IsRehashReport};
@@ -71,7 +72,7 @@ impl<L: Ledger> SharedRange<L> {
     /// Returns a job for a dirty node with clean children, or `None` if no node is dirty.
     fn take_job<R: Wait>(&self, rt: &R, alloc: Global, skip: u64) -> Result<Option<Job>, Refusal>
         ensures refusal { IfErr result (λ e. e ≡ Refusal.NoMemory) }
-        ensures moment { FoundAtSomeMoment (IsLocked L.parts) (λ locked. IfOk result (GivesJob locked.state)) }
+        ensures moment { FoundAtSomeMoment (IsLocked L.parts) (λ locked. IfOk result (GivesJob (tree_in locked.state))) }
     {
         let range = self.range.lock(rt);
         // Called for its clause `valid` alone: the range is right.

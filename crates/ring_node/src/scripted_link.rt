@@ -4,11 +4,12 @@ ghost use Rattle.ring_node.specs.Links.{CountsLosses};
 
 use crate::deed::Deed;
 use crate::link::{Link, Reached, lose};
-use hash_tree::NodeAt;
+use crate::server::ask_in;
 use std::alloc::Global;
 use std::sync::Wait;
+use tree_nodes::NodeAt;
 use vclock::Refusal;
-use walk_messages::{Ask, Message, decode, encode};
+use walk_messages::{Ask, Message, encode};
 
 /// A link around another one that does one deed of a list in each call. After the list it passes each message on.
 ///
@@ -133,14 +134,6 @@ impl<K: Link> Link for ScriptedLink<K> {
 /// Makes the message of an ask for another node. Refused, in order: BadMessage (the bytes aren't the message of an
 /// ask), NoMemory.
 fn ask_for(alloc: Global, message: &[u8], node: NodeAt) -> Result<Vec<u8>, Refusal> {
-    match decode(alloc, message)? {
-        Message::Ask(ask) => encode(
-            alloc,
-            &Message::Ask(Ask {
-                offer: ask.offer,
-                node,
-            }),
-        ),
-        _ => Err(Refusal::BadMessage),
-    }
+    let Ask { offer, node: _ } = ask_in(alloc, message)?;
+    encode(alloc, &Message::Ask(Ask { offer, node }))
 }

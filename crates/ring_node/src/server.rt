@@ -1,4 +1,6 @@
 //! The replies of a pool of offers to messages.
+ghost use Rattle.std.specs.Prelude.{◌≡◌, IfOk};
+ghost use Rattle.walk_messages.specs.Messages.{message_text};
 ghost use Rattle.ring_node.specs.Links.{CountsLosses};
 ghost use Rattle.ring_node.specs.Replies.{RepliesOffer, RepliesAsk, IsEncoded};
 
@@ -7,7 +9,7 @@ use crate::offers::OfferPool;
 use std::alloc::Global;
 use std::sync::Wait;
 use vclock::Refusal;
-use walk_messages::{Message, decode, encode};
+use walk_messages::{Ask, Message, decode, encode};
 
 /// The reply of a pool.
 #[derive(Debug, Drop)]
@@ -48,7 +50,7 @@ impl OfferPool {
     pub(crate) fn reply_to<R: Wait>(&self, rt: &R, alloc: Global, message: &[u8]) -> ServerReply
         ensures { RepliesAsk message.now result }
     {
-        let Ok(Message::Ask(ask)) = decode(alloc, message) else {
+        let Ok(ask) = ask_in(alloc, message) else {
             return ServerReply::Refused;
         };
         match self.serve(rt, alloc, ask) {
@@ -57,6 +59,17 @@ impl OfferPool {
             Err(_) => ServerReply::Refused,
         }
     }
+}
+
+/// Reads the ask whose message has these bytes. Refused, in order: BadMessage (the bytes aren't the message of an ask),
+/// NoMemory.
+pub(crate) fn ask_in(alloc: Global, bytes: &[u8]) -> Result<Ask, Refusal>
+    ensures { IfOk result (λ ask. message_text (Message.Ask ask) ≡ bytes.now) }
+{
+    let Message::Ask(ask) = decode(alloc, bytes)? else {
+        return Err(Refusal::BadMessage);
+    };
+    Ok(ask)
 }
 
 /// Encodes a message.

@@ -3,26 +3,25 @@ ghost use Rattle.std.specs.Prelude.{◌≡◌, ◌⊎◌, ◌+◌, ◌<◌, ◌�
 ghost use Rattle.vclock.specs.Answer.{AnswersAtOnce};
 ghost use Rattle.vclock.specs.Outcome.{Does, through};
 ghost use Rattle.range_journal.specs.declared.journal.Source.{Source};
-ghost use Rattle.sync_session.specs.TreeNodes.{as_node};
 ghost use Rattle.range_state.specs.Sessions.{open_session, unknown_fault};
 ghost use Rattle.range_state.specs.Syncs.{IsFirstOf};
 ghost use Rattle.caller_pass.specs.Locks.{IsLocked, moved, TellsAnswer};
 ghost use Rattle.ring_node.specs.Gains.{Gains, GainsSome};
 ghost use Rattle.ring_node.specs.Links.{IsLostExactly};
 ghost use Rattle.ring_node.specs.Moments.{FoundAtSomeMoment, ChangedAtSomeMoment};
-ghost use Rattle.ring_node.specs.Walks.{IsOfferRefusal, IsOpenRefusal, IsAskRefusal, IsTakeRefusal, IsWalkRefusal, IsEndIn, IsOpening};
+ghost use Rattle.ring_node.specs.Walks.{IsOfferRefusal, IsOpenRefusal, IsAskRefusal, IsTakeRefusal, IsWalkRefusal, IsEndIn, IsOpening, IsNextOrNone};
 
 use crate::link::{Link, Reached};
 use crate::range::SharedRange;
 use admission::Slot;
 use caller_pass::Pass;
-use hash_tree::{NodeAt, hash};
 use range_journal::Source;
 use range_state::AnswerCounted;
 use std::alloc::Global;
 use std::sync::Wait;
 use std::sync::ledger::Ledger;
 use sync_session::SessionState;
+use tree_nodes::{NodeAt, hash};
 use vclock::Refusal;
 use walk_messages::{Answer, Ask, Message, Offer, decode, encode};
 
@@ -176,19 +175,22 @@ impl<L: Ledger> SharedRange<L> {
         ensures refusal { IfErr result IsWalkRefusal }
     {
         let mut walk = Walk { known: 0, bad: 0 };
+        let mut next = self.outstanding(rt, id)?;
         for _ in 0..turns {
-            let Some(node) = self.outstanding(rt, id)? else {
+            let Some(node) = next else {
                 return Ok(walk);
             };
             let Some(answer) = reach_answer(rt, alloc, link, Ask { offer, node })? else {
                 walk.bad += 1;
+                next = self.outstanding(rt, id)?;
                 continue;
             };
-            let answered = self.take_answer(rt, alloc, pass, id, answer);
+            let (answered, first) = self.take_answer(rt, alloc, pass, id, answer);
             let Some(more) = walk.after(answered)? else {
                 return Ok(walk);
             };
             walk = more;
+            next = first;
         }
         Ok(walk)
     }
@@ -206,7 +208,8 @@ impl<L: Ledger> SharedRange<L> {
         range.outstanding(id)
     }
 
-    /// Takes a partner's answer for a session, as [`LockedRange::take_answer`]. Its text is hashed before the lock is
+    /// Takes a partner's answer for a session, as [`LockedRange::take_answer_next`], and returns the first outstanding
+    /// node afterwards, after a refusal, too: `None` if there is no such session. The text is hashed before the lock is
     /// taken.
     fn take_answer<R: Wait>(
         &self,
@@ -215,19 +218,23 @@ impl<L: Ledger> SharedRange<L> {
         pass: &mut Pass<L>,
         id: u64,
         answer: Answer,
-    ) -> Result<AnswerCounted, Refusal>
-        ensures gains { IfOk result (λ taken. Gains pass.old pass.new Source.Partner taken.receipts) }
-        ensures same { OnErr result (pass.new ≡ pass.old) }
+    ) -> (Result<AnswerCounted, Refusal>, Option<NodeAt>)
+        ensures gains { IfOk result.0 (λ taken. Gains pass.old pass.new Source.Partner taken.receipts) }
+        ensures same { OnErr result.0 (pass.new ≡ pass.old) }
         ensures some { GainsSome pass.old pass.new Source.Partner }
-        ensures refusal { IfErr result IsTakeRefusal }
+        ensures refusal { IfErr result.0 IsTakeRefusal }
         ensures moment { ChangedAtSomeMoment (IsLocked L.parts) (λ before after. TellsAnswer before pass.old id
-            (record { node = as_node answer.node; text = answer.text }) result after pass.new) }
+            (record { node = answer.node; text = answer.text }) result.0 after pass.new
+            × IsNextOrNone after.state.records id result.1) }
     {
         let text = hash(answer.text);
         let mut range = self.range.lock(rt);
         // Called for its clause `valid` alone: the range is right.
         let _valid = range.config();
-        range.take_answer(alloc, pass, id, answer.node, text)
+        match range.take_answer_next(alloc, pass, id, answer.node, text) {
+            Ok((taken, next)) => (Ok(taken), next),
+            Err(refusal) => (Err(refusal), range.outstanding(id).unwrap_or(None)),
+        }
     }
 
     /// Ends a session if it is open, and returns how it ended. Refused: UnknownSession.
@@ -272,9 +279,10 @@ fn reach_answer<R: Wait, K: Link>(
     ensures lost { IsLostExactly (K.failed link.old) (K.failed link.new) result }
     ensures refusal { IfErr result IsAskRefusal }
 {
+    let offer = ask.offer;
     let message = encode(alloc, &Message::Ask(ask))?;
     match link.ask(rt, &message) {
-        Reached::Bytes(bytes) => answer_in(alloc, &bytes, ask.offer),
+        Reached::Bytes(bytes) => answer_in(alloc, &bytes, offer),
         Reached::Lost => Err(Refusal::LinkLost),
         Reached::Gone => Err(Refusal::Gone),
     }

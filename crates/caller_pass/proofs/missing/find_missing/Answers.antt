@@ -1,5 +1,4 @@
-use Rattle.std.proofs.Common.{◌≡◌, ℕ, ◌<◌, ◌-◌, List, [], length, take, drop, cond, Some, slice_get, refl, ap, sym, arith, ◌∙◌}
-use Rattle.std.specs.Prelude.{option_map, unwrap_or}
+use Rattle.std.proofs.Common.{◌≡◌, ℕ, ◌<◌, ◌-◌, List, length, take, drop, cond, Some, slice_get, refl, ap, sym, arith, ◌∙◌}
 use Rattle.std.proofs.lemmas.Option.{slice_get_read}
 use Rattle.caller_pass.specs.Indexes.{found_in}
 use Rattle.caller_pass.specs.Locks.{is_missing, first_missing}
@@ -10,7 +9,7 @@ use Rattle.caller_pass.proofs.missing.find_missing.Goals.{then-is_missing, else-
 pub loop-next-init : goal.loop-next-init
 loop-next-init c =
     let es = c.args.receipts.now in
-    let vs = unwrap_or (option_map (λ s. s.now) c.args.held) [] in
+    let vs = c.args.held.now in
     walk_begins es c.args.by_key.now c.args.key.now vs c.len.result c.last-next.result c.first_missing-found.result c.requires c.len.ensures (c.last-next.ensures ∙ ap (found_in c.args.by_key.now) c.front.ensures)
     (c.first_missing-found.ensures ∙ ap (λ (k : List ℕ). first_missing (take (length es - c.len.result) (drop c.len.result es)) k vs) c.bytes-bytes.ensures)
 
@@ -27,7 +26,7 @@ pub loop-next-preserved : goal.loop-next-preserved
 loop-next-preserved c =
     let es = c.args.receipts.now in
     let key = c.args.key.now in
-    let vs = unwrap_or (option_map (λ s. s.now) c.args.held) [] in
+    let vs = c.args.held.now in
     let place = c.loop-next.next - 1 in
     let e = c.index-receipts-place.result in
     let was = c.loop-next.found in
@@ -40,4 +39,4 @@ loop-next-preserved c =
 
 pub returns : goal.returns
 returns c =
-    walk_ends c.args.receipts.now c.args.by_key.now c.args.key.now (unwrap_or (option_map (λ s. s.now) c.args.held) []) c.loop-next.next c.loop-next.found c.loop-next.invariant (omega (arith, c.loop-next-test.false))
+    walk_ends c.args.receipts.now c.args.by_key.now c.args.key.now c.args.held.now c.loop-next.next c.loop-next.found c.loop-next.invariant (omega (arith, c.loop-next-test.false))

@@ -1,7 +1,6 @@
-use Rattle.std.proofs.Common.{◌≡◌, [], drop}
-use Rattle.std.specs.Prelude.{option_map, unwrap_or}
+use Rattle.std.proofs.Common.{◌≡◌, drop}
 use Rattle.caller_pass.specs.Locks.{first_missing}
 use Rattle.caller_pass.proofs.missing.first_missing.Given as goal
 
 abbrev pub invariant-loop-receipt : goal.invariant-loop-receipt
-invariant-loop-receipt l = first_missing l.receipts l.key (unwrap_or (option_map (λ s. s.now) l.held) []) ≡ first_missing (drop l.receipt-index l.receipts) l.key (unwrap_or (option_map (λ s. s.now) l.held) [])
+invariant-loop-receipt l = first_missing l.receipts l.key l.held ≡ first_missing (drop l.receipt-index l.receipts) l.key l.held

@@ -1,4 +1,4 @@
-use Rattle.std.proofs.Common.{rules, ◌≡◌, ◌∷◌, [], List, max, refl, sym, ap, subst, ◌∙◌}
+use Rattle.std.proofs.Common.{◌≡◌, ◌∷◌, [], List, length, refl, sym, ap, subst, ◌∙◌}
 use Rattle.std.specs.Prelude.{Ok}
 use Rattle.vclock.specs.Outcome.{gives}
 use Rattle.range_journal.specs.declared.journal.Entry.{Entry}
@@ -51,6 +51,5 @@ invariant_of-self-2 g c =
 pub invariant_of-pass-2 : goal.invariant_of-pass-2
 invariant_of-pass-2 g c =
     let p : PassView = record { seat = c.pass.inside.seat; seen = c.pass.inside.seen; share = c.pass.inside.share.amount; receipts = c.pass.inside.receipts.items; readings = c.pass.inside.readings.items } in
-    let seen : c.max.result ≡ max p.seen c.len.result = search rules in
     let told : c.accept_into.new.receipts.items ≡ with_sent p.receipts (Ok (Taken c.in-Taken.receipt)) = cc (c.in_ok-accept_into.ensures.told, c.in-Taken.is) in
-    (c.count.ensures.parts ∙ c.pass.invariant.0, pass_after g.L.Ledger.parts p c.len.result c.max.result c.count.new.share.amount c.accept_into.new.receipts.items (c.in-Taken.receipt ∷ []) c.pass.invariant.1 seen c.count.ensures.amount told, subst (λ (es : List Entry). IsIndex es c.note.new.self) c.deref.ensures.value c.note.ensures)
+    (c.count.ensures.parts ∙ c.pass.invariant.0, pass_after g.L.Ledger.parts p (length c.journal.result.now.entries) c.count.new.seen c.count.new.share.amount c.accept_into.new.receipts.items (c.in-Taken.receipt ∷ []) c.pass.invariant.1 c.count.ensures.seen c.count.ensures.amount told, subst (λ (es : List Entry). IsIndex es c.note.new.self) c.deref.ensures.value c.note.ensures)

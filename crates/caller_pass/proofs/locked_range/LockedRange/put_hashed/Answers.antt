@@ -1,4 +1,4 @@
-use Rattle.std.proofs.Common.{rules, ◌≡◌, ◌∷◌, ◌++◌, [], List, max, refl, ap, subst, ◌∙◌}
+use Rattle.std.proofs.Common.{◌≡◌, ◌∷◌, ◌++◌, [], List, length, refl, ap, subst, ◌∙◌}
 use Rattle.range_journal.specs.declared.journal.Entry.{Entry}
 use Rattle.range_state.specs.State.{put_entry}
 use Rattle.caller_pass.specs.Indexes.{IsIndex}
@@ -34,5 +34,4 @@ invariant_of-self-2 g c =
 pub invariant_of-pass-2 : goal.invariant_of-pass-2
 invariant_of-pass-2 g c =
     let p : PassView = record { seat = c.pass.inside.seat; seen = c.pass.inside.seen; share = c.pass.inside.share.amount; receipts = c.pass.inside.receipts.items; readings = c.pass.inside.readings.items } in
-    let seen : c.max.result ≡ max p.seen c.len.result = search rules in
-    (c.count.ensures.parts ∙ c.pass.invariant.0, pass_after g.L.Ledger.parts p c.len.result c.max.result c.count.new.share.amount c.put_into.new.receipts.items (c.in_ok-receipt.receipt ∷ []) c.pass.invariant.1 seen c.count.ensures.amount c.in_ok-receipt.ensures.told, subst (λ (es : List Entry). IsIndex es c.note.new.self) c.deref.ensures.value c.note.ensures)
+    (c.count.ensures.parts ∙ c.pass.invariant.0, pass_after g.L.Ledger.parts p (length c.journal.result.now.entries) c.count.new.seen c.count.new.share.amount c.put_into.new.receipts.items (c.in_ok-receipt.receipt ∷ []) c.pass.invariant.1 c.count.ensures.seen c.count.ensures.amount c.in_ok-receipt.ensures.told, subst (λ (es : List Entry). IsIndex es c.note.new.self) c.deref.ensures.value c.note.ensures)

@@ -1,9 +1,0 @@
-use Rattle.std.proofs.Common.{◌≡◌, ◌≤◌, length, take}
-use Rattle.std.specs.Vec.{vec_capacity}
-use Rattle.caller_pass.proofs.renewal.copy_all.Given as goal
-
-abbrev pub invariant-loop-entry : goal.invariant-loop-entry
-invariant-loop-entry l = record {
-  copied : l.copy.items ≡ take l.entry-index l.entries;
-  room : length l.entries ≤ vec_capacity l.copy;
-}
