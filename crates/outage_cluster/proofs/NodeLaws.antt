@@ -7,7 +7,7 @@ use Rattle.vclock.specs.declared.format.Format.TheVariants.{One, Two}
 use Rattle.tree_nodes.specs.Nodes.{tree_depth, place_at}
 use Rattle.range_state.specs.Config.{Config}
 use Rattle.range_state.specs.State as range
-use Rattle.range_state.proofs.TreeStepLaws.{all_dirty-at}
+use Rattle.range_tree.proofs.TreeLaws.{all_dirty-at}
 use Rattle.outage_cluster.specs.Acts.{is_tree_node, shown_digest}
 
 -- no tree has a node below its leaves

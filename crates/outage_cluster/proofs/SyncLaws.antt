@@ -2,16 +2,17 @@
 use Rattle.vclock.specs.Answer.{Answers, AnswersOrNoMemory, first_fault}
 use Rattle.std.specs.Prelude.{⊤, Result, Ok, Err, IfOk, OnOk, OnErr, filter, nat_le, ◌||◌}
 use Rattle.std.proofs.Common.{◌≡◌, ◌⊎◌, inl, inr, ℕ, ◌+◌, ◌-◌, Bool, true, false, cond, Option, Some, None, List, [], ◌∷◌, length, refl, sym, ap, ◌∙◌}
-use Rattle.tree_nodes.specs.Nodes.{are_clean}
+use Rattle.tree_nodes.specs.Nodes.{Node, are_clean}
 use Rattle.vclock.specs.declared.format.Format.{Format}
 use Rattle.vclock.specs.declared.format.Format.TheVariants.{One, Two}
 use Rattle.vclock.specs.declared.refusal.Refusal.{Refusal}
 use Rattle.vclock.specs.declared.refusal.Refusal.TheVariants.{Dirty, NoMemory, OtherRange, SessionsFull}
 use Rattle.snapshot.specs.RowMaps.{RowMap}
-use Rattle.sync_session.specs.TreeNodes.{Node}
+use Rattle.range_tree.specs.Rehashes.{digests_below}
+use Rattle.range_tree.specs.Trees.{all_dirty}
 use Rattle.range_state.specs.Config.{Config}
 use Rattle.range_state.specs.State as range
-use Rattle.range_state.specs.Trees.{digests_below, rehashed}
+use Rattle.range_state.specs.Trees.{rehashed}
 use Rattle.range_state.specs.Records.{is_open_state}
 use Rattle.range_state.specs.Sessions.{taken_in, leaf_fault}
 use Rattle.range_state.specs.Syncs.{Progress, IsSyncedTo, IsPartWay, leaves_between, offers_at, known_in, taken_leaves, unless_refused}
@@ -30,8 +31,8 @@ unfolding digests_below
 rehash_kept n s = refl
 
 -- a range that has accepted nothing has no clean node
-none_clean : (f : Format) → are_clean (range.all_dirty f) ≡ false
-unfolding range.all_dirty
+none_clean : (f : Format) → are_clean (all_dirty f) ≡ false
+unfolding all_dirty
 none_clean One = refl
 none_clean Two = refl
 

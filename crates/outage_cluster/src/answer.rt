@@ -3,9 +3,9 @@ ghost use Rattle.std.specs.Prelude.{◌≡◌};
 ghost use Rattle.outage_cluster.specs.Slots.{counts};
 
 use admission::Controller;
-use hash_tree::{Digest, Text};
 use range_state::Synced;
 use std::sync::ledger::Ledger;
+use tree_nodes::{Digest, Text};
 use vclock::{Clock, Refusal};
 use version_set::VersionSet;
 

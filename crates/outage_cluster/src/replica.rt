@@ -13,7 +13,7 @@ ghost use Rattle.outage_cluster.specs.Acts.{takes, after_copy, clean_at, gets_hi
 ghost use Rattle.outage_cluster.specs.State.{in_replica, replica_of};
 ghost use Rattle.outage_cluster.specs.Syncs.{IsReported, session_fault, synced_with};
 
-use hash_tree::{Digest, NodeAt};
+use key_ring::HashedKey;
 use range_journal::Source;
 use range_state::{Accepted, RangeConfig, RangeState, Receipt, Synced};
 use snapshot::Snapshot;
@@ -21,8 +21,9 @@ use std::alloc::Global;
 use std::marker::Model;
 use std::sync::Arc;
 use std::thread::Threads;
+use tree_nodes::{Digest, NodeAt};
 use vclock::{Bytes, Clock, Format, Refusal};
-use version_set::{Kind, Version, VersionSet};
+use version_set::{Held, Kind, Version, VersionSet};
 
 /// The script's seat in each journal.
 const SEAT: u16 = 0;
@@ -77,10 +78,7 @@ impl Replica {
     pub(crate) fn versions(&self, key: &[u8]) -> &[Version]
         ensures { result.now ≡ held self.now.range.entries key.now }
     {
-        match &self.state {
-            Some(state) => state.versions(key),
-            None => &[],
-        }
+        self.find(&HashedKey::new(key)).as_slice()
     }
 
     /// Copies the versions that are held for a key, each of which has a text.
@@ -89,9 +87,19 @@ impl Replica {
         ensures fit { IfOk result (AllByRecursion (λ v.
             value_fault self.now.range.config.format v.kind v.value ≡ None)) }
     {
+        self.find(&HashedKey::new(key)).to_set(alloc)
+    }
+
+    /// Returns the versions that are held for a key, each of which has a text.
+    fn find(&self, key: &HashedKey) -> Held<'_>
+        ensures held { result ≡ held self.now.range.entries key.now }
+        ensures fit { AllByRecursion (λ v.
+            value_fault self.now.range.config.format v.kind v.value ≡ None)
+            (held self.now.range.entries key.now) }
+    {
         match &self.state {
-            Some(state) => state.get(alloc, key),
-            None => Ok(VersionSet::empty(alloc)),
+            Some(state) => state.find(key),
+            None => Held::new(None),
         }
     }
 

@@ -4,11 +4,11 @@ ghost use Rattle.outage_script.specs.Answers.{answer_data, answer_line, digest_d
 ghost use Rattle.outage_script.specs.Told.{part_data, tokens_of};
 
 use crate::part::{Part, write_object};
-use hash_tree::Digest;
 use json::Writer;
 use outage_cluster::{CommandAnswer, SlotCounts};
 use range_state::Synced;
 use std::alloc::{AllocError, Global};
+use tree_nodes::Digest;
 use vclock::{Clock, Refusal};
 
 /// The initial capacity of a line, in bytes.
