@@ -10,6 +10,5 @@ mod Sent
 pub mod KeyLaws
 pub mod PairLaws
 pub mod PartLaws
-pub mod AskLaws
 pub mod LengthLaws
 pub mod SlotsWord

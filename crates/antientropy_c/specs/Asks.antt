@@ -1,12 +1,11 @@
 -- The nodes that a session has outstanding, for C.
-use Rattle.std.specs.Prelude.{◌≡◌, ℕ, List, [], length, slice_get, Option, Some, None, option_map, Result, Ok, Err, MatchOption}
+use Rattle.std.specs.Prelude.{◌≡◌, ℕ, List, [], length, slice_get, Option, Some, None, Result, Ok, Err, MatchOption}
 use Rattle.vclock.specs.Answer.{Answers}
 use Rattle.vclock.specs.declared.refusal.Refusal.{Refusal}
 use Rattle.vclock.specs.declared.refusal.Refusal.TheVariants.{UnknownSession}
 use Rattle.walk_messages.specs.Messages.{message_text}
 use Rattle.walk_messages.specs.declared.message.Message.TheVariants as messages
-use Rattle.tree_nodes.specs.declared.node.NodeAt.{NodeAt}
-use Rattle.sync_session.specs.TreeNodes.{as_node}
+use Rattle.tree_nodes.specs.Nodes.{Node}
 use Rattle.range_state.specs.State.{State}
 use Rattle.range_state.specs.Sessions.{unknown_fault}
 use Rattle.range_state.specs.declared.«record».Record.{Record}
@@ -20,14 +19,14 @@ abbrev pub outstanding_count : State → ℕ → Result ℕ Refusal
 outstanding_count s id = count_of (slice_get s.records id)
 
 -- the message that asks for a node, or no bytes
-abbrev pub asked_bytes : ℕ → Option NodeAt → List ℕ
+abbrev pub asked_bytes : ℕ → Option Node → List ℕ
 asked_bytes number None = []
 asked_bytes number (Some node) = message_text (messages.Ask (record { offer = number; node = node }))
 
 -- bytes that ask for the node that a session has outstanding at a place, counted from 0, if any
 pub record AsksNode (r : Record) (place number : ℕ) (bytes : List ℕ) : Type 0 where
-  pub node : Option NodeAt
-  pub is_there : option_map as_node node ≡ slice_get r.session.outstanding place
+  pub node : Option Node
+  pub is_there : node ≡ slice_get r.session.outstanding place
   pub says : bytes ≡ asked_bytes number node
 
 -- bytes that ask for the node at a place of the session of that number

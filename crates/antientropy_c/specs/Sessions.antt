@@ -6,7 +6,7 @@ use Rattle.vclock.specs.declared.refusal.Refusal.TheVariants.{BadClock, BadMessa
 use Rattle.walk_messages.specs.declared.message.Answer.{Answer}
 use Rattle.walk_messages.specs.declared.message.Message.{Message}
 use Rattle.walk_messages.specs.declared.message.Message.TheVariants as messages
-use Rattle.sync_session.specs.TreeNodes.{Node, as_node, contains_node}
+use Rattle.tree_nodes.specs.Nodes.{Node, contains_node}
 use Rattle.sync_session.specs.declared.state.SessionState.{SessionState}
 use Rattle.sync_session.specs.declared.state.SessionState.TheVariants.{Open, Finished, Failed, Cancelled}
 use Rattle.range_state.specs.State.{State}
@@ -48,7 +48,7 @@ asked_fault s id node = asked_for (slice_get s.records id) node
 -- an answer of the offer with that number is taken, as by seat 0, and one of another offer is refused
 abbrev pub TakesWith : State → ℕ → ℕ → Answer → Result AnswerTaken Refusal → State → Type 0
 TakesWith s id number a r t = MatchBool (a.offer == number)
-    (TakesAnswer s 0 id (record { node = as_node a.node; text = a.text }) r t)
+    (TakesAnswer s 0 id (record { node = a.node; text = a.text }) r t)
     ((r ≡ Err BadMessage) × (t ≡ s))
 
 -- a decoded message is taken, if it is an answer

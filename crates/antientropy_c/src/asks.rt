@@ -2,7 +2,6 @@
 ghost use Rattle.std.specs.Prelude.{◌≡◌, ℕ, Result, option_map, slice_get, MatchOption};
 ghost use Rattle.vclock.specs.Answer.{AnswersAtOnce};
 ghost use Rattle.vclock.specs.declared.refusal.Refusal.{Refusal};
-ghost use Rattle.sync_session.specs.TreeNodes.{as_node};
 ghost use Rattle.range_state.specs.Sessions.{unknown_fault};
 ghost use Rattle.antientropy_c.specs.Asks.{outstanding_count, Asks};
 ghost use Rattle.antientropy_c.specs.Calls.{Calls};
@@ -14,9 +13,9 @@ use crate::numbers::{EMPTY, code};
 use crate::output::hand_out;
 use crate::replica::Replica;
 use crate::sessions::{record_of, tell_number};
-use hash_tree::{NodeAt, Text};
 use range_state::RangeState;
 use std::alloc::Global;
+use tree_nodes::{NodeAt, Text};
 use vclock::Refusal;
 use walk_messages::{Ask, Message, encode};
 
@@ -124,7 +123,7 @@ fn ask(
 fn node_at(state: &RangeState, session: u64, place: u64) -> Result<Option<NodeAt>, Refusal>
     ensures { AnswersAtOnce result (unknown_fault state.now session)
         (λ node. MatchOption (slice_get state.now.records session) ⊥
-        (λ r. option_map as_node node ≡ slice_get r.session.outstanding place)) }
+        (λ r. node ≡ slice_get r.session.outstanding place)) }
 {
     let nodes = record_of(state, session)?.session().outstanding();
     Ok(nodes.get(place as usize).copied())

@@ -23,11 +23,11 @@ use crate::numbers::{EMPTY, code};
 use crate::output::hand_out;
 use crate::publication::Publication;
 use crate::replica::Replica;
-use hash_tree::Text;
 use key_ring::leaf_count;
 use range_state::{Loaded, RangeState};
 use snapshot::Snapshot;
 use std::alloc::Global;
+use tree_nodes::Text;
 use vclock::{Format, Refusal};
 
 /// The result of a load.

@@ -14,10 +14,10 @@ use crate::output::{copy_out, hand_out};
 use crate::publication::Publication;
 use crate::published::Published;
 use crate::replica::Replica;
-use hash_tree::Text;
 use range_state::RangeState;
 use snapshot::Snapshot;
 use std::alloc::Global;
+use tree_nodes::Text;
 use vclock::Refusal;
 use walk_messages::{Answer, Ask, Message, decode, encode};
 
@@ -173,24 +173,25 @@ fn serve_decoded(
 ) -> Result<Text, Refusal>
     ensures { Serves snapshot.now number result decoded }
 {
-    match decoded {
-        Ok(Message::Ask(ask)) => serve_ask(alloc, snapshot, number, ask),
-        Ok(Message::Offer(_) | Message::Answer(_)) => Err(Refusal::BadMessage),
-        Err(refusal) => Err(refusal),
-    }
+    let message = decoded?;
+    let Message::Ask(ask) = &message else {
+        return Err(Refusal::BadMessage);
+    };
+    serve_ask(alloc, snapshot, number, ask)
 }
 
 /// Answers an ask from a snapshot. Refused, in order: Gone, BadMessage, NoMemory.
-fn serve_ask(alloc: Global, snapshot: &Snapshot, number: u32, ask: Ask) -> Result<Text, Refusal>
-    ensures { ServesAsk snapshot.now number ask result }
+fn serve_ask(alloc: Global, snapshot: &Snapshot, number: u32, ask: &Ask) -> Result<Text, Refusal>
+    ensures { ServesAsk snapshot.now number ask.now result }
 {
-    if ask.offer != number {
+    let Ask { offer, node } = *ask;
+    if offer != number {
         return Err(Refusal::Gone);
     }
-    let text = snapshot.answer(alloc, ask)?;
+    let text = snapshot.answer(alloc, Ask { offer, node })?;
     let answer = Answer {
-        offer: ask.offer,
-        node: ask.node,
+        offer,
+        node,
         text: Text::from(text),
     };
     let bytes = encode(alloc, &Message::Answer(answer))?;

@@ -3,7 +3,7 @@ ghost use Rattle.std.specs.Prelude.{Ok};
 ghost use Rattle.antientropy_c.specs.Hands.{HandsOut};
 
 use crate::numbers::SMALL;
-use hash_tree::Text;
+use tree_nodes::Text;
 use vclock::Refusal;
 
 /// Copies out the bytes of a result, or nothing on error, and returns the number of the outcome.

@@ -11,10 +11,10 @@ use crate::numbers::EMPTY;
 use crate::output::hand_out;
 use crate::replica::Replica;
 use crate::versions::versions_of;
-use hash_tree::Text;
 use range_state::RangeState;
 use row_bytes::{Row, write_row};
 use std::alloc::Global;
+use tree_nodes::Text;
 use vclock::{Bytes, Refusal, check_key};
 
 /// Writes the text of the row of a key: no bytes if no version is held. Refused, in order: EMPTY, BadKey, NoMemory,

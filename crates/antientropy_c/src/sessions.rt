@@ -3,7 +3,7 @@ ghost use Rattle.std.specs.Prelude.{◌≡◌, ℕ, Result, Some, map, slice_get
 ghost use Rattle.vclock.specs.Answer.{AnswersAtOnce};
 ghost use Rattle.vclock.specs.Outcome.{DoesAtOnce};
 ghost use Rattle.vclock.specs.declared.refusal.Refusal.{Refusal};
-ghost use Rattle.sync_session.specs.TreeNodes.{as_node, contains_node};
+ghost use Rattle.tree_nodes.specs.Nodes.{contains_node};
 ghost use Rattle.range_state.specs.Sessions.{cancel_session, unknown_fault};
 ghost use Rattle.range_state.specs.declared.event.AnswerTaken.{AnswerTaken};
 ghost use Rattle.antientropy_c.specs.Numbers.{Returns};
@@ -12,10 +12,10 @@ ghost use Rattle.antientropy_c.specs.Sessions.{Opens, OpensUnless, partner_fault
 
 use crate::numbers::{EMPTY, code};
 use crate::replica::Replica;
-use hash_tree::{NodeAt, hash};
 use range_state::{AnswerTaken, RangeState, Record};
 use std::alloc::Global;
 use sync_session::SessionState;
+use tree_nodes::{NodeAt, hash};
 use vclock::Refusal;
 use vclock::limits::NODE_MAX;
 use walk_messages::{Answer, Message, decode};
@@ -190,7 +190,7 @@ fn take_answer(
 /// Tests that a session has a node outstanding, before a text is hashed for it. Refused, in order: UnknownSession,
 /// NotAsked.
 fn check_asked(state: &RangeState, session: u64, node: NodeAt) -> Result<(), Refusal>
-    ensures { AnswersAtOnce result (asked_fault state.now session (as_node node)) (λ _. ⊤) }
+    ensures { AnswersAtOnce result (asked_fault state.now session node) (λ _. ⊤) }
 {
     let nodes = record_of(state, session)?.session().outstanding();
     if !has(nodes, node) {
@@ -201,7 +201,7 @@ fn check_asked(state: &RangeState, session: u64, node: NodeAt) -> Result<(), Ref
 
 /// Returns true if some node of a list is equal to a node.
 fn has(nodes: &[NodeAt], node: NodeAt) -> bool
-    ensures { result ≡ contains_node (as_node node) (map as_node nodes.now) }
+    ensures { result ≡ contains_node node nodes.now }
 {
     nodes.iter().any(|other| node == *other)
 }
