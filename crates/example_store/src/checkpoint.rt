@@ -1,13 +1,13 @@
 //! A range as bytes: its rows, saved and loaded.
 use crate::replica::Replica;
 use caller_pass::Pass;
-use hash_tree::Digest;
 use key_ring::leaf_count;
 use ring_node::SharedRange;
 use snapshot::Snapshot;
 use std::alloc::Global;
 use std::sync::Wait;
 use std::sync::ledger::Ledger;
+use tree_nodes::Digest;
 use vclock::Refusal;
 
 /// The texts of the rows of each leaf of a range, and the digest of the root over them. A store writes them to a file.

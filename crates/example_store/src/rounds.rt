@@ -2,13 +2,13 @@
 use crate::client::update_each;
 use crate::replica::Replica;
 use caller_pass::Pass;
-use hash_tree::Digest;
 use ring_node::{Link, OpenGate, RehashReport, SharedController, SharedRange, SyncReport};
 use std::alloc::Global;
 use std::sync::Wait;
 use std::sync::ledger::Ledger;
 use std::thread;
 use std::thread::{JoinHandle, Threads};
+use tree_nodes::Digest;
 use vclock::Refusal;
 use walk_messages::Offer;
 

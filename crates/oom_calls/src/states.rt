@@ -1,8 +1,8 @@
 //! Comparisons of range states, by all their readers.
 use crate::sessions::{is_cancelled, is_same_session};
-use hash_tree::NodeAt;
 use range_journal::Entry;
 use range_state::{RangeState, Record};
+use tree_nodes::NodeAt;
 use version_set::Version;
 
 /// The maximum number of nodes of a tree at one depth.

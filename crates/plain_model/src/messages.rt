@@ -1,8 +1,8 @@
 //! The bytes of messages, by the page on formats.
 
 use crate::trouble::Trouble;
-use hash_tree::{Digest, NodeAt};
 use std::alloc::Global;
+use tree_nodes::{Digest, NodeAt};
 
 /// An offer.
 #[derive(Clone, Copy)]

@@ -3,9 +3,9 @@ ghost use Rattle.std.specs.Prelude.{◌≤◌};
 
 use crate::plain::{KEYS, PlainRange, PlainVersion, key_bytes};
 use crate::trouble::Trouble;
-use hash_tree::{Digest, NodeAt};
 use sha2::{Digest as _, Sha256};
 use std::alloc::Global;
+use tree_nodes::{Digest, NodeAt};
 use vclock::Format;
 
 /// A key with the versions that are held for it, and its leaf.

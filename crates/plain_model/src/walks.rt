@@ -3,10 +3,10 @@
 use crate::plain::Fault;
 use crate::trees::{Tree, child, inner_byte, leaf_depth};
 use crate::trouble::Trouble;
-use hash_tree::{Digest, NodeAt};
 use sha2::{Digest as _, Sha256};
 use std::alloc::Global;
 use sync_session::{Session, SessionState, Taken};
+use tree_nodes::{Digest, NodeAt};
 use vclock::Format;
 
 /// A text that was sent for a node.

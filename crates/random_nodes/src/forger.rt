@@ -1,11 +1,12 @@
 //! Partners whose digests are right and whose texts are not a node's.
 ghost use Rattle.ring_node.specs.Links.{CountsLosses};
 
-use hash_tree::{Digest, Text, hash, inner_text};
+use hash_tree::inner_text;
 use plain_model::random::Random;
 use ring_node::{Link, Reached};
 use std::alloc::Global;
 use std::sync::Wait;
+use tree_nodes::{Digest, Text, hash};
 use vclock::{Format, Refusal};
 use walk_messages::{Answer, Ask, Message, Offer, decode, encode};
 
@@ -60,7 +61,7 @@ impl Forger {
     }
 
     /// Returns the message that answers an ask.
-    fn answered(&self, ask: Ask) -> Result<Vec<u8>, Refusal> {
+    fn answered(&self, ask: &Ask) -> Result<Vec<u8>, Refusal> {
         let text = if ask.node.depth == 0 {
             self.root.as_slice()
         } else {
@@ -87,7 +88,7 @@ impl Link for Forger {
     }
 
     fn ask<R: Wait>(&mut self, _rt: &R, message: &[u8]) -> Reached {
-        match decode(self.alloc, message) {
+        match &decode(self.alloc, message) {
             Ok(Message::Ask(ask)) => reached(self.answered(ask)),
             _ => Reached::Gone,
         }

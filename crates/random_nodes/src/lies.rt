@@ -1,10 +1,10 @@
 //! The deeds of links that fail and lie.
 ghost use Rattle.std.specs.Prelude.{◌<◌};
 
-use hash_tree::NodeAt;
 use plain_model::random::Random;
 use ring_node::Deed;
 use std::alloc::Global;
+use tree_nodes::NodeAt;
 use vclock::Refusal;
 
 /// Returns the deeds of a link's first calls. Once in `lies` calls it fails or lies, or never if that is 0.

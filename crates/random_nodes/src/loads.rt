@@ -4,7 +4,6 @@ use crate::mirror::Mirror;
 use crate::node::Node;
 use crate::points::Points;
 use crate::steps::Step;
-use hash_tree::NodeAt;
 use plain_model::leaves::Taken;
 use plain_model::plain::{Fault, PlainEntry};
 use plain_model::trees::leaf_depth;
@@ -15,6 +14,7 @@ use ring_node::{Gate, Step as Passed};
 use std::alloc::Global;
 use std::sync::ledger::Ledger;
 use std::sync::{Mutex, Wait};
+use tree_nodes::NodeAt;
 use vclock::Refusal;
 
 /// A gate that takes other steps once a load has read its rows.

@@ -1,7 +1,6 @@
 //! A node by the definitions: all that it must hold, offer, keep and remember.
 
 use crate::steps::Seen;
-use hash_tree::Digest;
 use plain_model::plain::{
     Fault, NODES, PlainEntry, PlainRange, PlainVersion, are_clocks_of, is_entry, joined,
 };
@@ -13,6 +12,7 @@ use range_state::{Accepted, Receipt};
 use std::alloc::Global;
 use std::sync::Arc;
 use sync_session::SessionState;
+use tree_nodes::Digest;
 use vclock::{Format, Refusal};
 
 /// The number of offers that a node keeps.

@@ -2,7 +2,6 @@
 
 use crate::mirror::Mirror;
 use crate::ranges::{Range, reconcile_ranges};
-use hash_tree::NodeAt;
 use plain_model::plain::{Fault, KEYS};
 use plain_model::trees::{Tree, differing, leaf_depth, width};
 use plain_model::trouble::{Trouble, expect};
@@ -11,6 +10,7 @@ use range_state::Reconciled;
 use std::alloc::Global;
 use std::sync::Arc;
 use sync_session::SessionState;
+use tree_nodes::NodeAt;
 use vclock::Refusal;
 
 /// The seat of all versions that are taken in a reconciliation.

@@ -1,13 +1,13 @@
 //! Ranges for one thread. Their methods have no clauses, so a function that calls them carries no facts about a range,
 //! and is proved fast.
 
-use hash_tree::{Digest, NodeAt};
 use plain_model::plain::{Part, PlainRange, are_equal, is_entry, key_bytes};
 use plain_model::trouble::{Trouble, expect};
 use plain_model::walks::Walk;
 use range_journal::Journal;
 use range_state::{RangeConfig, RangeState, Reconciled, Record, reconcile};
 use std::alloc::Global;
+use tree_nodes::{Digest, NodeAt};
 use vclock::{Format, Refusal};
 use version_set::Version;
 

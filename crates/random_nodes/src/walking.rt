@@ -2,7 +2,6 @@
 
 use crate::mirror::Mirror;
 use crate::partner::format_number;
-use hash_tree::{Digest, NodeAt};
 use plain_model::messages::{PlainAnswer, PlainOffer, ask_bytes, read_answer, read_offer};
 use plain_model::plain::Fault;
 use plain_model::trees::Tree;
@@ -13,6 +12,7 @@ use std::alloc::Global;
 use std::mem::replace;
 use std::sync::Arc;
 use sync_session::SessionState;
+use tree_nodes::{Digest, NodeAt};
 use vclock::Refusal;
 
 /// The maximum number of open sessions.
@@ -170,7 +170,7 @@ impl Progress {
             }
         };
         let text = text_of(alloc, here, id, answer.node)?;
-        match fault_of(here, id, answer, &text) {
+        match fault_of(here, id, answer.node, answer.text, &text) {
             None => self.take_text(alloc, here, id, answer),
             Some(Fault::NotCanonical) => {
                 end(here, id, SessionState::Failed);
@@ -191,9 +191,9 @@ impl Progress {
         id: usize,
         answer: PlainAnswer<'_>,
     ) -> Result<(), Trouble> {
-        if let Some(tree) = leaf_tree(here, id, answer.node)? {
-            let leaf = answer.node.index;
-            match here.plain.take_leaf(alloc, self.seat, &tree, leaf)? {
+        let node = answer.node;
+        if let Some(tree) = leaf_tree(here, id, node)? {
+            match here.plain.take_leaf(alloc, self.seat, &tree, node.index)? {
                 Ok(taken) => {
                     self.accepted = self.accepted.wrapping_add(taken.news.len() as u64);
                     self.known = self.known.wrapping_add(taken.known);
@@ -206,7 +206,7 @@ impl Progress {
             }
         }
         let sent = Sent {
-            node: answer.node,
+            node,
             text: Vec::from_slice(alloc, answer.text)?,
         };
         match here.walks.get_mut(id) {
@@ -293,9 +293,9 @@ fn text_of(alloc: Global, here: &Mirror, id: usize, node: NodeAt) -> Result<Vec<
 }
 
 /// Returns the reason why a session doesn't take an answer, if there is one.
-fn fault_of(here: &Mirror, id: usize, answer: PlainAnswer<'_>, text: &[u8]) -> Option<Fault> {
+fn fault_of(here: &Mirror, id: usize, node: NodeAt, sent: &[u8], text: &[u8]) -> Option<Fault> {
     match here.walks.get(id) {
-        Some(walk) => walk.fault_of(answer.node, answer.text, text),
+        Some(walk) => walk.fault_of(node, sent, text),
         None => Some(Fault::UnknownSession),
     }
 }

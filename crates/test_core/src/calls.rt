@@ -2,7 +2,6 @@
 //! no facts about their results, and is proved fast.
 ghost use Rattle.std.specs.Prelude.{◌≤◌};
 
-use hash_tree::{Digest, Hashed, NodeAt, Text, hash};
 use range_journal::Source;
 use range_state::{Accepted, AnswerTaken, Event, Loaded, RangeConfig, RangeState, Reply};
 use rehash::{Job, run_job};
@@ -12,6 +11,7 @@ use std::sync::Arc;
 use std::test::Fail;
 use std::thread::Threads;
 use test_values::calls::clock;
+use tree_nodes::{Digest, Hashed, NodeAt, Text, hash};
 use vclock::{Bytes, Refusal};
 use version_set::{Kind, Version};
 use walk_messages::{Ask, Offer};

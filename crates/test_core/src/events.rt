@@ -1,6 +1,5 @@
 //! Lists of events.
 use crate::calls::{new_range, run_events};
-use hash_tree::{Text, hash};
 use range_journal::Source;
 use range_state::{AcceptEvent, Event, InstallEvent, PutEvent, Reply};
 use std::alloc::Global;
@@ -8,6 +7,7 @@ use std::test::Fail;
 use test_values::calls::node_at;
 use test_values::checks::expect;
 use test_values::versions::version;
+use tree_nodes::{Text, hash};
 use vclock::{Bytes, Clock, Refusal};
 use version_set::Kind;
 

@@ -12,6 +12,8 @@ mod migrations;
 #[cfg(test)]
 mod range_sessions;
 #[cfg(test)]
+mod range_trees;
+#[cfg(test)]
 mod ranges;
 #[cfg(test)]
 mod reconciliations;

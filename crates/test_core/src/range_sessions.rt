@@ -3,7 +3,6 @@ use crate::calls::{
     abc, clean_range, count_held, hashed_at, new_range, offer, open_session, put, put_a,
     range_of_a, rehash, root_of, snapshot, snapshot_of_a, take_answer, text_at,
 };
-use hash_tree::{Digest, Hashed, NodeAt, Text, hash};
 use range_state::{AnswerTaken, RangeCounts, RangeState, Record};
 use snapshot::Snapshot;
 use std::alloc::Global;
@@ -13,6 +12,7 @@ use sync_session::SessionState;
 use test_values::calls::node_at;
 use test_values::checks::expect;
 use test_values::refusals::expect_refused;
+use tree_nodes::{Digest, Hashed, NodeAt, Text, hash};
 use vclock::Refusal;
 use walk_messages::Offer;
 

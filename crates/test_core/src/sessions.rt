@@ -1,6 +1,5 @@
 //! Sessions by themselves: the comparison of two trees, and the partner's answers.
 use crate::calls::{abc, clean_range, hashed_at, snapshot, snapshot_of_a};
-use hash_tree::{Digest, Hashed, NodeAt};
 use snapshot::Snapshot;
 use std::alloc::Global;
 use std::test::Fail;
@@ -9,6 +8,7 @@ use sync_session::{Answered, Session, SessionState};
 use test_values::calls::node_at;
 use test_values::checks::expect;
 use test_values::refusals::expect_refused;
+use tree_nodes::{Digest, Hashed, NodeAt};
 use vclock::Refusal;
 
 /// Returns a session of a range without rows, with a partner of this root.

@@ -7,7 +7,7 @@ use crate::calls::{
     clean_range, new_range, next_job, offer, open_session, put_a, range_of_a, rehash, snapshot,
     text_at,
 };
-use hash_tree::{Digest, NodeAt, SharedLeaf, inner_text, leaf_text};
+use hash_tree::{SharedLeaf, inner_text, leaf_text};
 use range_state::RangeState;
 use rehash::run_job;
 use sha2::{Digest as _, Sha256};
@@ -18,6 +18,7 @@ use std::thread::Threads;
 use test_values::calls::node_at;
 use test_values::checks::expect;
 use test_values::refusals::expect_refused;
+use tree_nodes::{Digest, NodeAt};
 use vclock::{Format, Refusal};
 
 #[test]

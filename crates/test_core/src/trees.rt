@@ -2,7 +2,7 @@
 use crate::calls::{
     abc, accept, install, new_range, next_job, put_a, range_of_a, rehash, take_job, take_jobs,
 };
-use hash_tree::{Digest, Hashed, Marks, NodeAt, Text, hash, inner_text, is_inner_text, leaf_text};
+use hash_tree::{inner_text, is_inner_text, leaf_text};
 use range_state::RangeState;
 use rehash::{Job, hash_all, hash_here, run_job};
 use std::alloc::Global;
@@ -12,6 +12,7 @@ use test_values::calls::node_at;
 use test_values::checks::expect;
 use test_values::refusals::expect_refused;
 use test_values::versions::version;
+use tree_nodes::{Digest, Hashed, Marks, NodeAt, Text, hash};
 use vclock::{Format, Refusal};
 use version_set::Kind;
 

@@ -3,7 +3,6 @@ ghost use Rattle.std.specs.Prelude.{◌≡◌};
 
 use crate::locked::Locked;
 use crate::partners::{Row, snapshot_of};
-use hash_tree::{Digest, Hashed, NodeAt, Text, hash};
 use snapshot::Snapshot;
 use std::alloc::Global;
 use std::marker::Brand;
@@ -13,6 +12,7 @@ use std::test::Fail;
 use sync_session::SessionState;
 use test_values::checks::expect;
 use test_values::refusals::is_refused;
+use tree_nodes::{Digest, Hashed, NodeAt, Text, hash};
 use vclock::Refusal;
 use walk_messages::{Ask, Offer};
 

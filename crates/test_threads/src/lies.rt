@@ -4,7 +4,6 @@ use crate::nodes::{Node, TURNS};
 use crate::outcomes::{Outcome, finished, report};
 use crate::partners::{Row, pool_of};
 use crate::runs::{NodeTest, run_node};
-use hash_tree::{NodeAt, Text, hash};
 use range_state::RangeState;
 use ring_node::{Deed, Link, MemoryLink, OfferPool, Reached, ScriptedLink};
 use std::alloc::Global;
@@ -13,6 +12,7 @@ use std::sync::ledger::Ledger;
 use std::test::Fail;
 use std::thread::Threads;
 use sync_session::SessionState;
+use tree_nodes::{NodeAt, Text, hash};
 use vclock::Refusal;
 use walk_messages::{Answer, Message, Offer, decode, encode};
 
@@ -111,7 +111,8 @@ fn end_each<R: Threads + Wait + Sync>(
     refusal: u64,
     failures: u64,
 ) -> Result<(), Fail> {
-    let deeds = [Deed::Pass, Deed::Pass, Deed::Pass, deed];
+    let all = [Deed::Pass, Deed::Pass, Deed::Pass, deed];
+    let deeds: &[Deed] = &all;
     for passed in 0..4_usize {
         let session = if passed == 0 {
             None
@@ -164,7 +165,8 @@ impl Forger {
 
     /// Returns the message that answers an ask.
     fn answered(&self, message: &[u8]) -> Result<Vec<u8>, Refusal> {
-        let Message::Ask(ask) = decode(self.alloc, message)? else {
+        let read = decode(self.alloc, message)?;
+        let Message::Ask(ask) = &read else {
             return Err(Refusal::BadMessage);
         };
         encode(

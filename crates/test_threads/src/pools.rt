@@ -4,7 +4,6 @@ use crate::calls::publish;
 use crate::nodes::Node;
 use crate::partners::snapshot_of;
 use crate::runs::{NodeTest, run_node};
-use hash_tree::NodeAt;
 use ring_node::OfferPool;
 use snapshot::Snapshot;
 use std::alloc::Global;
@@ -14,6 +13,7 @@ use std::test::Fail;
 use std::thread::Threads;
 use test_values::checks::expect;
 use test_values::refusals::is_refused;
+use tree_nodes::NodeAt;
 use vclock::Refusal;
 use walk_messages::Ask;
 

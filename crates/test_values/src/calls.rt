@@ -1,9 +1,9 @@
 //! The libraries' calls as tests make them. None of these functions has an `ensures`, so a test that calls them carries
 //! no facts about their results, and is proved fast.
-use hash_tree::NodeAt;
 use row_bytes::{Row, RowList, a_held_set_is_a_row, read_row, read_rows, write_row};
 use std::alloc::Global;
 use std::test::Fail;
+use tree_nodes::NodeAt;
 use vclock::{Clock, Format, Refusal};
 use version_set::{Offered, Version, VersionSet};
 

@@ -5,9 +5,10 @@ ghost use Rattle.hash_tree.specs.Leaves.{versions_in};
 
 use crate::checks::expect;
 use crate::versions::version;
-use hash_tree::{SharedLeaf, Spot, Text, hash};
+use hash_tree::{SharedLeaf, Spot};
 use std::alloc::Global;
 use std::test::Fail;
+use tree_nodes::{Text, hash};
 use vclock::{Bytes, Format, Refusal, check_key};
 use version_set::{Kind, Version};
 

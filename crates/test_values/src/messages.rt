@@ -2,9 +2,9 @@
 use crate::calls::node_at;
 use crate::checks::expect;
 use crate::refusals::expect_refused;
-use hash_tree::Text;
 use std::alloc::Global;
 use std::test::Fail;
+use tree_nodes::Text;
 use vclock::Refusal;
 use walk_messages::{Answer, Ask, Message, Offer, decode, encode};
 

@@ -1,9 +1,9 @@
 //! A sync by messages, whose bytes go over memory.
-use hash_tree::{NodeAt, Text, hash};
 use range_state::{AnswerTaken, RangeState};
 use snapshot::Snapshot;
 use std::alloc::Global;
 use sync_session::SessionState;
+use tree_nodes::{NodeAt, Text, hash};
 use vclock::Refusal;
 use walk_messages::{Answer, Ask, Message, decode, encode};
 
@@ -67,18 +67,20 @@ fn start(alloc: Global, range: &mut RangeState, bytes: &[u8]) -> Result<u64, Ref
 
 /// Returns the bytes of the answer to those of an ask. Refused: BadMessage, NoMemory.
 fn serve(alloc: Global, snapshot: &Snapshot, bytes: &[u8]) -> Result<Vec<u8>, Refusal> {
-    match decode(alloc, bytes)? {
-        Message::Ask(ask) => answer(alloc, snapshot, ask),
-        Message::Offer(_) | Message::Answer(_) => Err(Refusal::BadMessage),
-    }
+    let message = decode(alloc, bytes)?;
+    let Message::Ask(ask) = &message else {
+        return Err(Refusal::BadMessage);
+    };
+    answer(alloc, snapshot, ask)
 }
 
 /// Returns the bytes of the answer to an ask. Refused: BadMessage, NoMemory.
-fn answer(alloc: Global, snapshot: &Snapshot, ask: Ask) -> Result<Vec<u8>, Refusal> {
-    let text = snapshot.answer(alloc, ask)?;
+fn answer(alloc: Global, snapshot: &Snapshot, ask: &Ask) -> Result<Vec<u8>, Refusal> {
+    let Ask { offer, node } = *ask;
+    let text = snapshot.answer(alloc, Ask { offer, node })?;
     let answer = Answer {
-        offer: ask.offer,
-        node: ask.node,
+        offer,
+        node,
         text: Text::from(text),
     };
     encode(alloc, &Message::Answer(answer))

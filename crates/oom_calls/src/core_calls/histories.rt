@@ -1,8 +1,8 @@
 //! Journals.
-use crate::core_calls::versions::version;
+use crate::core_calls::versions::{version, wide_version};
 use crate::lines::{show, unchanged};
 use crate::states::begins;
-use range_journal::{Journal, Source, held_in};
+use range_journal::{Entry, Journal, Source, copy_entries, held_in};
 use std::alloc::Global;
 use std::io;
 use vclock::{Bytes, Refusal};
@@ -12,6 +12,8 @@ pub(crate) fn show_all<R: Print + AllocGlobal>(rt: &R) -> io::Result<()> {
     let alloc = rt.alloc();
     show(rt, "Journal::append", append(alloc))?;
     show(rt, "Journal::reserve", reserve(alloc))?;
+    show(rt, "Entry::try_clone", clone_of_entry(alloc))?;
+    show(rt, "copy_entries", copies(alloc))?;
     show(rt, "held_in", held(alloc))
 }
 
@@ -54,6 +56,22 @@ fn reserve(alloc: Global) -> Result<u64, Refusal> {
         Ok(()) => Ok(journal.room()),
         Err(refusal) => Err(unchanged(refusal, is_before(alloc, &journal, 4))),
     }
+}
+
+fn clone_of_entry(alloc: Global) -> Result<u64, Refusal> {
+    let entry = Entry {
+        number: 0,
+        seat: 0,
+        source: Source::Client,
+        key: Bytes::copy_of(alloc, b"a")?,
+        version: wide_version(alloc, 7)?,
+    };
+    Ok(entry.try_clone()?.version.clock.get(7))
+}
+
+fn copies(alloc: Global) -> Result<u64, Refusal> {
+    let journal = journal_before(alloc, 4)?;
+    Ok(copy_entries(alloc, journal.entries())?.len() as u64)
 }
 
 fn held(alloc: Global) -> Result<u64, Refusal> {

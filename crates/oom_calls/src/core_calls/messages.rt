@@ -1,8 +1,8 @@
 //! Messages.
 use crate::lines::show;
-use hash_tree::{NodeAt, Text};
 use std::alloc::Global;
 use std::io;
+use tree_nodes::{NodeAt, Text};
 use vclock::Refusal;
 use walk_messages::{Answer, Message, decode, encode};
 

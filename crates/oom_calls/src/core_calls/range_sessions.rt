@@ -3,13 +3,13 @@ use crate::core_calls::sessions::{ASKED, first_text};
 use crate::core_calls::snapshots::{Snapshots, clean_range};
 use crate::lines::{show, unchanged};
 use crate::states::{is_between, is_same};
-use hash_tree::{Hashed, NodeAt};
 use range_state::{RangeState, Synced};
 use snapshot::Snapshot;
 use std::alloc::Global;
 use std::io;
 use std::thread::Threads;
 use sync_session::SessionState;
+use tree_nodes::{Hashed, NodeAt};
 use vclock::Refusal;
 
 /// Shows the calls on sessions of a range.
@@ -20,12 +20,12 @@ pub(crate) fn show_all<R: Print + AllocGlobal + Threads + Sync>(
     let (alloc, partner) = (rt.alloc(), &both.partner);
     show(
         rt,
-        "RangeState::open_session and Marks::keep_digests",
+        "RangeState::open_session, Tree::kept_snapshot and Marks::keep_digests",
         open_session(rt, alloc, partner),
     )?;
     show(
         rt,
-        "RangeState::take_answer and Leaves::with_leaf",
+        "RangeState::take_answer, Tree::with_leaf and Leaves::with_leaf",
         take_answer(rt, alloc, partner),
     )?;
     show(rt, "RangeState::sync_with", sync_with(rt, alloc, partner))

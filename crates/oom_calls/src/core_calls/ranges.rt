@@ -23,8 +23,16 @@ const TWO_KEYS: &[u8] =
 /// Shows the calls on range states.
 pub(crate) fn show_all<R: Print + AllocGlobal>(rt: &R) -> io::Result<()> {
     let alloc = rt.alloc();
-    show(rt, "RangeState::new and Leaves::empty", new(alloc))?;
-    show(rt, "RangeState::put and Leaves::offer", put(alloc))?;
+    show(
+        rt,
+        "RangeState::new, Tree::empty and Leaves::empty",
+        new(alloc),
+    )?;
+    show(
+        rt,
+        "RangeState::put, Tree::offer and Leaves::offer",
+        put(alloc),
+    )?;
     show(rt, "RangeState::put, stale", stale_put(alloc))?;
     show(rt, "RangeState::put_read", put_read(alloc))?;
     show(rt, "RangeState::put_read, unread", unread_put(alloc))?;
@@ -33,14 +41,14 @@ pub(crate) fn show_all<R: Print + AllocGlobal>(rt: &R) -> io::Result<()> {
     show(rt, "RangeState::migrate", migrate(alloc))?;
     show(
         rt,
-        "RangeState::renewed and Marks::try_clone",
+        "RangeState::renewed, Tree::share and Marks::try_clone",
         renewed(alloc),
     )?;
     show(rt, "RangeState::load_rows", load_rows(alloc))?;
     show(rt, "RangeState::load_format", load_format(alloc))?;
     show(
         rt,
-        "RangeState::rows_text and SharedLeaf::put_rows",
+        "RangeState::rows_text, Tree::rows_text and SharedLeaf::put_rows",
         rows_text(alloc),
     )?;
     show(rt, "Replay::advance", replay(alloc))

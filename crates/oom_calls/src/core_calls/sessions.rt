@@ -2,12 +2,12 @@
 use crate::core_calls::snapshots::Snapshots;
 use crate::lines::{show, unchanged};
 use crate::sessions::is_same_session;
-use hash_tree::{Hashed, NodeAt, Text, hash, tree_depth};
 use snapshot::Snapshot;
 use std::alloc::Global;
 use std::io;
 use std::sync::Arc;
 use sync_session::Session;
+use tree_nodes::{Hashed, NodeAt, Text, hash, tree_depth};
 use vclock::Refusal;
 use walk_messages::Ask;
 

@@ -2,13 +2,13 @@
 use crate::core_calls::ranges::range as new_range;
 use crate::core_calls::trees::range;
 use crate::lines::show;
-use hash_tree::NodeAt;
 use range_state::RangeState;
 use snapshot::Snapshot;
 use std::alloc::Global;
 use std::io;
 use std::sync::Arc;
 use std::thread::Threads;
+use tree_nodes::NodeAt;
 use vclock::Refusal;
 use walk_messages::Ask;
 
@@ -26,7 +26,8 @@ pub(crate) fn show_both<R: Print + AllocGlobal + Threads + Sync>(
     rt: &R,
 ) -> io::Result<Option<Snapshots>> {
     let alloc = rt.alloc();
-    let name = "RangeState::snapshot, Marks::digests, Leaves::share and Snapshot::of_shared";
+    let name =
+        "RangeState::snapshot, Tree::snapshot, Marks::digests, Leaves::share, Snapshot::of_shared";
     match Snapshots::new(rt, alloc) {
         Ok(both) => {
             show(rt, name, Ok(u64::from(both.partner.bits())))?;

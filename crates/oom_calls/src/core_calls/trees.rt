@@ -3,15 +3,13 @@ use crate::core_calls::leaves::leaf_of;
 use crate::core_calls::ranges::range_of;
 use crate::lines::{show, unchanged};
 use crate::states::is_between;
-use hash_tree::{
-    Digest, Leaves, Marks, NodeAt, SharedDigests, SharedLeaf, Text, hash, inner_text, leaf_text,
-    put_inner_text,
-};
+use hash_tree::{Leaves, SharedLeaf, inner_text, leaf_text, put_inner_text};
 use range_state::RangeState;
 use rehash::{Job, hash_all, hash_here, run_job};
 use std::alloc::Global;
 use std::io;
 use std::thread::Threads;
+use tree_nodes::{Digest, Marks, NodeAt, SharedDigests, Text, hash};
 use vclock::{Format, Refusal};
 
 /// A digest.
@@ -31,13 +29,29 @@ pub(crate) fn show_all<R: Print + AllocGlobal + Threads + Sync>(rt: &R) -> io::R
     show(rt, "put_inner_text", put_text(alloc))?;
     show(rt, "Job::of_leaf", leaf_job(alloc))?;
     show(rt, "Job::of_children", inner_job(alloc))?;
-    show(rt, "RangeState::take_job", take_job(alloc))?;
-    show(rt, "RangeState::take_jobs", take_jobs(alloc))?;
+    show(
+        rt,
+        "RangeState::take_job and Tree::take_job",
+        take_job(alloc),
+    )?;
+    show(
+        rt,
+        "RangeState::take_jobs and Tree::take_jobs",
+        take_jobs(alloc),
+    )?;
     show(rt, "hash_all", hash_some(rt, alloc))?;
     show(rt, "hash_here", hash_some_here(alloc))?;
-    show(rt, "RangeState::rehash", rehash(rt, alloc))?;
-    show(rt, "RangeState::rehash_here", rehash_here(rt, alloc))?;
-    show(rt, "RangeState::rehash_some", rehash_some(alloc))
+    show(rt, "RangeState::rehash and Tree::rehash", rehash(rt, alloc))?;
+    show(
+        rt,
+        "RangeState::rehash_here and Tree::rehash_here",
+        rehash_here(rt, alloc),
+    )?;
+    show(
+        rt,
+        "RangeState::rehash_some and Tree::rehash_some",
+        rehash_some(alloc),
+    )
 }
 
 fn marks(alloc: Global) -> Result<u64, Refusal> {

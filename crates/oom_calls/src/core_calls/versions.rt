@@ -3,7 +3,7 @@ use crate::lines::{show, unchanged};
 use std::alloc::Global;
 use std::io;
 use vclock::{Bytes, Clock, Refusal};
-use version_set::{Kind, Version, VersionSet};
+use version_set::{Held, Kind, Version, VersionSet};
 
 /// Shows the calls on versions and sets of them.
 pub(crate) fn show_all<R: Print + AllocGlobal>(rt: &R) -> io::Result<()> {
@@ -11,7 +11,9 @@ pub(crate) fn show_all<R: Print + AllocGlobal>(rt: &R) -> io::Result<()> {
     show(rt, "Version::try_clone", clone_of_version(alloc))?;
     show(rt, "VersionSet::offer", offer(alloc))?;
     show(rt, "VersionSet::clocks", clocks(alloc))?;
-    show(rt, "VersionSet::try_clone", clone_of_set(alloc))
+    show(rt, "VersionSet::try_clone", clone_of_set(alloc))?;
+    show(rt, "Held::clocks", held_clocks(alloc))?;
+    show(rt, "Held::to_set", held_set(alloc))
 }
 
 /// Returns a version that one node alone has counted.
@@ -67,4 +69,14 @@ fn clocks(alloc: Global) -> Result<u64, Refusal> {
 
 fn clone_of_set(alloc: Global) -> Result<u64, Refusal> {
     Ok(set_before(alloc, 3)?.try_clone(alloc)?.len() as u64)
+}
+
+fn held_clocks(alloc: Global) -> Result<u64, Refusal> {
+    let set = set_before(alloc, 3)?;
+    Ok(Held::new(Some(&set)).clocks(alloc)?.as_slice().len() as u64)
+}
+
+fn held_set(alloc: Global) -> Result<u64, Refusal> {
+    let set = set_before(alloc, 3)?;
+    Ok(Held::new(Some(&set)).to_set(alloc)?.len() as u64)
 }

@@ -1,8 +1,8 @@
 //! Clocks, bytes and texts.
 use crate::lines::{show, unchanged};
-use hash_tree::Text;
 use std::alloc::Global;
 use std::io;
+use tree_nodes::Text;
 use vclock::{Bytes, Clock, Clocks, Refusal};
 
 /// Too many bytes for a `Bytes` to hold without memory of its own: a copy takes memory.

@@ -140,7 +140,7 @@ impl LockedCall {
             LockedCall::Hash => "LockedRange::take_job and install",
             LockedCall::Snapshot => "LockedRange::snapshot",
             LockedCall::OpenSession => "LockedRange::open_session",
-            LockedCall::TakeAnswer => "LockedRange::take_answer",
+            LockedCall::TakeAnswer => "LockedRange::take_answer and LockedRange::take_answer_next",
             LockedCall::Put(_) => "LockedRange::put and LockedRange::put_hashed",
             LockedCall::StalePut(_) => "LockedRange::put, stale",
             LockedCall::UnreadPut(_) => "LockedRange::put_read",

@@ -1,11 +1,11 @@
 //! Links to a pool in the same memory.
 use crate::lines::show;
 use crate::thread_calls::partner::Partner;
-use hash_tree::NodeAt;
 use ring_node::{Deed, Link, MemoryLink, Reached, ScriptedLink};
 use std::alloc::Global;
 use std::io;
 use std::sync::Wait;
+use tree_nodes::NodeAt;
 use vclock::Refusal;
 use walk_messages::{Ask, Message, encode};
 

@@ -6,13 +6,13 @@ use crate::thread_calls::closing::{Closing, close_locked, renew_locked};
 use crate::thread_calls::partner::Partner;
 use crate::thread_calls::versions::{TWO_VERSIONS, put_parts, version};
 use caller_pass::{LockedRange, Pass, open_passes};
-use hash_tree::{Text, hash};
 use key_ring::HashedKey;
 use range_journal::Source;
 use range_state::{Accepted, RangeConfig, RangeState};
 use rehash::run_job;
 use std::alloc::Global;
 use std::sync::ledger::{Blank, Ledger};
+use tree_nodes::{Text, hash};
 use vclock::Refusal;
 use version_set::Kind;
 use walk_messages::Ask;
@@ -100,7 +100,7 @@ impl<L: Ledger> Locked<L> {
         let text = partner.snapshot.answer(alloc, Ask { offer: 1, node })?;
         let hashed = hash(Text::from(text));
         let pass = self.passes.get_mut(1).ok_or(Refusal::Stranger)?;
-        let taken = self.range.take_answer(alloc, pass, 0, node, hashed)?;
+        let (taken, _next) = self.range.take_answer_next(alloc, pass, 0, node, hashed)?;
         Ok(taken.receipts)
     }
 

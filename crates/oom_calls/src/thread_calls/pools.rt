@@ -1,11 +1,11 @@
 //! Pools of offers.
 use crate::lines::{show, unchanged};
 use crate::thread_calls::partner::Partner;
-use hash_tree::NodeAt;
 use ring_node::OfferPool;
 use std::alloc::Global;
 use std::io;
 use std::sync::{Arc, Wait};
+use tree_nodes::NodeAt;
 use vclock::Refusal;
 use walk_messages::Ask;
 
