@@ -12,14 +12,14 @@ ghost use Rattle.hash_tree.specs.Leaves.{Bucket, key_cmp, AscendByKey, IsPlace, 
 ghost use Rattle.hash_tree.specs.Chunks.{all_rows, chunk_rows, chunk_text, AreChunks, IsRowOf, Follows, Precedes, IsGapOf, place_in, IsSpot, IsRowSpot, IsGapSpot, IsRoomySpot, IsSplit, row_versions, offered_at};
 
 use crate::chunk::Chunk;
-use crate::written_rows::MOST_ROWS;
+use crate::written_rows::ROWS_MAX;
 use row_bytes::Row;
 use std::alloc::Global;
 use vclock::{Bytes, Format, Refusal};
 use version_set::{Version, VersionSet};
 
 /// The maximum number of chunks of a leaf: more than any memory holds, and few enough to count the bytes of its text.
-const MOST_CHUNKS: usize = 1 << 56;
+const CHUNKS_MAX: usize = 1 << 56;
 
 /// The place of a row in a leaf, or a place at which to insert one. A search returns it; an offer looks there first, and
 /// searches only if the leaf has changed since. The default is the first place.
@@ -229,7 +229,7 @@ fn roomy_gap(alloc: Global, chunks: &mut Vec<Chunk>, gap: Spot) -> Result<Spot, 
     ensures rows { all_rows chunks.new.items ≡ all_rows chunks.old.items }
     ensures chunks { (format : Format) → AreChunks format chunks.old.items → AreChunks format chunks.new.items }
 {
-    if chunks[gap.chunk].rows().len() < MOST_ROWS {
+    if chunks[gap.chunk].rows().len() < ROWS_MAX {
         return Ok(gap);
     }
     let cut = cut_for(gap.at);
@@ -249,10 +249,10 @@ fn cut_for(at: usize) -> usize
     ensures some { 1 ≤ result }
     ensures less { result < 15 }
 {
-    if at < MOST_ROWS {
-        MOST_ROWS / 2
+    if at < ROWS_MAX {
+        ROWS_MAX / 2
     } else {
-        MOST_ROWS - 1
+        ROWS_MAX - 1
     }
 }
 
@@ -270,7 +270,7 @@ fn split_at(
     ensures split { Answers result None (λ _. IsSplit chunks.old.items number cut chunks.new.items) }
     ensures err { OnErr result (chunks.new.items ≡ chunks.old.items) }
 {
-    if chunks.len() >= MOST_CHUNKS {
+    if chunks.len() >= CHUNKS_MAX {
         return Err(Refusal::NoMemory);
     }
     chunks.reserve(1)?;

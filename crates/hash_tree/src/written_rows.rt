@@ -17,7 +17,7 @@ use vclock::{Format, Refusal};
 use version_set::Version;
 
 /// The maximum number of rows of a chunk: a new row moves at most these, and their texts.
-pub(crate) const MOST_ROWS: usize = 15;
+pub(crate) const ROWS_MAX: usize = 15;
 
 /// The number of spare rows for which a small chunk reserves room.
 const SPARE_ROWS: usize = 3;
@@ -175,7 +175,7 @@ impl WrittenRows {
     fn spare_rows(&self) -> usize {
         let len = self.rows.len();
         len.max(SPARE_ROWS)
-            .min(MOST_ROWS.saturating_sub(len.saturating_add(1)))
+            .min(ROWS_MAX.saturating_sub(len.saturating_add(1)))
     }
 
     /// Returns the number of spare bytes of text to reserve: those of the spare rows, if they are as long as the present

@@ -1,8 +1,9 @@
 -- A record stays right.
-use Rattle.std.proofs.Common.{◌≡◌, ℕ, zero, suc, ◌/◌, ◌%◌, ◌⊎◌, Bool, true, false, not, cond, Option, Some, None, List, [], ◌∷◌, ◌++◌, refl, sym, ap, subst, ◌∙◌, inl, inr, append_assoc, append-nil}
+use Rattle.std.proofs.Common.{◌≡◌, ℕ, zero, suc, ◌/◌, ◌%◌, ◌<◌, ◌≤◌, ◌⊎◌, Bool, true, false, not, cond, Option, Some, None, List, [], ◌∷◌, ◌++◌, refl, sym, ap, subst, ◌∙◌, inl, inr, append_assoc, append-nil, length, arith}
 use Rattle.std.specs.Prelude.{is_some, option_map}
 use Rattle.std.specs.List.{flat_map, filter, AllByRecursion}
 use Rattle.std.proofs.lemmas.Bool.{cases_Bool, or_left, or_right, or_cases}
+use Rattle.std.proofs.lemmas.List.Filters.{length-filter_both}
 use Rattle.std.proofs.lemmas.List.Folds.{list_any-append}
 use Rattle.std.proofs.lemmas.Grind.{flat_map-append}
 use Rattle.row_bytes.specs.declared.row.Row.{Row}
@@ -111,6 +112,29 @@ kept (x ∷ nodes) n m other h =
     pick : (b : Bool) (ys : List Node) → contains_node m ys ≡ true → contains_node m (cond b (x ∷ ys) ys) ≡ true
     pick true ys h = or_right (is_same_node m x) (contains_node m ys) h
     pick false ys h = h
+
+-- a filtered list is no longer, and a list is shorter without a node that it has
+few : (p : Node → Bool) (nodes : List Node) → length (filter p nodes) ≤ length nodes
+few p nodes = omega (arith, length-filter_both p (λ x. not (p x)) (λ x. refl) nodes)
+
+pub fewer : (nodes : List Node) (n : Node) → contains_node n nodes ≡ true → length (filter (λ x. not (is_same_node x n)) nodes) < length nodes
+fewer [] n h = absurd (cc)
+fewer (x ∷ nodes) n h =
+    let rest = filter (λ y. not (is_same_node y n)) nodes in
+    elim (or_cases (is_same_node n x) (contains_node n nodes) h) [
+      | inl here ↦
+          let gone : is_same_node x n ≡ true = subst (λ (y : Node). is_same_node y n ≡ true) (is_node-true n x here) (is_node-same n) in
+          without (not (is_same_node x n)) rest (ap not gone) (few (λ y. not (is_same_node y n)) nodes)
+      | inr later ↦ maybe_with (not (is_same_node x n)) rest (fewer nodes n later)
+    ]
+  where
+    without : (b : Bool) (ys : List Node) → b ≡ false → length ys ≤ length nodes → length (cond b (x ∷ ys) ys) < length (x ∷ nodes)
+    without true ys e short = absurd (cc)
+    without false ys e short = omega (arith, short)
+
+    maybe_with : (b : Bool) (ys : List Node) → length ys < length nodes → length (cond b (x ∷ ys) ys) < length (x ∷ nodes)
+    maybe_with true ys short = omega (arith, short)
+    maybe_with false ys short = omega (arith, short)
 
 answered_after : (held : List ℕ → List Version) (w : Walk) (t : TakenText) → Walked held w → (n : Node) → contains_node n (w.asked ++ asks w.own t) ≡ true → (is_some (taken_at (w.taken ++ t ∷ []) n) ≡ true) ⊎ (contains_node n (left_after w t) ≡ true)
 answered_after held w t h n e =

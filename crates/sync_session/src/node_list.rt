@@ -1,5 +1,5 @@
 //! The nodes that a session asks, and the digests that it expects.
-ghost use Rattle.std.specs.Prelude.{◌≡◌, ◌+◌, ◌<◌, ◌≤◌, ◌++◌, ◌↔◌, IsTrue, IfOk, Some, not, length, map, option_map};
+ghost use Rattle.std.specs.Prelude.{◌≡◌, ◌+◌, ◌<◌, ◌≤◌, ◌++◌, ◌↔◌, IsTrue, IfOk, Some, true, not, length, map, option_map};
 ghost use Rattle.std.specs.List.{filter};
 ghost use Rattle.std.specs.Vec.{vec_len, vec_capacity};
 ghost use Rattle.tree_nodes.specs.Nodes.{is_same_node, contains_node, tree_depth};
@@ -99,6 +99,8 @@ pub fn remove(nodes: &mut Vec<NodeAt>, node: NodeAt)
     ensures kept { nodes.new.items ≡ filter (λ n. not (is_same_node n node)) nodes.old.items }
     ensures room { vec_capacity nodes.new ≡ vec_capacity nodes.old }
     ensures bound { vec_len nodes.new ≤ vec_len nodes.old }
+    ensures fewer { contains_node node nodes.old.items ≡ true
+        → vec_len nodes.new < vec_len nodes.old }
 {
     nodes.retain(|other| *other != node);
 }
@@ -106,7 +108,8 @@ pub fn remove(nodes: &mut Vec<NodeAt>, node: NodeAt)
 /// Appends nodes to a list that has room for them.
 pub fn append(nodes: &mut Vec<NodeAt>, new: &[NodeAt])
     requires { vec_len nodes.old + length new.now ≤ vec_capacity nodes.old }
-    ensures { nodes.new.items ≡ nodes.old.items ++ new.now }
+    ensures items { nodes.new.items ≡ nodes.old.items ++ new.now }
+    ensures len { vec_len nodes.new ≡ vec_len nodes.old + length new.now }
 {
     nodes.extend_from_slice(new).unwrap();
 }

@@ -1,11 +1,13 @@
 //! A walk of two trees.
-ghost use Rattle.std.specs.Prelude.{◌≡◌, ◌<◌, ◌↔◌, ℕ, List, None, [], length, IsTrue, map, option_map, MatchResult};
+ghost use Rattle.std.specs.Prelude.{◌≡◌, ◌+◌, ◌<◌, ◌≤◌, ◌↔◌, ◌∷◌, ◌++◌, ℕ, List, None, [], true, not, length, IsTrue, map, option_map, MatchResult};
 ghost use Rattle.std.specs.Arc.{arc_value};
+ghost use Rattle.std.specs.List.{filter};
+ghost use Rattle.std.specs.Vec.{vec_len, vec_capacity};
 ghost use Rattle.vclock.specs.Answer.{Answers};
 ghost use Rattle.vclock.specs.Outcome.{Does, gives};
 ghost use Rattle.row_bytes.specs.declared.row.Row.{Row};
-ghost use Rattle.tree_nodes.specs.Nodes.{tree_depth};
-ghost use Rattle.sync_session.specs.Walks.{TakenText, asks, IsCanonical, IsInnerText};
+ghost use Rattle.tree_nodes.specs.Nodes.{is_same_node, contains_node, tree_depth};
+ghost use Rattle.sync_session.specs.Walks.{TakenText, IsCanonical, IsInnerText};
 ghost use Rattle.sync_session.specs.Steps.{state_by, started, after, failed, cancelled_by, IsDue, Takes};
 ghost use Rattle.sync_session.specs.Readings.{Shows, Tells, Awaits, BeginsAtOnce, IsBeginFault, IsReadTo, StepsTo, IsReadFault};
 
@@ -35,8 +37,8 @@ pub enum Answered {
 /// known at first. It asks for the root's text, then for the children whose digests differ, down to the leaves that
 /// differ, and no others. The partner isn't trusted: each text must have the digest that is expected at its node.
 ///
-/// Only `start`, `rows_of`, `next_news`, `news_of`, `take`, `take_inner` and `take_leaf` allocate. On error a session is
-/// unchanged, unless `take` refuses a text as NotCanonical: then the session has failed.
+/// Only `start`, `rows_of`, `next_news`, `news_of`, `take` and `take_inner` allocate. On error a session is unchanged,
+/// unless `take` refuses a text as NotCanonical: then the session has failed.
 ///
 /// ```
 /// match session.take(alloc, node, text)? {
@@ -49,13 +51,15 @@ pub struct Session {
     root: Digest,
     asked: Vec<NodeAt>,
     outstanding: Vec<NodeAt>,
+    /// Always has room for the text of each outstanding node.
     taken: Vec<Taken>,
     state: SessionState,
 }
 
 impl Model for Session {
-    ghost use Rattle.std.specs.Prelude.{map};
+    ghost use Rattle.std.specs.Prelude.{◌+◌, ◌≤◌};
     ghost use Rattle.std.specs.Arc.{arc_value};
+    ghost use Rattle.std.specs.Vec.{vec_len, vec_capacity};
     ghost use Rattle.sync_session.specs.Walks.{Walk};
 
     ghost Value = { Walk };
@@ -68,6 +72,8 @@ impl Model for Session {
       taken = s.taken.items;
       state = s.state;
     } };
+
+    ghost invariant = { λ s. vec_len s.taken + vec_len s.outstanding ≤ vec_capacity s.taken };
 }
 
 impl Session {
@@ -82,9 +88,11 @@ impl Session {
     {
         let mut asked = Vec::new(alloc);
         let mut outstanding = Vec::new(alloc);
+        let mut taken = Vec::new(alloc);
         if root != own.root() {
             asked.push(NodeAt::root())?;
             outstanding.push(NodeAt::root())?;
+            taken.reserve(1)?;
         }
         let state = state_by(&outstanding);
         Ok(Session {
@@ -92,7 +100,7 @@ impl Session {
             root,
             asked,
             outstanding,
-            taken: Vec::new(alloc),
+            taken,
             state,
         })
     }
@@ -262,7 +270,7 @@ impl Session {
                     self.take_inner(alloc, node, text)?;
                     Ok(Answered::Inner)
                 } else {
-                    self.take_leaf(node, text)?;
+                    self.take_leaf(node, text);
                     Ok(Answered::Leaf(rows))
                 }
             }
@@ -285,35 +293,25 @@ impl Session {
             (gives tt (after self.old (record { node = node; text = text }))) }
     {
         let new = node_list::differing(alloc, &self.own, node, text.text())?;
-        self.record(node, text, &new)
+        self.asked.reserve(new.len())?;
+        self.outstanding.reserve(new.len())?;
+        self.taken.reserve(self.outstanding.len() + new.len())?;
+        node_list::append(&mut self.asked, &new);
+        record(&mut self.taken, &mut self.outstanding, node, text, &new);
+        self.state = state_by(&self.outstanding);
+        Ok(())
     }
 
     /// Takes the text of a leaf that `rows_of` or `news_of` has read, without reading it again. If nothing is
-    /// outstanding afterwards, the session is finished. Refused: NoMemory.
-    pub fn take_leaf(&mut self, node: NodeAt, text: Hashed) -> Result<(), Refusal>
+    /// outstanding afterwards, the session is finished. Doesn't allocate.
+    pub fn take_leaf(&mut self, node: NodeAt, text: Hashed)
         requires due { IsDue self.old (record { node = node; text = text }) }
         requires leaf { node.depth ≡ tree_depth self.old.own.format }
         requires canonical { IsCanonical self.old.own node text }
-        ensures { Does result self.old self.new
-            (gives tt (after self.old (record { node = node; text = text }))) }
+        ensures { self.new ≡ after self.old (record { node = node; text = text }) }
     {
-        self.record(node, text, &[])
-    }
-
-    /// Records a text, and asks these nodes.
-    fn record(&mut self, node: NodeAt, text: Hashed, new: &[NodeAt]) -> Result<(), Refusal>
-        requires { new.now ≡ asks self.old.own (record { node = node; text = text }) }
-        ensures { Does result self.old self.new
-            (gives tt (after self.old (record { node = node; text = text }))) }
-    {
-        self.asked.reserve(new.len())?;
-        self.outstanding.reserve(new.len())?;
-        self.taken.push(Taken::new(node, text))?;
-        node_list::remove(&mut self.outstanding, node);
-        node_list::append(&mut self.asked, new);
-        node_list::append(&mut self.outstanding, new);
+        record(&mut self.taken, &mut self.outstanding, node, text, &[]);
         self.state = state_by(&self.outstanding);
-        Ok(())
     }
 
     /// Ends a session as failed, after a text that is due but that its node can't have.
@@ -340,6 +338,29 @@ impl Session {
         self.outstanding.clear();
         self.state = state;
     }
+}
+
+/// Records the text of an outstanding node, and makes these nodes outstanding. There is room for both.
+fn record(
+    taken: &mut Vec<Taken>,
+    outstanding: &mut Vec<NodeAt>,
+    node: NodeAt,
+    text: Hashed,
+    new: &[NodeAt],
+)
+    requires asked { contains_node node outstanding.old.items ≡ true }
+    requires nodes { vec_len outstanding.old + length new.now ≤ vec_capacity outstanding.old }
+    requires texts { vec_len taken.old + vec_len outstanding.old + length new.now
+        ≤ vec_capacity taken.old }
+    ensures taken { taken.new.items
+        ≡ taken.old.items ++ (record { node = node; text = text }) ∷ [] }
+    ensures left { outstanding.new.items
+        ≡ filter (λ n. not (is_same_node n node)) outstanding.old.items ++ new.now }
+    ensures room { vec_len taken.new + vec_len outstanding.new ≤ vec_capacity taken.new }
+{
+    node_list::remove(outstanding, node);
+    node_list::append(outstanding, new);
+    taken.push_reserved(Taken::new(node, text));
 }
 
 /// Returns the state of a session that isn't ended: finished if nothing is outstanding, otherwise open.

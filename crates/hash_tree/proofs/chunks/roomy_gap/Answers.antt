@@ -6,12 +6,12 @@ use Rattle.hash_tree.proofs.KeyLaws.{all_get}
 use Rattle.hash_tree.proofs.ChunkPlaces.{rows_read, gap-behind, place-behind}
 use Rattle.hash_tree.proofs.chunks.roomy_gap.Goals as goal
 
-pub returns-then-rows-lt-MOST_ROWS-clause-gap : goal.returns-then-rows-lt-MOST_ROWS-clause-gap
-returns-then-rows-lt-MOST_ROWS-clause-gap c =
+pub returns-then-rows-lt-ROWS_MAX-clause-gap : goal.returns-then-rows-lt-ROWS_MAX-clause-gap
+returns-then-rows-lt-ROWS_MAX-clause-gap c =
     let chunks = c.args.chunks.now.items in
     let spot = c.args.gap in
     let gap = c.requires.gap in
-    (refl, (record { gap = gap; room = omega (arith, c.if-rows-lt-MOST_ROWS.true, ap (λ (rs : List Row). length rs) (c.rows.ensures ∙ ap (λ (b : Bucket). b.rows) c.deref.ensures ∙ rows_read chunks spot.chunk c.index.result.now gap.chunk c.index.ensures)) }, refl))
+    (refl, (record { gap = gap; room = omega (arith, c.if-rows-lt-ROWS_MAX.true, ap (λ (rs : List Row). length rs) (c.rows.ensures ∙ ap (λ (b : Bucket). b.rows) c.deref.ensures ∙ rows_read chunks spot.chunk c.index.result.now gap.chunk c.index.ensures)) }, refl))
 
 pub split_at-requires-clause-full : goal.split_at-requires-clause-full
 split_at-requires-clause-full c =
@@ -19,7 +19,7 @@ split_at-requires-clause-full c =
     let spot = c.args.gap in
     let gap = c.requires.gap in
     let few : length c.index.result.now.rows ≤ 15 = subst (λ (x : Bucket). length x.rows ≤ 15) (sym c.index.ensures) (all_get (λ (x : Bucket). length x.rows ≤ 15) chunks spot.chunk c.index.result.now c.requires.each gap.chunk) in
-    omega (arith, few, c.if-rows-lt-MOST_ROWS.false, ap (λ (rs : List Row). length rs) (c.rows.ensures ∙ ap (λ (b : Bucket). b.rows) c.deref.ensures), ap (λ (rs : List Row). length rs) (rows_read chunks spot.chunk c.index.result.now gap.chunk c.index.ensures))
+    omega (arith, few, c.if-rows-lt-ROWS_MAX.false, ap (λ (rs : List Row). length rs) (c.rows.ensures ∙ ap (λ (b : Bucket). b.rows) c.deref.ensures), ap (λ (rs : List Row). length rs) (rows_read chunks spot.chunk c.index.result.now gap.chunk c.index.ensures))
 
 pub returns-then-gap-cut-clause-gap : goal.returns-then-gap-cut-clause-gap
 returns-then-gap-cut-clause-gap c =
@@ -35,5 +35,5 @@ returns-clause-gap c =
     let split = c.in_ok-split_at.ensures.split.1 in
     let few : length c.index.result.now.rows ≤ 15 = subst (λ (x : Bucket). length x.rows ≤ 15) (sym c.index.ensures) (all_get (λ (x : Bucket). length x.rows ≤ 15) chunks spot.chunk c.index.result.now c.requires.each gap.chunk) in
     let full : length (chunk_rows chunks spot.chunk) ≡ 15 =
-    omega (arith, few, c.if-rows-lt-MOST_ROWS.false, ap (λ (rs : List Row). length rs) (c.rows.ensures ∙ ap (λ (b : Bucket). b.rows) c.deref.ensures), ap (λ (rs : List Row). length rs) (rows_read chunks spot.chunk c.index.result.now gap.chunk c.index.ensures)) in
+    omega (arith, few, c.if-rows-lt-ROWS_MAX.false, ap (λ (rs : List Row). length rs) (c.rows.ensures ∙ ap (λ (b : Bucket). b.rows) c.deref.ensures), ap (λ (rs : List Row). length rs) (rows_read chunks spot.chunk c.index.result.now gap.chunk c.index.ensures)) in
     (refl, (record { gap = gap-behind chunks c.split_at.new.chunks.items spot c.cut_for-cut.result gap split full c.if-gap-cut.false; room = omega (arith, split.back, c.cut_for-cut.ensures.some) }, place-behind chunks c.split_at.new.chunks.items spot c.cut_for-cut.result split c.if-gap-cut.false))
