@@ -16,23 +16,25 @@ use Rattle.sync_session.specs.Readings.{AreOthers}
 use Rattle.sync_session.specs.Walks.{TakenText, Held}
 use Rattle.sync_session.proofs.NewsRowLaws.{others_all}
 use Rattle.sync_session.proofs.StepLaws.{Held-grows}
-use Rattle.range_state.specs.State.{State, knows, accept_step}
-use Rattle.range_state.specs.Sessions.{offers_in, offers_of, taken_in, crowded_in}
-use Rattle.range_state.proofs.AnswerLaws.{NewsRead, rows_ready}
-use Rattle.range_state.specs.Batches.{IsRowFor}
-use Rattle.range_state.proofs.BatchLaws.{Offers, taken-append, crowded-append}
-use Rattle.range_state.proofs.RecordLaws.{grows}
-use Rattle.range_state.proofs.StateLaws.{knows_held}
-use Rattle.range_state.proofs.TakenLaws.{Nothing, nothing, taken_grown}
+use Rattle.range_store.specs.Store.{Store, knows, accept_step}
+use Rattle.range_store.specs.Offers.{offers_in, offers_of, crowded_in}
+use Rattle.range_state.specs.State.{State}
+use Rattle.range_state.specs.Sessions.{taken_in}
+use Rattle.range_state.proofs.AnswerLaws.{NewsRead, rows_ready, rows_homes}
+use Rattle.range_store.specs.Batches.{IsRowFor, IsOfferFor}
+use Rattle.range_store.proofs.BatchLaws.{Offers, taken-append, crowded-append}
+use Rattle.range_store.proofs.HeldLaws.{grows}
+use Rattle.range_store.proofs.StoreLaws.{knows_held}
+use Rattle.range_store.proofs.TakenLaws.{Nothing, nothing, taken_grown, offers_all}
 
 -- ---- versions that are held
 
 -- Nothing becomes of offers that are known.
-record AreIdle (s : State) (seat : ℕ) (offers : Offers) : Type 0 where
+record AreIdle (s : Store) (seat : ℕ) (offers : Offers) : Type 0 where
   taken : taken_in s seat offers ≡ s
   crowded : crowded_in s seat Partner offers ≡ None
 
-idle : (s : State) (seat : ℕ) (key : List ℕ) (vs : List Version) → AllByRecursion (λ v. covered v (held s.entries key) ≡ true) vs → AreIdle s seat (map (λ (v : Version). (key, v)) vs)
+idle : (s : Store) (seat : ℕ) (key : List ℕ) (vs : List Version) → AllByRecursion (λ v. covered v (held s.entries key) ≡ true) vs → AreIdle s seat (map (λ (v : Version). (key, v)) vs)
 idle s seat key [] all = record { taken = refl; crowded = refl }
 idle s seat key (v ∷ vs) all =
     let offers : Offers = map (λ (w : Version). (key, w)) vs in
@@ -41,12 +43,12 @@ idle s seat key (v ∷ vs) all =
     let fits : offer_fault v (held s.entries key) ≡ None = rw all.0 refl in
     let rest = idle s seat key vs all.1 in
     record {
-      taken = ap (λ (t : State). taken_in t seat offers) step ∙ rest.taken;
-      crowded = ap (λ (f : Option Refusal). first_fault f (crowded_in (accept_step s seat Partner key v) seat Partner offers)) fits ∙ ap (λ (t : State). crowded_in t seat Partner offers) step ∙ rest.crowded;
+      taken = ap (λ (t : Store). taken_in t seat offers) step ∙ rest.taken;
+      crowded = ap (λ (f : Option Refusal). first_fault f (crowded_in (accept_step s seat Partner key v) seat Partner offers)) fits ∙ ap (λ (t : Store). crowded_in t seat Partner offers) step ∙ rest.crowded;
     }
 
 -- what is held stays so while offers are taken
-still_held : (s : State) (seat : ℕ) (offers : Offers) (own : List Row) → Held own (held s.entries) → Held own (held (taken_in s seat offers).entries)
+still_held : (s : Store) (seat : ℕ) (offers : Offers) (own : List Row) → Held own (held s.entries) → Held own (held (taken_in s seat offers).entries)
 still_held s seat offers own h =
     let grown = taken_grown Nothing s seat Partner offers (nothing offers) in
     subst (λ es. Held own (held es)) (sym grown.entries) (Held-grows (held s.entries) (held (s.entries ++ grown.more)) own (grows s.entries grown.more) h)
@@ -54,12 +56,12 @@ still_held s seat offers own h =
 -- ---- the news stand for all
 
 -- What becomes of the offers of all rows becomes of the news alone.
-pub record IsSame (s : State) (seat : ℕ) (rows others : List Row) (known : ℕ) : Type 0 where
+pub record IsSame (s : Store) (seat : ℕ) (rows others : List Row) (known : ℕ) : Type 0 where
   pub taken : taken_in s seat (offers_of rows) ≡ taken_in s seat (offers_of others)
   pub crowded : crowded_in s seat Partner (offers_of rows) ≡ crowded_in s seat Partner (offers_of others)
   pub count : length (offers_of rows) ≡ length (offers_of others) + known
 
-same_more : (s : State) (seat : ℕ) (r : Row) (rows others : List Row) (known : ℕ) → IsSame (taken_in s seat (offers_in r)) seat rows others known → IsSame s seat (r ∷ rows) (r ∷ others) known
+same_more : (s : Store) (seat : ℕ) (r : Row) (rows others : List Row) (known : ℕ) → IsSame (taken_in s seat (offers_in r)) seat rows others known → IsSame s seat (r ∷ rows) (r ∷ others) known
 same_more s seat r rows others known is =
     let next = taken_in s seat (offers_in r) in
     record {
@@ -71,17 +73,17 @@ same_more s seat r rows others known is =
       count = omega (arith, is.count, length-append (offers_in r) (offers_of rows), length-append (offers_in r) (offers_of others));
     }
 
-same_idle : (s : State) (seat : ℕ) (r : Row) (rows others : List Row) (n known : ℕ) → AreIdle s seat (offers_in r) → known ≡ length r.versions + n → IsSame s seat rows others n → IsSame s seat (r ∷ rows) others known
+same_idle : (s : Store) (seat : ℕ) (r : Row) (rows others : List Row) (n known : ℕ) → AreIdle s seat (offers_in r) → known ≡ length r.versions + n → IsSame s seat rows others n → IsSame s seat (r ∷ rows) others known
 same_idle s seat r rows others n known quiet total is = record {
-  taken = taken-append s seat Partner (offers_in r) (offers_of rows) ∙ ap (λ (t : State). taken_in t seat (offers_of rows)) quiet.taken ∙ is.taken;
+  taken = taken-append s seat Partner (offers_in r) (offers_of rows) ∙ ap (λ (t : Store). taken_in t seat (offers_of rows)) quiet.taken ∙ is.taken;
   crowded =
       crowded-append s seat Partner (offers_in r) (offers_of rows)
       ∙ ap (λ (f : Option Refusal). first_fault f (crowded_in (taken_in s seat (offers_in r)) seat Partner (offers_of rows))) quiet.crowded
-      ∙ ap (λ (t : State). crowded_in t seat Partner (offers_of rows)) quiet.taken ∙ is.crowded;
+      ∙ ap (λ (t : Store). crowded_in t seat Partner (offers_of rows)) quiet.taken ∙ is.crowded;
   count = omega (arith, is.count, total, length-append (offers_in r) (offers_of rows), length-map {B = List ℕ × Version} r.versions (λ (v : Version). (r.key, v)));
 }
 
-pub news_stand : (s : State) (seat : ℕ) (own rows others : List Row) (known : ℕ) → Held own (held s.entries) → AreOthers own rows others known → IsSame s seat rows others known
+pub news_stand : (s : Store) (seat : ℕ) (own rows others : List Row) (known : ℕ) → Held own (held s.entries) → AreOthers own rows others known → IsSame s seat rows others known
 news_stand s seat own [] others known h news = record {
   taken = ap (λ (rs : List Row). taken_in s seat (offers_of rs)) (sym news.0);
   crowded = ap (λ (rs : List Row). crowded_in s seat Partner (offers_of rs)) (sym news.0);
@@ -99,8 +101,14 @@ news_stand s seat own (r ∷ rows) others known h news = elim news [
 ]
 
 -- what the news of a leaf's text have
-pub news_ready : {s : State} {id : ℕ} {t : TakenText} {news : News} → NewsRead s id t news → AllByRecursion (IsRowFor s.config t.node.index) news.rows.items × (length (offers_of news.rows.items) + news.known ≤ length t.text)
+pub news_ready : {s : State} {id : ℕ} {t : TakenText} {news : News} → NewsRead s id t news → AllByRecursion (IsRowFor s.store.config t.node.index) news.rows.items × (length (offers_of news.rows.items) + news.known ≤ length t.text)
 news_ready {s = s} {t = t} {news = news} seen =
     let ready = rows_ready seen in
-    let all = news_stand s 0 seen.own seen.rows news.rows.items news.known seen.held seen.parted in
-    (others_all (IsRowFor s.config t.node.index) seen.own seen.rows news.rows.items news.known ready.0 seen.parted, omega (arith, ready.1, all.count))
+    let all = news_stand s.store 0 seen.own seen.rows news.rows.items news.known seen.held seen.parted in
+    (others_all (IsRowFor s.store.config t.node.index) seen.own seen.rows news.rows.items news.known ready.0 seen.parted, omega (arith, ready.1, all.count))
+
+-- its versions have their place in the leaf
+pub news_homes : {s : State} {id : ℕ} {t : TakenText} {news : News} → NewsRead s id t news → AllByRecursion (λ o. IsOfferFor s.store.config t.node.index o.0 o.1) (offers_of news.rows.items)
+news_homes {s = s} {t = t} {news = news} seen =
+    offers_all (IsOfferFor s.store.config t.node.index) news.rows.items
+    (others_all (λ (r : Row). AllByRecursion (λ v. IsOfferFor s.store.config t.node.index r.key v) r.versions) seen.own seen.rows news.rows.items news.known (rows_homes seen) seen.parted)

@@ -1,29 +1,22 @@
 -- Two replicas that took each other's leaves where their trees differ: what they hold, and their rows.
-use Rattle.std.proofs.Common.{◌≡◌, ℕ, zero, suc, ◌+◌, ◌-◌, ◌*◌, ◌/◌, ◌%◌, ◌^◌, ◌<◌, ◌↔◌, Bool, true, false, cond, not, Option, Some, None, List, [], ◌∷◌, ◌++◌, length, refl, ap, sym, subst, ◌∙◌, ◌||◌, ◌&&◌, inl, inr, arith, Any, Contains}
+use Rattle.std.proofs.Common.{◌≡◌, ℕ, zero, suc, ◌+◌, ◌-◌, ◌*◌, ◌/◌, ◌%◌, ◌^◌, ◌<◌, Bool, true, false, cond, not, Option, Some, None, List, [], ◌∷◌, ◌++◌, length, refl, ap, sym, subst, ◌∙◌, ◌||◌, ◌&&◌, inl, inr, arith}
 use Rattle.std.proofs.lemmas.Bool.{cases_Bool, both_ways, or_left, or_right, cases_lt}
-use Rattle.std.proofs.lemmas.List.Folds.{list_any-append, Any-from_list_any, list_any-from_Any}
+use Rattle.std.proofs.lemmas.List.Folds.{list_any-append}
 use Rattle.std.proofs.lemmas.Slice.Eq.{bytes_eq-Decides}
 use Rattle.std.specs.Prelude.{nat_eq}
 use Rattle.std.specs.List.{list_any, filter, AllByRecursion}
-use Rattle.std.specs.Cmp.Lexicographic.{pointwise}
-use Rattle.std.specs.declared.cmp.Ordering.TheVariants.{Less, Greater}
 use Rattle.sha2.specs.Sha256.{sha256}
 use Rattle.vclock.specs.declared.format.Format.{Format}
 use Rattle.vclock.specs.declared.format.Format.TheVariants.{One, Two}
 use Rattle.vclock.specs.declared.refusal.Refusal.TheVariants.{Dirty}
 use Rattle.version_set.specs.declared.version.Version.{Version}
-use Rattle.version_set.specs.Version.{covered, is_same, is_below, maximal, set_from}
-use Rattle.range_journal.specs.declared.journal.Entry.{Entry}
-use Rattle.range_journal.specs.Journal.{held, versions_of}
-use Rattle.range_journal.proofs.JournalLaws.{covered-held, contains_cons, contains_later}
+use Rattle.range_journal.specs.Journal.{held}
 use Rattle.key_ring.specs.Places.{leaf_at}
-use Rattle.row_bytes.specs.declared.row.Row.{Row}
 use Rattle.row_bytes.specs.Rows.{IsRow}
 use Rattle.row_bytes.proofs.LimitLaws.{no_fault_else}
-use Rattle.hash_tree.specs.Leaves.{key_cmp, AscendByKey, versions_in}
+use Rattle.hash_tree.specs.Leaves.{versions_in}
 use Rattle.tree_nodes.specs.Nodes.{Node, is_same_node, contains_node, tree_depth, node_count, kept_digest, are_clean}
 use Rattle.hash_tree.specs.Texts.{leaf_text, node_digest, AreTrue}
-use Rattle.hash_tree.proofs.KeyLaws.{turned}
 use Rattle.hash_tree.proofs.LeafLaws.{versions_in-rows_at}
 use Rattle.hash_tree.proofs.TextLaws.{leaf_node, same_leaf}
 use Rattle.snapshot.specs.RowMaps.{RowMap, IsRowMap, leaf_in, root_of}
@@ -32,17 +25,17 @@ use Rattle.sync_session.specs.Walks.{child_digest, IsCompared, NoTwoShareADigest
 use Rattle.sync_session.specs.Differing.{first_of_level, nodes_above_depth, all_nodes, is_unlike, differs_at, differ}
 use Rattle.sync_session.proofs.DescentLaws.{at_node, is_node-same}
 use Rattle.sync_session.proofs.TextLaws.{text_above, leaf_rows, child_digest-text, leaf_below, leaf_are}
-use Rattle.range_state.specs.Rows.{rows_of}
-use Rattle.range_state.specs.State.{State, IsRight, rows_now, dirty_fault}
+use Rattle.range_store.specs.Rows.{rows_of}
+use Rattle.range_store.specs.Store.{Store, IsSound, rows_now, dirty_fault}
 use Rattle.range_state.specs.Syncs.{IsOfRange, leaves_between, synced}
 use Rattle.range_state.specs.Unions.{union_of}
-use Rattle.range_state.proofs.RowLaws.{rows_of-ascend, rows_of-entries, versions_in-rows_of}
-use Rattle.range_state.proofs.OfferLaws.{row_map_now}
-use Rattle.range_state.proofs.SessionResults.{all_of}
-use Rattle.range_state.proofs.StateLaws.{eq_itself}
-use Rattle.range_state.proofs.SessionLaws.{covered-itself}
+use Rattle.range_store.proofs.RowLaws.{versions_in-rows_of}
+use Rattle.range_store.proofs.OfferLaws.{row_map_now}
+use Rattle.range_store.proofs.SameRowLaws.{same_rows}
+use Rattle.range_store.proofs.StoreLaws.{eq_itself}
 use Rattle.range_state.proofs.SyncLists.{member_of}
-use Rattle.range_state.proofs.UnionLaws.{offers_unite, union_alike, union_swap, held-Ascends, held_own, for_leaves, leaves_hold, leaves_any}
+use Rattle.range_state.proofs.UnionLaws.{offers_unite, union_alike, union_swap, for_leaves, leaves_hold, leaves_any}
+use Rattle.range_store.proofs.HeldLaws.{held-Ascends, held_own}
 
 -- ---- a leaf where the trees differ is among those that are taken
 
@@ -184,7 +177,7 @@ joined own other pair key p =
     either false = refl
 
 -- A range that took the leaves where its tree differs from a partner's holds the maximal versions of both.
-pub holds_both : (s : State) (seat : ℕ) (other : RowMap) → IsPair (rows_now s) other → (synced s seat other).fault ≡ None → (key : List ℕ) → held (synced s seat other).state.entries key ≡ union_of (held s.entries key) (versions_in key other.rows)
+pub holds_both : (s : Store) (seat : ℕ) (other : RowMap) → IsPair (rows_now s) other → (synced s seat other).fault ≡ None → (key : List ℕ) → held (synced s seat other).store.entries key ≡ union_of (held s.entries key) (versions_in key other.rows)
 holds_both s seat other pair fits key =
     let own = versions_in-rows_of s.entries key in
     leaves_hold s seat other 0 (leaves_between (rows_now s) other) key fits
@@ -194,79 +187,8 @@ holds_both s seat other pair fits key =
 
 -- ---- rows by what is held
 
-not_both : (a b : List ℕ) → key_cmp a b ≡ Less → key_cmp b a ≡ Less → ⊥
-not_both a b h k = let clash : Less ≡ Greater = sym k ∙ turned a b Less h in cc
-
-first_in : (x : Row) (xs : List Row) → Contains (x ∷ xs) x
-first_in x xs = (0, omega arith, refl)
-
--- rows that ascend by key are known by their members
-same_ascending : (xs ys : List Row) → AscendByKey xs → AscendByKey ys → ((r : Row) → Contains xs r → Contains ys r) → ((r : Row) → Contains ys r → Contains xs r) → xs ≡ ys
-same_ascending [] [] a b f g = refl
-same_ascending [] (y ∷ ys) a b f g = absurd (let c = g y (first_in y ys) in omega (arith, c.1))
-same_ascending (x ∷ xs) [] a b f g = absurd (let c = f x (first_in x xs) in omega (arith, c.1))
-same_ascending (x ∷ xs) (y ∷ ys) a b f g =
-    let same : x ≡ y = elim (contains_cons y ys x (f x (first_in x xs))) [
-      | inl e ↦ sym e
-      | inr above ↦ elim (contains_cons x xs y (g y (first_in y ys))) [
-        | inl e ↦ e
-        | inr below ↦ absurd (not_both x.key y.key (all_of (λ (r : Row). key_cmp x.key r.key ≡ Less) xs y a.0 below) (all_of (λ (r : Row). key_cmp y.key r.key ≡ Less) ys x b.0 above))
-      ]
-    ] in
-    let rest = same_ascending xs ys a.1 b.1
-    (λ r c. elim (contains_cons y ys r (f r (contains_later x xs r c))) [
-      | inl e ↦ absurd (again x r (sym (same ∙ e)) (all_of (λ (z : Row). key_cmp x.key z.key ≡ Less) xs r a.0 c))
-      | inr later ↦ later
-    ])
-    (λ r c. elim (contains_cons x xs r (g r (contains_later y ys r c))) [
-      | inl e ↦ absurd (again y r (sym e ∙ same) (all_of (λ (z : Row). key_cmp y.key z.key ≡ Less) ys r b.0 c))
-      | inr later ↦ later
-    ]) in
-    λ i. same i ∷ rest i
-  where
-    again : (x r : Row) → r ≡ x → key_cmp x.key r.key ≡ Less → ⊥
-    again x r e h = let less = subst (λ (z : Row). key_cmp x.key z.key ≡ Less) e h in not_both x.key x.key less less
-
--- whether anything is held says whether the key has an entry
-abbrev any_version : List Version → Bool
-any_version S = list_any (λ v. true) S
-
-any_entry : (es : List Entry) (k : List ℕ) → list_any (λ (e : Entry). pointwise nat_eq e.key k) es ≡ any_version (versions_of es k)
-any_entry [] k = refl
-any_entry (e ∷ es) k = by_key (pointwise nat_eq e.key k) (any_entry es k)
-  where
-    by_key : (b : Bool) → list_any (λ (x : Entry). pointwise nat_eq x.key k) es ≡ any_version (versions_of es k) → (b || list_any (λ (x : Entry). pointwise nat_eq x.key k) es) ≡ any_version (cond b (e.version ∷ versions_of es k) (versions_of es k))
-    by_key true h = refl
-    by_key false h = h
-
-some_found : (p : Version → Bool) (S : List Version) → list_any p S ≡ true → any_version S ≡ true
-some_found p [] h = absurd (both_ways (list_any p []) refl h)
-some_found p (v ∷ S) h = refl
-
-any_held : (es : List Entry) (k : List ℕ) → any_version (versions_of es k) ≡ any_version (held es k)
-any_held es k = by_list (versions_of es k) refl
-  where
-    by_list : (vs : List Version) → versions_of es k ≡ vs → any_version vs ≡ any_version (held es k)
-    by_list [] e = sym (ap (λ (vs : List Version). any_version (maximal (set_from [] vs))) e)
-    by_list (v ∷ vs) e = sym (some_found _ (held es k) (covered-held v es k ∙ ap (covered v) e ∙ or_left (is_same v v || is_below v v) (covered v vs) (or_left (is_same v v) (is_below v v) (covered-itself v))))
-
-keyed : (es : List Entry) (k : List ℕ) → Any (λ (e : Entry). e.key ≡ k) es ↔ (any_version (held es k) ≡ true)
-keyed es k = (
-  (λ a. sym (any_entry es k ∙ any_held es k) ∙ list_any-from_Any (λ (e : Entry). pointwise nat_eq e.key k) es (a.0, a.1, a.2, a.3, (bytes_eq-Decides a.1.key k).1 a.4)),
-  (λ h. let a = Any-from_list_any (λ (e : Entry). pointwise nat_eq e.key k) es (any_entry es k ∙ any_held es k ∙ h) in (a.0, a.1, a.2, a.3, (bytes_eq-Decides a.1.key k).0 a.4)),
-)
-
-rows_among : (es fs : List Entry) → ((key : List ℕ) → held es key ≡ held fs key) → (r : Row) → Contains (rows_of es) r → Contains (rows_of fs) r
-rows_among es fs same r c =
-    let here = (rows_of-entries es r).0 c in
-    (rows_of-entries fs r).1 ((keyed fs r.key).1 (ap any_version (sym (same r.key)) ∙ (keyed es r.key).0 here.0), here.1 ∙ same r.key)
-
--- Journals that hold the same have the same rows.
-pub same_rows : (es fs : List Entry) → ((key : List ℕ) → held es key ≡ held fs key) → rows_of es ≡ rows_of fs
-same_rows es fs same = same_ascending (rows_of es) (rows_of fs) (rows_of-ascend es) (rows_of-ascend fs) (rows_among es fs same) (rows_among fs es (λ key. sym (same key)))
-
 -- and so have ranges
-pub same_rows_now : (a b : State) → IsOfRange a.config (rows_now b) → ((key : List ℕ) → held a.entries key ≡ held b.entries key) → rows_now a ≡ rows_now b
+pub same_rows_now : (a b : Store) → IsOfRange a.config (rows_now b) → ((key : List ℕ) → held a.entries key ≡ held b.entries key) → rows_now a ≡ rows_now b
 same_rows_now a b here same =
     let rows = same_rows a.entries b.entries same in
     λ i. record { format = sym here.format i; bits = sym here.bits i; range = sym here.range i; rows = rows i }
@@ -279,7 +201,7 @@ clean_root (Some d ∷ rest) some clean = (d, refl)
 clean_root (None ∷ rest) some clean = absurd (let clash : false ≡ true = clean in cc)
 
 -- a clean tree has the root of the rows now
-pub root_now : (s : State) → IsRight s → dirty_fault s ≡ None → kept_digest s.marks 0 ≡ Some (root_of (rows_now s))
+pub root_now : (s : Store) → IsSound s → dirty_fault s ≡ None → kept_digest s.marks 0 ≡ Some (root_of (rows_now s))
 unfolding AreTrue
 root_now s ok clean =
     let f = s.config.format in
@@ -294,12 +216,12 @@ root_now s ok clean =
     some_node Two = omega arith
 
 -- Clean ranges that hold the same have the same root.
-pub same_roots : (a b : State) → IsRight a → IsRight b → IsOfRange a.config (rows_now b) → ((key : List ℕ) → held a.entries key ≡ held b.entries key) → dirty_fault a ≡ None → dirty_fault b ≡ None → kept_digest a.marks 0 ≡ kept_digest b.marks 0
+pub same_roots : (a b : Store) → IsSound a → IsSound b → IsOfRange a.config (rows_now b) → ((key : List ℕ) → held a.entries key ≡ held b.entries key) → dirty_fault a ≡ None → dirty_fault b ≡ None → kept_digest a.marks 0 ≡ kept_digest b.marks 0
 same_roots a b ok_a ok_b here same clean_a clean_b = root_now a ok_a clean_a ∙ ap (λ (m : RowMap). Some (root_of m)) (same_rows_now a b here same) ∙ sym (root_now b ok_b clean_b)
 
 -- ---- both ways
 
-pub pair_of : (a b : State) → IsRight a → IsRight b → IsOfRange a.config (rows_now b) → NoTwoShareADigest (rows_now a) (rows_now b) [] → IsPair (rows_now a) (rows_now b)
+pub pair_of : (a b : Store) → IsSound a → IsSound b → IsOfRange a.config (rows_now b) → NoTwoShareADigest (rows_now a) (rows_now b) [] → IsPair (rows_now a) (rows_now b)
 pair_of a b ok_a ok_b here distinct = record {
   own_map = row_map_now a ok_a;
   other_map = row_map_now b ok_b;
@@ -324,9 +246,9 @@ turned_pair own other pair = record {
 }
 
 -- the first of a pair holds what both held
-pub first_holds : (a b : State) (seat : ℕ) → IsPair (rows_now a) (rows_now b) → (synced a seat (rows_now b)).fault ≡ None → (key : List ℕ) → held (synced a seat (rows_now b)).state.entries key ≡ union_of (held a.entries key) (held b.entries key)
+pub first_holds : (a b : Store) (seat : ℕ) → IsPair (rows_now a) (rows_now b) → (synced a seat (rows_now b)).fault ≡ None → (key : List ℕ) → held (synced a seat (rows_now b)).store.entries key ≡ union_of (held a.entries key) (held b.entries key)
 first_holds a b seat pair fits key = holds_both a seat (rows_now b) pair fits key ∙ ap (union_of (held a.entries key)) (versions_in-rows_of b.entries key)
 
 -- and so does the second
-pub second_holds : (a b : State) (seat : ℕ) → IsPair (rows_now a) (rows_now b) → (synced b seat (rows_now a)).fault ≡ None → (key : List ℕ) → held (synced b seat (rows_now a)).state.entries key ≡ union_of (held a.entries key) (held b.entries key)
+pub second_holds : (a b : Store) (seat : ℕ) → IsPair (rows_now a) (rows_now b) → (synced b seat (rows_now a)).fault ≡ None → (key : List ℕ) → held (synced b seat (rows_now a)).store.entries key ≡ union_of (held a.entries key) (held b.entries key)
 second_holds a b seat pair fits key = first_holds b a seat (turned_pair (rows_now a) (rows_now b) pair) fits key ∙ union_swap (held b.entries key) (held a.entries key)

@@ -1,17 +1,13 @@
 -- Sessions that are opened, go on and end.
-use Rattle.std.proofs.Common.{◌≡◌, ◌≢◌, ℕ, zero, suc, ◌+◌, ◌<◌, ◌≤◌, Bool, true, false, if◌then◌else◌, Option, Some, None, List, [], ◌∷◌, ◌++◌, length, map, set, get_or, refl, sym, ap, subst, ◌∙◌, inl, inr, arith, Any}
+use Rattle.std.proofs.Common.{◌≡◌, ◌≢◌, ℕ, zero, suc, ◌+◌, ◌<◌, ◌≤◌, Bool, true, false, if◌then◌else◌, Some, None, List, [], ◌∷◌, ◌++◌, length, map, set, get_or, refl, sym, ap, subst, ◌∙◌, inl, inr, arith, Any}
 use Rattle.std.specs.Prelude.{nat_le, ◌||◌}
 use Rattle.std.specs.List.{AllByRecursion, filter}
-use Rattle.std.specs.Ordering.{is_eq}
-use Rattle.std.proofs.lemmas.Bool.{or_left, or_right, cases_eq, cases_lt, or_parts, both_ways, le-leb}
-use Rattle.std.proofs.lemmas.Cmp.{tied_itself}
+use Rattle.std.proofs.lemmas.Bool.{cases_eq, cases_lt, or_parts, both_ways, le-leb}
 use Rattle.std.proofs.lemmas.List.{length-append, length-map, length-set, get_or_append_left, get_or_default, get_or-set_same, get_or-set_other}
 use Rattle.vclock.specs.declared.refusal.Refusal.TheVariants.{SessionsFull}
-use Rattle.version_set.specs.declared.version.Version.{Version}
-use Rattle.version_set.specs.Version.{covered, is_same}
-use Rattle.version_set.proofs.SetLaws.{version_total}
 use Rattle.version_set.proofs.ListLaws.{all-append, all-push}
 use Rattle.range_journal.specs.declared.journal.Entry.{Entry}
+use Rattle.range_journal.specs.declared.journal.Source.TheVariants.{Partner}
 use Rattle.range_journal.specs.Journal.{held}
 use Rattle.hash_tree.proofs.ChunkLaws.{all-set}
 use Rattle.hash_tree.proofs.KeyLaws.{all_get}
@@ -24,15 +20,16 @@ use Rattle.sync_session.proofs.StepLaws.{All-weaker, walked_started}
 use Rattle.sync_session.proofs.CountLaws.{orderly_started}
 use Rattle.sync_session.proofs.TraceLaws.{traced, traced_cancelled}
 use Rattle.range_state.specs.declared.«record».Record.{Record}
-use Rattle.range_state.specs.Config.{Config}
-use Rattle.range_state.specs.Rows.{rows_of, keys_from}
+use Rattle.range_store.specs.Config.{Config}
+use Rattle.range_store.specs.Rows.{rows_of, keys_from}
 use Rattle.range_state.specs.Records.{IsKept, is_open_state, is_open, open_count}
-use Rattle.range_state.specs.State.{State, IsRight, HasTaken, rows_now}
+use Rattle.range_state.specs.State.{State, IsRight, HasTaken}
+use Rattle.range_store.specs.Store.{Store, IsSound, rows_now}
 use Rattle.range_state.specs.Sessions.{standings, crowd_fault}
 use Rattle.row_bytes.proofs.LimitLaws.{no_fault}
-use Rattle.range_state.proofs.StateLaws.{IsSound}
 use Rattle.range_state.proofs.RecordLaws.{all_kept}
-use Rattle.range_state.proofs.OfferLaws.{row_map_now}
+use Rattle.range_store.proofs.HeldLaws.{itself}
+use Rattle.range_store.proofs.OfferLaws.{row_map_now}
 
 -- ---- lists
 
@@ -59,17 +56,7 @@ any-set P xs i x y is stays a = elim (cases_eq a.0 i) [
   )
 ]
 
--- ---- what is held covers itself
-
-pub covered-itself : (v : Version) → is_same v v ≡ true
-covered-itself v = ap is_eq (tied_itself version_total v)
-
-itself : (S : List Version) → AllByRecursion (λ v. covered v S ≡ true) S
-itself [] = tt
-itself (v ∷ S) = (
-  or_left _ _ (or_left _ _ (covered-itself v)),
-  All-weaker (λ w. covered w S ≡ true) (λ w. covered w (v ∷ S) ≡ true) S (λ w h. or_right _ _ h) (itself S),
-)
+-- ---- rows that are held
 
 held_rows : (es : List Entry) (ks : List (List ℕ)) → Held (map (λ k. record { key = k; versions = held es k }) ks) (held es)
 held_rows es [] = tt
@@ -118,52 +105,40 @@ abbrev pub Keeps : Walk → Walk → Type 0
 Keeps old new = (e : Entry) → HasTaken old e → HasTaken new e
 
 -- one record more
-recorded_right : (s : State) (r : Record) → IsRight s → length s.records < 1024 → open_count s.records < 64 → IsKept s.config s.entries r → IsRight (record { config = s.config; entries = s.entries; marks = s.marks; records = s.records ++ r ∷ [] })
+recorded_right : (s : State) (r : Record) → IsRight s → length s.records < 1024 → open_count s.records < 64 → IsKept s.store.config s.store.entries r → IsRight (record s { records = s.records ++ r ∷ [] })
 recorded_right s r ok room beside kept = record {
-  config = ok.config;
-  own = ok.own;
-  news = ok.news;
-  short = ok.short;
-  rows = ok.rows;
-  marks = ok.marks;
-  records = all-push (IsKept s.config s.entries) s.records r ok.records kept;
+  store = ok.store;
+  records = all-push (IsKept s.store.config s.store.entries) s.records r ok.records kept;
   few = omega (arith, room, length-append s.records (r ∷ []));
   few_open = omega (arith, beside, open_push s.records r);
-  partners = All-weaker _ _ s.entries (λ e from source. any-append (λ (x : Record). HasTaken x.session e) s.records (r ∷ []) (from source)) ok.partners;
+  partners = All-weaker _ _ s.store.entries (λ e from source. any-append (λ (x : Record). HasTaken x.session e) s.records (r ∷ []) (from source)) ok.partners;
 }
 
 -- entries more, and a record in the place of another
-pub stepped_right : (s : State) (more : List Entry) (marks : List (Option (List ℕ))) (id : ℕ) (r new : Record) → IsRight s → IsSound (record { config = s.config; entries = s.entries ++ more; marks = marks; records = s.records })
-    → r ≡ get_or s.records id r → (is_open new ≡ true → is_open r ≡ true) → IsKept s.config (s.entries ++ more) new → Keeps r.session new.session → AllByRecursion (λ (e : Entry). Any (λ (x : Record). HasTaken x.session e) (set s.records id new)) more
-    → IsRight (record { config = s.config; entries = s.entries ++ more; marks = marks; records = set s.records id new })
-stepped_right s more marks id r new ok sound was stays kept keeps come = record {
-  config = ok.config;
-  own = sound.own;
-  news = sound.news;
-  short = sound.short;
-  rows = sound.rows;
-  marks = sound.marks;
-  records = all-set (IsKept s.config (s.entries ++ more)) s.records id new kept (all_kept s.config s.entries more s.records ok.records);
-  few = omega (arith, ok.few, length-set s.records id new);
-  few_open = omega (arith, ok.few_open, open_set s.records id r new was stays);
-  partners = all-append _ s.entries more
-      (All-weaker _ _ s.entries (λ e from source. any-set (λ (x : Record). HasTaken x.session e) s.records id r new was (keeps e) (from source)) ok.partners)
-      (All-weaker _ _ more (λ e is source. is) come);
-}
+pub stepped_right : (s : State) (t : Store) (more : List Entry) (id : ℕ) (r new : Record) → IsRight s → IsSound t → t.config ≡ s.store.config → t.entries ≡ s.store.entries ++ more
+    → r ≡ get_or s.records id r → (is_open new ≡ true → is_open r ≡ true) → IsKept s.store.config (s.store.entries ++ more) new → Keeps r.session new.session → AllByRecursion (λ (e : Entry). Any (λ (x : Record). HasTaken x.session e) (set s.records id new)) more
+    → IsRight (record { store = t; records = set s.records id new })
+stepped_right s t more id r new ok sound config entries was stays kept keeps come =
+    let records = set s.records id new in
+    let all = all-set (IsKept s.store.config (s.store.entries ++ more)) s.records id new kept (all_kept s.store.config s.store.entries more s.records ok.records) in
+    record {
+      store = sound;
+      records = subst (λ (c : Config). AllByRecursion (IsKept c t.entries) records) (sym config) (subst (λ (es : List Entry). AllByRecursion (IsKept s.store.config es) records) (sym entries) all);
+      few = omega (arith, ok.few, length-set s.records id new);
+      few_open = omega (arith, ok.few_open, open_set s.records id r new was stays);
+      partners = subst (AllByRecursion (λ (e : Entry). e.source ≡ Partner → Any (λ (x : Record). HasTaken x.session e) records)) (sym entries) (all-append _ s.store.entries more
+          (All-weaker _ _ s.store.entries (λ e from source. any-set (λ (x : Record). HasTaken x.session e) s.records id r new was (keeps e) (from source)) ok.partners)
+          (All-weaker _ _ more (λ e is source. is) come));
+    }
 
 -- a record in the place of another
-pub replaced_right : (s : State) (id : ℕ) (r new : Record) → IsRight s → r ≡ get_or s.records id r → (is_open new ≡ true → is_open r ≡ true) → IsKept s.config s.entries new → Keeps r.session new.session → IsRight (record { config = s.config; entries = s.entries; marks = s.marks; records = set s.records id new })
+pub replaced_right : (s : State) (id : ℕ) (r new : Record) → IsRight s → r ≡ get_or s.records id r → (is_open new ≡ true → is_open r ≡ true) → IsKept s.store.config s.store.entries new → Keeps r.session new.session → IsRight (record s { records = set s.records id new })
 replaced_right s id r new ok was stays kept keeps = record {
-  config = ok.config;
-  own = ok.own;
-  news = ok.news;
-  short = ok.short;
-  rows = ok.rows;
-  marks = ok.marks;
-  records = all-set (IsKept s.config s.entries) s.records id new kept ok.records;
+  store = ok.store;
+  records = all-set (IsKept s.store.config s.store.entries) s.records id new kept ok.records;
   few = omega (arith, ok.few, length-set s.records id new);
   few_open = omega (arith, ok.few_open, open_set s.records id r new was stays);
-  partners = All-weaker _ _ s.entries (λ e from source. any-set (λ (x : Record). HasTaken x.session e) s.records id r new was (keeps e) (from source)) ok.partners;
+  partners = All-weaker _ _ s.store.entries (λ e from source. any-set (λ (x : Record). HasTaken x.session e) s.records id r new was (keeps e) (from source)) ok.partners;
 }
 
 -- ---- opening
@@ -204,18 +179,18 @@ none_left [] off = refl
 none_left (n ∷ nodes) off = absurd (off refl)
 
 -- a session with the rows now
-pub opened_right : (s : State) (partner : ℕ) (root : List ℕ) (r : Record) → IsRight s → (length s.records < 1024) × (open_count s.records < 64) → r ≡ record { partner = partner; session = started (rows_now s) root } → IsRight (record { config = s.config; entries = s.entries; marks = s.marks; records = s.records ++ r ∷ [] })
+pub opened_right : (s : State) (partner : ℕ) (root : List ℕ) (r : Record) → IsRight s → (length s.records < 1024) × (open_count s.records < 64) → r ≡ record { partner = partner; session = started (rows_now s.store) root } → IsRight (record s { records = s.records ++ r ∷ [] })
 opened_right s partner root r ok room is =
-    let walked = walked_started (held s.entries) (rows_now s) root (row_map_now s ok) (rows_held s.entries) in
-    let orderly = orderly_started (rows_now s) root in
-    let kept : IsKept s.config s.entries (record { partner = partner; session = started (rows_now s) root }) = record {
+    let walked = walked_started (held s.store.entries) (rows_now s.store) root (row_map_now s.store ok.store) (rows_held s.store.entries) in
+    let orderly = orderly_started (rows_now s.store) root in
+    let kept : IsKept s.store.config s.store.entries (record { partner = partner; session = started (rows_now s.store) root }) = record {
       here = record { bits = refl; range = refl };
       format = λ opened. refl;
-      traced = traced (held s.entries) (started (rows_now s) root) walked orderly;
-      ended = none_left (first_asked (rows_now s) root);
+      traced = traced (held s.store.entries) (started (rows_now s.store) root) walked orderly;
+      ended = none_left (first_asked (rows_now s.store) root);
       going = inr (record { walked = walked; orderly = orderly });
     } in
-    recorded_right s r ok room.0 room.1 (subst (IsKept s.config s.entries) (sym is) kept)
+    recorded_right s r ok room.0 room.1 (subst (IsKept s.store.config s.store.entries) (sym is) kept)
 
 -- ---- ending
 
@@ -245,9 +220,9 @@ still_open r w Finished e = e
 still_open r w Failed e = e
 still_open r w Cancelled e = e
 
-pub cancelled_right : (s : State) (id : ℕ) (r new : Record) → IsRight s → id < length s.records → r ≡ get_or s.records id r → new ≡ record { partner = r.partner; session = cancelled_by r.session r.session.state } → IsRight (record { config = s.config; entries = s.entries; marks = s.marks; records = set s.records id new })
+pub cancelled_right : (s : State) (id : ℕ) (r new : Record) → IsRight s → id < length s.records → r ≡ get_or s.records id r → new ≡ record { partner = r.partner; session = cancelled_by r.session r.session.state } → IsRight (record s { records = set s.records id new })
 cancelled_right s id r new ok within was is =
-    let kept = subst (IsKept s.config s.entries) (sym was) (all_get (IsKept s.config s.entries) s.records id r ok.records within) in
-    let over = kept_cancelled s.config s.entries r r.session r.session.state refl kept in
-    subst (λ (x : Record). IsRight (record { config = s.config; entries = s.entries; marks = s.marks; records = set s.records id x })) (sym is)
+    let kept = subst (IsKept s.store.config s.store.entries) (sym was) (all_get (IsKept s.store.config s.store.entries) s.records id r ok.records within) in
+    let over = kept_cancelled s.store.config s.store.entries r r.session r.session.state refl kept in
+    subst (λ (x : Record). IsRight (record s { records = set s.records id x })) (sym is)
     (replaced_right s id r (record { partner = r.partner; session = cancelled_by r.session r.session.state }) ok was (still_open r r.session r.session.state) over (keeps_cancelled r.session r.session.state))

@@ -1,11 +1,10 @@
 -- What the records of a range say of its partners.
-use Rattle.std.proofs.Common.{◌≡◌, ◌≢◌, ◌≤◌, true, List, [], refl, ap, sym, subst, ◌∙◌, inl, inr, Contains}
+use Rattle.std.proofs.Common.{◌≡◌, ◌≢◌, ◌≤◌, true, [], refl, ap, sym, ◌∙◌, inl, inr, Contains}
 use Rattle.std.specs.List.{AllByRecursion}
 use Rattle.std.proofs.lemmas.Bool.{both_ways}
 use Rattle.range_journal.specs.declared.journal.Entry.{Entry}
 use Rattle.range_journal.specs.declared.journal.Source.TheVariants.{Partner}
 use Rattle.range_journal.specs.Journal.{held}
-use Rattle.hash_tree.proofs.KeyLaws.{all_get}
 use Rattle.snapshot.specs.RowMaps.{RowMap}
 use Rattle.sync_session.specs.declared.state.SessionState.TheVariants.{Open, Finished, Failed, Cancelled}
 use Rattle.tree_nodes.specs.Nodes.{Node, contains_node}
@@ -19,29 +18,27 @@ use Rattle.sync_session.proofs.OrderLaws.{asked_in_order}
 use Rattle.range_state.specs.declared.«record».Record.{Record}
 use Rattle.range_state.specs.Records.{IsOver, IsGoing, IsKept}
 use Rattle.range_state.specs.State.{State, IsRight, IsFromPartner}
+use Rattle.range_store.proofs.SameRowLaws.{all_of}
 use Rattle.range_state.proofs.TakenLaws.{not_open}
 
-pub all_of : {X : Type 0} (P : X → Type 0) (xs : List X) (x : X) → AllByRecursion P xs → Contains xs x → P x
-all_of P xs x all has = subst P has.2 (all_get P xs has.0 x all has.1)
-
-kept_of : (s : State) (r : Record) → IsRight s → Contains s.records r → IsKept s.config s.entries r
-kept_of s r ok has = all_of (IsKept s.config s.entries) s.records r ok.records has
+kept_of : (s : State) (r : Record) → IsRight s → Contains s.records r → IsKept s.store.config s.store.entries r
+kept_of s r ok has = all_of (IsKept s.store.config s.store.entries) s.records r ok.records has
 
 not_over : (w : Walk) → w.state ≡ Finished → ¬ IsOver w
 not_over w done (inl failed) = let clash : Failed ≡ Finished = sym failed ∙ done in cc
 not_over w done (inr cancelled) = let clash : Cancelled ≡ Finished = sym cancelled ∙ done in cc
 
-going_of : (s : State) (r : Record) → IsRight s → Contains s.records r → ¬ IsOver r.session → IsGoing s.entries r.session
+going_of : (s : State) (r : Record) → IsRight s → Contains s.records r → ¬ IsOver r.session → IsGoing s.store.entries r.session
 going_of s r ok has on = elim (kept_of s r ok has).going [
   | inl over ↦ absurd (on over)
   | inr going ↦ going
 ]
 
-pub finished : (s : State) → IsRight s → (r : Record) → Contains s.records r → r.session.state ≡ Finished → (other : RowMap) → IsPartners r.session other → NoTwoShareADigest r.session.own other r.session.taken → Held other.rows (held s.entries)
-finished s ok r has done other partner apart = finished_held (held s.entries) r.session other (going_of s r ok has (not_over r.session done)).walked done partner apart
+pub finished : (s : State) → IsRight s → (r : Record) → Contains s.records r → r.session.state ≡ Finished → (other : RowMap) → IsPartners r.session other → NoTwoShareADigest r.session.own other r.session.taken → Held other.rows (held s.store.entries)
+finished s ok r has done other partner apart = finished_held (held s.store.entries) r.session other (going_of s r ok has (not_over r.session done)).walked done partner apart
 
-pub from_partner : (s : State) → IsRight s → (e : Entry) → Contains s.entries e → e.source ≡ Partner → IsFromPartner s e
-from_partner s ok e has source = all_of (λ (x : Entry). x.source ≡ Partner → IsFromPartner s x) s.entries e ok.partners has source
+pub from_partner : (s : State) → IsRight s → (e : Entry) → Contains s.store.entries e → e.source ≡ Partner → IsFromPartner s.records e
+from_partner s ok e has source = all_of (λ (x : Entry). x.source ≡ Partner → IsFromPartner s.records x) s.store.entries e ok.partners has source
 
 -- ---- what a session took and asked, however it ended
 
@@ -66,7 +63,7 @@ still_due s ok r has other partner honest n asked =
     let kept = kept_of s r ok has in
     elim kept.going [
       | inl over ↦ none_due r.session _ n (kept.ended (not_open r.session over)) asked
-      | inr on ↦ true_text_due (held s.entries) r.session other on.walked on.orderly partner honest n asked
+      | inr on ↦ true_text_due (held s.store.entries) r.session other on.walked on.orderly partner honest n asked
     ]
 
 pub ended_done : (s : State) → IsRight s → (r : Record) → Contains s.records r → r.session.state ≢ Open → r.session.outstanding ≡ []
@@ -78,7 +75,7 @@ pub asked_all : (s : State) → IsRight s → (r : Record) → Contains s.record
     → (n : Node) → contains_node n (differ r.session.own other) ≡ true → contains_node n r.session.asked ≡ true
 asked_all s ok r has on other partner honest near n differs =
     let going = going_of s r ok has on in
-    differ_is_asked (held s.entries) r.session other going.walked going.orderly partner honest near n differs
+    differ_is_asked (held s.store.entries) r.session other going.walked going.orderly partner honest near n differs
 
 pub finished_done : (s : State) → IsRight s → (r : Record) → Contains s.records r → r.session.state ≡ Finished → (¬ IsOver r.session) × IsNearlyDone r.session
 finished_done s ok r has done =

@@ -23,18 +23,22 @@ use Rattle.sync_session.proofs.StepLaws.{All-weaker}
 use Rattle.sync_session.proofs.DescentLaws.{entry}
 use Rattle.sync_session.proofs.OrderLaws.{asked_in_order, Ascends-suffix}
 use Rattle.sync_session.proofs.HonestLaws.{asked_is_differ, differ_is_asked, true_text_due}
-use Rattle.range_state.specs.Config.{Config}
+use Rattle.range_store.specs.Config.{Config}
 use Rattle.range_state.specs.declared.«record».Record.{Record}
 use Rattle.range_state.specs.declared.event.AnswerTaken.{AnswerTaken}
 use Rattle.range_state.specs.declared.state.sync.Synced.{Synced}
 use Rattle.range_state.specs.Records.{IsKept, IsGoing}
-use Rattle.range_state.specs.State.{State, IsRight, dirty_fault, rows_now}
+use Rattle.range_state.specs.State.{State, IsRight, with_store}
+use Rattle.range_journal.specs.declared.journal.Source.TheVariants.{Partner}
+use Rattle.range_store.specs.Store.{Store, dirty_fault, rows_now}
 use Rattle.vclock.specs.Outcome.{gives}
 use Rattle.vclock.proofs.OutcomeLaws.{passed}
-use Rattle.range_state.specs.Sessions.{standings, crowd_fault, unknown_for, unknown_fault, open_with, offers_of, taken_in, leaf_fault, opened, walked_to, IsLeafRead, IsLeafFault, TakesInner, TakesLeaf, TakesText, TakesFor, Refuses}
+use Rattle.range_state.specs.Sessions.{standings, crowd_fault, unknown_for, unknown_fault, open_with, taken_in, leaf_fault, opened, walked_to, IsLeafRead, IsLeafFault, TakesInner, TakesLeaf, TakesText, TakesFor, Refuses}
+use Rattle.range_store.specs.Offers.{offers_of}
 use Rattle.range_state.specs.Syncs.{IsOfRange, leaves_in, offers_at, known_in, Progress, taken_leaves, synced, ended, HasOneMore, HasAskedAll, IsSyncedTo, IsPartWay, IsFirstOf}
 use Rattle.range_state.proofs.SyncLists.{AreIn, member_of, has_head, all_has, same_nodes, fits, ascends_before, without_first, differ_ascends, differ_inside, as_deep}
-use Rattle.range_state.proofs.SyncStepLaws.{beside, records_stay, config_stays, so_far, taken_more, leaf_came, leaf_refused, leaves-append, leaf_counts, inner_counts, no_leaves, nodes-push, got_last, set_last, all_last, true_rows}
+use Rattle.range_state.proofs.SyncStepLaws.{so_far, taken_more, leaf_came, leaf_refused, leaves-append, leaf_counts, inner_counts, no_leaves, nodes-push, got_last, set_last, all_last, true_rows}
+use Rattle.range_store.proofs.TakenLaws.{config_stays}
 
 -- ---- how many texts a session took
 
@@ -51,14 +55,14 @@ taken_count records id = count_of (slice_get records id)
 pub record IsUnderWay (s : State) (seat : ℕ) (other : RowMap) (known : ℕ) (now : State) : Type 0 where
   pub r : Record
   pub records : now.records ≡ s.records ++ r ∷ []
-  pub config : now.config ≡ s.config
-  pub own : r.session.own ≡ rows_now s
+  pub config : now.store.config ≡ s.store.config
+  pub own : r.session.own ≡ rows_now s.store
   pub root : root_of other ≡ r.session.root
   pub honest : IsHonest r.session other
   pub turn : r.session.asked ≡ nodes_of r.session.taken ++ r.session.outstanding
   pub stands : r.session.state ≡ state_by r.session.outstanding
-  pub grown : length s.entries ≤ length now.entries
-  pub progress : taken_leaves s seat other 0 (leaves_in s.config.format (nodes_of r.session.taken)) ≡ so_far (beside now s.records) known
+  pub grown : length s.store.entries ≤ length now.store.entries
+  pub progress : taken_leaves s.store seat other 0 (leaves_in s.store.config.format (nodes_of r.session.taken)) ≡ so_far now.store known
 
 -- a session was opened
 pub record HasBegun (s : State) (seat partner : ℕ) (other : RowMap) (new : State) : Type 0 where
@@ -69,30 +73,30 @@ pub record HasBegun (s : State) (seat partner : ℕ) (other : RowMap) (new : Sta
 pub open_ok : (s new : State) (partner id : ℕ) (root : List ℕ) → open_with s partner root ≡ gives id new → (id ≡ length s.records) × (new ≡ opened s partner root)
 open_ok s new partner id root is =
     let few = passed (crowd_fault (standings s.records)) _ id new is in
-    let clean = passed (dirty_fault s) _ id new few.1 in
+    let clean = passed (dirty_fault s.store) _ id new few.1 in
     let same = clean.1 in
     (cc, cc)
 
 pub begun : (s new : State) (seat partner : ℕ) (root : List ℕ) (other : RowMap) → root ≡ root_of other → new ≡ opened s partner root → HasBegun s seat partner other new
 begun s new seat partner root other root_is is = record {
   under = record {
-    r = record { partner = partner; session = started (rows_now s) root };
+    r = record { partner = partner; session = started (rows_now s.store) root };
     records = ap (λ (x : State). x.records) is;
-    config = ap (λ (x : State). x.config) is;
+    config = ap (λ (x : State). x.store.config) is;
     own = refl;
     root = sym root_is;
     honest = tt;
     turn = refl;
     stands = refl;
-    grown = omega (arith, ap (λ (x : State). length x.entries) is);
-    progress = ap (λ (x : State). so_far (beside x s.records) 0) (sym is);
+    grown = omega (arith, ap (λ (x : State). length x.store.entries) is);
+    progress = ap (λ (x : State). so_far x.store 0) (sym is);
   };
   partner_is = refl;
 }
 
 -- what is known of a session on its way
 pub record IsTrueWalk (s now : State) (other : RowMap) (r : Record) : Type 0 where
-  pub right : IsGoing now.entries r.session
+  pub right : IsGoing now.store.entries r.session
   pub traced : IsTraced r.session
   pub partner : IsPartners r.session other
 
@@ -102,9 +106,9 @@ still_going [] (inr e) = let clash : Finished ≡ Cancelled = e in cc
 still_going (n ∷ nodes) (inl e) = let clash : Open ≡ Failed = e in cc
 still_going (n ∷ nodes) (inr e) = let clash : Open ≡ Cancelled = e in cc
 
-true_walk : (s now : State) (seat known : ℕ) (other : RowMap) (u : IsUnderWay s seat other known now) → IsRight now → IsOfRange s.config other → IsRowMap other → IsTrueWalk s now other u.r
+true_walk : (s now : State) (seat known : ℕ) (other : RowMap) (u : IsUnderWay s seat other known now) → IsRight now → IsOfRange s.store.config other → IsRowMap other → IsTrueWalk s now other u.r
 true_walk s now seat known other u ok here map =
-    let kept = all_last (IsKept now.config now.entries) s.records u.r (subst (λ (rs : List Record). AllByRecursion (IsKept now.config now.entries) rs) u.records ok.records) in
+    let kept = all_last (IsKept now.store.config now.store.entries) s.records u.r (subst (λ (rs : List Record). AllByRecursion (IsKept now.store.config now.store.entries) rs) u.records ok.records) in
     record {
       right = elim kept.going [
         | inl over ↦ absurd (still_going u.r.session.outstanding (elim over [
@@ -143,7 +147,7 @@ pub record IsNext (s now : State) (seat id known : ℕ) (other : RowMap) (u : Is
   pub rest : List Node
   pub first : u.r.session.outstanding ≡ n ∷ rest
 
-pub next_is : {s now : State} {seat known id : ℕ} {other : RowMap} {o : Option Node} {node : Node} (u : IsUnderWay s seat other known now) → id ≡ length s.records → IsRight now → IsOfRange s.config other → IsRowMap other → MatchOption (slice_get now.records id) ⊥ (λ r. IsFirstOf r.session.outstanding o) → o ≡ Some node
+pub next_is : {s now : State} {seat known id : ℕ} {other : RowMap} {o : Option Node} {node : Node} (u : IsUnderWay s seat other known now) → id ≡ length s.records → IsRight now → IsOfRange s.store.config other → IsRowMap other → MatchOption (slice_get now.records id) ⊥ (λ r. IsFirstOf r.session.outstanding o) → o ≡ Some node
     → IsNext s now seat id known other u node
 next_is {s = s} {now = now} {seat = seat} {known = known} {id = id} {other = other} {o = o} {node = node} u at ok here map h some =
     let first : IsFirstOf u.r.session.outstanding (Some node) = subst (λ (x : Option Node). IsFirstOf u.r.session.outstanding x) some (first_is s now seat known id other u at o h) in
@@ -155,14 +159,14 @@ pub record IsDone (s now : State) (seat id known : ℕ) (other : RowMap) (u : Is
   pub is : IsTrueWalk s now other u.r
   pub none : u.r.session.outstanding ≡ []
 
-pub done_is : {s now : State} {seat known id : ℕ} {other : RowMap} (u : IsUnderWay s seat other known now) → id ≡ length s.records → IsRight now → IsOfRange s.config other → IsRowMap other → MatchOption (slice_get now.records id) ⊥ (λ r. IsFirstOf r.session.outstanding None)
+pub done_is : {s now : State} {seat known id : ℕ} {other : RowMap} (u : IsUnderWay s seat other known now) → id ≡ length s.records → IsRight now → IsOfRange s.store.config other → IsRowMap other → MatchOption (slice_get now.records id) ⊥ (λ r. IsFirstOf r.session.outstanding None)
     → IsDone s now seat id known other u
 done_is {s = s} {now = now} {seat = seat} {known = known} {id = id} {other = other} u at ok here map h = record { at = at; is = true_walk s now seat known other u ok here map; none = first_is s now seat known id other u at None h }
 
 -- the first outstanding node is due, and its true text is one that it can have
 pub first_due : (s now : State) (other : RowMap) (r : Record) (n : Node) (rest : List Node) → IsTrueWalk s now other r → IsHonest r.session other → r.session.outstanding ≡ n ∷ rest
     → IsDue r.session (entry n (text_of other n)) × IsCanonical r.session.own n (text_of other n)
-first_due s now other r n rest is honest first = true_text_due (held now.entries) r.session other is.right.walked is.right.orderly is.partner honest n (first_has r.session.outstanding n rest first)
+first_due s now other r n rest is honest first = true_text_due (held now.store.entries) r.session other is.right.walked is.right.orderly is.partner honest n (first_has r.session.outstanding n rest first)
 
 pub shallow : {s now : State} {seat id known : ℕ} {other : RowMap} {u : IsUnderWay s seat other known now} {n : Node} → IsNext s now seat id known other u n → n.depth ≤ tree_depth other.format
 shallow {s = s} {now = now} {other = other} {u = u} {n = n} next = elim (first_due s now other u.r n next.rest next.is u.honest next.first).1 [
@@ -173,7 +177,7 @@ shallow {s = s} {now = now} {other = other} {u = u} {n = n} next = elim (first_d
 pub asked_ascend : (s now : State) (seat known : ℕ) (other : RowMap) (u : IsUnderWay s seat other known now) → IsTrueWalk s now other u.r → AscendByPlace u.r.session.asked
 asked_ascend s now seat known other u is = asked_in_order u.r.session is.traced (u.r.session.outstanding, u.turn)
 
-asked_in : (s now : State) (seat known : ℕ) (other : RowMap) (u : IsUnderWay s seat other known now) → IsTrueWalk s now other u.r → AreIn u.r.session.asked (differ (rows_now s) other)
+asked_in : (s now : State) (seat known : ℕ) (other : RowMap) (u : IsUnderWay s seat other known now) → IsTrueWalk s now other u.r → AreIn u.r.session.asked (differ (rows_now s.store) other)
 asked_in s now seat known other u is n h =
     ap (λ (m : RowMap). contains_node n (differ m other)) (sym u.own) ∙ asked_is_differ u.r.session other is.traced is.partner u.honest n h
 
@@ -202,11 +206,11 @@ pub record HasMoved (s now new : State) (seat id count : ℕ) (other : RowMap) (
   pub more : taken_count new.records id ≡ length r.session.taken + 1
 
 -- one text more was taken, and this came of it
-moved : (s now new base : State) (seat id known count : ℕ) (other : RowMap) (u : IsUnderWay s seat other known now) (n : Node) (rest : List Node) → IsTrueWalk s now other u.r → id ≡ length s.records → u.r.session.outstanding ≡ n ∷ rest
-    → base.records ≡ now.records → base.config ≡ now.config → length now.entries ≤ length base.entries → new ≡ walked_to base id u.r (after u.r.session (entry n (text_of other n)))
-    → taken_leaves s seat other 0 (leaves_in s.config.format (nodes_of u.r.session.taken ++ n ∷ [])) ≡ so_far (beside base s.records) count
+moved : (s now new : State) (base : Store) (seat id known count : ℕ) (other : RowMap) (u : IsUnderWay s seat other known now) (n : Node) (rest : List Node) → IsTrueWalk s now other u.r → id ≡ length s.records → u.r.session.outstanding ≡ n ∷ rest
+    → base.config ≡ now.store.config → length now.store.entries ≤ length base.entries → new ≡ walked_to (with_store now base) id u.r (after u.r.session (entry n (text_of other n)))
+    → taken_leaves s.store seat other 0 (leaves_in s.store.config.format (nodes_of u.r.session.taken ++ n ∷ [])) ≡ so_far base count
     → HasMoved s now new seat id count other u.r n
-moved s now new base seat id known count other u n rest is at first same config grown new_is progress =
+moved s now new base seat id known count other u n rest is at first config grown new_is progress =
     subst (λ (x : State). HasMoved s now x seat id count other u.r n) (sym new_is) (record {
       under = record {
         r = r;
@@ -218,7 +222,7 @@ moved s now new base seat id known count other u n rest is at first same config 
         turn = turned u.r.session.taken t rest (asks u.r.session.own t) u.r.session.asked u.r.session.outstanding u.turn first _ left;
         stands = refl;
         grown = omega (arith, u.grown, grown);
-        progress = ap (λ (xs : List Node). taken_leaves s seat other 0 (leaves_in s.config.format xs)) (nodes-push u.r.session.taken t) ∙ progress;
+        progress = ap (λ (xs : List Node). taken_leaves s.store seat other 0 (leaves_in s.store.config.format xs)) (nodes-push u.r.session.taken t) ∙ progress;
       };
       partner = refl;
       turn = nodes-push u.r.session.taken t;
@@ -231,9 +235,9 @@ moved s now new base seat id known count other u n rest is at first same config 
     r : Record
     r = record { partner = u.r.partner; session = after u.r.session t }
 
-    records : set base.records id r ≡ s.records ++ r ∷ []
+    records : set now.records id r ≡ s.records ++ r ∷ []
     records =
-        ap (λ (rs : List Record). set rs id r) (same ∙ u.records)
+        ap (λ (rs : List Record). set rs id r) u.records
         ∙ ap (λ (k : ℕ). set (s.records ++ u.r ∷ []) k r) at
         ∙ set_last s.records u.r r
 
@@ -243,40 +247,40 @@ moved s now new base seat id known count other u n rest is at first same config 
 inner_on : (s now new : State) (seat id known : ℕ) (other : RowMap) (u : IsUnderWay s seat other known now) (n : Node) (rest : List Node) (a : AnswerTaken) (count : ℕ) → count ≡ known + a.known → IsTrueWalk s now other u.r → id ≡ length s.records → u.r.session.outstanding ≡ n ∷ rest
     → TakesInner now id u.r (entry n (text_of other n)) a new → HasMoved s now new seat id count other u.r n
 inner_on s now new seat id known other u n rest a count sum is at first took =
-    let f : Format = s.config.format in
+    let f : Format = s.store.config.format in
     let done = nodes_of u.r.session.taken in
     let less : n.depth < tree_depth f = omega (arith, took.read.inner, ap (λ (c : Config). tree_depth c.format) u.config) in
     let none : leaves_in f (done ++ n ∷ []) ≡ leaves_in f done = leaves-append f done (n ∷ []) ∙ ap (λ (xs : List Node). leaves_in f done ++ xs) (inner_counts f n [] less) ∙ append-nil (leaves_in f done) in
     let same : known ≡ count = omega (arith, took.known, sum) in
-    moved s now new now seat id known count other u n rest is at first refl refl (omega arith) took.new_is
-    (ap (taken_leaves s seat other 0) none ∙ u.progress ∙ ap (so_far (beside now s.records)) same)
+    moved s now new now.store seat id known count other u n rest is at first refl (omega arith) took.new_is
+    (ap (taken_leaves s.store seat other 0) none ∙ u.progress ∙ ap (so_far now.store) same)
 
 -- what a leaf's true text is read as
 offers_are : (s now : State) (seat known : ℕ) (other : RowMap) (u : IsUnderWay s seat other known now) (n : Node) (rows : List Row) → IsTrueWalk s now other u.r → IsLeafRead now u.r (entry n (text_of other n)) rows
-    → (n.depth ≡ tree_depth s.config.format) × (offers_of rows ≡ offers_at other n)
+    → (n.depth ≡ tree_depth s.store.config.format) × (offers_of rows ≡ offers_at other n)
 offers_are s now seat known other u n rows is read =
-    let deep : n.depth ≡ tree_depth s.config.format = read.leaf ∙ ap (λ (c : Config). tree_depth c.format) u.config in
+    let deep : n.depth ≡ tree_depth s.store.config.format = read.leaf ∙ ap (λ (c : Config). tree_depth c.format) u.config in
     (deep, ap offers_of (true_rows u.r.session other is.partner n (deep ∙ ap (λ (m : RowMap). tree_depth m.format) (sym u.own)) rows read.spelled))
 
 leaf_on : (s now new : State) (seat id known : ℕ) (other : RowMap) (u : IsUnderWay s seat other known now) (n : Node) (rest : List Node) (a : AnswerTaken) (count : ℕ) → count ≡ known + a.known → IsTrueWalk s now other u.r → id ≡ length s.records → u.r.session.outstanding ≡ n ∷ rest
     → TakesLeaf now seat id u.r (entry n (text_of other n)) a new → HasMoved s now new seat id count other u.r n
 leaf_on s now new seat id known other u n rest a count sum is at first took =
-    let f : Format = s.config.format in
+    let f : Format = s.store.config.format in
     let done = nodes_of u.r.session.taken in
     let are = offers_are s now seat known other u n took.rows is took.read in
-    let base : State = taken_in now seat (offers_at other n) in
-    let fits : leaf_fault now seat (offers_at other n) ≡ None = ap (leaf_fault now seat) (sym are.1) ∙ took.fault in
-    let new_is : new ≡ walked_to base id u.r (after u.r.session (entry n (text_of other n))) =
-    took.new_is ∙ ap (λ (o : List _). walked_to (taken_in now seat o) id u.r (after u.r.session (entry n (text_of other n)))) are.1 in
+    let base : Store = taken_in now.store seat (offers_at other n) in
+    let fits : leaf_fault now.store seat (offers_at other n) ≡ None = ap (leaf_fault now.store seat) (sym are.1) ∙ took.fault in
+    let new_is : new ≡ walked_to (with_store now base) id u.r (after u.r.session (entry n (text_of other n))) =
+    took.new_is ∙ ap (λ (o : List _). walked_to (with_store now (taken_in now.store seat o)) id u.r (after u.r.session (entry n (text_of other n)))) are.1 in
     let more : leaves_in f (done ++ n ∷ []) ≡ leaves_in f done ++ n ∷ [] = leaves-append f done (n ∷ []) ∙ ap (λ (xs : List Node). leaves_in f done ++ xs) (leaf_counts f n [] are.0) in
-    let entries : now.entries ++ a.receipts.items ≡ base.entries = took.receipts ∙ ap (λ (o : List _). (taken_in now seat o).entries) are.1 in
-    let known_is : known + known_in now seat (offers_at other n) ≡ count =
-    omega (arith, ap length entries, length-append now.entries a.receipts.items, took.known, sum, ap length are.1) in
-    moved s now new base seat id known count other u n rest is at first (records_stay now seat (offers_at other n)) (config_stays now seat (offers_at other n)) (omega (arith, ap length entries, length-append now.entries a.receipts.items)) new_is
-    (ap (taken_leaves s seat other 0) more
-    ∙ taken_more s (beside now s.records) seat other 0 known (leaves_in f done) (n ∷ []) u.progress
-    ∙ leaf_came now s.records seat other known n fits
-    ∙ ap (so_far (beside base s.records)) known_is)
+    let entries : now.store.entries ++ a.receipts.items ≡ base.entries = took.receipts ∙ ap (λ (o : List _). (taken_in now.store seat o).entries) are.1 in
+    let known_is : known + known_in now.store seat (offers_at other n) ≡ count =
+    omega (arith, ap length entries, length-append now.store.entries a.receipts.items, took.known, sum, ap length are.1) in
+    moved s now new base seat id known count other u n rest is at first (config_stays now.store seat Partner (offers_at other n)) (omega (arith, ap length entries, length-append now.store.entries a.receipts.items)) new_is
+    (ap (taken_leaves s.store seat other 0) more
+    ∙ taken_more s.store now.store seat other 0 known (leaves_in f done) (n ∷ []) u.progress
+    ∙ leaf_came now.store seat other known n fits
+    ∙ ap (so_far base) known_is)
 
 went_on : (s now new : State) (seat id known : ℕ) (other : RowMap) (u : IsUnderWay s seat other known now) (n : Node) (rest : List Node) (a : AnswerTaken) (count : ℕ) → count ≡ known + a.known → IsTrueWalk s now other u.r → id ≡ length s.records → u.r.session.outstanding ≡ n ∷ rest
     → TakesFor now seat id (slice_get now.records id) (entry n (text_of other n)) (Ok a) new → HasMoved s now new seat id count other u.r n
@@ -330,10 +334,10 @@ unchanged {s = s} {now = now} {new = new} {seat = seat} {id = id} {known = known
 none_left : (s now : State) (seat known : ℕ) (other : RowMap) (u : IsUnderWay s seat other known now) → u.r.session.outstanding ≡ [] → IsNearlyDone u.r.session
 none_left s now seat known other u done n h = let clash : false ≡ true = sym (ap (contains_node n) done) ∙ h in cc
 
-leaves_left : (s now : State) (seat known : ℕ) (other : RowMap) (u : IsUnderWay s seat other known now) (n : Node) (rest : List Node) → IsTrueWalk s now other u.r → u.r.session.outstanding ≡ n ∷ rest → n.depth ≡ tree_depth s.config.format → IsNearlyDone u.r.session
+leaves_left : (s now : State) (seat known : ℕ) (other : RowMap) (u : IsUnderWay s seat other known now) (n : Node) (rest : List Node) → IsTrueWalk s now other u.r → u.r.session.outstanding ≡ n ∷ rest → n.depth ≡ tree_depth s.store.config.format → IsNearlyDone u.r.session
 leaves_left s now seat known other u n rest is first deep m h =
     let differs = asked_in s now seat known other u is m (ap (contains_node m) u.turn ∙ has_left m (nodes_of u.r.session.taken) u.r.session.outstanding h) in
-    let inside = all_has _ (differ (rows_now s) other) (differ_inside (rows_now s) other) m differs in
+    let inside = all_has _ (differ (rows_now s.store) other) (differ_inside (rows_now s.store) other) m differs in
     let format = ap (λ (x : RowMap). tree_depth x.format) u.own in
     elim (member_of m n rest (sym (ap (contains_node m) first) ∙ h)) [
       | inl same ↦ ap (λ (x : Node). x.depth) same ∙ deep ∙ sym format
@@ -342,33 +346,31 @@ leaves_left s now seat known other u n rest is first deep m h =
           omega (arith, as_deep n m less inside.1, inside.0, deep, format)
     ]
 
-pub asked_all : (s now : State) (seat known : ℕ) (other : RowMap) (u : IsUnderWay s seat other known now) → IsTrueWalk s now other u.r → IsNearlyDone u.r.session → u.r.session.asked ≡ differ (rows_now s) other
+pub asked_all : (s now : State) (seat known : ℕ) (other : RowMap) (u : IsUnderWay s seat other known now) → IsTrueWalk s now other u.r → IsNearlyDone u.r.session → u.r.session.asked ≡ differ (rows_now s.store) other
 asked_all s now seat known other u is near =
-    same_nodes u.r.session.asked (differ (rows_now s) other) (asked_ascend s now seat known other u is) (differ_ascends (rows_now s) other) (asked_in s now seat known other u is)
-    (λ n h. differ_is_asked (held now.entries) u.r.session other is.right.walked is.right.orderly is.partner u.honest near n (ap (λ (m : RowMap). contains_node n (differ m other)) u.own ∙ h))
+    same_nodes u.r.session.asked (differ (rows_now s.store) other) (asked_ascend s now seat known other u is) (differ_ascends (rows_now s.store) other) (asked_in s now seat known other u is)
+    (λ n h. differ_is_asked (held now.store.entries) u.r.session other is.right.walked is.right.orderly is.partner u.honest near n (ap (λ (m : RowMap). contains_node n (differ m other)) u.own ∙ h))
 
 -- what is answered at the end
 pub record IsTold (s now : State) (id count : ℕ) (cause : Option Refusal) (a : Synced) : Type 0 where
-  pub accepted : length s.entries + a.accepted ≡ length now.entries
+  pub accepted : length s.store.entries + a.accepted ≡ length now.store.entries
   pub known : a.known ≡ count
   pub asked : MatchOption (slice_get now.records id) ⊥ (λ r. a.asked ≡ length r.session.asked)
   pub fault : a.fault ≡ cause
 
-pub is_told : {s now : State} {id count before : ℕ} {cause : Option Refusal} {a : Synced} → before ≡ length s.entries → before + a.accepted ≡ length now.entries → a.known ≡ count → MatchOption (slice_get now.records id) ⊥ (λ r. a.asked ≡ length r.session.asked) → a.fault ≡ cause
+pub is_told : {s now : State} {id count before : ℕ} {cause : Option Refusal} {a : Synced} → before ≡ length s.store.entries → before + a.accepted ≡ length now.store.entries → a.known ≡ count → MatchOption (slice_get now.records id) ⊥ (λ r. a.asked ≡ length r.session.asked) → a.fault ≡ cause
     → IsTold s now id count cause a
 is_told {a = a} start accepted known asked fault = record { accepted = ap (λ k. k + a.accepted) (sym start) ∙ accepted; known = known; asked = asked; fault = fault }
 
 ends : (s now : State) (seat id known : ℕ) (other : RowMap) (fault : Option Refusal) (a : Synced) (u : IsUnderWay s seat other known now) → IsTrueWalk s now other u.r → id ≡ length s.records → IsNearlyDone u.r.session
-    → taken_leaves s seat other 0 (leaves_in s.config.format u.r.session.asked) ≡ record { state = beside now s.records; known = known; fault = fault } → u.r.session.state ≡ ended fault → IsTold s now id known fault a
+    → taken_leaves s.store seat other 0 (leaves_in s.store.config.format u.r.session.asked) ≡ record { store = now.store; known = known; fault = fault } → u.r.session.state ≡ ended fault → IsTold s now id known fault a
     → IsSyncedTo s seat other now a
 ends s now seat id known other fault a u is at near progress state told =
     let all = asked_all s now seat known other u is near in
-    let end : synced s seat other ≡ record { state = beside now s.records; known = known; fault = fault } = ap (λ (xs : List Node). taken_leaves s seat other 0 (leaves_in s.config.format xs)) (sym all) ∙ progress in
+    let end : synced s.store seat other ≡ record { store = now.store; known = known; fault = fault } = ap (λ (xs : List Node). taken_leaves s.store seat other 0 (leaves_in s.store.config.format xs)) (sym all) ∙ progress in
     let asked : a.asked ≡ length u.r.session.asked = subst (λ (o : Option Record). MatchOption o ⊥ (λ r. a.asked ≡ length r.session.asked)) (here_is s now seat known id other u at) told.asked in
     record {
-      config = sym (ap (λ (p : Progress). p.state.config) end);
-      entries = sym (ap (λ (p : Progress). p.state.entries) end);
-      marks = sym (ap (λ (p : Progress). p.state.marks) end);
+      store = sym (ap (λ (p : Progress). p.store) end);
       sessions = ap standings u.records ∙ map-append (λ (r : Record). r.session.state) s.records (u.r ∷ []) ∙ ap (λ (x : SessionState). standings s.records ++ x ∷ []) (state ∙ ap (λ (p : Progress). ended p.fault) (sym end));
       accepted = told.accepted;
       known = told.known ∙ sym (ap (λ (p : Progress). p.known) end);
@@ -381,7 +383,7 @@ pub finished : {s now : State} {seat id known : ℕ} {other : RowMap} {u : IsUnd
 finished {s = s} {now = now} {seat = seat} {id = id} {known = known} {other = other} {u = u} {a = a} done told =
     let taken : u.r.session.asked ≡ nodes_of u.r.session.taken = u.turn ∙ ap (λ (xs : List Node). nodes_of u.r.session.taken ++ xs) done.none ∙ append-nil (nodes_of u.r.session.taken) in
     ends s now seat id known other None a u done.is done.at (none_left s now seat known other u done.none)
-    (ap (λ (xs : List Node). taken_leaves s seat other 0 (leaves_in s.config.format xs)) taken ∙ u.progress)
+    (ap (λ (xs : List Node). taken_leaves s.store seat other 0 (leaves_in s.store.config.format xs)) taken ∙ u.progress)
     (u.stands ∙ ap state_by done.none) told
 
 -- the leaf of a node is refused
@@ -390,17 +392,17 @@ refused_at {s = s} {now = now} {seat = seat} {id = id} {known = known} {other = 
     let is = next.is in
     let rest = next.rest in
     let first = next.first in
-    let f : Format = s.config.format in
+    let f : Format = s.store.config.format in
     let done = nodes_of u.r.session.taken in
     let are = offers_are s now seat known other u n cause.0.rows is cause.0.read in
-    let fault : leaf_fault now seat (offers_at other n) ≡ Some e = ap (leaf_fault now seat) (sym are.1) ∙ cause.0.fault in
+    let fault : leaf_fault now.store seat (offers_at other n) ≡ Some e = ap (leaf_fault now.store seat) (sym are.1) ∙ cause.0.fault in
     let all : leaves_in f u.r.session.asked ≡ leaves_in f done ++ n ∷ leaves_in f rest =
     ap (leaves_in f) (u.turn ∙ ap (λ (xs : List Node). done ++ xs) first) ∙ leaves-append f done (n ∷ rest) ∙ ap (λ (xs : List Node). leaves_in f done ++ xs) (leaf_counts f n rest are.0) in
     subst (λ (x : State). IsSyncedTo s seat other x a) (sym cause.1)
     (ends s now seat id known other (Some e) a u is next.at (leaves_left s now seat known other u n rest is first are.0)
-    (ap (taken_leaves s seat other 0) all
-    ∙ taken_more s (beside now s.records) seat other 0 known (leaves_in f done) (n ∷ leaves_in f rest) u.progress
-    ∙ leaf_refused now s.records seat other known n (leaves_in f rest) e fault)
+    (ap (taken_leaves s.store seat other 0) all
+    ∙ taken_more s.store now.store seat other 0 known (leaves_in f done) (n ∷ leaves_in f rest) u.progress
+    ∙ leaf_refused now.store seat other known n (leaves_in f rest) e fault)
     (u.stands ∙ ap state_by first)
     (subst (λ (x : State). IsTold s x id known (Some e) a) cause.1 told))
 
@@ -409,10 +411,10 @@ length-nodes [] = refl
 length-nodes (t ∷ ts) = omega (arith, length-nodes ts)
 
 -- each text that is taken leaves fewer of the nodes where the trees differ
-pub fewer_left : {s now new : State} {seat id known : ℕ} {other : RowMap} {u : IsUnderWay s seat other known now} {count : ℕ} {n : Node} → IsNext s now seat id known other u n → HasMoved s now new seat id count other u.r n → length (differ (rows_now s) other) - taken_count new.records id < length (differ (rows_now s) other) - taken_count now.records id
+pub fewer_left : {s now new : State} {seat id known : ℕ} {other : RowMap} {u : IsUnderWay s seat other known now} {count : ℕ} {n : Node} → IsNext s now seat id known other u n → HasMoved s now new seat id count other u.r n → length (differ (rows_now s.store) other) - taken_count new.records id < length (differ (rows_now s.store) other) - taken_count now.records id
 fewer_left {s = s} {now = now} {seat = seat} {id = id} {known = known} {other = other} {u = u} next moved =
-    let most = fits (differ (rows_now s) other) u.r.session.asked (asked_ascend s now seat known other u next.is) (differ_ascends (rows_now s) other) (asked_in s now seat known other u next.is) in
-    let room : length u.r.session.taken < length (differ (rows_now s) other) =
+    let most = fits (differ (rows_now s.store) other) u.r.session.asked (asked_ascend s now seat known other u next.is) (differ_ascends (rows_now s.store) other) (asked_in s now seat known other u next.is) in
+    let room : length u.r.session.taken < length (differ (rows_now s.store) other) =
     omega (arith, most, ap length u.turn, length-append (nodes_of u.r.session.taken) u.r.session.outstanding, length-nodes u.r.session.taken, ap length next.first) in
     omega (arith, moved.more, ap count_of (here_is s now seat known id other u next.at), room)
 
@@ -427,17 +429,17 @@ abbrev pub AreFirst : Format → List Node → List Node → Type 0
 AreFirst f nodes all = (rest : List Node) × (leaves_in f all ≡ leaves_in f nodes ++ rest)
 
 -- the leaves taken with the next node are the first ones, since a leaf is taken only once nothing but leaves is left
-up_to : (s now : State) (seat known : ℕ) (other : RowMap) (u : IsUnderWay s seat other known now) (n : Node) (rest : List Node) → IsTrueWalk s now other u.r → u.r.session.outstanding ≡ n ∷ rest → AreFirst s.config.format (nodes_of u.r.session.taken ++ n ∷ []) (differ (rows_now s) other)
+up_to : (s now : State) (seat known : ℕ) (other : RowMap) (u : IsUnderWay s seat other known now) (n : Node) (rest : List Node) → IsTrueWalk s now other u.r → u.r.session.outstanding ≡ n ∷ rest → AreFirst s.store.config.format (nodes_of u.r.session.taken ++ n ∷ []) (differ (rows_now s.store) other)
 up_to s now seat known other u n rest is first = elim (cases_lt n.depth (tree_depth f)) [
   | inl less ↦ (leaves_in f all, ap (λ (xs : List Node). xs ++ leaves_in f all) (sym (none less)))
   | inr more ↦ (leaves_in f rest, ap (leaves_in f) (sym (asked_all s now seat known other u is (leaves_left s now seat known other u n rest is first (omega (arith, more, inside.0)))) ∙ turn ∙ sym (append_assoc done (n ∷ []) rest)) ∙ leaves-append f (done ++ n ∷ []) rest)
 ]
   where
     f : Format
-    f = s.config.format
+    f = s.store.config.format
 
     all : List Node
-    all = differ (rows_now s) other
+    all = differ (rows_now s.store) other
 
     done : List Node
     done = nodes_of u.r.session.taken
@@ -446,7 +448,7 @@ up_to s now seat known other u n rest is first = elim (cases_lt n.depth (tree_de
     turn = u.turn ∙ ap (λ (xs : List Node). done ++ xs) first
 
     inside : (n.depth < suc (tree_depth f)) × (n.index < 16 ^ n.depth)
-    inside = all_has (λ m. (m.depth < suc (tree_depth f)) × (m.index < 16 ^ m.depth)) all (differ_inside (rows_now s) other) n
+    inside = all_has (λ m. (m.depth < suc (tree_depth f)) × (m.index < 16 ^ m.depth)) all (differ_inside (rows_now s.store) other) n
         (asked_in s now seat known other u is n (ap (contains_node n) turn ∙ has_left n done (n ∷ rest) (has_head n rest)))
 
     none : n.depth < tree_depth f → leaves_in f (done ++ n ∷ []) ≡ []
@@ -480,15 +482,13 @@ all_asked_at {s = s} {now = now} {seat = seat} {known = known} {other = other} {
     subst (λ (x : State). HasAskedAll s partner other x.records) (sym cause.1)
     (one_more s now seat partner known other u with_whom, asked_all s now seat known other u next.is (leaves_left s now seat known other u n next.rest next.is next.first deep))
 
-part_way : (s now : State) (seat partner known : ℕ) (other : RowMap) (u : IsUnderWay s seat other known now) → AreFirst s.config.format (nodes_of u.r.session.taken) (differ (rows_now s) other) → u.r.partner ≡ partner → IsPartWay s seat partner other now
+part_way : (s now : State) (seat partner known : ℕ) (other : RowMap) (u : IsUnderWay s seat other known now) → AreFirst s.store.config.format (nodes_of u.r.session.taken) (differ (rows_now s.store) other) → u.r.partner ≡ partner → IsPartWay s seat partner other now
 part_way s now seat partner known other u first with_whom = record {
-  leaves = leaves_in s.config.format (nodes_of u.r.session.taken);
+  leaves = leaves_in s.store.config.format (nodes_of u.r.session.taken);
   rest = first.0;
   first = first.1;
   fits = ap (λ (p : Progress). p.fault) u.progress;
-  config = sym (ap (λ (p : Progress). p.state.config) u.progress);
-  entries = sym (ap (λ (p : Progress). p.state.entries) u.progress);
-  marks = sym (ap (λ (p : Progress). p.state.marks) u.progress);
+  store = sym (ap (λ (p : Progress). p.store) u.progress);
   session = one_more s now seat partner known other u with_whom;
 }
 
@@ -496,7 +496,7 @@ part_way s now seat partner known other u first with_whom = record {
 pub stopped_before : {s now new : State} {seat id known : ℕ} {other : RowMap} {u : IsUnderWay s seat other known now} {partner : ℕ} {n : Node} → IsNext s now seat id known other u n
     → (◌≡◌ {A = Result AnswerTaken Refusal} (Err refusals.NoMemory) (Err refusals.NoMemory) × (new ≡ now)) ⊎ TakesFor now seat id (slice_get now.records id) (entry n (text_of other n)) (Err refusals.NoMemory) new → u.r.partner ≡ partner → IsPartWay s seat partner other new
 stopped_before {s = s} {now = now} {seat = seat} {known = known} {other = other} {u = u} {partner = partner} {n = n} next answer with_whom =
-    let f : Format = s.config.format in
+    let f : Format = s.store.config.format in
     let done = nodes_of u.r.session.taken in
     let more = up_to s now seat known other u n next.rest next.is next.first in
     let first = more.1 ∙ ap (λ (xs : List Node). xs ++ more.0) (leaves-append f done (n ∷ [])) ∙ append_assoc (leaves_in f done) (leaves_in f (n ∷ [])) more.0 in
@@ -506,4 +506,4 @@ stopped_before {s = s} {now = now} {seat = seat} {known = known} {other = other}
 pub stopped_after : {s now new : State} {seat id known : ℕ} {other : RowMap} {u : IsUnderWay s seat other known now} {partner count : ℕ} {n : Node} → IsNext s now seat id known other u n → HasMoved s now new seat id count other u.r n → u.r.partner ≡ partner → IsPartWay s seat partner other new
 stopped_after {s = s} {now = now} {new = new} {seat = seat} {known = known} {other = other} {u = u} {partner = partner} {count = count} {n = n} next moved with_whom =
     part_way s new seat partner count other moved.under
-    (subst (λ (xs : List Node). AreFirst s.config.format xs (differ (rows_now s) other)) (sym moved.turn) (up_to s now seat known other u n next.rest next.is next.first)) (moved.partner ∙ with_whom)
+    (subst (λ (xs : List Node). AreFirst s.store.config.format xs (differ (rows_now s.store) other)) (sym moved.turn) (up_to s now seat known other u n next.rest next.is next.first)) (moved.partner ∙ with_whom)

@@ -1,16 +1,10 @@
 -- How a session goes on with a partner that answers truly.
 use Rattle.std.proofs.Common.{◌≡◌, ℕ, zero, ◌+◌, ◌-◌, ◌<◌, Bool, true, false, cond, Option, Some, None, List, [], ◌∷◌, ◌++◌, length, set, refl, sym, ap, subst, ◌∙◌, arith, slice_get}
-use Rattle.std.specs.Prelude.{nat_le, nat_eq}
+use Rattle.std.specs.Prelude.{nat_eq}
 use Rattle.std.specs.List.{AllByRecursion}
 use Rattle.std.proofs.lemmas.Bool.{eq-eqb, eqb-true, false_from_ne_true}
-use Rattle.vclock.specs.Answer.{first_fault}
 use Rattle.vclock.specs.declared.format.Format.{Format}
 use Rattle.vclock.specs.declared.refusal.Refusal.{Refusal}
-use Rattle.vclock.specs.declared.refusal.Refusal.TheVariants.{JournalFull}
-use Rattle.version_set.specs.Version.{offer_fault}
-use Rattle.version_set.specs.declared.version.Version.{Version}
-use Rattle.range_journal.specs.Journal.{held}
-use Rattle.range_journal.specs.declared.journal.Source.TheVariants.{Partner}
 use Rattle.row_bytes.specs.declared.row.Row.{Row}
 use Rattle.row_bytes.specs.Rows.{IsRow}
 use Rattle.hash_tree.specs.Leaves.{rows_in_leaf}
@@ -23,51 +17,21 @@ use Rattle.sync_session.specs.Walks.{Walk, TakenText, AreSpelled, IsPartners}
 use Rattle.sync_session.specs.Differing.{nodes_of}
 use Rattle.sync_session.proofs.TextLaws.{text_above, leaf_rows, leaf_are}
 use Rattle.range_state.specs.declared.«record».Record.{Record}
-use Rattle.range_state.specs.State.{State, knows, entry_of, journaled, accept_step}
-use Rattle.range_state.specs.Sessions.{taken_in, crowded_in, leaf_fault}
+use Rattle.range_store.specs.Store.{Store}
+use Rattle.range_state.specs.Sessions.{taken_in, leaf_fault}
 use Rattle.range_state.specs.Syncs.{leaves_in, offers_at, Progress, known_in, unless_refused, taken_leaves}
-use Rattle.range_state.proofs.BatchLaws.{Offers}
-use Rattle.range_state.proofs.TakenLaws.{step_config}
-
--- ---- a state beside other records
-
-abbrev pub beside : State → List Record → State
-beside s rs = record { config = s.config; entries = s.entries; marks = s.marks; records = rs }
-
-step_beside : (t : State) (rs : List Record) (seat : ℕ) (key : List ℕ) (v : Version) → accept_step (beside t rs) seat Partner key v ≡ beside (accept_step t seat Partner key v) rs
-step_beside t rs seat key v = elim (knows t key v) as (λ b. cond b (beside t rs) (journaled (beside t rs) (entry_of t seat Partner key v)) ≡ beside (cond b t (journaled t (entry_of t seat Partner key v))) rs) [ true ↦ refl | false ↦ refl ]
-
-pub taken_beside : (t : State) (rs : List Record) (seat : ℕ) (offers : Offers) → taken_in (beside t rs) seat offers ≡ beside (taken_in t seat offers) rs
-taken_beside t rs seat [] = refl
-taken_beside t rs seat (o ∷ offers) = ap (λ (u : State). taken_in u seat offers) (step_beside t rs seat o.0 o.1) ∙ taken_beside (accept_step t seat Partner o.0 o.1) rs seat offers
-
-crowded_beside : (t : State) (rs : List Record) (seat : ℕ) (offers : Offers) → crowded_in (beside t rs) seat Partner offers ≡ crowded_in t seat Partner offers
-crowded_beside t rs seat [] = refl
-crowded_beside t rs seat (o ∷ offers) =
-    ap (first_fault (offer_fault o.1 (held t.entries o.0)))
-    (ap (λ (u : State). crowded_in u seat Partner offers) (step_beside t rs seat o.0 o.1) ∙ crowded_beside (accept_step t seat Partner o.0 o.1) rs seat offers)
-
-pub fault_beside : (t : State) (rs : List Record) (seat : ℕ) (offers : Offers) → leaf_fault (beside t rs) seat offers ≡ leaf_fault t seat offers
-fault_beside t rs seat offers = λ i. first_fault (crowded_beside t rs seat offers i) (cond (nat_le (length (taken_beside t rs seat offers i).entries) t.config.limit) None (Some JournalFull))
-
-pub records_stay : (t : State) (seat : ℕ) (offers : Offers) → (taken_in t seat offers).records ≡ t.records
-records_stay t seat offers = ap (λ (u : State). u.records) (taken_beside t t.records seat offers)
-
-pub config_stays : (t : State) (seat : ℕ) (offers : Offers) → (taken_in t seat offers).config ≡ t.config
-config_stays t seat [] = refl
-config_stays t seat (o ∷ offers) = config_stays (accept_step t seat Partner o.0 o.1) seat offers ∙ step_config t seat Partner o.0 o.1
 
 -- ---- leaves that are taken
 
-abbrev pub so_far : State → ℕ → Progress
-so_far t known = record { state = t; known = known; fault = None }
+abbrev pub so_far : Store → ℕ → Progress
+so_far t known = record { store = t; known = known; fault = None }
 
-abbrev pub stopped : State → ℕ → Refusal → Progress
-stopped t known e = record { state = t; known = known; fault = Some e }
+abbrev pub stopped : Store → ℕ → Refusal → Progress
+stopped t known e = record { store = t; known = known; fault = Some e }
 
 -- after some leaves more are taken
-pub taken_more : (s t : State) (seat : ℕ) (other : RowMap) (known count : ℕ) (leaves more : List Node) → taken_leaves s seat other known leaves ≡ so_far t count → taken_leaves s seat other known (leaves ++ more) ≡ taken_leaves t seat other count more
-taken_more s t seat other known count [] more h = ap (λ (p : Progress). taken_leaves p.state seat other p.known more) h
+pub taken_more : (s t : Store) (seat : ℕ) (other : RowMap) (known count : ℕ) (leaves more : List Node) → taken_leaves s seat other known leaves ≡ so_far t count → taken_leaves s seat other known (leaves ++ more) ≡ taken_leaves t seat other count more
+taken_more s t seat other known count [] more h = ap (λ (p : Progress). taken_leaves p.store seat other p.known more) h
 taken_more s t seat other known count (n ∷ leaves) more h =
     by_case (leaf_fault s seat (offers_at other n)) _ _ _
     (taken_more (taken_in s seat (offers_at other n)) t seat other (known + known_in s seat (offers_at other n)) count leaves more) h
@@ -76,16 +40,12 @@ taken_more s t seat other known count (n ∷ leaves) more h =
     by_case None before later end again e = again e
     by_case (Some x) before later end again e = absurd (let clash : Some x ≡ None = ap (λ (p : Progress). p.fault) e in cc)
 
-pub leaf_came : (t : State) (rs : List Record) (seat : ℕ) (other : RowMap) (known : ℕ) (n : Node) → leaf_fault t seat (offers_at other n) ≡ None
-    → taken_leaves (beside t rs) seat other known (n ∷ []) ≡ so_far (beside (taken_in t seat (offers_at other n)) rs) (known + known_in t seat (offers_at other n))
-leaf_came t rs seat other known n fits =
-    ap (λ (f : Option Refusal). unless_refused f (beside t rs) known (so_far (taken_in (beside t rs) seat (offers_at other n)) (known + known_in (beside t rs) seat (offers_at other n)))) (fault_beside t rs seat (offers_at other n) ∙ fits)
-    ∙ ap (λ (u : State). so_far u (known + ((length t.entries + length (offers_at other n)) - length u.entries))) (taken_beside t rs seat (offers_at other n))
+pub leaf_came : (t : Store) (seat : ℕ) (other : RowMap) (known : ℕ) (n : Node) → leaf_fault t seat (offers_at other n) ≡ None
+    → taken_leaves t seat other known (n ∷ []) ≡ so_far (taken_in t seat (offers_at other n)) (known + known_in t seat (offers_at other n))
+leaf_came t seat other known n fits = rw fits refl
 
-pub leaf_refused : (t : State) (rs : List Record) (seat : ℕ) (other : RowMap) (known : ℕ) (n : Node) (leaves : List Node) (e : Refusal) → leaf_fault t seat (offers_at other n) ≡ Some e
-    → taken_leaves (beside t rs) seat other known (n ∷ leaves) ≡ stopped (beside t rs) known e
-leaf_refused t rs seat other known n leaves e fault =
-    ap (λ (f : Option Refusal). unless_refused f (beside t rs) known (taken_leaves (taken_in (beside t rs) seat (offers_at other n)) seat other (known + known_in (beside t rs) seat (offers_at other n)) leaves)) (fault_beside t rs seat (offers_at other n) ∙ fault)
+pub leaf_refused : (t : Store) (seat : ℕ) (other : RowMap) (known : ℕ) (n : Node) (leaves : List Node) (e : Refusal) → leaf_fault t seat (offers_at other n) ≡ Some e → taken_leaves t seat other known (n ∷ leaves) ≡ stopped t known e
+leaf_refused t seat other known n leaves e fault = rw fault refl
 
 -- ---- the leaves among some nodes
 

@@ -7,4 +7,4 @@ use Rattle.range_state.specs.State.{State}
 
 -- the numbers of entries, dirty nodes, sessions and open sessions, and the limit of the journal
 abbrev pub counts_of : State → RangeCounts
-counts_of s = record { entries = length s.entries; limit = s.config.limit; dirty = dirty_count s.marks; sessions = length s.records; open_sessions = open_count s.records }
+counts_of s = record { entries = length s.store.entries; limit = s.store.config.limit; dirty = dirty_count s.store.marks; sessions = length s.records; open_sessions = open_count s.records }

@@ -1,100 +1,21 @@
--- Loading: the versions of the rows of one leaf, read from their texts, are accepted as copies, all or none.
-use Rattle.std.specs.Prelude.{◌≡◌, ℕ, ◌+◌, ◌-◌, ◌<◌, Bool, ◌==◌, ◌&&◌, List, [], ◌∷◌, ◌++◌, length, map, Option, Some, None, Result, Ok, Err, if◌then◌else◌}
-use Rattle.std.specs.List.{AllByRecursion, list_all, range_with_len}
-use Rattle.vclock.specs.Outcome.{Outcome, gives, refuses, ◌>>=◌, ◌>>◌}
+-- Loads of a range: those of its store.
+use Rattle.std.specs.Prelude.{ℕ, List}
+use Rattle.vclock.specs.Outcome.{Outcome, through}
 use Rattle.vclock.specs.declared.format.Format.{Format}
-use Rattle.vclock.specs.declared.refusal.Refusal.{Refusal}
-use Rattle.vclock.specs.declared.refusal.Refusal.TheVariants.{OtherRange, RowBroken}
-use Rattle.version_set.specs.declared.version.Version.{Version}
-use Rattle.range_journal.specs.declared.journal.Source.TheVariants.{Copy}
-use Rattle.key_ring.specs.Places.{range_at}
-use Rattle.row_bytes.specs.Rows.{AreRows}
-use Rattle.row_bytes.specs.Reading.{rows_at}
 use Rattle.row_bytes.specs.declared.row.Row.{Row}
-use Rattle.hash_tree.specs.Leaves.{rows_in_leaf}
-use Rattle.range_state.specs.Batches.{IsBatch, seen_count}
-use Rattle.range_state.specs.Config.{Config}
-use Rattle.range_state.specs.Rows.{rows_of}
-use Rattle.range_state.specs.Sessions.{offers_of, accepted_in, crowded_in, accept_fault}
-use Rattle.range_state.specs.State.{State, leaf_in, leaf_count}
-use Rattle.range_state.specs.declared.state.loading.Loaded.{Loaded}
-use Rattle.range_state.specs.declared.state.preparation.Batch.{Batch}
-
--- rows for a leaf of a range
-pub record RowsFor : Type 0 where
-  pub config : Config
-  pub leaf : ℕ
-  pub rows : List Row
-
--- a key of the range, and of this leaf
-abbrev pub is_home : Config → ℕ → List ℕ → Bool
-is_home c leaf key = range_at c.bits key == c.range && leaf_in c key == leaf
-
--- the leaf of the first row
-abbrev pub first_leaf : Config → List Row → ℕ
-first_leaf c [] = 0
-first_leaf c (r ∷ rows) = leaf_in c r.key
-
--- the fault of rows of another range, or of two leaves
-abbrev pub apart_fault : Config → List Row → Option Refusal
-apart_fault c rows = if list_all (λ r. is_home c (first_leaf c rows) r.key) rows then None else Some OtherRange
-
--- rows of a leaf of the range: they have texts, their keys ascend, and each key is of the leaf
-pub record AreLeafRows (c : Config) (leaf : ℕ) (rows : List Row) : Type 0 where
-  pub are : AreRows c.format rows
-  pub inside : leaf < leaf_count c
-  pub range : AllByRecursion (λ (r : Row). range_at c.bits r.key ≡ c.range) rows
-  pub leaf_is : AllByRecursion (λ (r : Row). leaf_in c r.key ≡ leaf) rows
-
--- the rows that a text spells, or the number of bytes from the broken field on
-abbrev pub rows_in : Format → List ℕ → Result (List Row) ℕ
-rows_in format text = rows_at format (length text) [] [] text
-
--- the fault of a text of so many bytes from which these rows, or a broken field, were read
-abbrev pub read_fault : Config → ℕ → Result (List Row) ℕ → Option Refusal
-read_fault c len (Ok rows) = apart_fault c rows
-read_fault c len (Err left) = Some (RowBroken (len - left))
-
--- the counts of versions that came to a state, and of those among these that did not
-abbrev pub loaded : State → State → List (List ℕ × Version) → Loaded
-loaded s new offers = record { taken = length new.entries - length s.entries; known = (length s.entries + length offers) - length new.entries }
-
--- versions are accepted, each in its turn, as copies by a seat
-abbrev pub load_offers : State → ℕ → List (List ℕ × Version) → Outcome Loaded State
-load_offers s seat offers = do
-  accept_fault s seat Copy offers
-  gives (loaded s (accepted_in s seat Copy offers) offers) (accepted_in s seat Copy offers)
+use Rattle.range_store.specs.declared.store.loading.Loaded.{Loaded}
+use Rattle.range_store.specs.Loads as loads
+use Rattle.range_store.specs.FormatLoads as formats
+use Rattle.range_state.specs.State.{State, with_store}
 
 -- the versions of rows of one leaf are accepted
 abbrev pub load : State → ℕ → List Row → Outcome Loaded State
-load s seat rows = do
-  apart_fault s.config rows
-  load_offers s seat (offers_of rows)
-
--- the same, if rows were read from a text of so many bytes
-abbrev pub load_read : State → ℕ → ℕ → Result (List Row) ℕ → Outcome Loaded State
-load_read s seat len (Ok rows) = load s seat rows
-load_read s seat len (Err left) = refuses (RowBroken (len - left))
+load s seat rows = through (with_store s) (loads.load s.store seat rows)
 
 -- the rows that a text spells are loaded
 abbrev pub load_text : State → ℕ → List ℕ → Outcome Loaded State
-load_text s seat text = load_read s seat (length text) (rows_in s.config.format text)
+load_text s seat text = through (with_store s) (loads.load_text s.store seat text)
 
--- a batch of all versions of rows of a leaf, as copies by a seat, none of which is refused
-pub record IsLoadable (s : State) (seat leaf : ℕ) (rows : List Row) (b : Batch) : Type 0 where
-  pub rows_are : AreLeafRows s.config leaf rows
-  pub batch : IsBatch s leaf b
-  pub fits : crowded_in s seat Copy (offers_of rows) ≡ None
-  pub entries : s.entries ++ b.entries.items ≡ (accepted_in s seat Copy (offers_of rows)).entries
-  pub count : seen_count b ≡ length (offers_of rows)
-
--- the rows of each leaf, leaf by leaf
-abbrev pub leaves_of : State → List (List Row)
-leaves_of s = map (λ leaf. rows_in_leaf (leaf_in s.config) leaf (rows_of s.entries)) (range_with_len 0 (leaf_count s.config))
-
--- lists of rows are loaded one after another, until one is refused
-abbrev pub load_all : State → ℕ → List (List Row) → Outcome (Unit {0}) State
-load_all s seat [] = gives tt s
-load_all s seat (rows ∷ more) = do
-  one ← load s seat rows
-  load_all one.1 seat more
+-- the rows that a text of a format spells are loaded
+abbrev pub load_format : State → ℕ → Format → List ℕ → Outcome Loaded State
+load_format s seat format text = through (with_store s) (formats.load_format s.store seat format text)

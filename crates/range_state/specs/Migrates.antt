@@ -1,17 +1,12 @@
--- The migration of a range to format 2.
+-- The migration of a range to format 2: its store's, and open sessions are cancelled.
 use Rattle.std.specs.Prelude.{map}
 use Rattle.vclock.specs.Outcome.{Outcome, gives}
 use Rattle.vclock.specs.declared.format.Format.{Format}
 use Rattle.vclock.specs.declared.format.Format.TheVariants.{One, Two}
+use Rattle.range_store.specs.Migrates as stores
 use Rattle.sync_session.specs.Steps.{cancelled_by}
 use Rattle.range_state.specs.declared.«record».Record.{Record}
-use Rattle.range_state.specs.Config.{Config}
 use Rattle.range_state.specs.State.{State}
-use Rattle.range_tree.specs.Trees.{all_dirty}
-
--- the configuration in format 2
-abbrev pub config_in_two : Config → Config
-config_in_two c = record c { format = Two }
 
 -- a record whose session, if it was open, is cancelled; its snapshot keeps its format
 abbrev pub cancelled : Record → Record
@@ -19,7 +14,7 @@ cancelled r = record r { session = cancelled_by r.session r.session.state }
 
 -- the state in format 2: the entries are unchanged, no node is clean, and no session is open
 abbrev pub in_two : State → State
-in_two s = record { config = config_in_two s.config; entries = s.entries; marks = all_dirty Two; records = map cancelled s.records }
+in_two s = record { store = stores.in_two s.store; records = map cancelled s.records }
 
 -- a state of format 1 is migrated, and one of format 2 is unchanged
 abbrev pub migrated_from : Format → State → State
@@ -27,4 +22,4 @@ migrated_from One s = in_two s
 migrated_from Two s = s
 
 abbrev pub migrate : State → Outcome (Unit {0}) State
-migrate s = gives tt (migrated_from s.config.format s)
+migrate s = gives tt (migrated_from s.store.config.format s)

@@ -7,7 +7,7 @@ use Rattle.sync_session.specs.Differing.{IsOrderly, IsTraced}
 use Rattle.sync_session.specs.Walks.{Walk, Walked}
 use Rattle.sync_session.specs.declared.state.SessionState.{SessionState}
 use Rattle.sync_session.specs.declared.state.SessionState.TheVariants.{Open, Finished, Failed, Cancelled}
-use Rattle.range_state.specs.Config.{Config}
+use Rattle.range_store.specs.Config.{Config}
 use Rattle.range_state.specs.declared.«record».Record.{Record}
 
 -- a session can still take texts

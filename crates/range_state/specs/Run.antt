@@ -11,7 +11,7 @@ use Rattle.std.specs.Prelude.{None, IfErr}
 use Rattle.version_set.specs.declared.version.Version.{Version}
 use Rattle.range_journal.specs.declared.journal.Entry.{Entry}
 use Rattle.range_journal.specs.Journal.{held}
-use Rattle.range_state.specs.declared.event.Accepted.{Accepted}
+use Rattle.range_store.specs.declared.receipt.Accepted.{Accepted}
 use Rattle.range_state.specs.declared.event.Event.{Event}
 use Rattle.range_state.specs.declared.event.Event.TheVariants as events
 use Rattle.range_state.specs.declared.event.PutEvent.{PutEvent}
@@ -22,7 +22,8 @@ use Rattle.range_state.specs.declared.event.AnswerEvent.{AnswerEvent}
 use Rattle.range_state.specs.declared.event.AnswerTaken.{AnswerTaken}
 use Rattle.range_state.specs.declared.event.Reply.{Reply}
 use Rattle.range_state.specs.declared.event.Reply.TheVariants as replies
-use Rattle.range_state.specs.State.{State, IsRight, ask_fault, put, accept, install, tree_in, rows_now, dirty_fault}
+use Rattle.range_state.specs.State.{State, IsRight, put, accept, install}
+use Rattle.range_store.specs.Store.{ask_fault, tree_in, rows_now, dirty_fault}
 use Rattle.range_tree.specs.Jobs.{GivesJob}
 use Rattle.range_state.specs.Sessions.{open_session, cancel_session, TakesAnswer}
 use Rattle.range_state.specs.Migrates.{migrate}
@@ -31,7 +32,7 @@ use Rattle.snapshot.specs.RowMaps.{RowMap}
 
 -- a put: NoMemory does not replace a cause that is tested before the clock is raised
 abbrev pub PutStep : State → PutEvent → Result Entry Refusal → State → Type 0
-PutStep s p r t = DoesOrNoMemory r s t (put s p.seat p.at p.key p.context p.kind p.value) × IfErr r (λ e. e ≡ NoMemory → ask_fault s.config p.at p.key p.context p.kind p.value ≡ None)
+PutStep s p r t = DoesOrNoMemory r s t (put s p.seat p.at p.key p.context p.kind p.value) × IfErr r (λ e. e ≡ NoMemory → ask_fault s.store.config p.at p.key p.context p.kind p.value ≡ None)
 
 -- a version from another node
 abbrev pub AcceptStep : State → AcceptEvent → Result Accepted Refusal → State → Type 0
@@ -39,11 +40,11 @@ AcceptStep s a r t = Does r s t (accept s a.seat a.source a.key a.version)
 
 -- the result is the held versions, and nothing changed
 abbrev pub GetStep : State → List ℕ → Result (List Version) Refusal → State → Type 0
-GetStep s key r t = Answers r None (λ set. set ≡ held s.entries key) × (t ≡ s)
+GetStep s key r t = Answers r None (λ set. set ≡ held s.store.entries key) × (t ≡ s)
 
 -- the result is a job or None, and nothing changed
 abbrev pub TakeJobStep : State → Result (Option NodeText) Refusal → State → Type 0
-TakeJobStep s r t = Answers r None (GivesJob (tree_in s)) × (t ≡ s)
+TakeJobStep s r t = Answers r None (GivesJob (tree_in s.store)) × (t ≡ s)
 
 -- the digest of a node's text is installed
 abbrev pub InstallStep : State → InstallEvent → Result ⊤ Refusal → State → Type 0
@@ -51,7 +52,7 @@ InstallStep s i r t = DoesAtOnce r s t (install s i.node i.hashed)
 
 -- the result is the rows now, or some node had no digest; and nothing changed
 abbrev pub SnapshotStep : State → Result (Arc RowMap Global) Refusal → State → Type 0
-SnapshotStep s r t = Answers r (dirty_fault s) (λ snapshot. arc_value snapshot ≡ rows_now s) × (t ≡ s)
+SnapshotStep s r t = Answers r (dirty_fault s.store) (λ snapshot. arc_value snapshot ≡ rows_now s.store) × (t ≡ s)
 
 -- a new session
 abbrev pub OpenStep : State → OpenEvent → Result ℕ Refusal → State → Type 0

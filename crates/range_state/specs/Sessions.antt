@@ -1,16 +1,12 @@
 -- The calls on sessions: their results, and the states after them.
 use Rattle.std.specs.Prelude.{◌≡◌, ◌⊎◌, ℕ, ◌+◌, ◌<◌, nat_le, ◌==◌, ◌||◌, ◌++◌, List, [], ◌∷◌, length, slice_get, map, slice_set, Option, Some, None, Result, Ok, Err, if◌then◌else◌}
-use Rattle.std.specs.List.{filter, flat_map}
-use Rattle.vclock.specs.Answer.{first_fault}
+use Rattle.std.specs.List.{filter}
 use Rattle.vclock.specs.Format.{format_number}
 use Rattle.vclock.specs.Outcome.{Outcome, gives, refuses, ◌>>◌}
 use Rattle.vclock.specs.declared.refusal.Refusal.{Refusal}
 use Rattle.vclock.specs.declared.refusal.Refusal.TheVariants as refusals
-use Rattle.version_set.specs.Version.{offer_fault}
 use Rattle.version_set.specs.declared.version.Version.{Version}
-use Rattle.range_journal.specs.declared.journal.Source.{Source}
 use Rattle.range_journal.specs.declared.journal.Source.TheVariants.{Partner}
-use Rattle.range_journal.specs.Journal.{held}
 use Rattle.row_bytes.specs.declared.row.Row.{Row}
 use Rattle.tree_nodes.specs.Nodes.{tree_depth}
 use Rattle.walk_messages.specs.declared.message.Offer.{Offer}
@@ -19,11 +15,13 @@ use Rattle.sync_session.specs.declared.news.News.{News}
 use Rattle.sync_session.specs.Steps.{started, after, failed, cancelled_by, IsDue, IsTakeFault}
 use Rattle.sync_session.specs.Walks.{TakenText, Walk, AreSpelled, IsInnerText}
 use Rattle.sync_session.specs.declared.state.SessionState.{SessionState}
-use Rattle.range_state.specs.Config.{Config}
+use Rattle.range_store.specs.Config.{Config}
+use Rattle.range_store.specs.Store.{Store, rows_now, dirty_fault}
+use Rattle.range_store.specs.Offers.{offers_of, accepted_in, accept_fault}
 use Rattle.range_state.specs.Records.{is_open_state}
 use Rattle.range_state.specs.declared.«record».Record.{Record}
 use Rattle.range_state.specs.declared.event.AnswerTaken.{AnswerTaken}
-use Rattle.range_state.specs.State.{State, rows_now, dirty_fault, accept_step}
+use Rattle.range_state.specs.State.{State, with_store}
 
 -- ---- opening
 
@@ -41,19 +39,19 @@ crowd_fault states = if nat_le 64 (length (filter is_open_state states)) || nat_
 
 -- the state with one more record: a session that compares the rows now with those of a partner's root
 abbrev pub opened : State → ℕ → List ℕ → State
-opened s partner root = record s { records = s.records ++ (record { partner = partner; session = started (rows_now s) root }) ∷ [] }
+opened s partner root = record s { records = s.records ++ (record { partner = partner; session = started (rows_now s.store) root }) ∷ [] }
 
 -- the number of a new session with a partner's root, and the state with its record
 abbrev pub open_with : State → ℕ → List ℕ → Outcome ℕ State
 open_with s partner root = do
   crowd_fault (standings s.records)
-  dirty_fault s
+  dirty_fault s.store
   gives (length s.records) (opened s partner root)
 
 -- the number of a new session with a partner's offer, and the state with its record
 abbrev pub open_session : State → ℕ → Offer → Outcome ℕ State
 open_session s partner offer = do
-  foreign_fault s.config offer
+  foreign_fault s.store.config offer
   open_with s partner offer.root
 
 -- ---- changing a record
@@ -82,34 +80,12 @@ unknown_fault s id = unknown_for (slice_get s.records id)
 
 -- ---- accepting the versions of a leaf
 
--- the versions of rows with their keys, in order
-abbrev pub offers_in : Row → List (List ℕ × Version)
-offers_in r = map (λ (v : Version). (r.key, v)) r.versions
-
-abbrev pub offers_of : List Row → List (List ℕ × Version)
-offers_of rows = flat_map offers_in rows
-
--- the state after each version was accepted in its turn, as from a source
-abbrev pub accepted_in : State → ℕ → Source → List (List ℕ × Version) → State
-accepted_in s seat source [] = s
-accepted_in s seat source (o ∷ offers) = accepted_in (accept_step s seat source o.0 o.1) seat source offers
-
--- the fault of accepting them all, if the journal has room: one of them, in its turn, would be a version too many for
--- its key
-abbrev pub crowded_in : State → ℕ → Source → List (List ℕ × Version) → Option Refusal
-crowded_in s seat source [] = None
-crowded_in s seat source (o ∷ offers) = first_fault (offer_fault o.1 (held s.entries o.0)) (crowded_in (accept_step s seat source o.0 o.1) seat source offers)
-
--- the fault of accepting them all
-abbrev pub accept_fault : State → ℕ → Source → List (List ℕ × Version) → Option Refusal
-accept_fault s seat source offers = first_fault (crowded_in s seat source offers) (if nat_le (length (accepted_in s seat source offers).entries) s.config.limit then None else Some refusals.JournalFull)
-
--- the state after each version was accepted in its turn, as from a partner
-abbrev pub taken_in : State → ℕ → List (List ℕ × Version) → State
+-- the store after each version was accepted in its turn, as from a partner
+abbrev pub taken_in : Store → ℕ → List (List ℕ × Version) → Store
 taken_in s seat offers = accepted_in s seat Partner offers
 
 -- the fault of accepting them all
-abbrev pub leaf_fault : State → ℕ → List (List ℕ × Version) → Option Refusal
+abbrev pub leaf_fault : Store → ℕ → List (List ℕ × Version) → Option Refusal
 leaf_fault s seat offers = accept_fault s seat Partner offers
 
 -- ---- taking a text
@@ -117,13 +93,13 @@ leaf_fault s seat offers = accept_fault s seat Partner offers
 -- a text that a session awaits, of an inner node
 pub record IsInnerRead (s : State) (r : Record) (t : TakenText) : Type 0 where
   pub due : IsDue r.session t
-  pub inner : t.node.depth < tree_depth s.config.format
-  pub form : IsInnerText s.config.format t.text
+  pub inner : t.node.depth < tree_depth s.store.config.format
+  pub form : IsInnerText s.store.config.format t.text
 
 -- a text that a session awaits, of a leaf that has these rows
 pub record IsLeafRead (s : State) (r : Record) (t : TakenText) (rows : List Row) : Type 0 where
   pub due : IsDue r.session t
-  pub leaf : t.node.depth ≡ tree_depth s.config.format
+  pub leaf : t.node.depth ≡ tree_depth s.store.config.format
   pub spelled : AreSpelled r.session.own t.node t.text rows
 
 -- a text that a session awaits, of a leaf, with the news in it
@@ -144,16 +120,16 @@ pub record TakesInner (s : State) (id : ℕ) (r : Record) (t : TakenText) (a : A
 pub record TakesLeaf (s : State) (seat id : ℕ) (r : Record) (t : TakenText) (a : AnswerTaken) (new : State) : Type 0 where
   pub rows : List Row
   pub read : IsLeafRead s r t rows
-  pub fault : leaf_fault s seat (offers_of rows) ≡ None
-  pub receipts : s.entries ++ a.receipts.items ≡ (taken_in s seat (offers_of rows)).entries
+  pub fault : leaf_fault s.store seat (offers_of rows) ≡ None
+  pub receipts : s.store.entries ++ a.receipts.items ≡ (taken_in s.store seat (offers_of rows)).entries
   pub known : length a.receipts.items + a.known ≡ length (offers_of rows)
-  pub new_is : new ≡ walked_to (taken_in s seat (offers_of rows)) id r (after r.session t)
+  pub new_is : new ≡ walked_to (with_store s (taken_in s.store seat (offers_of rows))) id r (after r.session t)
 
 -- the versions of a leaf's rows are not all accepted
 pub record IsLeafFault (s : State) (seat : ℕ) (r : Record) (t : TakenText) (e : Refusal) : Type 0 where
   pub rows : List Row
   pub read : IsLeafRead s r t rows
-  pub fault : leaf_fault s seat (offers_of rows) ≡ Some e
+  pub fault : leaf_fault s.store seat (offers_of rows) ≡ Some e
 
 -- the fault of a text that is not taken
 abbrev pub TextFault : State → ℕ → Record → TakenText → Refusal → Type 0
@@ -169,7 +145,7 @@ Refuses s seat id r t e new = TextFault s seat r t e × (new ≡ s)
 
 -- a text that a session can take: of an inner node, or of a leaf whose versions can all be accepted
 abbrev pub IsTakable : State → ℕ → Record → TakenText → Type 0
-IsTakable s seat r t = IsInnerRead s r t ⊎ ((rows : List Row) × IsLeafRead s r t rows × (leaf_fault s seat (offers_of rows) ≡ None))
+IsTakable s seat r t = IsInnerRead s r t ⊎ ((rows : List Row) × IsLeafRead s r t rows × (leaf_fault s.store seat (offers_of rows) ≡ None))
 
 -- the news in a text for a session, if it can take the text
 abbrev pub TellsText : State → ℕ → Record → TakenText → Result News Refusal → Type 0

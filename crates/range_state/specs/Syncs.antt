@@ -11,11 +11,13 @@ use Rattle.sync_session.specs.Differing.{differ, nodes_of, IsHonest}
 use Rattle.sync_session.specs.Steps.{state_by}
 use Rattle.sync_session.specs.declared.state.SessionState.{SessionState}
 use Rattle.sync_session.specs.declared.state.SessionState.TheVariants.{Open, Finished}
-use Rattle.range_state.specs.Config.{Config}
+use Rattle.range_store.specs.Config.{Config}
 use Rattle.range_state.specs.declared.«record».Record.{Record}
 use Rattle.range_state.specs.declared.state.sync.Synced.{Synced}
-use Rattle.range_state.specs.State.{State, rows_now}
-use Rattle.range_state.specs.Sessions.{standings, offers_of, taken_in, leaf_fault}
+use Rattle.range_state.specs.State.{State}
+use Rattle.range_store.specs.Store.{Store, rows_now}
+use Rattle.range_state.specs.Sessions.{standings, taken_in, leaf_fault}
+use Rattle.range_store.specs.Offers.{offers_of}
 
 -- rows of a range: they have its format, the bits of its ring and its number
 pub record IsOfRange (c : Config) (m : RowMap) : Type 0 where
@@ -35,31 +37,31 @@ leaves_between own other = leaves_in own.format (differ own other)
 abbrev pub offers_at : RowMap → Node → List (List ℕ × Version)
 offers_at other n = offers_of (rows_in_leaf (leaf_in other) n.index other.rows)
 
--- the progress of a session: the state then, the number of versions that were known already, and the refusal of a leaf,
+-- the progress of a session: the store then, the number of versions that were known already, and the refusal of a leaf,
 -- if any
 pub record Progress : Type 0 where
-  pub state : State
+  pub store : Store
   pub known : ℕ
   pub fault : Option Refusal
 
 -- the number of these versions that make no entry
-abbrev pub known_in : State → ℕ → List (List ℕ × Version) → ℕ
+abbrev pub known_in : Store → ℕ → List (List ℕ × Version) → ℕ
 known_in s seat offers = (length s.entries + length offers) - length (taken_in s seat offers).entries
 
 -- a leaf that is refused is the end, otherwise there is more
-abbrev pub unless_refused : Option Refusal → State → ℕ → Progress → Progress
+abbrev pub unless_refused : Option Refusal → Store → ℕ → Progress → Progress
 unless_refused None s known more = more
-unless_refused (Some e) s known more = record { state = s; known = known; fault = Some e }
+unless_refused (Some e) s known more = record { store = s; known = known; fault = Some e }
 
 -- the partner's leaves are taken one by one, each all or none, until one is refused
-abbrev pub taken_leaves : State → ℕ → RowMap → ℕ → List Node → Progress
-taken_leaves s seat other known [] = record { state = s; known = known; fault = None }
+abbrev pub taken_leaves : Store → ℕ → RowMap → ℕ → List Node → Progress
+taken_leaves s seat other known [] = record { store = s; known = known; fault = None }
 taken_leaves s seat other known (n ∷ leaves) =
     unless_refused (leaf_fault s seat (offers_at other n)) s known
     (taken_leaves (taken_in s seat (offers_at other n)) seat other (known + known_in s seat (offers_at other n)) leaves)
 
 -- a whole session: the partner's leaves at which the trees differ are taken
-abbrev pub synced : State → ℕ → RowMap → Progress
+abbrev pub synced : Store → ℕ → RowMap → Progress
 synced s seat other = taken_leaves s seat other 0 (leaves_between (rows_now s) other)
 
 -- a session is finished, unless a leaf was refused
@@ -73,7 +75,7 @@ pub record HasOneMore (s : State) (partner : ℕ) (other : RowMap) (new : List R
   pub r : Record
   pub records : new ≡ s.records ++ r ∷ []
   pub partner_is : r.partner ≡ partner
-  pub own : r.session.own ≡ rows_now s
+  pub own : r.session.own ≡ rows_now s.store
   pub root : r.session.root ≡ root_of other
   pub texts : IsHonest r.session other
   pub turn : r.session.asked ≡ nodes_of r.session.taken ++ r.session.outstanding
@@ -81,30 +83,26 @@ pub record HasOneMore (s : State) (partner : ℕ) (other : RowMap) (new : List R
 
 -- one record more, which asked each node at which the trees differ, in order
 abbrev pub HasAskedAll : State → ℕ → RowMap → List Record → Type 0
-HasAskedAll s partner other new = (more : HasOneMore s partner other new) × (more.r.session.asked ≡ differ (rows_now s) other)
+HasAskedAll s partner other new = (more : HasOneMore s partner other new) × (more.r.session.asked ≡ differ (rows_now s.store) other)
 
 -- The state after a whole session, and its report: the partner's leaves at which the trees differ were taken, there is
 -- one more session, and each node at which the trees differ was asked.
 pub record IsSyncedTo (s : State) (seat : ℕ) (other : RowMap) (new : State) (a : Synced) : Type 0 where
-  pub config : new.config ≡ (synced s seat other).state.config
-  pub entries : new.entries ≡ (synced s seat other).state.entries
-  pub marks : new.marks ≡ (synced s seat other).state.marks
-  pub sessions : standings new.records ≡ standings s.records ++ ended (synced s seat other).fault ∷ []
-  pub accepted : length s.entries + a.accepted ≡ length new.entries
-  pub known : a.known ≡ (synced s seat other).known
-  pub asked : a.asked ≡ length (differ (rows_now s) other)
-  pub fault : a.fault ≡ (synced s seat other).fault
+  pub store : new.store ≡ (synced s.store seat other).store
+  pub sessions : standings new.records ≡ standings s.records ++ ended (synced s.store seat other).fault ∷ []
+  pub accepted : length s.store.entries + a.accepted ≡ length new.store.entries
+  pub known : a.known ≡ (synced s.store seat other).known
+  pub asked : a.asked ≡ length (differ (rows_now s.store) other)
+  pub fault : a.fault ≡ (synced s.store seat other).fault
 
 -- The state of a session that ran out of memory midway: of the leaves at which the trees differ it has taken the first
 -- ones, each whole.
 pub record IsPartWay (s : State) (seat partner : ℕ) (other : RowMap) (new : State) : Type 0 where
   pub leaves : List Node
   pub rest : List Node
-  pub first : leaves_between (rows_now s) other ≡ leaves ++ rest
-  pub fits : (taken_leaves s seat other 0 leaves).fault ≡ None
-  pub config : new.config ≡ (taken_leaves s seat other 0 leaves).state.config
-  pub entries : new.entries ≡ (taken_leaves s seat other 0 leaves).state.entries
-  pub marks : new.marks ≡ (taken_leaves s seat other 0 leaves).state.marks
+  pub first : leaves_between (rows_now s.store) other ≡ leaves ++ rest
+  pub fits : (taken_leaves s.store seat other 0 leaves).fault ≡ None
+  pub store : new.store ≡ (taken_leaves s.store seat other 0 leaves).store
   pub session : HasOneMore s partner other new.records
 
 -- the first of some nodes, if any

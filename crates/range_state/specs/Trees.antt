@@ -1,23 +1,18 @@
 -- A range whose tree was rehashed: the paper of 2007, section 4.7.
-use Rattle.std.specs.Prelude.{◌≡◌, ℕ, Some, List, Result}
+use Rattle.std.specs.Prelude.{◌≡◌, ℕ, Result}
 use Rattle.vclock.specs.declared.refusal.Refusal.{Refusal}
-use Rattle.tree_nodes.specs.Nodes.{kept_digest}
-use Rattle.range_tree.specs.Rehashes.{all_digests}
-use Rattle.range_tree.specs.Rehashes as trees
-use Rattle.range_state.specs.State.{State, rows_now, tree_in}
+use Rattle.range_store.specs.Trees as stores
+use Rattle.range_state.specs.State.{State, with_store}
 
 -- the state with every node clean
 abbrev pub rehashed : State → State
-rehashed s = record s { marks = all_digests (rows_now s) }
+rehashed s = with_store s (stores.rehashed s.store)
 
 -- only the digests of nodes differ, and no node lost its digest
-pub record IsSameRange (s t : State) : Type 0 where
-  pub config : t.config ≡ s.config
-  pub entries : t.entries ≡ s.entries
-  pub records : t.records ≡ s.records
-  pub kept : (place : ℕ) (d : List ℕ) → kept_digest s.marks place ≡ Some d → kept_digest t.marks place ≡ Some d
+abbrev pub IsSameRange : State → State → Type 0
+IsSameRange s t = stores.IsSameRange s.store t.store × (t.records ≡ s.records)
 
 -- the first `most` of the dirty nodes whose children are clean, or all if there are fewer, are hashed, and nothing else
 -- changes; the result is the number of nodes that are dirty then
 abbrev pub HashesSome : Result ℕ Refusal → ℕ → State → State → Type 0
-HashesSome r most s t = (t ≡ record s { marks = t.marks }) × trees.HashesSome r most (tree_in s) (tree_in t)
+HashesSome r most s t = stores.HashesSome r most s.store t.store × (t.records ≡ s.records)

@@ -1,8 +1,9 @@
 //! The calls of a range as events, and their replies.
 ghost use Rattle.std.specs.Prelude.{◌≤◌, IsTrue};
-ghost use Rattle.range_state.specs.State.{is_sent};
+ghost use Rattle.range_store.specs.Store.{is_sent};
 
-use range_journal::{Entry, Source};
+use range_journal::Source;
+use range_store::{Accepted, Receipt};
 use rehash::Job;
 use snapshot::Snapshot;
 use std::alloc::Global;
@@ -12,25 +13,6 @@ use tree_nodes::{Hashed, NodeAt};
 use vclock::{Bytes, Clock, Refusal};
 use version_set::{Kind, Version, VersionSet};
 use walk_messages::Offer;
-
-/// The entry that a call journaled, as its caller gets it.
-pub type Receipt = Entry;
-
-/// The outcome of accepting a version: it was new to the range, or known.
-///
-/// ```
-/// match state.accept(alloc, 3, Source::Copy, key, copy)? {
-///     Accepted::Taken(receipt) => Ok(Some(receipt.number)),
-///     Accepted::Known => Ok(None),
-/// }
-/// ```
-#[derive(Debug, Drop)]
-pub enum Accepted {
-    /// It was journaled.
-    Taken(Receipt),
-    /// It was covered by versions accepted before, so nothing was journaled.
-    Known,
-}
 
 /// The outcome of a text that a session took.
 ///

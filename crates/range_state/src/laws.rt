@@ -1,52 +1,28 @@
-//! Laws of rows and sessions, proved from their definitions.
-ghost use Rattle.std.specs.Prelude.{◌≡◌, ◌≢◌, ◌<◌, ◌≤◌, ◌⊎◌, ◌↔◌, [], ℕ, List, length, None, Any, Contains, true};
-ghost use Rattle.std.specs.List.{AllByRecursion, flat_map};
+//! Laws of sessions, proved from their definitions.
+ghost use Rattle.std.specs.Prelude.{◌≡◌, ◌≢◌, ◌≤◌, [], ℕ, List, None, Contains, true};
+ghost use Rattle.std.specs.List.{AllByRecursion};
+ghost use Rattle.version_set.specs.declared.version.Version.{Version};
+ghost use Rattle.version_set.specs.Version.{maximal, Ascends};
 ghost use Rattle.range_journal.specs.declared.journal.Entry.{Entry};
+ghost use Rattle.range_journal.specs.declared.journal.Source.TheVariants.{Partner};
 ghost use Rattle.range_journal.specs.Counters.{top_counter};
 ghost use Rattle.range_journal.specs.Journal.{held};
-ghost use Rattle.row_bytes.specs.Rows.{AreRows, row_text};
-ghost use Rattle.row_bytes.specs.declared.row.Row.{Row};
-ghost use Rattle.hash_tree.specs.Leaves.{AscendByKey};
 ghost use Rattle.tree_nodes.specs.Nodes.{Node, contains_node, kept_digest};
-ghost use Rattle.range_journal.specs.declared.journal.Source.TheVariants.{Partner};
 ghost use Rattle.snapshot.specs.RowMaps.{RowMap};
+ghost use Rattle.range_store.specs.Store.{Store, IsSound, rows_now, dirty_fault};
 ghost use Rattle.sync_session.specs.TreeNodes.{text_of};
 ghost use Rattle.sync_session.specs.Walks.{Held, IsCanonical, IsRightlyTaken, NoTwoShareADigest, IsPartners};
 ghost use Rattle.sync_session.specs.Steps.{IsDue};
 ghost use Rattle.sync_session.specs.Differing.{differ, times, IsHonest, IsNearlyDone, IsInTurn, AscendByPlace};
 ghost use Rattle.sync_session.specs.declared.state.SessionState.TheVariants.{Open, Finished};
 ghost use Rattle.range_state.specs.declared.«record».Record.{Record};
-ghost use Rattle.range_state.specs.Records.{IsOver};
-ghost use Rattle.range_state.specs.Rows.{rows_of};
-ghost use Rattle.range_state.specs.Unions.{union_of, offered_all};
-ghost use Rattle.version_set.specs.declared.kind.Kind.{Kind};
-ghost use Rattle.version_set.specs.declared.version.Version.{Version};
-ghost use Rattle.version_set.specs.Version.{maximal, Ascends};
-ghost use Rattle.range_state.specs.ContextTests.{put_read};
-ghost use Rattle.range_state.specs.Run.{Run};
 ghost use Rattle.range_state.specs.declared.event.Event.{Event};
 ghost use Rattle.range_state.specs.declared.event.Reply.{Reply};
-ghost use Rattle.range_state.specs.declared.state.loading.Loaded.{Loaded};
-ghost use Rattle.range_state.specs.State.{State, IsRight, IsFromPartner, fresh, rows_now, dirty_fault, stale_fault, put};
+ghost use Rattle.range_state.specs.Records.{IsOver};
+ghost use Rattle.range_state.specs.Run.{Run};
+ghost use Rattle.range_state.specs.State.{State, IsRight, IsFromPartner};
 ghost use Rattle.range_state.specs.Syncs.{IsOfRange, synced};
-ghost use Rattle.range_state.specs.Loads.{load, load_text, load_all, leaves_of};
-ghost use Rattle.range_state.specs.Renewals.{config_to, renewed_by, renew_fault};
-ghost use Rattle.range_tree.specs.Trees.{all_dirty};
-ghost use Rattle.vclock.specs.Clock.{counter, IsAtMost, Pairs};
-ghost use Rattle.vclock.specs.Outcome.{gives};
-
-/// The rows of a journal have each key that has an entry, and no other key, each with the versions that are held for
-/// it.
-pub fn rows_are_of_the_entries()
-    ensures { (entries : List Entry) (row : Row)
-        → Contains (rows_of entries) row
-        ↔ (Any (λ e. e.key ≡ row.key) entries × (row.versions ≡ held entries row.key)) }
-{}
-
-/// The rows of a journal ascend by key, so no key has two.
-pub fn rows_ascend()
-    ensures { (entries : List Entry) → AscendByKey (rows_of entries) }
-{}
+ghost use Rattle.range_state.specs.Unions.{union_of, offered_all};
 
 /// After a finished session each version of the partner's rows is held or is below a held version. The partner's rows
 /// are any rows of the range, in the format of the session's snapshot, whose root is the offered one. The law assumes
@@ -55,13 +31,13 @@ pub fn rows_ascend()
 pub fn finished_sessions_are_held()
     ensures { (s : State) → IsRight s → (r : Record) → Contains s.records r → r.session.state ≡ Finished
         → (other : RowMap) → IsPartners r.session other → NoTwoShareADigest r.session.own other r.session.taken
-        → Held other.rows (held s.entries) }
+        → Held other.rows (held s.store.entries) }
 {}
 
 /// Each version received from a partner is in a leaf's text that some session took, and that spells rows in the format
 /// of that session's snapshot.
 pub fn partners_versions_were_taken()
-    ensures { (s : State) → IsRight s → (e : Entry) → Contains s.entries e → e.source ≡ Partner → IsFromPartner s e }
+    ensures { (s : State) → IsRight s → (e : Entry) → Contains s.store.entries e → e.source ≡ Partner → IsFromPartner s.records e }
 {}
 
 /// Each text that a session took is one that its node can have, and had the digest that was expected there. Nodes,
@@ -107,76 +83,31 @@ pub fn offers_make_the_union()
 /// Two replicas of a range that each take the leaves at which their trees differ hold the union of both, key by key, if
 /// no two different texts of their nodes share a digest.
 pub fn synced_ranges_hold_what_both_held()
-    ensures first { (a b : State) (seat : ℕ) → IsRight a → IsRight b → IsOfRange a.config (rows_now b)
+    ensures first { (a b : Store) (seat : ℕ) → IsSound a → IsSound b → IsOfRange a.config (rows_now b)
         → NoTwoShareADigest (rows_now a) (rows_now b) [] → (synced a seat (rows_now b)).fault ≡ None
-        → (key : List ℕ) → held (synced a seat (rows_now b)).state.entries key
+        → (key : List ℕ) → held (synced a seat (rows_now b)).store.entries key
         ≡ union_of (held a.entries key) (held b.entries key) }
-    ensures second { (a b : State) (seat : ℕ) → IsRight a → IsRight b → IsOfRange a.config (rows_now b)
+    ensures second { (a b : Store) (seat : ℕ) → IsSound a → IsSound b → IsOfRange a.config (rows_now b)
         → NoTwoShareADigest (rows_now a) (rows_now b) [] → (synced b seat (rows_now a)).fault ≡ None
-        → (key : List ℕ) → held (synced b seat (rows_now a)).state.entries key
+        → (key : List ℕ) → held (synced b seat (rows_now a)).store.entries key
         ≡ union_of (held a.entries key) (held b.entries key) }
 {}
 
 /// Two replicas of a range that hold equal versions have equal rows, and so, once both are clean, equal digests at the
 /// root.
 pub fn ranges_that_hold_the_same_have_equal_roots()
-    ensures rows { (a b : State) → IsOfRange a.config (rows_now b)
+    ensures rows { (a b : Store) → IsOfRange a.config (rows_now b)
         → ((key : List ℕ) → held a.entries key ≡ held b.entries key) → rows_now a ≡ rows_now b }
-    ensures roots { (a b : State) → IsRight a → IsRight b → IsOfRange a.config (rows_now b)
+    ensures roots { (a b : Store) → IsSound a → IsSound b → IsOfRange a.config (rows_now b)
         → ((key : List ℕ) → held a.entries key ≡ held b.entries key) → dirty_fault a ≡ None → dirty_fault b ≡ None
         → kept_digest a.marks 0 ≡ kept_digest b.marks 0 }
 {}
 
-/// A renewed range holds for each key the versions that the old one holds. So it has the same rows, and refuses the same
-/// clocks of a put as stale. It has at most as many entries, and a range that is renewed once more in the same way is
-/// unchanged. It is right if the old one is.
-pub fn renewed_ranges_hold_the_same()
-    ensures held { (s : State) (seat limit : ℕ) (key : List ℕ)
-        → held (renewed_by s seat limit).entries key ≡ held s.entries key }
-    ensures rows { (s : State) (seat limit : ℕ) → rows_now (renewed_by s seat limit) ≡ rows_now s }
-    ensures again { (s : State) (seat limit : ℕ)
-        → renewed_by (renewed_by s seat limit) seat limit ≡ renewed_by s seat limit }
-    ensures fewer { (s : State) (seat limit : ℕ) → length (renewed_by s seat limit).entries ≤ length s.entries }
-    ensures stale { (s : State) (seat limit : ℕ) (key : List ℕ) (clock : Pairs)
-        → stale_fault (held (renewed_by s seat limit).entries key) clock ≡ stale_fault (held s.entries key) clock }
-    ensures right { (s : State) (seat limit : ℕ) → IsRight s → renew_fault s limit ≡ None
-        → IsRight (renewed_by s seat limit) }
-{}
-
-/// A text of rows is loaded as these rows. Loading the rows of a range's leaves, leaf by leaf, into a new range of its
-/// configuration with a limit, by a seat, isn't refused if the range can be renewed with that limit. It leaves the
-/// journal of the range that is renewed by that seat. All nodes are dirty then. So a range that is saved and loaded is a
-/// renewed range.
-pub fn loaded_ranges_are_renewed()
-    ensures texts { (s : State) (seat : ℕ) (rows : List Row) → AreRows s.config.format rows
-        → load_text s seat (flat_map (row_text s.config.format) rows) ≡ load s seat rows }
-    ensures all { (s : State) (seat limit : ℕ) → IsRight s → renew_fault s limit ≡ None
-        → load_all (fresh (config_to s.config limit)) seat (leaves_of s)
-        ≡ gives tt (record (renewed_by s seat limit) { marks = all_dirty s.config.format }) }
-{}
-
-/// A put that checks what its client has read is a put. Each version that was held is held still, or the put's context has
-/// seen everything that it has. The new version has a greater counter of the node than any that was accepted for the key.
-pub fn a_checked_put_replaces_only_what_was_read()
-    ensures put { (s t : State) (seat at : ℕ) (key : List ℕ) (context : Pairs) (kind : Kind) (value : List ℕ)
-        (e : Entry) → put_read s seat at key context kind value ≡ gives e t
-        → put s seat at key context kind value ≡ gives e t }
-    ensures read { (s t : State) (seat at : ℕ) (key : List ℕ) (context : Pairs) (kind : Kind) (value : List ℕ)
-        (e : Entry) → put_read s seat at key context kind value ≡ gives e t
-        → AllByRecursion (λ v. Contains (held t.entries key) v ⊎ IsAtMost v.clock context) (held s.entries key) }
-    ensures counter { (s t : State) (seat at : ℕ) (key : List ℕ) (context : Pairs) (kind : Kind) (value : List ℕ)
-        (e : Entry) → put_read s seat at key context kind value ≡ gives e t
-        → top_counter s.entries key at < counter e.version.clock at }
-{}
-
-/// No call lowers the greatest counter of a node for a key: not an event, a load or a whole session. A renewal keeps it.
+/// No call lowers the greatest counter of a node for a key: not an event, or a whole session. (A load doesn't, and a renewal
+/// keeps it, by `range_store`'s laws.)
 pub fn no_call_lowers_a_counter()
     ensures run { (s t : State) (events : List Event) (replies : List Reply) (key : List ℕ) (node : ℕ)
-        → Run s events replies t → top_counter s.entries key node ≤ top_counter t.entries key node }
-    ensures load { (s t : State) (seat : ℕ) (rows : List Row) (told : Loaded) (key : List ℕ) (node : ℕ)
-        → load s seat rows ≡ gives told t → top_counter s.entries key node ≤ top_counter t.entries key node }
-    ensures sync { (s : State) (seat : ℕ) (other : RowMap) (key : List ℕ) (node : ℕ)
-        → top_counter s.entries key node ≤ top_counter (synced s seat other).state.entries key node }
-    ensures renewal { (s : State) (seat limit : ℕ) (key : List ℕ) (node : ℕ)
-        → top_counter (renewed_by s seat limit).entries key node ≡ top_counter s.entries key node }
+        → Run s events replies t → top_counter s.store.entries key node ≤ top_counter t.store.entries key node }
+    ensures sync { (s : Store) (seat : ℕ) (other : RowMap) (key : List ℕ) (node : ℕ)
+        → top_counter s.entries key node ≤ top_counter (synced s seat other).store.entries key node }
 {}

@@ -4,10 +4,9 @@ ghost use Rattle.vclock.specs.Answer.{Answers};
 ghost use Rattle.range_state.specs.State.{IsRight};
 ghost use Rattle.range_state.specs.Run.{IsStep, Run, PutStep, AcceptStep, TakeAnswerStep};
 
-use crate::event::{
-    AcceptEvent, Accepted, AnswerEvent, AnswerTaken, Event, PutEvent, Receipt, Reply,
-};
+use crate::event::{AcceptEvent, AnswerEvent, AnswerTaken, Event, PutEvent, Reply};
 use crate::state::RangeState;
+use range_store::{Accepted, Receipt};
 use std::alloc::Global;
 use vclock::Refusal;
 

@@ -1,18 +1,14 @@
 //! Texts that partners send.
-ghost use Rattle.std.specs.Prelude.{ℕ, ◌≡◌, ◌+◌, ◌<◌, ◌≤◌, ◌^◌, ◌++◌, ◌⊎◌, [], nat_eq, length, slice_get, MatchOption, IfOk, if◌then◌else◌};
+ghost use Rattle.std.specs.Prelude.{ℕ, ◌≡◌, ◌+◌, ◌≤◌, ◌⊎◌, [], slice_get, MatchOption, IfOk};
 ghost use Rattle.std.specs.Vec.{vec_len, vec_capacity};
 ghost use Rattle.sync_session.specs.Steps.{failed, IsDue};
 ghost use Rattle.sync_session.specs.Walks.{TakenText, IsCanonical};
-ghost use Rattle.snapshot.specs.RowMaps.{RowMap};
-ghost use Rattle.range_tree.specs.Trees.{IsChange, with_rows};
 ghost use Rattle.range_state.specs.Sessions.{walked_to, IsInnerRead, IsNewsRead, TakesAnswer};
 
-use crate::event::{AnswerTaken, Receipt};
+use crate::event::AnswerTaken;
 use crate::state::RangeState;
-use crate::state::preparation::{Batch, receipts_beside};
-use hash_tree::Leaves;
-use range_journal::Entry;
-use range_tree::Tree;
+use range_journal::Source;
+use range_store::{Receipt, receipts_beside};
 use std::alloc::Global;
 use sync_session::News;
 use tree_nodes::{Hashed, NodeAt, tree_depth};
@@ -63,7 +59,7 @@ impl RangeState {
         let kept = self.record(id)?;
         match self.news_of(alloc, kept, node, &text) {
             Ok(news) => {
-                if node.depth == tree_depth(self.config.format()) {
+                if node.depth == tree_depth(self.store.config().format()) {
                     self.take_leaf(alloc, told, seat, id, node, text, &news)
                 } else {
                     self.take_inner(alloc, id, node, text)
@@ -122,25 +118,18 @@ impl RangeState {
     {
         // Called for its clause alone: the digest is that of the text.
         let _bytes = text.text();
-        let index = node.index;
-        let batch = self.prepare_news(alloc, seat, index, news)?;
-        self.journal.reserve(batch.entries.len() as u64)?;
-        let receipts = receipts_beside(alloc, told, &batch.entries)?;
-        let Batch {
-            leaf,
-            entries,
-            known,
-        } = batch;
-        let leaves = self.tree.with_leaf(alloc, index, leaf)?;
+        let leaf = node.index;
+        let batch = self
+            .store
+            .prepare(alloc, seat, Source::Partner, leaf, &news.rows)?;
+        let receipts = receipts_beside(alloc, told, batch.entries())?;
+        let loaded = self.store.accept_batch(alloc, leaf, batch)?;
         let session = &mut self.records[id as usize].session;
-        session.take_leaf(node, text)?;
-        let state = session.state();
-        keep_leaves(&mut self.tree, index, leaves, &entries);
-        self.journal.append_entries(entries);
+        session.take_leaf(node, text);
         Ok(AnswerTaken {
             receipts,
-            known,
-            state,
+            known: loaded.known + news.known,
+            state: session.state(),
         })
     }
 
@@ -152,16 +141,5 @@ impl RangeState {
             (λ r. self.new ≡ walked_to self.old id r (failed r.session)) }
     {
         self.records[id as usize].session.fail();
-    }
-}
-
-/// Changes to the leaves of a batch for a leaf, if the batch has new entries.
-pub(super) fn keep_leaves(tree: &mut Tree, leaf: u16, leaves: Leaves, entries: &[Entry])
-    requires { (m : RowMap) × IsChange tree.old.map leaf leaves m }
-    ensures { (m : RowMap) → IsChange tree.old.map leaf leaves m
-        → tree.new ≡ (if nat_eq (length entries.now) 0 then tree.old else with_rows tree.old leaf m) }
-{
-    if !entries.is_empty() {
-        tree.change_leaf(leaf, leaves);
     }
 }

@@ -25,9 +25,9 @@ impl RangeState {
         ensures { result ≡ counts_of self.now }
     {
         RangeCounts {
-            entries: self.journal().len(),
-            limit: self.config().limit(),
-            dirty: self.dirty_count() as u64,
+            entries: self.store.journal().len(),
+            limit: self.store.config().limit(),
+            dirty: self.store.tree().dirty_count() as u64,
             sessions: self.records().len() as u64,
             open_sessions: self.open_sessions() as u64,
         }

@@ -8,8 +8,9 @@ ghost use Rattle.tree_nodes.specs.Nodes.{tree_depth};
 ghost use Rattle.sync_session.specs.Readings.{IsReadTo};
 ghost use Rattle.sync_session.specs.Walks.{Held};
 ghost use Rattle.range_state.specs.Records.{IsKept};
-ghost use Rattle.range_state.specs.State.{leaf_in};
-ghost use Rattle.range_state.specs.Sessions.{offers_in, offers_of, taken_in, crowded_in, leaf_fault, TellsText};
+ghost use Rattle.range_store.specs.Store.{leaf_in};
+ghost use Rattle.range_store.specs.Offers.{offers_in, offers_of, crowded_in};
+ghost use Rattle.range_state.specs.Sessions.{taken_in, leaf_fault, TellsText};
 ghost use Rattle.range_state.specs.Judgements.{HasOtherKeys, IsCounted, IsOfRange, JudgesLeaf};
 
 use crate::record::Record;
@@ -35,7 +36,7 @@ impl RangeState {
         node: NodeAt,
         text: &Hashed,
     ) -> Result<News, Refusal>
-        requires { IsKept self.now.config self.now.entries kept.now }
+        requires { IsKept self.now.store.config self.now.store.entries kept.now }
         ensures { (seat : ℕ) → TellsText self.now seat kept.now
             (record { node = node; text = text.now }) result }
     {
@@ -54,14 +55,14 @@ impl RangeState {
         node: NodeAt,
         first: NewsPlace<'_>,
     ) -> Result<(), Refusal>
-        requires range { IsOfRange self.now.config session.now.own }
+        requires range { IsOfRange self.now.store.config session.now.own }
         requires leaf { node.depth ≡ tree_depth session.now.own.format }
-        requires own { Held session.now.own.rows (held self.now.entries) }
+        requires own { Held session.now.own.rows (held self.now.store.entries) }
         requires read { (text : List ℕ)
             × IsReadTo session.now.own node text first.last.now first.rest.now [] first.known }
         ensures { (text : List ℕ) (seat : ℕ)
             → IsReadTo session.now.own node text first.entry.last.now first.entry.rest.now [] first.entry.known
-            → JudgesLeaf self.now seat session.now.own node text result }
+            → JudgesLeaf self.now.store seat session.now.own node text result }
     {
         let leaf = node.index;
         let mut place = first;
@@ -79,12 +80,12 @@ impl RangeState {
     /// Judges the news of a leaf by their number, or `None` if a key has too many versions. Refused, in order: Crowded,
     /// JournalFull.
     fn judge(&self, news: Option<u64>) -> Result<(), Refusal>
-        ensures { (seat : ℕ) (others : List Row) → IsCounted self.now seat others news
-            → AnswersAtOnce result (leaf_fault self.now seat (offers_of others)) (λ _. ⊤) }
+        ensures { (seat : ℕ) (others : List Row) → IsCounted self.now.store seat others news
+            → AnswersAtOnce result (leaf_fault self.now.store seat (offers_of others)) (λ _. ⊤) }
     {
         match news {
             None => Err(Refusal::Crowded),
-            Some(count) if count > self.config.limit() - self.journal.len() => {
+            Some(count) if count > self.store.config().limit() - self.store.journal().len() => {
                 Err(Refusal::JournalFull)
             }
             Some(_) => Ok(()),
@@ -100,9 +101,9 @@ impl RangeState {
         row: &Row,
         news: Option<u64>,
     ) -> Result<Option<u64>, Refusal>
-        requires { leaf ≡ leaf_in self.now.config row.now.key }
-        ensures { (seat : ℕ) (others : List Row) → IsCounted self.now seat others news → HasOtherKeys row.now others
-            → AnswersOrNoMemory result None (IsCounted self.now seat (others ++ row.now ∷ [])) }
+        requires { leaf ≡ leaf_in self.now.store.config row.now.key }
+        ensures { (seat : ℕ) (others : List Row) → IsCounted self.now.store seat others news → HasOtherKeys row.now others
+            → AnswersOrNoMemory result None (IsCounted self.now.store seat (others ++ row.now ∷ [])) }
     {
         let Some(count) = news else {
             return Ok(None);
@@ -117,9 +118,9 @@ impl RangeState {
     /// Counts the versions of a row that are new. Refused: Crowded (one version, in its turn, would be too many for the
     /// key), NoMemory, which may replace Crowded.
     fn count_news(&self, alloc: Global, leaf: u16, row: &Row) -> Result<u64, Refusal>
-        requires { leaf ≡ leaf_in self.now.config row.now.key }
-        ensures { (seat : ℕ) → AnswersOrNoMemory result (crowded_in self.now seat sources.Partner (offers_in row.now))
-            (λ count. length (taken_in self.now seat (offers_in row.now)).entries ≡ length self.now.entries + count) }
+        requires { leaf ≡ leaf_in self.now.store.config row.now.key }
+        ensures { (seat : ℕ) → AnswersOrNoMemory result (crowded_in self.now.store seat sources.Partner (offers_in row.now))
+            (λ count. length (taken_in self.now.store seat (offers_in row.now)).entries ≡ length self.now.store.entries + count) }
     {
         let mut set = self.set_at(alloc, leaf, row.key.as_slice())?;
         let mut count = 0;
@@ -134,10 +135,10 @@ impl RangeState {
 
     /// Copies the set that is held for a key of a leaf. Refused: NoMemory.
     fn set_at(&self, alloc: Global, leaf: u16, key: &[u8]) -> Result<VersionSet, Refusal>
-        requires { leaf ≡ leaf_in self.now.config key.now }
-        ensures { Answers result None (λ set. set ≡ held self.now.entries key.now) }
+        requires { leaf ≡ leaf_in self.now.store.config key.now }
+        ensures { Answers result None (λ set. set ≡ held self.now.store.entries key.now) }
     {
-        let (held, _) = self.tree.search(leaf, key);
+        let (held, _) = self.store.tree().search(leaf, key);
         held.to_set(alloc)
     }
 }

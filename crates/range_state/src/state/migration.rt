@@ -1,11 +1,9 @@
 //! Migration to format 2.
 ghost use Rattle.std.specs.Prelude.{◌≡◌, map};
-ghost use Rattle.vclock.specs.Outcome.{Does, gives};
-ghost use Rattle.vclock.specs.declared.format.Format.TheVariants as formats;
-ghost use Rattle.range_state.specs.Migrates.{cancelled, in_two, migrate};
+ghost use Rattle.vclock.specs.Outcome.{Does};
+ghost use Rattle.range_state.specs.Migrates.{cancelled, migrate};
 
 use crate::record::Record;
-use crate::replay::tree_of;
 use crate::state::RangeState;
 use std::alloc::Global;
 use vclock::{Format, Refusal};
@@ -20,23 +18,14 @@ impl RangeState {
     pub fn migrate(&mut self, alloc: Global) -> Result<(), Refusal>
         ensures { Does result self.old self.new (migrate self.old) }
     {
-        match self.config.format() {
-            Format::One => self.go_over(alloc),
+        match self.store.config().format() {
+            Format::One => {
+                self.store.migrate(alloc)?;
+                cancel_all(&mut self.records);
+                Ok(())
+            }
             Format::Two => Ok(()),
         }
-    }
-
-    /// Migrates a range of format 1. Allocates before it changes anything.
-    fn go_over(&mut self, alloc: Global) -> Result<(), Refusal>
-        requires { self.old.config.format ≡ formats.One }
-        ensures { Does result self.old self.new (gives tt (in_two self.old)) }
-    {
-        let config = self.config.in_format_2();
-        let tree = tree_of(alloc, config, self.journal.entries())?;
-        self.config = config;
-        self.tree = tree;
-        cancel_all(&mut self.records);
-        Ok(())
     }
 }
 

@@ -1,7 +1,7 @@
 //! Reconciliation of two replicas of a range.
 ghost use Rattle.std.specs.Prelude.{◌≡◌, ⊤, [], None, MatchResult, IfOk, OnOk};
 ghost use Rattle.vclock.specs.Answer.{AnswersAtOnce};
-ghost use Rattle.range_state.specs.State.{rows_now, dirty_fault};
+ghost use Rattle.range_store.specs.Store.{rows_now, dirty_fault};
 ghost use Rattle.range_state.specs.Sessions.{standings, crowd_fault};
 ghost use Rattle.range_state.specs.Syncs.{IsOfRange};
 ghost use Rattle.sync_session.specs.Walks.{NoTwoShareADigest};
@@ -52,12 +52,12 @@ pub fn reconcile(
     at_b: u16,
     seat: u16,
 ) -> Result<Reconciled, Refusal>
-    requires { IsOfRange a.old.config (rows_now b.old) }
+    requires { IsOfRange a.old.store.config (rows_now b.old.store) }
     ensures sessions { Reconciles a.old at_a b.old at_b seat result a.new b.new }
     ensures asked { IfOk result (λ told. HaveAskedAlike a.old b.old a.new b.new told.asked_a told.asked_b) }
-    ensures union { OnOk result (NoTwoShareADigest (rows_now a.old) (rows_now b.old) []
+    ensures union { OnOk result (NoTwoShareADigest (rows_now a.old.store) (rows_now b.old.store) []
         → HoldBoth a.old b.old a.new b.new) }
-    ensures roots { OnOk result (NoTwoShareADigest (rows_now a.old) (rows_now b.old) []
+    ensures roots { OnOk result (NoTwoShareADigest (rows_now a.old.store) (rows_now b.old.store) []
         → HaveEqualRoots a.new b.new) }
 {
     // Called for their clauses alone: both states are right.
@@ -75,7 +75,7 @@ fn run_both(
     at_b: u16,
     seat: u16,
 ) -> Result<Reconciled, Refusal>
-    requires { IsOfRange a.old.config (rows_now b.old) }
+    requires { IsOfRange a.old.store.config (rows_now b.old.store) }
     ensures { Reconciles a.old at_a b.old at_b seat result a.new b.new }
 {
     check_pair(a, b)?;
@@ -110,8 +110,8 @@ impl RangeState {
         partner: u16,
         other: &Snapshot,
     ) -> Result<Synced, Refusal>
-        requires range { IsOfRange self.old.config other.now }
-        requires free { first_fault (crowd_fault (standings self.old.records)) (dirty_fault self.old) ≡ None }
+        requires range { IsOfRange self.old.store.config other.now }
+        requires free { first_fault (crowd_fault (standings self.old.records)) (dirty_fault self.old.store) ≡ None }
         ensures { MatchResult result
             (λ told. HasCaughtUp self.old seat partner other.now told.asked told.accepted self.new)
             (λ e. HasStopped self.old seat partner other.now e self.new) }
@@ -135,9 +135,9 @@ impl RangeState {
 
     /// Tests that each node of the tree has a digest.
     fn check_clean(&self) -> Result<(), Refusal>
-        ensures { AnswersAtOnce result (dirty_fault self.now) (λ _. ⊤) }
+        ensures { AnswersAtOnce result (dirty_fault self.now.store) (λ _. ⊤) }
     {
-        if self.dirty_count() > 0 {
+        if self.store.tree().dirty_count() > 0 {
             return Err(Refusal::Dirty);
         }
         Ok(())

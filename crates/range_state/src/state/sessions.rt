@@ -60,7 +60,7 @@ impl RangeState {
         ensures { Does result self.old self.new (open_with self.old partner root) }
     {
         check_crowd(&self.records)?;
-        let own = self.tree.kept_snapshot(alloc)?;
+        let own = self.store.kept_snapshot(alloc)?;
         let session = Session::start(alloc, own, root)?;
         let id = self.records.len() as u64;
         self.records.push(Record { partner, session })?;
@@ -101,12 +101,12 @@ impl RangeState {
 
     /// Tests that an offer is of this range, in its format.
     fn check_offer(&self, offer: &Offer) -> Result<(), Refusal>
-        ensures { AnswersAtOnce result (foreign_fault self.now.config offer.now) (λ _. ⊤) }
+        ensures { AnswersAtOnce result (foreign_fault self.now.store.config offer.now) (λ _. ⊤) }
     {
-        if offer.format != self.config.format().number() {
+        if offer.format != self.store.config().format().number() {
             return Err(Refusal::OtherFormat);
         }
-        if u16::from(offer.range) != self.config.range() {
+        if u16::from(offer.range) != self.store.config().range() {
             return Err(Refusal::OtherRange);
         }
         Ok(())

@@ -3,7 +3,7 @@ ghost use Rattle.std.specs.Prelude.{◌≡◌, ◌≢◌, ◌⊎◌, ◌+◌, �
 ghost use Rattle.vclock.specs.Answer.{Answers, AnswersOrNoMemory, first_fault};
 ghost use Rattle.tree_nodes.specs.Nodes.{tree_depth};
 ghost use Rattle.sync_session.specs.TreeNodes.{text_of};
-ghost use Rattle.range_state.specs.State.{dirty_fault};
+ghost use Rattle.range_store.specs.Store.{dirty_fault};
 ghost use Rattle.range_state.specs.Sessions.{standings, crowd_fault, unknown_fault, TakesFor};
 ghost use Rattle.range_state.specs.Syncs.{IsOfRange, HasAskedAll, IsSyncedTo, IsPartWay};
 
@@ -43,9 +43,9 @@ impl RangeState {
         partner: u16,
         other: &Snapshot,
     ) -> Result<Synced, Refusal>
-        requires { IsOfRange self.old.config other.now }
+        requires { IsOfRange self.old.store.config other.now }
         ensures answers { Answers result
-            (first_fault (crowd_fault (standings self.old.records)) (dirty_fault self.old)) (λ _. ⊤) }
+            (first_fault (crowd_fault (standings self.old.records)) (dirty_fault self.old.store)) (λ _. ⊤) }
         ensures ok { IfOk result (λ a. IsSyncedTo self.old seat other.now self.new a) }
         ensures session { OnOk result (HasAskedAll self.old partner other.now self.new.records) }
         ensures err { IfErr result (λ e. e ≢ Refusal.NoMemory → self.new ≡ self.old) }
@@ -53,7 +53,7 @@ impl RangeState {
     {
         // Called for its clause alone: the rows have a tree.
         let _format = other.format();
-        let before = self.journal.len();
+        let before = self.store.journal().len();
         let id = self.open_with(alloc, partner, other.root())?;
         let mut known = 0;
         while let Some(node) = self.outstanding(id)? {
@@ -86,16 +86,16 @@ impl RangeState {
 
     /// Makes the report of a session that has a record.
     fn synced(&self, before: u64, id: u64, known: u64, fault: Option<Refusal>) -> Synced
-        requires before { before ≤ length self.now.entries }
+        requires before { before ≤ length self.now.store.entries }
         requires id { unknown_fault self.now id ≡ None }
-        ensures accepted { before + result.accepted ≡ length self.now.entries }
+        ensures accepted { before + result.accepted ≡ length self.now.store.entries }
         ensures known { result.known ≡ known }
         ensures asked { MatchOption (slice_get self.now.records id) ⊥ (λ r. result.asked ≡ length r.session.asked) }
         ensures fault { result.fault ≡ fault }
     {
         let session = &self.record(id).unwrap().session;
         Synced {
-            accepted: self.journal.len() - before,
+            accepted: self.store.journal().len() - before,
             known,
             asked: session.asked().len() as u64,
             fault,

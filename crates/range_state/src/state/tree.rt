@@ -6,11 +6,11 @@ ghost use Rattle.vclock.specs.Answer.{Answers};
 ghost use Rattle.vclock.specs.Outcome.{DoesAtOnce};
 ghost use Rattle.tree_nodes.specs.Nodes.{place_of, kept_digest, dirty_count};
 ghost use Rattle.range_tree.specs.Jobs.{text_in, GivesJob, AreJobs};
-ghost use Rattle.range_state.specs.State.{tree_in, install, rows_now, dirty_fault};
+ghost use Rattle.range_store.specs.Store.{tree_in, rows_now, dirty_fault};
+ghost use Rattle.range_state.specs.State.{install};
 ghost use Rattle.range_state.specs.Trees.{rehashed, HashesSome, IsSameRange};
 
 use crate::state::RangeState;
-use range_tree::Tree;
 use rehash::Job;
 use snapshot::Snapshot;
 use std::alloc::Global;
@@ -23,27 +23,27 @@ impl RangeState {
     /// The digest of a node, if it is clean: that of its text for the rows now. `None` if the node is dirty or the
     /// range's tree has no such node. Doesn't allocate.
     pub fn digest_at(&self, node: NodeAt) -> Option<Digest>
-        ensures digest { result ≡ kept_digest self.now.marks (place_of node) }
-        ensures right { IfSome result (λ digest. digest ≡ sha256 (text_in (tree_in self.now) node)) }
+        ensures digest { result ≡ kept_digest self.now.store.marks (place_of node) }
+        ensures right { IfSome result (λ digest. digest ≡ sha256 (text_in (tree_in self.now.store) node)) }
     {
-        self.tree().digest_at(node)
+        self.store.tree().digest_at(node)
     }
 
     /// Returns a job: a dirty node whose children are clean, and its text now. Returns `None` if no node is dirty. If
     /// there are several, it takes the one at `skip`, counted round and round, so workers that are numbered from 0 get
     /// different jobs as long as there are enough. Refused: NoMemory.
     pub fn take_job(&self, alloc: Global, skip: u64) -> Result<Option<Job>, Refusal>
-        ensures { Answers result None (GivesJob (tree_in self.now)) }
+        ensures { Answers result None (GivesJob (tree_in self.now.store)) }
     {
-        self.tree().take_job(alloc, skip)
+        self.store.tree().take_job(alloc, skip)
     }
 
     /// Returns jobs of different nodes: of all dirty nodes whose children are clean, or of the first `most` of them if
     /// there are more. Refused: NoMemory.
     pub fn take_jobs(&self, alloc: Global, most: usize) -> Result<Vec<Job>, Refusal>
-        ensures { Answers result None (λ jobs. AreJobs (tree_in self.now) most jobs.items) }
+        ensures { Answers result None (λ jobs. AreJobs (tree_in self.now.store) most jobs.items) }
     {
-        self.tree().take_jobs(alloc, most)
+        self.store.tree().take_jobs(alloc, most)
     }
 
     /// Installs the digest of a text at a node.
@@ -53,14 +53,10 @@ impl RangeState {
     pub fn install(&mut self, node: NodeAt, hashed: &Hashed) -> Result<(), Refusal>
         ensures { DoesAtOnce result self.old self.new (install self.old node hashed.now) }
     {
-        self.tree.install(node, hashed)
-    }
-
-    /// Returns the number of nodes of the tree that have no digest. Doesn't allocate.
-    pub fn dirty_count(&self) -> usize
-        ensures { result ≡ dirty_count self.now.marks }
-    {
-        self.tree().dirty_count()
+        let done = self.store.install(node, hashed);
+        // Called for its clause alone: the store is sound.
+        let _sound = self.store.journal();
+        done
     }
 
     /// Hashes every dirty node, installs the digests, and returns the number of nodes that were dirty. Each round
@@ -68,22 +64,28 @@ impl RangeState {
     ///
     /// Refused: NoMemory. Then some of the dirty nodes may be clean, and everything else is unchanged.
     pub fn rehash(&mut self, rt: &(impl Threads + Sync), alloc: Global) -> Result<u64, Refusal>
-        ensures count { Answers result None (λ hashed. hashed ≡ dirty_count self.old.marks) }
+        ensures count { Answers result None (λ hashed. hashed ≡ dirty_count self.old.store.marks) }
         ensures ok { OnOk result (self.new ≡ rehashed self.old) }
         ensures same { IsSameRange self.old self.new }
     {
-        self.tree.rehash(rt, alloc)
+        let done = self.store.rehash(rt, alloc);
+        // Called for its clause alone: the store is sound.
+        let _sound = self.store.journal();
+        done
     }
 
     /// Hashes every dirty node as `rehash` does, in the caller's thread alone.
     ///
     /// Refused: NoMemory. Then some of the dirty nodes may be clean, and everything else is unchanged.
     pub fn rehash_here(&mut self, alloc: Global) -> Result<u64, Refusal>
-        ensures count { Answers result None (λ hashed. hashed ≡ dirty_count self.old.marks) }
+        ensures count { Answers result None (λ hashed. hashed ≡ dirty_count self.old.store.marks) }
         ensures ok { OnOk result (self.new ≡ rehashed self.old) }
         ensures same { IsSameRange self.old self.new }
     {
-        self.tree.rehash_here(alloc)
+        let done = self.store.rehash_here(alloc);
+        // Called for its clause alone: the store is sound.
+        let _sound = self.store.journal();
+        done
     }
 
     /// Hashes at most `most` of the dirty nodes whose children are clean, in the order of their places, in the caller's
@@ -94,22 +96,18 @@ impl RangeState {
     pub fn rehash_some(&mut self, alloc: Global, most: usize) -> Result<usize, Refusal>
         ensures { HashesSome result most self.old self.new }
     {
-        self.tree.rehash_some(alloc, most)
+        let done = self.store.rehash_some(alloc, most);
+        // Called for its clause alone: the store is sound.
+        let _sound = self.store.journal();
+        done
     }
 
     /// Makes a snapshot of the rows now with the digests of the whole tree, to offer to another replica. Copies no row,
     /// and shares with the range the leaves, and the digests that haven't changed since a session was opened. Refused,
     /// in order: Dirty (some node has no digest), NoMemory.
     pub fn snapshot(&self, alloc: Global) -> Result<Arc<Snapshot, Global>, Refusal>
-        ensures { Answers result (dirty_fault self.now) (λ snapshot. arc_value snapshot ≡ rows_now self.now) }
+        ensures { Answers result (dirty_fault self.now.store) (λ snapshot. arc_value snapshot ≡ rows_now self.now.store) }
     {
-        self.tree().snapshot(alloc)
-    }
-
-    /// Returns the tree.
-    pub(super) fn tree(&self) -> &Tree
-        ensures { result.now ≡ tree_in self.now }
-    {
-        &self.tree
+        self.store.tree().snapshot(alloc)
     }
 }

@@ -1,9 +1,8 @@
-use Rattle.std.proofs.Common.{refl, inr}
-use Rattle.std.proofs.lemmas.Result.{err_from_is_err_and}
-use Rattle.range_state.proofs.FittingLaws.{sent_refused}
+use Rattle.range_state.specs.State.{State}
+use Rattle.range_state.proofs.StoreCalls.{accept_grows, or_memory, right_after}
 use Rattle.range_state.proofs.state.RangeState.accept_into.Goals as goal
 
-pub returns-in_err-home-clause-accepts : goal.returns-in_err-home-clause-accepts
-returns-in_err-home-clause-accepts c =
-    let p = err_from_is_err_and c.from_residual.result c.from_residual.ensures.1 in
-    rw (p.1, p.2) (refl, inr (sent_refused c.args.self.now c.args.seat c.args.source c.args.key.now c.args.version c.in_err-home.field-0.0 c.in_err-home.ensures))
+pub invariant_of-self : goal.invariant_of-self
+invariant_of-self c =
+    let s : State = record { store = c.self.inside.store; records = c.self.inside.records.items } in
+    right_after c.accept_into-done.result s c.accept_into-done.new.self _ c.self.invariant c.journal-sound.ensures.valid (accept_grows c.self.inside.store c.args.seat c.args.source c.args.key.now c.args.version c.requires) (or_memory _ c.self.inside.store c.accept_into-done.new.self _ c.accept_into-done.ensures.accepts)

@@ -5,8 +5,8 @@ use Rattle.std.proofs.lemmas.Result.{err_from_is_err_and}
 use Rattle.version_set.specs.declared.version.Version.{Version}
 use Rattle.version_set.specs.Version.{covered, offered, offer_fault}
 use Rattle.version_set.specs.declared.set.Offered.TheVariants as Offered
-use Rattle.range_state.specs.Sessions.{offers_in}
-use Rattle.range_state.proofs.BatchLaws.{Offers, map_next, map_split}
+use Rattle.range_store.specs.Offers.{offers_in}
+use Rattle.range_store.proofs.BatchLaws.{Offers, map_next, map_split}
 use Rattle.range_state.proofs.JudgementLaws.{IsTallied, tallied_more, tallied_stops}
 use Rattle.range_state.proofs.state.RangeState.count_news.Goals as goal
 use Rattle.range_state.proofs.state.RangeState.count_news.Goals.{in-Added, in-Known}
@@ -27,7 +27,7 @@ returns-in_err-offer c =
       | inl memory ↦ inl memory.1
       | inr full ↦
           let same : offer_fault v c.loop-version.set ≡ Some e = ap (λ (w : Version). offer_fault w c.loop-version.set) (sym c.in_ok-try_clone.ensures.1) ∙ full in
-          inr (tallied_stops c.args.self.now seat key (take i vs) c.loop-version.set c.loop-version.count v c.args.row.now.versions (map f (drop (i + 1) vs)) e (c.loop-version.invariant seat) all same)
+          inr (tallied_stops c.args.self.now.store seat key (take i vs) c.loop-version.set c.loop-version.count v c.args.row.now.versions (map f (drop (i + 1) vs)) e (c.loop-version.invariant seat) all same)
     ])
 
 pub overflow_add-count : goal.overflow_add-count
@@ -50,7 +50,7 @@ loop-version-preserved c =
     let fits : offer_fault v set ≡ None = ap (λ (x : Version). offer_fault x set) (sym copy) ∙ c.in_ok-offer.ensures.answers.0 in
     let now : c.offer.new.self ≡ offered v set = c.in_ok-offer.ensures.set ∙ ap (λ (x : Version). offered x set) copy in
     let long : length (take (i + 1) vs) ≡ length (take i vs) + 1 = omega (arith, ap length (take_more vs i v c.loop-version-test.true), length-append (take i vs) (get_or vs i v ∷ [])) in
-    let more : (count : ℕ) → count ≡ c.loop-version.count + cond (covered v set) 0 1 → IsTallied c.args.self.now seat key (take (i + 1) vs) c.offer.new.self count = λ count is. tallied_more c.args.self.now seat key (take i vs) set c.loop-version.count v (take (i + 1) vs) c.offer.new.self count (c.loop-version.invariant seat) (map_next f vs i v c.loop-version-test.true c.version-item.is) long fits now is in
+    let more : (count : ℕ) → count ≡ c.loop-version.count + cond (covered v set) 0 1 → IsTallied c.args.self.now.store seat key (take (i + 1) vs) c.offer.new.self count = λ count is. tallied_more c.args.self.now.store seat key (take i vs) set c.loop-version.count v (take (i + 1) vs) c.offer.new.self count (c.loop-version.invariant seat) (map_next f vs i v c.loop-version-test.true c.version-item.is) long fits now is in
     elim c.match-branch-4.branch [
       | in-Added b ↦
           let fresh : covered v set ≡ false = elim (cases_Bool (covered w set)) [

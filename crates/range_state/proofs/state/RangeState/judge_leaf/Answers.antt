@@ -19,7 +19,7 @@ returns-in_err-row c =
     λ text seat read.
     let so_far = c.rows.invariant text read in
     let p = err_from_is_err_and c.from_residual.result c.from_residual.ensures.1 in
-    rw (p.1, p.2) (judge_fault c.args.self.now seat c.args.session.now.own c.args.node text c.in_err-row.field-0.0 (c.in_err-row.ensures text so_far.others so_far.read))
+    rw (p.1, p.2) (judge_fault c.args.self.now.store seat c.args.session.now.own c.args.node text c.in_err-row.field-0.0 (c.in_err-row.ensures text so_far.others so_far.read))
 
 pub with_news-requires : goal.with_news-requires
 with_news-requires c =
@@ -35,7 +35,7 @@ returns-in_err-news-in-Some c =
     let so_far = c.rows.invariant text read in
     let step = rw c.in-Some.is at c.in_ok-row.ensures text so_far.others so_far.read in
     let p = err_from_is_err_and c.from_residual-in_err-news-in-Some.result c.from_residual-in_err-news-in-Some.ensures.1 in
-    rw (p.1, p.2) (judge_memory c.args.self.now seat c.args.session.now.own c.args.node text c.in_err-news-in-Some.field-0.0
+    rw (p.1, p.2) (judge_memory c.args.self.now.store seat c.args.session.now.own c.args.node text c.in_err-news-in-Some.field-0.0
     (c.in_err-news-in-Some.ensures seat so_far.others (so_far.counted seat) (read_apart so_far.others c.in-Some.row step.0)))
 
 pub rows-smaller : goal.rows-smaller
@@ -61,5 +61,5 @@ returns-in-None c =
     let so_far = c.rows.invariant text read in
     let step = rw c.in-None.is at c.in_ok-row.ensures text so_far.others so_far.read in
     let whole = read_done step.0 step.1 in
-    let same = news_stand c.args.self.now seat c.args.session.now.own.rows whole.0 so_far.others _ c.requires.own whole.2 in
-    judged c.args.self.now seat c.args.session.now.own c.args.node text whole.0 so_far.others _ c.judge.result whole.1 same (c.judge.ensures seat so_far.others (so_far.counted seat))
+    let same = news_stand c.args.self.now.store seat c.args.session.now.own.rows whole.0 so_far.others _ c.requires.own whole.2 in
+    judged c.args.self.now.store seat c.args.session.now.own c.args.node text whole.0 so_far.others _ c.judge.result whole.1 same (c.judge.ensures seat so_far.others (so_far.counted seat))

@@ -2,7 +2,6 @@ use Rattle.std.proofs.Common.{◌≡◌, ◌<◌, List, None, length, sym, ap, s
 use Rattle.snapshot.specs.RowMaps.{RowMap}
 use Rattle.sync_session.specs.Walks.{Walk}
 use Rattle.sync_session.specs.Steps.{started}
-use Rattle.range_tree.specs.Trees.{RangeTree}
 use Rattle.range_state.specs.declared.«record».Record.{Record}
 use Rattle.range_state.specs.Records.{open_count}
 use Rattle.range_state.specs.State.{State, IsRight}
@@ -12,11 +11,10 @@ use Rattle.range_state.proofs.state.RangeState.open_with.Goals as goal
 
 pub invariant_of-self-2 : goal.invariant_of-self-2
 invariant_of-self-2 c =
-    let s : State = record { config = c.self.inside.config; entries = c.self.inside.journal.entries; marks = c.self.inside.tree.marks; records = c.self.inside.records.items } in
+    let s : State = record { store = c.self.inside.store; records = c.self.inside.records.items } in
     let same = c.in_ok-own.ensures.same in
     let r : Record = record { partner = c.args.partner; session = c.in_ok-session.session } in
     let room : (length s.records < 1024) × (open_count s.records < 64) = room_of s.records (subst (λ (rs : List Record). crowd_fault (standings rs) ≡ None) c.deref.ensures.value c.in_ok-check_crowd.ensures.0) in
-    let begun = c.in_ok-session.ensures.1 ∙ ap (λ (m : RowMap). started m c.args.root) (c.in_ok-own.ensures.snapshot.1 ∙ c.self.invariant.1) in
-    let right = opened_right s c.args.partner c.args.root r c.self.invariant.0 room (ap (λ (w : Walk). record { partner = c.args.partner; session = w }) begun) in
-    let back = sym (λ i. record { config = s.config; entries = s.entries; marks = (same i).marks; records = c.in_ok-push.ensures.items i }) in
-    (subst IsRight back right, ap (λ (t : RangeTree). t.map) same ∙ c.self.invariant.1, c.self.invariant.2)
+    let begun = c.in_ok-session.ensures.1 ∙ ap (λ (m : RowMap). started m c.args.root) c.in_ok-own.ensures.snapshot.1 in
+    let right = opened_right s c.args.partner c.args.root r c.self.invariant room (ap (λ (w : Walk). record { partner = c.args.partner; session = w }) begun) in
+    subst IsRight (sym (λ i. record { store = same i; records = c.in_ok-push.ensures.items i })) right

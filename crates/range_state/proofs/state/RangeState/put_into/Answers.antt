@@ -1,20 +1,8 @@
-use Rattle.std.proofs.Common.{refl, inl, inr}
-use Rattle.std.proofs.lemmas.Result.{err_from_is_err_and}
-use Rattle.range_state.proofs.FittingLaws.{put_admits, put_refused}
+use Rattle.range_state.specs.State.{State}
+use Rattle.range_state.proofs.StoreCalls.{put_grows, right_after}
 use Rattle.range_state.proofs.state.RangeState.put_into.Goals as goal
 
-pub returns-in_err-home-clause-puts : goal.returns-in_err-home-clause-puts
-returns-in_err-home-clause-puts c =
-    let p = err_from_is_err_and c.from_residual.result c.from_residual.ensures.1 in
-    rw (p.1, p.2) (
-      refl,
-      elim c.in_err-home.ensures.made [
-        | inl none ↦ inl none
-        | inr fault ↦ inr (put_refused c.args.test c.args.self.now c.args.seat c.args.at c.args.key.now c.args.context.now c.args.kind c.args.value c.in_err-home.field-0.0 fault)
-      ],
-    )
-
-pub returns-clause-puts : goal.returns-clause-puts
-returns-clause-puts c =
-    let admits = rw c.bytes-key.ensures at c.admit_into.ensures.admits in
-    put_admits c.args.test c.args.self.now c.admit_into.new.self c.args.seat c.args.at c.args.key.now c.args.context.now c.args.kind c.args.value c.in_ok-home.version c.admit_into.result c.in_ok-home.ensures.made.0 c.in_ok-home.ensures.made.1.1 admits
+pub invariant_of-self : goal.invariant_of-self
+invariant_of-self c =
+    let s : State = record { store = c.self.inside.store; records = c.self.inside.records.items } in
+    right_after c.put_into-done.result s c.put_into-done.new.self _ c.self.invariant c.journal-sound.ensures.valid (put_grows c.args.test c.self.inside.store c.args.seat c.args.at c.args.key.now c.args.context.now c.args.kind c.args.value) c.put_into-done.ensures.puts

@@ -1,14 +1,15 @@
-use Rattle.std.proofs.Common.{◌≡◌, refl, sym, subst}
-use Rattle.range_tree.specs.Rehashes.{HashesSome}
-use Rattle.range_state.specs.State.{State, tree_in, with_tree}
-use Rattle.range_state.proofs.OfferLaws.{tree_is, some_hashed}
+use Rattle.std.proofs.Common.{refl, subst}
+use Rattle.range_state.specs.State.{State, with_store}
+use Rattle.range_state.specs.Trees.{HashesSome}
+use Rattle.range_state.proofs.StoreCalls.{right_hashed}
 use Rattle.range_state.proofs.state.RangeState.rehash_some.Goals as goal
+
+pub invariant_of-self : goal.invariant_of-self
+invariant_of-self c =
+    let s : State = record { store = c.self.inside.store; records = c.self.inside.records.items } in
+    right_hashed s c.rehash_some-done.new.self c.self.invariant c.journal-sound.ensures.valid c.rehash_some-done.ensures.0
 
 pub returns : goal.returns
 returns c =
-    let s : State = record { config = c.self.inside.config; entries = c.self.inside.journal.entries; marks = c.self.inside.tree.marks; records = c.self.inside.records.items } in
-    let now = c.args.self.now in
-    let tree = tree_is s now c.self.inside.tree c.self.view_is c.self.invariant.1 refl in
-    let is : record { config = c.self.inside.config; entries = c.self.inside.journal.entries; marks = c.rehash_some.new.self.marks; records = c.self.inside.records.items } ≡ with_tree now c.rehash_some.new.self = λ i. record { config = (c.self.view_is i).config; entries = (c.self.view_is i).entries; marks = c.rehash_some.new.self.marks; records = (c.self.view_is i).records } in
-    let some : HashesSome c.rehash_some.result c.args.most (tree_in now) (tree_in (with_tree now c.rehash_some.new.self)) = some_hashed c.rehash_some.result c.args.most now c.self.inside.tree c.rehash_some.new.self tree c.rehash_some.ensures.some in
-    (is, subst (λ (t : State). HashesSome c.rehash_some.result c.args.most (tree_in now) (tree_in t)) (sym is) some)
+    let s : State = record { store = c.self.inside.store; records = c.self.inside.records.items } in
+    subst (λ (t : State). HashesSome c.rehash_some-done.result c.args.most t (with_store s c.rehash_some-done.new.self)) c.self.view_is (c.rehash_some-done.ensures, refl)

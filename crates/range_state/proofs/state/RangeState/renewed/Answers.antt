@@ -1,14 +1,12 @@
-use Rattle.std.proofs.Common.{refl, sym, ap, ◌∙◌}
-use Rattle.range_state.specs.Config.{Config}
-use Rattle.range_state.specs.State.{State}
-use Rattle.range_state.proofs.RenewLaws.{renewed_range}
+use Rattle.std.proofs.Common.{sym, subst}
+use Rattle.range_store.proofs.RenewLaws.{renewed_right, limit_fits}
+use Rattle.range_state.specs.State.{State, IsRight}
+use Rattle.range_state.proofs.StoreCalls.{right_renewed}
 use Rattle.range_state.proofs.state.RangeState.renewed.Goals as goal
 
 pub invariant_of-result : goal.invariant_of-result
 invariant_of-result c =
-    let s : State = record { config = c.self.inside.config; entries = c.self.inside.journal.entries; marks = c.self.inside.tree.marks; records = c.self.inside.records.items } in
-    let journal = c.in_ok-journal.ensures.1 in
-    let limited = c.in_ok-config.ensures.1.0 in
-    let range = renewed_range s c.args.self.now c.args.seat c.args.limit c.in_ok-config.config c.in_ok-journal.journal.entries c.self.inside.tree c.in_ok-tree.tree c.new-records.result.items
-    c.self.view_is c.self.invariant.0 c.self.invariant.1 refl c.in_ok-config.ensures.0 limited journal.0 c.in_ok-tree.ensures.1 c.new-records.ensures.items in
-    (range.0, range.1, journal.1 ∙ sym (ap (λ (x : Config). x.limit) limited))
+    let s : State = record { store = c.self.inside.store; records = c.self.inside.records.items } in
+    let made = c.in_ok-renewed.ensures in
+    let sound = renewed_right s.store c.args.seat c.args.limit c.self.invariant.store (limit_fits s.store c.args.limit made.0) in
+    subst IsRight (λ i. record { store = sym made.1 i; records = sym c.new.ensures.items i }) (right_renewed s c.args.seat c.args.limit sound)

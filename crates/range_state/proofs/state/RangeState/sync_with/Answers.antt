@@ -54,7 +54,7 @@ pub synced-requires : goal.synced-requires
 synced-requires c =
     let stop = stopped (next (goal.at.synced-requires c).In-Some) (search rules) c.in-Err.ensures in
     record {
-      before = omega (arith, c.loop-node.invariant.before, c.loop-node.invariant.under.grown, ap (λ (x : State). length x.entries) stop.1);
+      before = omega (arith, c.loop-node.invariant.before, c.loop-node.invariant.under.grown, ap (λ (x : State). length x.store.entries) stop.1);
       id = ap (λ (x : State). unknown_fault x c.in_ok-id.id) stop.1 ∙ known_session c.loop-node.invariant.under c.loop-node.invariant.at;
     }
 

@@ -1,0 +1,8 @@
+use Rattle.range_state.specs.State.{State}
+use Rattle.range_state.proofs.StoreCalls.{right_rehashed}
+use Rattle.range_state.proofs.state.RangeState.rehash.Goals as goal
+
+pub invariant_of-self : goal.invariant_of-self
+invariant_of-self g c =
+    let s : State = record { store = c.self.inside.store; records = c.self.inside.records.items } in
+    right_rehashed s c.rehash-done.new.self c.self.invariant c.journal-sound.ensures.valid c.rehash-done.ensures.same

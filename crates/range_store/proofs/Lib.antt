@@ -1,0 +1,17 @@
+pub mod RowLaws
+pub mod OfferLaws
+pub mod StoreLaws
+pub mod FittingLaws
+pub mod ReplayLaws
+pub mod BatchLaws
+pub mod HeldLaws
+pub mod SameRowLaws
+pub mod TakenLaws
+pub mod ChangeLaws
+pub mod LoadLaws
+pub mod MigrateLaws
+pub mod RenewLaws
+pub mod LoadedLaws
+pub mod SpreadLaws
+pub mod PutLaws
+pub mod CounterLaws

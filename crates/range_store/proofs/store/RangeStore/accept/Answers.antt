@@ -1,0 +1,10 @@
+use Rattle.std.proofs.Common.{refl, inr}
+use Rattle.std.proofs.lemmas.Result.{err_from_is_err_and}
+use Rattle.range_store.proofs.FittingLaws.{sent_refused}
+use Rattle.range_store.proofs.store.RangeStore.accept.Goals as goal
+
+pub returns-in_err-home : goal.returns-in_err-home
+returns-in_err-home c =
+    let p = err_from_is_err_and c.from_residual.result c.from_residual.ensures.1 in
+    let fault = rw c.new.ensures at c.in_err-home.ensures in
+    rw (p.1, p.2) (refl, inr (sent_refused c.args.self.now c.args.seat c.args.source c.args.key.now c.args.version c.in_err-home.field-0.0 fault))

@@ -1,0 +1,14 @@
+pub mod Config
+pub mod Rows
+pub mod Store
+pub mod ContextTests
+pub mod Fitting
+pub mod Offers
+pub mod Told
+pub mod Batches
+pub mod Loads
+pub mod FormatLoads
+pub mod Migrates
+pub mod Renewals
+pub mod Trees
+pub mod Replays
