@@ -23,7 +23,7 @@ use Rattle.caller_pass.specs.Passes.{PassView, new_pass, new_passes}
 use Rattle.caller_pass.specs.Locks.{Locked, IsLocked, is_missing, first_missing, missing_fault, behind_fault}
 use Rattle.range_state.specs.State.{State}
 use Rattle.range_state.specs.Renewals.{renewed_by}
-use Rattle.range_state.proofs.RenewLaws.{renewed_holds}
+use Rattle.range_store.proofs.RenewLaws.{renewed_holds}
 use Rattle.caller_pass.specs.Closings.{of_seat, IsTrueReading, IsSettled, AllThere}
 
 -- ---- own writes
@@ -112,28 +112,28 @@ covers_entries before (e ∷ es) = (
 )
 
 -- what is covered in a range is covered in its renewal
-renewed_covers : (s : State) (seat limit : ℕ) (v : Version) (key : List ℕ) → covered v (held s.entries key) ≡ true → covered v (held (renewed_by s seat limit).entries key) ≡ true
-renewed_covers s seat limit v key h = ap (covered v) (renewed_holds s seat key) ∙ h
+renewed_covers : (s : State) (seat limit : ℕ) (v : Version) (key : List ℕ) → covered v (held s.store.entries key) ≡ true → covered v (held (renewed_by s seat limit).store.entries key) ≡ true
+renewed_covers s seat limit v key h = ap (covered v) (renewed_holds s.store seat key) ∙ h
 
-pub renewed_receipts : (s : State) (seat limit : ℕ) (p : PassView) → IsSettled s.entries p → All (λ (e : Entry). covered e.version (held (renewed_by s seat limit).entries e.key) ≡ true) p.receipts
+pub renewed_receipts : (s : State) (seat limit : ℕ) (p : PassView) → IsSettled s.store.entries p → All (λ (e : Entry). covered e.version (held (renewed_by s seat limit).store.entries e.key) ≡ true) p.receipts
 renewed_receipts s seat limit p is =
-    let IsCovered : Entry → Type 0 = λ e. covered e.version (versions_of s.entries e.key) ≡ true in
-    let each : All IsCovered (of_seat p.seat s.entries) = All-from_recursion IsCovered (of_seat p.seat s.entries) (all-filter IsCovered (λ e. nat_eq e.seat p.seat) s.entries (covers_entries [] s.entries)) in
-    subst (All (λ (e : Entry). covered e.version (held (renewed_by s seat limit).entries e.key) ≡ true)) (sym is.receipts)
-    (All-weaker IsCovered (λ (e : Entry). covered e.version (held (renewed_by s seat limit).entries e.key) ≡ true) (λ e h. renewed_covers s seat limit e.version e.key (covered-held e.version s.entries e.key ∙ h)) (of_seat p.seat s.entries) each)
+    let IsCovered : Entry → Type 0 = λ e. covered e.version (versions_of s.store.entries e.key) ≡ true in
+    let each : All IsCovered (of_seat p.seat s.store.entries) = All-from_recursion IsCovered (of_seat p.seat s.store.entries) (all-filter IsCovered (λ e. nat_eq e.seat p.seat) s.store.entries (covers_entries [] s.store.entries)) in
+    subst (All (λ (e : Entry). covered e.version (held (renewed_by s seat limit).store.entries e.key) ≡ true)) (sym is.receipts)
+    (All-weaker IsCovered (λ (e : Entry). covered e.version (held (renewed_by s seat limit).store.entries e.key) ≡ true) (λ e h. renewed_covers s seat limit e.version e.key (covered-held e.version s.store.entries e.key ∙ h)) (of_seat p.seat s.store.entries) each)
 
 -- a reading of all entries
 abbrev whole : List Entry → List ℕ → Reading
 whole entries key = record { front = length entries; key = key; versions = held entries key }
 
-pub renewed_readings : (s : State) (seat limit : ℕ) (p : PassView) → IsSettled s.entries p
-    → All (λ (r : Reading). All (λ (v : Version). covered v (held (renewed_by s seat limit).entries r.key) ≡ true) r.versions) p.readings
+pub renewed_readings : (s : State) (seat limit : ℕ) (p : PassView) → IsSettled s.store.entries p
+    → All (λ (r : Reading). All (λ (v : Version). covered v (held (renewed_by s seat limit).store.entries r.key) ≡ true) r.versions) p.readings
 renewed_readings s seat limit p is =
-    All-weaker (IsTrueReading s.entries) (λ (r : Reading). All (λ (v : Version). covered v (held (renewed_by s seat limit).entries r.key) ≡ true) r.versions)
+    All-weaker (IsTrueReading s.store.entries) (λ (r : Reading). All (λ (v : Version). covered v (held (renewed_by s seat limit).store.entries r.key) ≡ true) r.versions)
     (λ r true_of.
-    let now : IsTrueReading s.entries (whole s.entries r.key) = record { within = omega arith; versions = ap (λ (es : List Entry). held es r.key) (take-length s.entries) } in
-    All-weaker (λ (v : Version). covered v (held s.entries r.key) ≡ true) (λ (v : Version). covered v (held (renewed_by s seat limit).entries r.key) ≡ true) (λ v h. renewed_covers s seat limit v r.key h) r.versions
-    (never_back s.entries r (whole s.entries r.key) true_of now refl true_of.within))
+    let now : IsTrueReading s.store.entries (whole s.store.entries r.key) = record { within = omega arith; versions = ap (λ (es : List Entry). held es r.key) (take-length s.store.entries) } in
+    All-weaker (λ (v : Version). covered v (held s.store.entries r.key) ≡ true) (λ (v : Version). covered v (held (renewed_by s seat limit).store.entries r.key) ≡ true) (λ v h. renewed_covers s seat limit v r.key h) r.versions
+    (never_back s.store.entries r (whole s.store.entries r.key) true_of now refl true_of.within))
     p.readings is.readings
 
 -- ---- closed ranges
@@ -148,15 +148,15 @@ in_filter p (y ∷ ys) x has test = elim (contains_cons y ys x has) [
   ]
 ]
 
-pub each_entry_told : (seats : ℕ) (l : Locked) (passes : List PassView) → IsLocked seats l → AllThere seats passes → All (IsSettled l.state.entries) passes → (e : Entry) → Contains l.state.entries e → Any (λ (p : PassView). Contains p.receipts e) passes
+pub each_entry_told : (seats : ℕ) (l : Locked) (passes : List PassView) → IsLocked seats l → AllThere seats passes → All (IsSettled l.state.store.entries) passes → (e : Entry) → Contains l.state.store.entries e → Any (λ (p : PassView). Contains p.receipts e) passes
 each_entry_told seats l passes ok there settled e has =
-    let seat : e.seat < seats = subst (λ (x : Entry). x.seat < seats) has.2 (All-from_recursion (λ (x : Entry). x.seat < seats) l.state.entries ok.seated has.0 e has.1) in
+    let seat : e.seat < seats = subst (λ (x : Entry). x.seat < seats) has.2 (All-from_recursion (λ (x : Entry). x.seat < seats) l.state.store.entries ok.seated has.0 e has.1) in
     let pass = there e.seat seat in
     let p : PassView = pass.0 in
     let at = pass.1 in
-    let is : IsSettled l.state.entries p = subst (IsSettled l.state.entries) at.2 (settled at.0 p at.1) in
+    let is : IsSettled l.state.store.entries p = subst (IsSettled l.state.store.entries) at.2 (settled at.0 p at.1) in
     let mine : nat_eq e.seat p.seat ≡ true = eq-eqb e.seat p.seat (sym pass.2) in
-    let told : Contains p.receipts e = subst (λ (xs : List Entry). Contains xs e) (sym is.receipts) (in_filter (λ (x : Entry). nat_eq x.seat p.seat) l.state.entries e has mine) in
+    let told : Contains p.receipts e = subst (λ (xs : List Entry). Contains xs e) (sym is.receipts) (in_filter (λ (x : Entry). nat_eq x.seat p.seat) l.state.store.entries e has mine) in
     (at.0, p, at.1, at.2, told)
 
 -- ---- new passes

@@ -8,8 +8,7 @@ use Rattle.range_state.specs.declared.«record».Record.{Record}
 use Rattle.range_state.specs.declared.event.AnswerCounted.{AnswerCounted}
 use Rattle.range_state.specs.declared.event.AnswerTaken.{AnswerTaken}
 use Rattle.range_state.specs.State.{State}
-use Rattle.range_state.specs.Sessions.{offers_of, taken_in, unknown_for, unknown_fault, TakesFor}
-use Rattle.range_state.proofs.SyncStepLaws.{records_stay}
+use Rattle.range_state.specs.Sessions.{unknown_for, unknown_fault, TakesFor}
 use Rattle.caller_pass.specs.Locks.{Locked, TellsAnswer}
 use Rattle.caller_pass.specs.Passes.{PassView}
 
@@ -24,9 +23,7 @@ known_for : (s : State) (seat id : ℕ) (t : TakenText) (a : AnswerTaken) (new :
 known_for s seat id t a new None is took = absurd (let no : Ok a ≡ Err _ = took.0 in cc)
 known_for s seat id t a new (Some r) is took = elim took.1 [
   | inl inner ↦ there s.records new.records id r _ is (ap (λ (x : State). x.records) inner.new_is)
-  | inr leaf ↦
-      let same = records_stay s seat (offers_of leaf.rows) in
-      there (taken_in s seat (offers_of leaf.rows)).records new.records id r _ (ap (λ (rs : List Record). slice_get rs id) same ∙ is) (ap (λ (x : State). x.records) leaf.new_is)
+  | inr leaf ↦ there s.records new.records id r _ is (ap (λ (x : State). x.records) leaf.new_is)
 ]
 
 pub still_known : (l m : Locked) (p q : PassView) (id : ℕ) (t : TakenText) (a : AnswerCounted) → TellsAnswer l p id t (Ok a) m q → unknown_fault m.state id ≡ None

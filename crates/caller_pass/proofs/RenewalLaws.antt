@@ -7,7 +7,8 @@ use Rattle.std.proofs.lemmas.List.Edits.{length-remove, get_or-remove_below, get
 use Rattle.range_journal.specs.declared.journal.Entry.{Entry}
 use Rattle.version_set.specs.declared.version.Version.{Version}
 use Rattle.range_state.specs.State.{State}
-use Rattle.range_state.specs.Renewals.{copies_from, held_offers, renewed_by}
+use Rattle.range_store.specs.Renewals.{copies_from, held_offers}
+use Rattle.range_state.specs.Renewals.{renewed_by}
 use Rattle.caller_pass.specs.Passes.{PassView}
 use Rattle.caller_pass.specs.Closings.{HasSeat, AllThere}
 
@@ -16,8 +17,8 @@ copies_seated n seat seats [] below = tt
 copies_seated n seat seats (o ∷ os) below = (below, copies_seated (n + 1) seat seats os below)
 
 -- carried entries are of the seat of their carrier
-pub carried_seated : (s t : State) (seat seats limit : ℕ) → seat < seats → t ≡ renewed_by s seat limit → AllByRecursion (λ (e : Entry). e.seat < seats) t.entries
-carried_seated s t seat seats limit below is = subst (λ (x : State). AllByRecursion (λ (e : Entry). e.seat < seats) x.entries) (sym is) (copies_seated 0 seat seats (held_offers s) below)
+pub carried_seated : (s t : State) (seat seats limit : ℕ) → seat < seats → t ≡ renewed_by s seat limit → AllByRecursion (λ (e : Entry). e.seat < seats) t.store.entries
+carried_seated s t seat seats limit below is = subst (λ (x : State). AllByRecursion (λ (e : Entry). e.seat < seats) x.store.entries) (sym is) (copies_seated 0 seat seats (held_offers s.store) below)
 
 -- a pass of another seat is among those that are left once a pass is taken away
 has_still : (ps : List PassView) (k : ℕ) (p : PassView) (seat : ℕ) → k < length ps → get_or ps k p ≡ p → seat < p.seat → HasSeat ps seat → HasSeat (remove ps k) seat

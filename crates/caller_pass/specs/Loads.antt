@@ -2,7 +2,7 @@
 use Rattle.std.specs.Prelude.{ℕ, List, length, drop}
 use Rattle.vclock.specs.Outcome.{Outcome, gives, ◌>>=◌}
 use Rattle.row_bytes.specs.declared.row.Row.{Row}
-use Rattle.range_state.specs.declared.state.loading.Loaded.{Loaded}
+use Rattle.range_store.specs.declared.store.loading.Loaded.{Loaded}
 use Rattle.range_state.specs.Loads.{load, load_text}
 use Rattle.range_state.specs.State.{State}
 use Rattle.caller_pass.specs.Locks.{Locked, told}
@@ -10,7 +10,7 @@ use Rattle.caller_pass.specs.Passes.{PassView}
 
 -- range and pass after a load: the pass gets the receipts of the new entries
 abbrev pub after_load : Locked → PassView → State → Locked × PassView
-after_load l p s = told l p s (drop (length l.state.entries) s.entries)
+after_load l p s = told l p s (drop (length l.state.store.entries) s.store.entries)
 
 -- rows of one leaf, loaded for the pass
 abbrev pub load_in : Locked → PassView → List Row → Outcome Loaded (Locked × PassView)

@@ -13,14 +13,13 @@ use Rattle.range_journal.specs.declared.journal.Source.{Source}
 use Rattle.range_journal.specs.Journal.{held}
 use Rattle.tree_nodes.specs.Nodes.{Node}
 use Rattle.sync_session.specs.Walks.{TakenText}
-use Rattle.range_state.specs.declared.event.Accepted.{Accepted}
-use Rattle.range_state.specs.declared.event.Accepted.TheVariants.{Taken, Known}
+use Rattle.range_store.specs.declared.receipt.Accepted.{Accepted}
+use Rattle.range_store.specs.declared.receipt.Accepted.TheVariants.{Taken, Known}
 use Rattle.range_state.specs.declared.event.AnswerTaken.{AnswerTaken}
 use Rattle.range_state.specs.declared.event.AnswerCounted.{AnswerCounted}
-use Rattle.range_state.specs.declared.context_test.ContextTest.{ContextTest}
-use Rattle.range_state.specs.declared.context_test.ContextTest.TheVariants.{Fresh, Read}
-use Rattle.range_state.specs.ContextTests.{put_by}
-use Rattle.range_state.specs.State.{State, IsRight, accept}
+use Rattle.range_store.specs.declared.context_test.ContextTest.{ContextTest}
+use Rattle.range_store.specs.declared.context_test.ContextTest.TheVariants.{Fresh, Read}
+use Rattle.range_state.specs.State.{State, IsRight, put_by, accept}
 use Rattle.range_state.specs.Sessions.{TakesAnswer}
 use Rattle.range_state.specs.Syncs.{IsFirstOf}
 use Rattle.range_state.specs.Told.{count_of}
@@ -35,8 +34,8 @@ pub record Locked : Type 0 where
 -- entry is of a seat.
 pub record IsLocked (seats : ℕ) (l : Locked) : Type 0 where
   pub right : IsRight l.state
-  pub counted : l.book.number ≡ length l.state.entries
-  pub seated : AllByRecursion (λ (e : Entry). e.seat < seats) l.state.entries
+  pub counted : l.book.number ≡ length l.state.store.entries
+  pub seated : AllByRecursion (λ (e : Entry). e.seat < seats) l.state.store.entries
 
 -- the range with another state that has no new entry
 abbrev pub moved : Locked → State → Locked
@@ -44,7 +43,7 @@ moved l s = record l { state = s }
 
 -- the range with another state that has these new entries, and the pass with their receipts
 abbrev pub told : Locked → PassView → State → List Entry → Locked × PassView
-told l p s es = (record { state = s; book = counted l.book (length es) }, with_receipts p (length s.entries) es)
+told l p s es = (record { state = s; book = counted l.book (length es) }, with_receipts p (length s.store.entries) es)
 
 -- a put by the pass, by a test of its context: the pass gets the receipt
 abbrev pub put_in_by : ContextTest → Locked → PassView → ℕ → List ℕ → Pairs → Kind → List ℕ → Outcome Entry (Locked × PassView)
@@ -92,8 +91,8 @@ behind_fault entries p key = if nat_lt (length entries) p.seen then Some (Behind
 -- a pass reads a key, and keeps the versions as a reading
 abbrev pub get_in : Locked → PassView → List ℕ → Outcome (List Version) PassView
 get_in l p key = do
-  behind_fault l.state.entries p key
-  gives (held l.state.entries key) (with_reading p (record { front = length l.state.entries; key = key; versions = held l.state.entries key }))
+  behind_fault l.state.store.entries p key
+  gives (held l.state.store.entries key) (with_reading p (record { front = length l.state.store.entries; key = key; versions = held l.state.store.entries key }))
 
 -- the refusal of a read by a pass of that seat
 pub record UnreadView : Type 0 where

@@ -4,7 +4,8 @@ use Rattle.vclock.specs.declared.refusal.Refusal.{Refusal}
 use Rattle.vclock.specs.declared.refusal.Refusal.TheVariants.{Unsettled, Stranger, NoMemory}
 use Rattle.range_journal.specs.declared.journal.Entry.{Entry}
 use Rattle.range_state.specs.State.{State}
-use Rattle.range_state.specs.Renewals.{renewed_by, renew_fault}
+use Rattle.range_state.specs.Renewals.{renewed_by}
+use Rattle.range_store.specs.Renewals.{renew_fault}
 use Rattle.caller_pass.specs.declared.book.ReturnedPass.{ReturnedPass}
 use Rattle.caller_pass.specs.Passes.{PassView, new_pass}
 use Rattle.caller_pass.specs.Locks.{Locked}
@@ -21,7 +22,7 @@ carried_passes carrier entries (suc n) = carried_passes carrier entries n ++ car
 
 -- a range and its book that begin with the versions that another one holds
 abbrev pub renewed_in : Locked → ℕ → ℕ → Locked
-renewed_in l seat limit = record { state = renewed_by l.state seat limit; book = record { number = length (renewed_by l.state seat limit).entries; seats = l.book.seats; passes = [] } }
+renewed_in l seat limit = record { state = renewed_by l.state seat limit; book = record { number = length (renewed_by l.state seat limit).store.entries; seats = l.book.seats; passes = [] } }
 
 -- a pass that was handed back, as it was before: its share was the number of its receipts
 abbrev pub pass_of : ReturnedPass → PassView
@@ -32,6 +33,6 @@ pass_of p = record { seat = p.seat; seen = p.seen; share = vec_len p.receipts; r
 -- difference.
 abbrev pub IsUnrenewed : ℕ → State → ℕ → ℕ → List PassView → Refusal → Type 0
 IsUnrenewed seats s seat limit passes Stranger = SomeIsMissing seats passes ⊎ (seats ≤ seat)
-IsUnrenewed seats s seat limit passes (Unsettled at part place) = (seat < seats) × (renew_fault s limit ≡ None) × IsUnclosed seats s.entries passes (Unsettled at part place)
-IsUnrenewed seats s seat limit passes NoMemory = (seat < seats) × AllThere seats passes × (renew_fault s limit ≡ None)
-IsUnrenewed seats s seat limit passes e = (seat < seats) × AllThere seats passes × (renew_fault s limit ≡ Some e)
+IsUnrenewed seats s seat limit passes (Unsettled at part place) = (seat < seats) × (renew_fault s.store limit ≡ None) × IsUnclosed seats s.store.entries passes (Unsettled at part place)
+IsUnrenewed seats s seat limit passes NoMemory = (seat < seats) × AllThere seats passes × (renew_fault s.store limit ≡ None)
+IsUnrenewed seats s seat limit passes e = (seat < seats) × AllThere seats passes × (renew_fault s.store limit ≡ Some e)

@@ -63,10 +63,10 @@ impl<L: Ledger> LockedRange<L> {
     pub fn close(self, alloc: Global, passes: Vec<Pass<L>>) -> Result<Closed<L>, Unclosed<L>>
         ensures closed { IfOk result (λ closed. (closed.state ≡ self.state) × (closed.passes.items ≡ passes.items)) }
         ensures there { OnOk result (AllThere L.parts passes.items) }
-        ensures settled { OnOk result (All (IsSettled self.state.entries) passes.items) }
+        ensures settled { OnOk result (All (IsSettled self.state.store.entries) passes.items) }
         ensures right { OnOk result (IsLocked L.parts self) }
         ensures back { IfErr result (λ unclosed. (unclosed.range ≡ self) × (unclosed.passes.items ≡ passes.items)) }
-        ensures refused { IfErr result (λ unclosed. IsUnclosed L.parts self.state.entries passes.items unclosed.refusal) }
+        ensures refused { IfErr result (λ unclosed. IsUnclosed L.parts self.state.store.entries passes.items unclosed.refusal) }
     {
         let seats = self.book.seats();
         match compare(alloc, &self.state, seats, &passes) {
@@ -92,8 +92,8 @@ fn compare<L: Ledger>(
 ) -> Result<(), Refusal>
     requires { seats ≡ L.parts }
     ensures there { OnOk result (AllThere seats passes.now.items) }
-    ensures settled { OnOk result (All (IsSettled state.now.entries) passes.now.items) }
-    ensures refused { IfErr result (IsUnclosed seats state.now.entries passes.now.items) }
+    ensures settled { OnOk result (All (IsSettled state.now.store.entries) passes.now.items) }
+    ensures refused { IfErr result (IsUnclosed seats state.now.store.entries passes.now.items) }
 {
     check_seats(seats, passes)?;
     compare_each(alloc, state, seats, passes)
@@ -119,8 +119,8 @@ pub(crate) fn compare_each<L: Ledger>(
 ) -> Result<(), Refusal>
     requires seats { seats ≡ L.parts }
     requires there { AllThere seats passes.now.items }
-    ensures settled { OnOk result (All (IsSettled state.now.entries) passes.now.items) }
-    ensures refused { IfErr result (IsUnclosed seats state.now.entries passes.now.items) }
+    ensures settled { OnOk result (All (IsSettled state.now.store.entries) passes.now.items) }
+    ensures refused { IfErr result (IsUnclosed seats state.now.store.entries passes.now.items) }
 {
     seats_below(passes);
     for seat in 0..seats {
@@ -170,8 +170,8 @@ fn seat_differs<L: Ledger>(
     seat: u16,
 ) -> Result<Option<(PassPart, u64)>, Refusal>
     ensures { Answers result None (λ found. MatchOption found
-        (All (λ p. p.seat ≡ seat → IsSettled state.now.entries p) passes.now.items)
-        (SeatDiffers seat state.now.entries passes.now.items)) }
+        (All (λ p. p.seat ≡ seat → IsSettled state.now.store.entries p) passes.now.items)
+        (SeatDiffers seat state.now.store.entries passes.now.items)) }
 {
     for pass in passes {
         if pass.seat == seat {
@@ -190,8 +190,8 @@ fn pass_differs<L: Ledger>(
     state: &RangeState,
     pass: &Pass<L>,
 ) -> Result<Option<(PassPart, u64)>, Refusal>
-    ensures { Answers result None (λ found. MatchOption found (IsSettled state.now.entries pass.now)
-        (λ at. DiffersFirst state.now.entries pass.now at.0 at.1)) }
+    ensures { Answers result None (λ found. MatchOption found (IsSettled state.now.store.entries pass.now)
+        (λ at. DiffersFirst state.now.store.entries pass.now at.0 at.1)) }
 {
     if let Some(place) = receipts_differ(&pass.receipts, pass.seat, state.journal().entries()) {
         return Ok(Some((PassPart::Receipt, place as u64)));
@@ -241,8 +241,8 @@ fn readings_differ(
     readings: &[Reading],
 ) -> Result<Option<usize>, Refusal>
     requires { AreInOrder readings.now }
-    ensures { Answers result None (λ found. MatchOption found (All (IsTrueReading state.now.entries) readings.now)
-        (IsFalseAt state.now.entries readings.now)) }
+    ensures { Answers result None (λ found. MatchOption found (All (IsTrueReading state.now.store.entries) readings.now)
+        (IsFalseAt state.now.store.entries readings.now)) }
 {
     let journal = state.journal();
     let mut replay = Replay::new(alloc, journal.entries());

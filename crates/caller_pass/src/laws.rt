@@ -28,17 +28,17 @@ pub fn readings_never_go_back()
 /// Each entry of a range that was closed is a receipt of a pass.
 pub fn settled_passes_have_each_entry()
     ensures { (seats : ℕ) (range : Locked) (passes : List PassView) → IsLocked seats range → AllThere seats passes
-        → All (IsSettled range.state.entries) passes
-        → (entry : Entry) → Contains range.state.entries entry → Any (λ p. Contains p.receipts entry) passes }
+        → All (IsSettled range.state.store.entries) passes
+        → (entry : Entry) → Contains range.state.store.entries entry → Any (λ p. Contains p.receipts entry) passes }
 {}
 
 /// Through a renewal, too, a caller reads its own writes, and its readings don't go back: for each pass that was settled,
 /// the versions that the renewed range holds cover each receipt, and each version of each reading.
 pub fn renewed_ranges_cover_settled_passes()
-    ensures receipts { (s : State) (seat limit : ℕ) (pass : PassView) → IsSettled s.entries pass
-        → All (λ e. IsTrue (covered e.version (held (renewed_by s seat limit).entries e.key))) pass.receipts }
-    ensures readings { (s : State) (seat limit : ℕ) (pass : PassView) → IsSettled s.entries pass
-        → All (λ r. All (λ v. IsTrue (covered v (held (renewed_by s seat limit).entries r.key))) r.versions)
+    ensures receipts { (s : State) (seat limit : ℕ) (pass : PassView) → IsSettled s.store.entries pass
+        → All (λ e. IsTrue (covered e.version (held (renewed_by s seat limit).store.entries e.key))) pass.receipts }
+    ensures readings { (s : State) (seat limit : ℕ) (pass : PassView) → IsSettled s.store.entries pass
+        → All (λ r. All (λ v. IsTrue (covered v (held (renewed_by s seat limit).store.entries r.key))) r.versions)
         pass.readings }
 {}
 

@@ -1,12 +1,10 @@
 //! The range that a lock keeps.
 ghost use Rattle.std.specs.Prelude.{◌≡◌, ◌≤◌, [], None, IfErr, IsTrue, MatchOption, slice_get};
-ghost use Rattle.std.specs.Arc.{arc_value};
-ghost use Rattle.vclock.specs.Answer.{Answers, AnswersAtOnce};
+ghost use Rattle.vclock.specs.Answer.{AnswersAtOnce};
 ghost use Rattle.vclock.specs.Outcome.{Does, DoesAtOnce, DoesOrNoMemory, through};
-ghost use Rattle.range_journal.specs.Journal.{held};
 ghost use Rattle.range_state.specs.Counts.{counts_of};
-ghost use Rattle.range_tree.specs.Jobs.{GivesJob};
-ghost use Rattle.range_state.specs.State.{is_sent, ask_fault, install, dirty_fault, rows_now, tree_in};
+ghost use Rattle.range_store.specs.Store.{is_sent, ask_fault};
+ghost use Rattle.range_state.specs.State.{install};
 ghost use Rattle.range_state.specs.Sessions.{open_session, cancel_session, unknown_fault};
 ghost use Rattle.range_state.specs.Migrates.{migrate};
 ghost use Rattle.range_state.specs.Syncs.{IsFirstOf};
@@ -21,14 +19,12 @@ use crate::unread::Unread;
 use key_ring::HashedKey;
 use range_journal::Source;
 use range_state::{
-    Accepted, AnswerCounted, ContextTest, LeafRows, Loaded, RangeConfig, RangeCounts, RangeState,
-    Receipt, Record,
+    Accepted, AnswerCounted, ContextTest, LeafRows, Loaded, RangeCounts, RangeState, Receipt,
+    Record,
 };
-use rehash::Job;
-use snapshot::Snapshot;
+use range_store::RangeStore;
 use std::alloc::Global;
 use std::marker::Model;
-use std::sync::Arc;
 use std::sync::ledger::Ledger;
 use tree_nodes::{Hashed, NodeAt};
 use vclock::{Bytes, Clock, Refusal};
@@ -64,7 +60,7 @@ impl<L: Ledger> LockedRange<L> {
     /// Makes the locked range of a state that has accepted nothing and a book that has counted nothing. Doesn't
     /// allocate.
     pub fn new(state: RangeState, book: Book<L>) -> LockedRange<L>
-        requires empty { state.entries ≡ [] }
+        requires empty { state.store.entries ≡ [] }
         requires none { book.number ≡ 0 }
         ensures { result ≡ record { state = state; book = book } }
     {
@@ -73,13 +69,13 @@ impl<L: Ledger> LockedRange<L> {
         LockedRange { state, book }
     }
 
-    /// The number of the range, its format, and the limit of its journal. The clause `valid` states the facts that hold
-    /// whenever the lock is free.
-    pub fn config(&self) -> RangeConfig
-        ensures value { result ≡ self.now.state.config }
+    /// The store: its configuration and its tree, and the versions that are held for a key, for no pass. The clause
+    /// `valid` states the facts that hold whenever the lock is free. Doesn't allocate.
+    pub fn store(&self) -> &RangeStore
+        ensures store { result.now ≡ self.now.state.store }
         ensures valid { IsLocked L.parts self.now }
     {
-        self.state.config()
+        self.state.store()
     }
 
     /// Puts a value at a node, as `RangeState::put` does for the seat of the pass, and adds the receipt to the pass.
@@ -99,7 +95,7 @@ impl<L: Ledger> LockedRange<L> {
         ensures puts { DoesOrNoMemory result (self.old, pass.old) (self.new, pass.new)
             (put_in self.old pass.old at key.now context.now kind value) }
         ensures early { IfErr result (λ e. e ≡ Refusal.NoMemory
-            → ask_fault self.old.state.config at key.now context.now kind value ≡ None) }
+            → ask_fault self.old.state.store.config at key.now context.now kind value ≡ None) }
     {
         let test = ContextTest::Fresh;
         let key = HashedKey::new(key);
@@ -124,7 +120,7 @@ impl<L: Ledger> LockedRange<L> {
         ensures puts { DoesOrNoMemory result (self.old, pass.old) (self.new, pass.new)
             (put_read_in self.old pass.old at key.now context.now kind value) }
         ensures early { IfErr result (λ e. e ≡ Refusal.NoMemory
-            → ask_fault self.old.state.config at key.now context.now kind value ≡ None) }
+            → ask_fault self.old.state.store.config at key.now context.now kind value ≡ None) }
     {
         let test = ContextTest::Read;
         let key = HashedKey::new(key);
@@ -148,7 +144,7 @@ impl<L: Ledger> LockedRange<L> {
         ensures puts { DoesOrNoMemory result (self.old, pass.old) (self.new, pass.new)
             (put_in_by test self.old pass.old at key.now context.now kind value) }
         ensures early { IfErr result (λ e. e ≡ Refusal.NoMemory
-            → ask_fault self.old.state.config at key.now context.now kind value ≡ None) }
+            → ask_fault self.old.state.store.config at key.now context.now kind value ≡ None) }
     {
         let LockedRange { state, book } = self;
         let receipts = &mut pass.receipts;
@@ -249,7 +245,7 @@ impl<L: Ledger> LockedRange<L> {
                 missing: None,
             });
         }
-        let held = self.state.find(key);
+        let held = self.state.store().find(key);
         if let Some(number) = find_missing(&pass.receipts, &pass.by_key, key, &held) {
             return Err(Refusal::Behind {
                 seen: pass.seen,
@@ -269,21 +265,6 @@ impl<L: Ledger> LockedRange<L> {
         Ok(versions)
     }
 
-    /// Copies the versions that are held for a key, as they are at this moment, for no pass: nothing is kept, and it
-    /// needn't show the caller's own puts. Returns an empty set if the key isn't held. Refused: NoMemory.
-    pub fn look(&self, alloc: Global, key: &HashedKey) -> Result<VersionSet, Refusal>
-        ensures { Answers result None (λ set. set ≡ held self.now.state.entries key.now) }
-    {
-        self.state.find(key).to_set(alloc)
-    }
-
-    /// Returns a job for a node, as `RangeState::take_job` does. Refused: NoMemory.
-    pub fn take_job(&self, alloc: Global, skip: u64) -> Result<Option<Job>, Refusal>
-        ensures { Answers result None (GivesJob (tree_in self.now.state)) }
-    {
-        self.state.take_job(alloc, skip)
-    }
-
     /// Installs the digest of a text at a node, as `RangeState::install` does. Doesn't allocate. Refused: Stale.
     pub fn install(&mut self, node: NodeAt, hashed: &Hashed) -> Result<(), Refusal>
         ensures { DoesAtOnce result self.old self.new
@@ -292,13 +273,6 @@ impl<L: Ledger> LockedRange<L> {
         let installed = self.state.install(node, hashed);
         let _right = self.state.journal();
         installed
-    }
-
-    /// Makes a snapshot, as `RangeState::snapshot` does. Refused, in order: Dirty, NoMemory.
-    pub fn snapshot(&self, alloc: Global) -> Result<Arc<Snapshot, Global>, Refusal>
-        ensures { Answers result (dirty_fault self.now.state) (λ snapshot. arc_value snapshot ≡ rows_now self.now.state) }
-    {
-        self.state.snapshot(alloc)
     }
 
     /// Opens a session with a partner's offer, as `RangeState::open_session` does, and returns its number. Refused as
@@ -373,7 +347,7 @@ impl<L: Ledger> LockedRange<L> {
         ensures { DoesOrNoMemory result (self.old, pass.old) (self.new, pass.new)
             (load_text_in self.old pass.old text.now) }
     {
-        let rows = LeafRows::read(alloc, self.config(), text)?;
+        let rows = LeafRows::read(alloc, self.store().config(), text)?;
         self.load_read(alloc, pass, &rows)
     }
 
@@ -385,7 +359,7 @@ impl<L: Ledger> LockedRange<L> {
         pass: &mut Pass<L>,
         rows: &LeafRows,
     ) -> Result<Loaded, Refusal>
-        requires { rows.now.config ≡ self.old.state.config }
+        requires { rows.now.config ≡ self.old.state.store.config }
         ensures { DoesOrNoMemory result (self.old, pass.old) (self.new, pass.new)
             (load_in self.old pass.old rows.now.rows) }
     {

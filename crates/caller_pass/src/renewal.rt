@@ -51,10 +51,10 @@ impl<L: Ledger> LockedRange<L> {
     ) -> Result<Renewed<L>, Unclosed<L>>
         ensures range { IfOk result (λ r. r.range ≡ renewed_in self seat limit) }
         ensures passes { IfOk result (λ r.
-            r.passes.items ≡ carried_passes seat (renewed_by self.state seat limit).entries L.parts) }
+            r.passes.items ≡ carried_passes seat (renewed_by self.state seat limit).store.entries L.parts) }
         ensures kept { IfOk result (λ r. map pass_of r.kept.items ≡ passes.items) }
         ensures there { OnOk result (AllThere L.parts passes.items) }
-        ensures settled { OnOk result (All (IsSettled self.state.entries) passes.items) }
+        ensures settled { OnOk result (All (IsSettled self.state.store.entries) passes.items) }
         ensures back { IfErr result (λ unclosed. (unclosed.range ≡ self) × (unclosed.passes.items ≡ passes.items)) }
         ensures refused { IfErr result (λ unclosed.
             IsUnrenewed L.parts self.state seat limit passes.items unclosed.refusal) }
@@ -80,15 +80,15 @@ impl<L: Ledger> LockedRange<L> {
     ) -> Renewed<L>
         requires there { AllThere L.parts passes.items }
         requires seat { seat < L.parts }
-        requires receipts { prepared.receipts.items ≡ prepared.state.entries }
-        requires seated { AllByRecursion (λ e. e.seat < L.parts) prepared.state.entries }
+        requires receipts { prepared.receipts.items ≡ prepared.state.store.entries }
+        requires seated { AllByRecursion (λ e. e.seat < L.parts) prepared.state.store.entries }
         requires none { prepared.room.passes.items ≡ [] }
         requires room { L.parts ≤ vec_capacity prepared.room.passes }
         requires kept { (prepared.room.kept.items ≡ []) × (length passes.items ≤ vec_capacity prepared.room.kept) }
         ensures state { result.range.state ≡ prepared.state }
         ensures book { result.range.book
-            ≡ record { number = length prepared.state.entries; seats = self.book.seats; passes = [] } }
-        ensures passes { result.passes.items ≡ carried_passes seat prepared.state.entries L.parts }
+            ≡ record { number = length prepared.state.store.entries; seats = self.book.seats; passes = [] } }
+        ensures passes { result.passes.items ≡ carried_passes seat prepared.state.store.entries L.parts }
         ensures kept { map pass_of result.kept.items ≡ passes.items }
     {
         let LockedRange { state: old, book } = self;
@@ -122,10 +122,10 @@ fn prepare<L: Ledger>(
     requires { seats ≡ L.parts }
     ensures seat { OnOk result (seat < seats) }
     ensures there { OnOk result (AllThere seats passes.now.items) }
-    ensures settled { OnOk result (All (IsSettled state.now.entries) passes.now.items) }
+    ensures settled { OnOk result (All (IsSettled state.now.store.entries) passes.now.items) }
     ensures state { IfOk result (λ p. p.state ≡ renewed_by state.now seat limit) }
-    ensures receipts { IfOk result (λ p. p.receipts.items ≡ p.state.entries) }
-    ensures seated { IfOk result (λ p. AllByRecursion (λ e. e.seat < seats) p.state.entries) }
+    ensures receipts { IfOk result (λ p. p.receipts.items ≡ p.state.store.entries) }
+    ensures seated { IfOk result (λ p. AllByRecursion (λ e. e.seat < seats) p.state.store.entries) }
     ensures none { IfOk result (λ p. (p.room.passes.items ≡ []) × (p.room.kept.items ≡ [])) }
     ensures room { IfOk result (λ p. (seats ≤ vec_capacity p.room.passes)
         × (length passes.now.items ≤ vec_capacity p.room.kept)) }
@@ -135,7 +135,7 @@ fn prepare<L: Ledger>(
         return Err(Refusal::Stranger);
     }
     check_seats(seats, passes)?;
-    state.check_limit(limit)?;
+    state.store().check_limit(limit)?;
     compare_each(alloc, state, seats, passes)?;
     let state = state.renewed(alloc, seat, limit)?;
     let receipts = copy_entries(alloc, state.journal().entries())?;

@@ -7,8 +7,8 @@ use Rattle.std.proofs.lemmas.List.{append-nil}
 use Rattle.version_set.specs.declared.version.Version.{Version}
 use Rattle.range_journal.specs.declared.journal.Entry.{Entry}
 use Rattle.range_journal.specs.declared.journal.Source.{Source}
-use Rattle.range_state.specs.State.{State, knows, journaled, entry_of, accept_step}
-use Rattle.range_state.specs.Sessions.{accepted_in}
+use Rattle.range_store.specs.Store.{Store, knows, journaled, entry_of, accept_step}
+use Rattle.range_store.specs.Offers.{accepted_in}
 use Rattle.caller_pass.specs.Passes.{seen_after}
 use Rattle.ring_node.specs.Gains.{IsGain}
 use Rattle.ring_node.proofs.GainLaws.{still, both}
@@ -22,7 +22,7 @@ pub record Brought (seat : ℕ) (source : Source) (before now : List Entry) : Ty
 nothing : (seat : ℕ) (source : Source) (xs ys : List Entry) → ys ≡ xs → Brought seat source xs ys
 nothing seat source xs ys same = record { es = []; grown = same ∙ sym (append-nil xs); each = tt }
 
-step : (s : State) (seat : ℕ) (source : Source) (key : List ℕ) (v : Version) → Brought seat source s.entries (accept_step s seat source key v).entries
+step : (s : Store) (seat : ℕ) (source : Source) (key : List ℕ) (v : Version) → Brought seat source s.entries (accept_step s seat source key v).entries
 step s seat source key v = elim (knows s key v) as (λ b. Brought seat source s.entries (cond b s (journaled s (entry_of s seat source key v))).entries) [
   | true ↦ nothing seat source s.entries s.entries refl
   | false ↦
@@ -41,7 +41,7 @@ then seat source xs ys zs a b = record {
   each = both seat source (length zs) a.es b.es (still seat seat source (length ys) (length zs) a.es refl (omega (arith, ap length b.grown, length-append ys b.es)) a.each) b.each;
 }
 
-pub all_brought : (s : State) (seat : ℕ) (source : Source) (offers : List (List ℕ × Version)) → Brought seat source s.entries (accepted_in s seat source offers).entries
+pub all_brought : (s : Store) (seat : ℕ) (source : Source) (offers : List (List ℕ × Version)) → Brought seat source s.entries (accepted_in s seat source offers).entries
 all_brought s seat source [] = nothing seat source s.entries s.entries refl
 all_brought s seat source (o ∷ offers) =
     let t = accept_step s seat source o.0 o.1 in

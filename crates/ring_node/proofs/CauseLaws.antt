@@ -12,8 +12,8 @@ use Rattle.version_set.specs.Version.{offer_fault}
 use Rattle.version_set.specs.declared.kind.Kind.{Kind}
 use Rattle.version_set.specs.declared.kind.Kind.TheVariants.{Live, Tombstone}
 use Rattle.version_set.specs.declared.version.Version.{Version}
-use Rattle.range_state.specs.Config.{Config}
-use Rattle.range_state.specs.State.{place_fault}
+use Rattle.range_store.specs.Config.{Config}
+use Rattle.range_store.specs.Store.{place_fault}
 use Rattle.ring_node.specs.Passes.{IsOddValue}
 
 -- a cause that stands if a test holds

@@ -6,8 +6,8 @@ use Rattle.range_journal.specs.declared.journal.Entry.{Entry}
 use Rattle.range_journal.specs.declared.journal.Source.{Source}
 use Rattle.version_set.specs.declared.version.Version.{Version}
 use Rattle.caller_pass.specs.Passes.{PassView}
-use Rattle.range_state.specs.declared.event.Accepted.{Accepted}
-use Rattle.range_state.specs.declared.event.Accepted.TheVariants.{Taken}
+use Rattle.range_store.specs.declared.receipt.Accepted.{Accepted}
+use Rattle.range_store.specs.declared.receipt.Accepted.TheVariants.{Taken}
 use Rattle.ring_node.specs.Passes.{IsReceiptOf, HasReceiptOf, IsSent}
 use Rattle.ring_node.specs.Gains.{IsGain, Gains, GainsSome}
 

@@ -2,7 +2,12 @@
 use Rattle.std.proofs.Common.{◌≡◌, ◌⊎◌, inl, inr, Option, Some, None, refl}
 use Rattle.std.specs.Prelude.{IsTrue}
 use Rattle.vclock.specs.declared.refusal.Refusal.{Refusal}
-use Rattle.vclock.specs.Outcome.{Outcome, gives, refuses, is_given, ◌>>=◌, ◌>>◌}
+use Rattle.vclock.specs.Outcome.{Outcome, gives, refuses, is_given, through, ◌>>=◌, ◌>>◌}
+
+-- a step after a call on a part
+pub within : {A B R Q S : Type 0} (whole : R → Q) (o : Outcome A R) (rest : A × Q → Outcome B S) → (o >>= λ p. rest (p.0, whole p.1)) ≡ (through whole o >>= rest)
+within whole (gives x s) rest = refl
+within whole (refuses e) rest = refl
 
 -- what was given by a step after another, and what was given there
 pub record Given {A B R S : Type 0} (o : Outcome A R) (rest : A × R → Outcome B S) (y : B) (t : S) : Type 0 where

@@ -14,7 +14,8 @@ use Rattle.range_state.specs.declared.«record».Record.{Record}
 use Rattle.range_state.specs.declared.event.AnswerTaken.{AnswerTaken}
 use Rattle.range_state.specs.declared.event.AnswerCounted.{AnswerCounted}
 use Rattle.range_state.specs.State.{State}
-use Rattle.range_state.specs.Sessions.{offers_of, open_session, taken_in, Refuses, TakesInner, TakesLeaf, TakesFor}
+use Rattle.range_store.specs.Offers.{offers_of}
+use Rattle.range_state.specs.Sessions.{open_session, taken_in, Refuses, TakesInner, TakesLeaf, TakesFor}
 use Rattle.caller_pass.specs.Passes.{PassView, with_receipts, seen_after}
 use Rattle.caller_pass.specs.Locks.{Locked, moved, IsToldOf, TellsAnswer}
 use Rattle.caller_pass.proofs.PassLaws.{seen_rises}
@@ -30,16 +31,16 @@ use Rattle.ring_node.proofs.GainLaws.{some_same}
 
 -- the receipts of a text are of such entries
 abbrev AreBrought : ℕ → List Entry → State → Type 0
-AreBrought seat receipts new = AllByRecursion (IsGain seat Partner (length new.entries)) receipts
+AreBrought seat receipts new = AllByRecursion (IsGain seat Partner (length new.store.entries)) receipts
 
 by_inner : (s : State) (seat id : ℕ) (r : Record) (t : TakenText) (a : AnswerTaken) (new : State) → TakesInner s id r t a new → AreBrought seat a.receipts.items new
 by_inner s seat id r t a new took = subst (λ (es : List Entry). AreBrought seat es new) (sym took.receipts) tt
 
 by_leaf : (s : State) (seat id : ℕ) (r : Record) (t : TakenText) (a : AnswerTaken) (new : State) → TakesLeaf s seat id r t a new → AreBrought seat a.receipts.items new
 by_leaf s seat id r t a new took =
-    let b = all_brought s seat Partner (offers_of took.rows) in
-    let same : a.receipts.items ≡ b.es = append_cancel_left s.entries a.receipts.items b.es (took.receipts ∙ b.grown) in
-    let now : new.entries ≡ (taken_in s seat (offers_of took.rows)).entries = ap (λ (x : State). x.entries) took.new_is in
+    let b = all_brought s.store seat Partner (offers_of took.rows) in
+    let same : a.receipts.items ≡ b.es = append_cancel_left s.store.entries a.receipts.items b.es (took.receipts ∙ b.grown) in
+    let now : new.store.entries ≡ (taken_in s.store seat (offers_of took.rows)).entries = ap (λ (x : State). x.store.entries) took.new_is in
     subst (λ (es : List Entry). AreBrought seat es new) (sym same)
     (subst (λ (es : List Entry). AllByRecursion (IsGain seat Partner (length es)) b.es) (sym now) b.each)
 
@@ -54,16 +55,16 @@ gains_told : (l m : Locked) (p q : PassView) (id : ℕ) (t : TakenText) (a : Ans
 gains_told l m p q id t a is =
     let es = is.taken.receipts.items in
     let count : a.receipts ≡ length es = ap (λ (x : AnswerCounted). x.receipts) is.count in
-    let pass : q ≡ with_receipts p (length m.state.entries) es = is.pass in
+    let pass : q ≡ with_receipts p (length m.state.store.entries) es = is.pass in
     let brought = by_text l.state p.seat id t is.taken m.state (slice_get l.state.records id) is.takes in
-    let seen : q.seen ≡ seen_after p.seen (length m.state.entries) (length es) = ap (λ (x : PassView). x.seen) pass in
+    let seen : q.seen ≡ seen_after p.seen (length m.state.store.entries) (length es) = ap (λ (x : PassView). x.seen) pass in
     record {
       gained = es;
       count = sym count;
-      each = subst (λ n. AllByRecursion (IsGain p.seat Partner n) es) (sym seen) (seen_up p.seat Partner p.seen (length m.state.entries) es brought);
+      each = subst (λ n. AllByRecursion (IsGain p.seat Partner n) es) (sym seen) (seen_up p.seat Partner p.seen (length m.state.store.entries) es brought);
       receipts = ap (λ (x : PassView). x.receipts) pass;
       share = ap (λ (x : PassView). x.share) pass ∙ ap (λ n. p.share + n) (sym count);
-      seen = subst (λ n. p.seen ≤ n) (sym seen) (seen_rises p.seen (length m.state.entries) (length es));
+      seen = subst (λ n. p.seen ≤ n) (sym seen) (seen_rises p.seen (length m.state.store.entries) (length es));
       seat = ap (λ (x : PassView). x.seat) pass;
       readings = ap (λ (x : PassView). x.readings) pass;
     }

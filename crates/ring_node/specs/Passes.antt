@@ -11,8 +11,8 @@ use Rattle.version_set.specs.declared.kind.Kind.{Kind}
 use Rattle.version_set.specs.declared.version.Version.{Version}
 use Rattle.range_journal.specs.declared.journal.Entry.{Entry}
 use Rattle.range_journal.specs.declared.journal.Source.{Source}
-use Rattle.range_state.specs.declared.event.Accepted.{Accepted}
-use Rattle.range_state.specs.declared.event.Accepted.TheVariants.{Taken, Known}
+use Rattle.range_store.specs.declared.receipt.Accepted.{Accepted}
+use Rattle.range_store.specs.declared.receipt.Accepted.TheVariants.{Taken, Known}
 use Rattle.caller_pass.specs.Passes.{PassView, with_receipts, with_reading}
 use Rattle.caller_pass.specs.Locks.{first_missing}
 

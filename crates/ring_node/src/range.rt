@@ -8,7 +8,7 @@ ghost use Rattle.vclock.specs.Outcome.{Does, DoesOrNoMemory, through};
 ghost use Rattle.range_journal.specs.Journal.{held};
 ghost use Rattle.range_state.specs.Counts.{counts_of};
 ghost use Rattle.range_state.specs.Migrates.{migrate};
-ghost use Rattle.range_state.specs.State.{is_sent, put_version, dirty_fault, rows_now};
+ghost use Rattle.range_store.specs.Store.{is_sent, put_version, dirty_fault, rows_now};
 ghost use Rattle.caller_pass.specs.Closings.{AllThere, IsSettled, IsUnclosed};
 ghost use Rattle.caller_pass.specs.Locks.{IsLocked, moved, put_in, put_read_in, accept_in, get_in, plainly};
 ghost use Rattle.caller_pass.specs.Loads.{load_text_in};
@@ -93,7 +93,7 @@ impl<L: Ledger> SharedRange<L> {
     /// counted nothing. Doesn't allocate.
     pub fn new(node: u16, state: RangeState, book: Book<L>) -> SharedRange<L>
         requires node { 1 ≤ node }
-        requires empty { state.entries ≡ [] }
+        requires empty { state.store.entries ≡ [] }
         requires none { book.number ≡ 0 }
         ensures { result ≡ node }
     {
@@ -139,7 +139,7 @@ impl<L: Ledger> SharedRange<L> {
         let key = HashedKey::new(key);
         let mut range = self.range.lock(rt);
         // Called for its clause `valid` alone: the range is right.
-        let _valid = range.config();
+        let _valid = range.store();
         range.put_hashed(alloc, test, pass, node, &key, context, kind, value)
     }
 
@@ -173,7 +173,7 @@ impl<L: Ledger> SharedRange<L> {
         let key = HashedKey::new(key);
         let mut range = self.range.lock(rt);
         // Called for its clause `valid` alone: the range is right.
-        let _valid = range.config();
+        let _valid = range.store();
         range.put_hashed(alloc, test, pass, node, &key, context, kind, value)
     }
 
@@ -202,7 +202,7 @@ impl<L: Ledger> SharedRange<L> {
         let key = HashedKey::new(key);
         let mut range = self.range.lock(rt);
         // Called for its clause `valid` alone: the range is right.
-        let _valid = range.config();
+        let _valid = range.store();
         range.accept_hashed(alloc, pass, source, &key, version)
     }
 
@@ -231,23 +231,19 @@ impl<L: Ledger> SharedRange<L> {
         pass.index();
         let range = self.range.lock(rt);
         // Called for its clause `valid` alone: the range is right.
-        let _valid = range.config();
+        let _valid = range.store();
         range.read(alloc, pass, &key)
     }
 
-    /// Copies the versions that are held for a key at one moment, in the order of their texts, as [`LockedRange::look`]
-    /// does: for no pass, so nothing is kept, and it needn't show the caller's own puts. Returns an empty set if the key
-    /// isn't held. Refused: NoMemory.
+    /// Copies the versions that are held for a key at one moment, in the order of their texts, for no pass: nothing is
+    /// kept, and it needn't show the caller's own puts. Returns an empty set if the key isn't held. Refused: NoMemory.
     pub fn look<R: Wait>(&self, rt: &R, alloc: Global, key: &[u8]) -> Result<VersionSet, Refusal>
         ensures refusal { IfErr result (λ e. e ≡ Refusal.NoMemory) }
         ensures moment { FoundAtSomeMoment (IsLocked L.parts)
-            (λ locked. Answers result None (λ set. set ≡ held locked.state.entries key.now)) }
+            (λ locked. Answers result None (λ set. set ≡ held locked.state.store.entries key.now)) }
     {
         let key = HashedKey::new(key);
-        let range = self.range.lock(rt);
-        // Called for its clause `valid` alone: the range is right.
-        let _valid = range.config();
-        range.look(alloc, &key)
+        self.range.lock(rt).store().find(&key).to_set(alloc)
     }
 
     /// Loads rows of one leaf from their texts, as [`LockedRange::load_rows`] does. The pass gets the receipts. The rows
@@ -290,7 +286,7 @@ impl<L: Ledger> SharedRange<L> {
         let rows = LeafRows::read(alloc, config, text)?;
         gate.pass(rt, Step::Read);
         let mut range = self.range.lock(rt);
-        if range.config() == config {
+        if range.store().config() == config {
             range.load_read(alloc, pass, &rows)
         } else {
             range.load_rows(alloc, pass, text)
@@ -299,9 +295,9 @@ impl<L: Ledger> SharedRange<L> {
 
     /// Returns the configuration of the range at one moment: its format may change once, by `migrate`.
     pub fn config<R: Wait>(&self, rt: &R) -> RangeConfig
-        ensures { FoundAtSomeMoment (IsLocked L.parts) (λ locked. result ≡ locked.state.config) }
+        ensures { FoundAtSomeMoment (IsLocked L.parts) (λ locked. result ≡ locked.state.store.config) }
     {
-        self.range.lock(rt).config()
+        self.range.lock(rt).store().config()
     }
 
     /// Returns the numbers of entries, of dirty nodes and of sessions at one moment, and the limit of the journal, as
@@ -311,22 +307,20 @@ impl<L: Ledger> SharedRange<L> {
     {
         let range = self.range.lock(rt);
         // Called for its clause `valid` alone: the range is right.
-        let _valid = range.config();
+        let _valid = range.store();
         range.counts()
     }
 
-    /// Makes a snapshot of the rows at one moment with the digests of their tree, as [`LockedRange::snapshot`] does.
+    /// Makes a snapshot of the rows at one moment with the digests of their tree.
     ///
     /// Refused, in order: Dirty (some node of the tree has no digest), NoMemory.
     pub fn snapshot<R: Wait>(&self, rt: &R, alloc: Global) -> Result<Arc<Snapshot, Global>, Refusal>
         ensures refusal { IfErr result (λ e. (e ≡ Refusal.Dirty) ⊎ (e ≡ Refusal.NoMemory)) }
         ensures moment { FoundAtSomeMoment (IsLocked L.parts) (λ locked.
-            Answers result (dirty_fault locked.state) (λ snapshot. arc_value snapshot ≡ rows_now locked.state)) }
+            Answers result (dirty_fault locked.state.store)
+            (λ snapshot. arc_value snapshot ≡ rows_now locked.state.store)) }
     {
-        let range = self.range.lock(rt);
-        // Called for its clause `valid` alone: the range is right.
-        let _valid = range.config();
-        range.snapshot(alloc)
+        self.range.lock(rt).store().tree().snapshot(alloc)
     }
 
     /// Migrates the range to format 2, as [`LockedRange::migrate`] does: the journal is unchanged, open sessions are
@@ -339,7 +333,7 @@ impl<L: Ledger> SharedRange<L> {
     {
         let mut range = self.range.lock(rt);
         // Called for its clause `valid` alone: the range is right.
-        let _valid = range.config();
+        let _valid = range.store();
         range.migrate(alloc)
     }
 
@@ -350,17 +344,17 @@ impl<L: Ledger> SharedRange<L> {
     pub fn close(self, alloc: Global, passes: Vec<Pass<L>>) -> Result<Closed<L>, NotClosed<L>>
         ensures back { IfOk result (λ closed. closed.passes.items ≡ passes.items) }
         ensures there { OnOk result (AllThere L.parts passes.items) }
-        ensures settled { IfOk result (λ closed. All (IsSettled closed.state.entries) passes.items) }
+        ensures settled { IfOk result (λ closed. All (IsSettled closed.state.store.entries) passes.items) }
         ensures right { IfOk result (λ closed. FoundAtSomeMoment (IsLocked L.parts)
             (λ locked. closed.state ≡ locked.state)) }
         ensures handed_back { IfErr result (λ refused. (refused.range ≡ self) × (refused.passes.items ≡ passes.items)) }
         ensures refusal { IfErr result (λ refused. FoundAtSomeMoment (IsLocked L.parts)
-            (λ locked. IsUnclosed L.parts locked.state.entries passes.items refused.refusal)) }
+            (λ locked. IsUnclosed L.parts locked.state.store.entries passes.items refused.refusal)) }
     {
         let SharedRange { node, range } = self;
         let range = range.into_inner();
         // Called for its clause `valid` alone: the range is right.
-        let _valid = range.config();
+        let _valid = range.store();
         match range.close(alloc, passes) {
             Ok(closed) => Ok(closed),
             Err(unclosed) => Err(not_closed(node, unclosed)),
@@ -385,8 +379,8 @@ impl<L: Ledger> SharedRange<L> {
         ensures kept { IfOk result (λ renewed. map pass_of renewed.kept.items ≡ passes.items) }
         ensures there { OnOk result (AllThere L.parts passes.items) }
         ensures right { IfOk result (λ renewed. ChangedAtSomeMoment (IsLocked L.parts) (λ before after.
-            (after ≡ renewed_in before seat limit) × All (IsSettled before.state.entries) passes.items
-            × (renewed.passes.items ≡ carried_passes seat after.state.entries L.parts))) }
+            (after ≡ renewed_in before seat limit) × All (IsSettled before.state.store.entries) passes.items
+            × (renewed.passes.items ≡ carried_passes seat after.state.store.entries L.parts))) }
         ensures handed_back { IfErr result (λ refused. (refused.range ≡ self) × (refused.passes.items ≡ passes.items)) }
         ensures refusal { IfErr result (λ refused. FoundAtSomeMoment (IsLocked L.parts)
             (λ locked. IsUnrenewed L.parts locked.state seat limit passes.items refused.refusal)) }
@@ -394,7 +388,7 @@ impl<L: Ledger> SharedRange<L> {
         let SharedRange { node, range } = self;
         let range = range.into_inner();
         // Called for its clause `valid` alone: the range is right.
-        let _valid = range.config();
+        let _valid = range.store();
         match range.renew(alloc, passes, seat, limit) {
             Ok(renewed) => Ok(share(node, renewed)),
             Err(unrenewed) => Err(not_closed(node, unrenewed)),

@@ -2,7 +2,7 @@
 ghost use Rattle.std.specs.Prelude.{◌≡◌, ◌+◌, ◌<◌, IfOk, IfErr, IsTrue};
 ghost use Rattle.tree_nodes.specs.Nodes.{are_clean};
 ghost use Rattle.range_tree.specs.Jobs.{GivesJob};
-ghost use Rattle.range_state.specs.State.{tree_in};
+ghost use Rattle.range_store.specs.Store.{tree_in};
 ghost use Rattle.caller_pass.specs.Locks.{IsLocked};
 ghost use Rattle.ring_node.specs.Moments.{FoundAtSomeMoment};
 ghost use Rattle.ring_node.specs.Reports.{IsRehashReport};
@@ -29,7 +29,7 @@ pub struct RehashReport {
 
 impl<L: Ledger> SharedRange<L> {
     /// Hashes dirty nodes, one in each turn, until it finds no dirty node, which uses a turn too, or until the turns
-    /// are used. `skip` is as in [`LockedRange::take_job`], so that workers take different nodes.
+    /// are used. `skip` is as in `RangeState::take_job`, so that workers take different nodes.
     ///
     /// A node's text is written and hashed with no lock held, so puts go on meanwhile. A digest that is too late is
     /// counted, and its node is hashed again in a later turn. The worker passes the gate after it took a job
@@ -47,7 +47,7 @@ impl<L: Ledger> SharedRange<L> {
     ) -> Result<RehashReport, Refusal>
         ensures turns { IfOk result (IsRehashReport turns) }
         ensures clean { IfOk result (λ report. IsTrue report.clean
-            → FoundAtSomeMoment (IsLocked L.parts) (λ locked. IsTrue (are_clean locked.state.marks))) }
+            → FoundAtSomeMoment (IsLocked L.parts) (λ locked. IsTrue (are_clean locked.state.store.marks))) }
         ensures refusal { IfErr result (λ e. e ≡ Refusal.NoMemory) }
     {
         let mut report = RehashReport {
@@ -72,12 +72,10 @@ impl<L: Ledger> SharedRange<L> {
     /// Returns a job for a dirty node with clean children, or `None` if no node is dirty.
     fn take_job<R: Wait>(&self, rt: &R, alloc: Global, skip: u64) -> Result<Option<Job>, Refusal>
         ensures refusal { IfErr result (λ e. e ≡ Refusal.NoMemory) }
-        ensures moment { FoundAtSomeMoment (IsLocked L.parts) (λ locked. IfOk result (GivesJob (tree_in locked.state))) }
+        ensures moment { FoundAtSomeMoment (IsLocked L.parts)
+            (λ locked. IfOk result (GivesJob (tree_in locked.state.store))) }
     {
-        let range = self.range.lock(rt);
-        // Called for its clause `valid` alone: the range is right.
-        let _valid = range.config();
-        range.take_job(alloc, skip)
+        self.range.lock(rt).store().tree().take_job(alloc, skip)
     }
 
     /// Hashes the text of a job, and installs its digest. Returns false if it was too late.

@@ -153,7 +153,7 @@ impl<L: Ledger> SharedRange<L> {
     {
         let mut range = self.range.lock(rt);
         // Called for its clause `valid` alone: the range is right.
-        let _valid = range.config();
+        let _valid = range.store();
         range.open_session(alloc, partner, offer)
     }
 
@@ -204,7 +204,7 @@ impl<L: Ledger> SharedRange<L> {
     {
         let range = self.range.lock(rt);
         // Called for its clause `valid` alone: the range is right.
-        let _valid = range.config();
+        let _valid = range.store();
         range.outstanding(id)
     }
 
@@ -230,7 +230,7 @@ impl<L: Ledger> SharedRange<L> {
         let text = hash(answer.text);
         let mut range = self.range.lock(rt);
         // Called for its clause `valid` alone: the range is right.
-        let _valid = range.config();
+        let _valid = range.store();
         match range.take_answer_next(alloc, pass, id, answer.node, text) {
             Ok((taken, next)) => (Ok(taken), next),
             Err(refusal) => (Err(refusal), range.outstanding(id).unwrap_or(None)),
@@ -246,7 +246,7 @@ impl<L: Ledger> SharedRange<L> {
         let mut range = self.range.lock(rt);
         range.cancel_session(id)?;
         // Called for its clause `valid` alone: the range is right.
-        let _valid = range.config();
+        let _valid = range.store();
         let record = range.records().get(id as usize);
         let session = record.ok_or(Refusal::UnknownSession)?.session();
         Ok(End {

@@ -9,7 +9,7 @@ use Rattle.caller_pass.proofs.close.readings_differ.Goals as goal
 
 pub loop-i-preserved : goal.loop-i-preserved
 loop-i-preserved c =
-    let s = c.args.state.now in
+    let s = c.args.state.now.store in
     let rs = c.args.readings.now in
     let i = c.loop-i.i in
     let r : Reading = c.index-readings-i.result in
@@ -28,7 +28,7 @@ loop-i-preserved c =
 
 pub returns-then-not-holds : goal.returns-then-not-holds
 returns-then-not-holds c =
-    let es = c.args.state.now.entries in
+    let es = c.args.state.now.store.entries in
     let r : Reading = c.index-readings-i.result in
     let new = c.advance.new.self in
     let moved : new ≡ record c.loop-i.replay { front = r.front } = cc c.in_ok-advance.ensures.advances in

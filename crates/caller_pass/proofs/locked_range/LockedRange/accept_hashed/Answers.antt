@@ -2,14 +2,15 @@ use Rattle.std.proofs.Common.{◌≡◌, ◌∷◌, [], List, length, refl, sym,
 use Rattle.std.specs.Prelude.{Ok}
 use Rattle.vclock.specs.Outcome.{gives}
 use Rattle.range_journal.specs.declared.journal.Entry.{Entry}
-use Rattle.range_state.specs.declared.event.Accepted.TheVariants.{Taken, Known}
-use Rattle.range_state.specs.State.{State, entry_of, accept}
-use Rattle.range_state.specs.Told.{with_sent}
+use Rattle.range_store.specs.declared.receipt.Accepted.TheVariants.{Taken, Known}
+use Rattle.range_state.specs.State.{State, with_store, accept}
+use Rattle.range_store.specs.Store.{Store, entry_of}
+use Rattle.range_store.specs.Told.{with_sent}
 use Rattle.caller_pass.specs.Indexes.{IsIndex}
 use Rattle.caller_pass.specs.Locks.{Locked, IsLocked}
 use Rattle.caller_pass.specs.Passes.{PassView}
-use Rattle.range_state.proofs.PutLaws.{accept_gives}
-use Rattle.caller_pass.proofs.GrowthLaws.{grown_by_one}
+use Rattle.range_store.proofs.PutLaws.{accept_gives}
+use Rattle.caller_pass.proofs.GrowthLaws.{of_store, grown_by_one}
 use Rattle.caller_pass.proofs.LockLaws.{locked_grown}
 use Rattle.caller_pass.proofs.PassLaws.{pass_after}
 use Rattle.caller_pass.proofs.IndexLaws.{grown, last_front}
@@ -20,7 +21,8 @@ invariant_of-self-in-Known g c =
     let l : Locked = record { state = c.self.inside.state; book = c.self.inside.book } in
     let new = c.accept_into.new.self in
     let known : accept l.state c.pass.inside.seat c.args.source c.args.key.now c.args.version ≡ gives Known new = cc (c.in_ok-accept_into.ensures.accepts, c.in-Known.is) in
-    let same : new ≡ l.state = accept_gives l.state c.pass.inside.seat c.args.source c.args.key.now c.args.version Known new known in
+    let part = of_store l.state _ Known new known in
+    let same : new ≡ l.state = part.1 ∙ ap (λ (x : Store). with_store l.state x) (accept_gives l.state.store c.pass.inside.seat c.args.source c.args.key.now c.args.version Known new.store part.0) in
     subst (λ (s : State). IsLocked g.L.Ledger.parts (record { state = s; book = l.book })) (sym same) c.self.invariant
 
 pub note-requires-clause-index : goal.note-requires-clause-index
@@ -34,7 +36,8 @@ note-requires-clause-last g c =
     let seat = c.pass.inside.seat in
     let told : c.accept_into.new.receipts.items ≡ with_sent c.pass.inside.receipts.items (Ok (Taken c.in-Taken.receipt)) = cc (c.in_ok-accept_into.ensures.told, c.in-Taken.is) in
     let taken : accept l.state seat c.args.source c.args.key.now c.args.version ≡ gives (Taken c.in-Taken.receipt) c.accept_into.new.self = cc (c.in_ok-accept_into.ensures.accepts, c.in-Taken.is) in
-    let came = accept_gives l.state seat c.args.source c.args.key.now c.args.version (Taken c.in-Taken.receipt) c.accept_into.new.self taken in
+    let part = of_store l.state _ (Taken c.in-Taken.receipt) c.accept_into.new.self taken in
+    let came = accept_gives l.state.store seat c.args.source c.args.key.now c.args.version (Taken c.in-Taken.receipt) c.accept_into.new.self.store part.0 in
     last_front c.pass.inside.receipts.items c.deref.result.now c.in-Taken.receipt c.args.key.now c.front.result (c.deref.ensures.value ∙ told) (ap (λ (e : Entry). e.key) came.0) c.front.ensures
 
 pub invariant_of-self-2 : goal.invariant_of-self-2
@@ -42,10 +45,11 @@ invariant_of-self-2 g c =
     let l : Locked = record { state = c.self.inside.state; book = c.self.inside.book } in
     let seat = c.pass.inside.seat in
     let new = c.accept_into.new.self in
-    let entry = entry_of l.state seat c.args.source c.args.key.now c.args.version in
+    let entry = entry_of l.state.store seat c.args.source c.args.key.now c.args.version in
     let taken : accept l.state seat c.args.source c.args.key.now c.args.version ≡ gives (Taken c.in-Taken.receipt) new = cc (c.in_ok-accept_into.ensures.accepts, c.in-Taken.is) in
-    let came = accept_gives l.state seat c.args.source c.args.key.now c.args.version (Taken c.in-Taken.receipt) new taken in
-    let one = grown_by_one g.L.Ledger.parts l.state entry new c.self.invariant.seated c.pass.invariant.1.seated came.1 in
+    let part = of_store l.state _ (Taken c.in-Taken.receipt) new taken in
+    let came = accept_gives l.state.store seat c.args.source c.args.key.now c.args.version (Taken c.in-Taken.receipt) new.store part.0 in
+    let one = grown_by_one g.L.Ledger.parts l.state.store entry new.store c.self.invariant.seated c.pass.invariant.1.seated came.1 in
     locked_grown g.L.Ledger.parts l (entry ∷ []) new c.count.new.self 1 c.self.invariant one refl c.count.ensures.book c.journal.ensures.valid
 
 pub invariant_of-pass-2 : goal.invariant_of-pass-2

@@ -6,5 +6,5 @@ use Rattle.caller_pass.proofs.locked_range.LockedRange.close.Goals as goal
 pub returns-in-Err-clause-refused : goal.returns-in-Err-clause-refused
 returns-in-Err-clause-refused g c =
     let seats : c.seats-seats.result ≡ g.L.Ledger.parts = c.seats-seats.ensures.value ∙ c.seats-seats.ensures.all in
-    subst (λ (l : Locked). IsUnclosed g.L.Ledger.parts l.state.entries c.args.passes.items c.in-Err.refusal) c.self.view_is
-    (subst (λ (n : ℕ). IsUnclosed n c.self.inside.state.entries c.args.passes.items c.in-Err.refusal) seats c.in-Err.ensures.refused)
+    subst (λ (l : Locked). IsUnclosed g.L.Ledger.parts l.state.store.entries c.args.passes.items c.in-Err.refusal) c.self.view_is
+    (subst (λ (n : ℕ). IsUnclosed n c.self.inside.state.store.entries c.args.passes.items c.in-Err.refusal) seats c.in-Err.ensures.refused)

@@ -39,9 +39,9 @@ returns g c =
     let m : Locked = record { state = new; book = c.count.new.self } in
     let q : PassView = record p { seen = c.count.new.seen; share = c.count.new.share.amount; receipts = c.take_answer_into-answered.new.receipts.items } in
     let count : c.in_ok-taken.taken.receipts ≡ length es = ap (λ (a : AnswerCounted). a.receipts) is.count in
-    let journal : length c.journal-journal.result.now.entries ≡ length new.entries = ap length c.journal-journal.ensures.entries in
+    let journal : length c.journal-journal.result.now.entries ≡ length new.store.entries = ap length c.journal-journal.ensures.entries in
     let book : c.count.new.self ≡ counted l.book (length es) = c.count.ensures.book ∙ ap (counted l.book) count in
-    let seen : c.count.new.seen ≡ seen_after p.seen (length new.entries) (length es) = c.count.ensures.seen ∙ (λ i. seen_after p.seen (journal i) (count i)) in
+    let seen : c.count.new.seen ≡ seen_after p.seen (length new.store.entries) (length es) = c.count.ensures.seen ∙ (λ i. seen_after p.seen (journal i) (count i)) in
     let share : c.count.new.share.amount ≡ p.share + length es = c.count.ensures.amount ∙ ap (λ (n : ℕ). p.share + n) count in
     let told : IsToldOf l p c.args.id t c.in_ok-taken.taken m q = record {
       taken = is.taken;

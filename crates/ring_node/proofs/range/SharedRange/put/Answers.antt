@@ -1,5 +1,5 @@
 use Rattle.std.proofs.Common.{rules}
-use Rattle.range_state.specs.declared.context_test.ContextTest.TheVariants.{Fresh}
+use Rattle.range_store.specs.declared.context_test.ContextTest.TheVariants.{Fresh}
 use Rattle.ring_node.proofs.TellLaws.{put_tells}
 use Rattle.ring_node.proofs.range.SharedRange.put.Goals as goal
 
