@@ -10,7 +10,7 @@ use Rattle.key_ring.specs.Places.{range_at}
 use Rattle.range_journal.specs.declared.journal.Entry.{Entry}
 use Rattle.vclock.specs.Clock.{Pairs, clock_of}
 use Rattle.vclock.specs.Outcome.{Outcome, gives, refuses, ◌>>◌}
-use Rattle.range_state.specs.State as range
+use Rattle.range_store.specs.Store as range
 use Rattle.range_state.specs.Sessions.{crowd_fault}
 use Rattle.outage_cluster.specs.declared.answer.CommandAnswer.{CommandAnswer}
 use Rattle.outage_commands.specs.declared.command.Put.{Put}
@@ -70,10 +70,10 @@ unfolding put_into
 put_uncopied down p reps e is = rw is refl
 
 -- a node that keeps nothing
-pub nobody_home : {T : Type 0} (n : ℕ) (reps : List Replica) (call : range.State → Outcome T range.State) (e : Refusal) → kept_fault (home n reps) ≡ Some e → at_home n call reps ≡ refuses e
+pub nobody_home : {T : Type 0} (n : ℕ) (reps : List Replica) (call : range.Store → Outcome T range.Store) (e : Refusal) → kept_fault (home n reps) ≡ Some e → at_home n call reps ≡ refuses e
 nobody_home n reps call e cause = pick (home n reps) cause
   where
-    pick : (o : Option range.State) → kept_fault o ≡ Some e → in_home n reps call o ≡ refuses e
+    pick : (o : Option range.Store) → kept_fault o ≡ Some e → in_home n reps call o ≡ refuses e
     pick None is = cc
     pick (Some h) is = cc
 
@@ -86,7 +86,7 @@ sync_refused node from r s e cause = pick (range_on s from r) (replica_in s node
     one (Some x) rest later more is = cc
     one None rest later more is = more is
 
-    pick : (partner : Option range.State) (own : Option Replica) → walk_fault partner own ≡ Some e → synced_in node r s partner own ≡ refuses e
+    pick : (partner : Option range.Store) (own : Option Replica) → walk_fault partner own ≡ Some e → synced_in node r s partner own ≡ refuses e
     pick None own is = cc
     pick (Some h) None is = one (range.dirty_fault h) _ _ (λ later. cc) is
     pick (Some h) (Some own) is = one (range.dirty_fault h) _ _ (one (crowd_fault own.sessions) _ _ (stands (range.dirty_fault own.range) _)) is

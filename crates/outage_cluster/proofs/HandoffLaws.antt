@@ -12,7 +12,7 @@ use Rattle.hint_store.specs.declared.hint.Fate.TheVariants.{Pending}
 use Rattle.hint_store.specs.declared.hint.Hint.{Hint}
 use Rattle.hint_store.specs.declared.hint.Kept.{Kept}
 use Rattle.hint_store.proofs.HintLaws.{answered_from, open_pending}
-use Rattle.range_state.specs.declared.event.Accepted.{Accepted}
+use Rattle.range_store.specs.declared.receipt.Accepted.{Accepted}
 use Rattle.vclock.specs.Outcome.{Outcome, gives, refuses, is_given}
 use Rattle.outage_cluster.specs.Handoff.{Round, asked_in, is_offered, offer_one, offered_to, is_known}
 use Rattle.outage_cluster.specs.Offers.{after_offer, pending_of, round_at}

@@ -5,8 +5,8 @@ use Rattle.std.proofs.lemmas.Bool.{and_left, and_right, lt-leb, le-ltb}
 use Rattle.vclock.specs.declared.format.Format.{Format}
 use Rattle.vclock.specs.declared.format.Format.TheVariants.{One, Two}
 use Rattle.tree_nodes.specs.Nodes.{tree_depth, place_at}
-use Rattle.range_state.specs.Config.{Config}
-use Rattle.range_state.specs.State as range
+use Rattle.range_store.specs.Config.{Config}
+use Rattle.range_store.specs.Store as range
 use Rattle.range_tree.proofs.TreeLaws.{all_dirty-at}
 use Rattle.outage_cluster.specs.Acts.{is_tree_node, shown_digest}
 
@@ -27,7 +27,7 @@ pub too_wide : (format : Format) (depth index : ℕ) → depth ≤ tree_depth fo
 too_wide format depth index low h = and_right (nat_le depth (tree_depth format)) (nat_lt index (16 ^ depth)) (le-ltb index (16 ^ depth) (omega (arith, few format depth low, h)))
 
 -- a range that has accepted nothing shows no digest
-pub shows_none : (c : Config) (h : range.State) (depth index : ℕ) → h ≡ range.fresh c → shown_digest depth index h ≡ None
+pub shows_none : (c : Config) (h : range.Store) (depth index : ℕ) → h ≡ range.fresh c → shown_digest depth index h ≡ None
 shows_none c h depth index is = ap (shown_digest depth index) is ∙ none
   where
     none : shown_digest depth index (range.fresh c) ≡ None

@@ -15,16 +15,19 @@ use Rattle.tree_nodes.specs.Nodes.{dirty_count}
 use Rattle.range_journal.specs.Journal.{held}
 use Rattle.range_journal.specs.declared.journal.Entry.{Entry}
 use Rattle.range_journal.specs.declared.journal.Source.{Source}
-use Rattle.range_state.specs.declared.event.Accepted.{Accepted}
-use Rattle.range_state.specs.declared.event.Accepted.TheVariants.{Taken, Known}
-use Rattle.range_state.specs.State.{State, place_fault, knows, full_fault, stale_fault, entry_of, journaled, accept, put, put_entry, put_version}
+use Rattle.range_store.specs.declared.receipt.Accepted.{Accepted}
+use Rattle.range_store.specs.declared.receipt.Accepted.TheVariants.{Taken, Known}
+use Rattle.range_store.specs.declared.context_test.ContextTest.TheVariants as tests
+use Rattle.range_store.specs.Store.{Store, accept, put}
+use Rattle.range_store.proofs.PutLaws.{IsSentTo, accept_gives, put_by_gives}
+use Rattle.range_state.specs.State as calls
+use Rattle.range_state.specs.State.{State, with_store}
 use Rattle.range_state.specs.Trees.{rehashed}
 use Rattle.outage_cluster.specs.Acts.{clean_at, replied}
 use Rattle.outage_cluster.specs.declared.answer.CommandAnswer.{CommandAnswer}
 use Rattle.outage_cluster.specs.declared.answer.CommandAnswer.TheVariants.{Refused}
 use Rattle.outage_cluster.specs.Homes.{IsHome}
-use Rattle.outage_cluster.specs.State.{Replica, keeping, replica_of, without_records, with_home, in_replica, in_home, at_home, left}
-use Rattle.outage_cluster.proofs.SyncLaws.{rehash_kept}
+use Rattle.outage_cluster.specs.State.{Replica, keeping, replica_of, with_home, in_replica, in_home, at_home, left}
 
 -- a call that wants memory for a cause says no more than one that does not
 pub loosely : {T S : Type 0} (r : Result T Refusal) (old new : S) (o : Outcome T S) → Does r old new o → DoesOrNoMemory r old new o
@@ -40,83 +43,62 @@ lifted whole (Err e) old new o (same, inr is) = (ap whole same, inr (ap (through
 
 -- ---- a replica
 
-put_bare : (n : ℕ) (s : State) (seat at : ℕ) (key : List ℕ) (context : Pairs) (kind : Kind) (value : List ℕ) → through (replica_of n) (put s seat at key context kind value) ≡ in_replica (replica_of n s) (put (without_records s) seat at key context kind value)
-put_bare n s seat at key context kind value = pick (place_fault s.config key kind value) (raise_fault context at) (stale_fault (held s.entries key) (raised context at)) (offer_fault (put_version at context kind value) (held s.entries key)) (full_fault s) (put_entry s seat at key context kind value)
-  where
-    pick : (place raise stale crowd full : Option Refusal) (e : Entry) → ◌≡◌ {A = Outcome Entry Replica} (through (replica_of n) (place >> (raise >> (stale >> (crowd >> (full >> gives e (journaled s e))))))) (in_replica (replica_of n s) (place >> (raise >> (stale >> (crowd >> (full >> gives e (journaled (without_records s) e)))))))
-    pick (Some f) raise stale crowd full e = refl
-    pick None (Some f) stale crowd full e = refl
-    pick None None (Some f) crowd full e = refl
-    pick None None None (Some f) full e = refl
-    pick None None None None (Some f) e = refl
-    pick None None None None None e = refl
+twice : {T : Type 0} (n : ℕ) (s : State) (o : Outcome T Store) → through (replica_of n) (through (with_store s) o) ≡ in_replica (replica_of n s) o
+twice n s (gives x t) = refl
+twice n s (refuses e) = refl
 
--- a put, as the script's definition sees it
-pub put_seen : (n : ℕ) (r : Result Entry Refusal) (s t : State) (seat at : ℕ) (key : List ℕ) (context : Pairs) (kind : Kind) (value : List ℕ) → DoesOrNoMemory r s t (put s seat at key context kind value) → DoesOrNoMemory r (replica_of n s) (replica_of n t) (in_replica (replica_of n s) (put (without_records s) seat at key context kind value))
-put_seen n r s t seat at key context kind value is = subst (DoesOrNoMemory r (replica_of n s) (replica_of n t)) (put_bare n s seat at key context kind value) (lifted (replica_of n) r s t _ is)
+-- a call on the store, as the script's definition sees it
+pub call_seen : {T : Type 0} (n : ℕ) (r : Result T Refusal) (s t : State) (o : Outcome T Store) → DoesOrNoMemory r s t (through (with_store s) o) → DoesOrNoMemory r (replica_of n s) (replica_of n t) (in_replica (replica_of n s) o)
+call_seen n r s t o is = subst (DoesOrNoMemory r (replica_of n s) (replica_of n t)) (twice n s o) (lifted (replica_of n) r s t _ is)
 
-accept_bare : (n : ℕ) (s : State) (seat : ℕ) (source : Source) (key : List ℕ) (v : Version) → through (replica_of n) (accept s seat source key v) ≡ in_replica (replica_of n s) (accept (without_records s) seat source key v)
-accept_bare n s seat source key v = pick (place_fault s.config key v.kind v.value) (knows s key v) (offer_fault v (held s.entries key)) (full_fault s) (entry_of s seat source key v)
-  where
-    pick : (place : Option Refusal) (known : Bool) (crowd full : Option Refusal) (e : Entry) → ◌≡◌ {A = Outcome Accepted Replica} (through (replica_of n) (place >> cond known (gives Known s) (crowd >> ((full >> gives e (journaled s e)) >>= (λ p. gives (Taken p.0) p.1))))) (in_replica (replica_of n s) (place >> cond known (gives Known (without_records s)) (crowd >> ((full >> gives e (journaled (without_records s) e)) >>= (λ p. gives (Taken p.0) p.1)))))
-    pick (Some f) known crowd full e = refl
-    pick None true crowd full e = refl
-    pick None false (Some f) full e = refl
-    pick None false None (Some f) e = refl
-    pick None false None None e = refl
-
--- so is a version that is accepted
-pub accept_seen : (n : ℕ) (r : Result Accepted Refusal) (s t : State) (seat : ℕ) (source : Source) (key : List ℕ) (v : Version) → Does r s t (accept s seat source key v) → DoesOrNoMemory r (replica_of n s) (replica_of n t) (in_replica (replica_of n s) (accept (without_records s) seat source key v))
-accept_seen n r s t seat source key v is = subst (DoesOrNoMemory r (replica_of n s) (replica_of n t)) (accept_bare n s seat source key v) (lifted (replica_of n) r s t _ (loosely r s t _ is))
-
--- and a rehash
-pub rehash_seen : (n : ℕ) (r : Result ℕ Refusal) (s t : State) → Answers r None (λ hashed. hashed ≡ dirty_count s.marks) → OnOk r (t ≡ rehashed s) → DoesOrBreaksOff r (replica_of n s) (replica_of n t) (in_replica (replica_of n s) (clean_at (without_records s)))
-rehash_seen n (Ok x) s t answers ok =
-    let after : keeping (rehashed (without_records s)) (replica_of n s) ≡ replica_of n t = sym (ap (replica_of n) ok ∙ rehash_kept n s) in
-    ap (λ (y : ℕ). gives y (keeping (rehashed (without_records s)) (replica_of n s))) (sym answers.1) ∙ ap (gives x) after
+-- so is a rehash
+pub rehash_seen : (n : ℕ) (r : Result ℕ Refusal) (s t : State) → Answers r None (λ hashed. hashed ≡ dirty_count s.store.marks) → OnOk r (t ≡ rehashed s) → DoesOrBreaksOff r (replica_of n s) (replica_of n t) (in_replica (replica_of n s) (clean_at s.store))
+rehash_seen n (Ok x) s t answers ok = ap (λ (y : ℕ). gives y (replica_of n (rehashed s))) (sym answers.1) ∙ ap (λ (u : State). gives x (replica_of n u)) (sym ok)
 rehash_seen n (Err e) s t answers ok = elim answers [ inl memory ↦ inl memory.1 | inr cause ↦ absurd (cc) ]
 
--- the range stays the same
-pub put_config : (r : Result Entry Refusal) (s t : State) (seat at : ℕ) (key : List ℕ) (context : Pairs) (kind : Kind) (value : List ℕ) → DoesOrNoMemory r s t (put s seat at key context kind value) → t.config ≡ s.config
-put_config (Err e) s t seat at key context kind value is = ap (λ (u : State). u.config) is.0
-put_config (Ok x) s t seat at key context kind value is = pick (place_fault s.config key kind value) (raise_fault context at) (stale_fault (held s.entries key) (raised context at)) (offer_fault (put_version at context kind value) (held s.entries key)) (full_fault s) (put_entry s seat at key context kind value) is
-  where
-    pick : (place raise stale crowd full : Option Refusal) (e : Entry) → ◌≡◌ {A = Outcome Entry State} (place >> (raise >> (stale >> (crowd >> (full >> gives e (journaled s e)))))) (gives x t) → t.config ≡ s.config
-    pick (Some f) raise stale crowd full e is = absurd (cc)
-    pick None (Some f) stale crowd full e is = absurd (cc)
-    pick None None (Some f) crowd full e is = absurd (cc)
-    pick None None None (Some f) full e is = absurd (cc)
-    pick None None None None (Some f) e is = absurd (cc)
-    pick None None None None None e is = let same : t ≡ journaled s e = cc in ap (λ (u : State). u.config) same
+-- a call that keeps the configuration of the store
+abbrev KeepsConfig : {T : Type 0} → Store → Outcome T Store → Type 0
+KeepsConfig {T} s o = (x : T) (t : Store) → o ≡ gives x t → t.config ≡ s.config
 
-pub accept_config : (r : Result Accepted Refusal) (s t : State) (seat : ℕ) (source : Source) (key : List ℕ) (v : Version) → Does r s t (accept s seat source key v) → t.config ≡ s.config
-accept_config (Err e) s t seat source key v is = ap (λ (u : State). u.config) is.0
-accept_config (Ok x) s t seat source key v is = pick (place_fault s.config key v.kind v.value) (knows s key v) (offer_fault v (held s.entries key)) (full_fault s) (entry_of s seat source key v) is
+same_config : {T : Type 0} (r : Result T Refusal) (s t : State) (o : Outcome T Store) → KeepsConfig s.store o → DoesOrNoMemory r s t (through (with_store s) o) → t.store.config ≡ s.store.config
+same_config (Err e) s t o keeps is = ap (λ (u : State). u.store.config) is.0
+same_config (Ok x) s t (gives y u) keeps is = let same : with_store s u ≡ t = cc in ap (λ (v : State). v.store.config) (sym same) ∙ keeps y u refl
+same_config (Ok x) s t (refuses e) keeps is = absurd (cc)
+
+-- the range stays the same
+pub put_config : (r : Result Entry Refusal) (s t : State) (seat at : ℕ) (key : List ℕ) (context : Pairs) (kind : Kind) (value : List ℕ) → DoesOrNoMemory r s t (calls.put s seat at key context kind value) → t.store.config ≡ s.store.config
+put_config r s t seat at key context kind value is = same_config r s t (put s.store seat at key context kind value) keeps is
   where
-    pick : (place : Option Refusal) (known : Bool) (crowd full : Option Refusal) (e : Entry) → ◌≡◌ {A = Outcome Accepted State} (place >> cond known (gives Known s) (crowd >> ((full >> gives e (journaled s e)) >>= (λ p. gives (Taken p.0) p.1)))) (gives x t) → t.config ≡ s.config
-    pick (Some f) known crowd full e is = absurd (cc)
-    pick None true crowd full e is = let same : t ≡ s = cc in ap (λ (u : State). u.config) same
-    pick None false (Some f) full e is = absurd (cc)
-    pick None false None (Some f) e is = absurd (cc)
-    pick None false None None e is = let same : t ≡ journaled s e = cc in ap (λ (u : State). u.config) same
+    keeps : KeepsConfig s.store (put s.store seat at key context kind value)
+    keeps x u given = ap (λ (v : Store). v.config) (put_by_gives tests.Fresh s.store seat at key context kind value x u given).1
+
+pub accept_config : (r : Result Accepted Refusal) (s t : State) (seat : ℕ) (source : Source) (key : List ℕ) (v : Version) → Does r s t (calls.accept s seat source key v) → t.store.config ≡ s.store.config
+accept_config r s t seat source key v is = same_config r s t (accept s.store seat source key v) keeps (loosely r s t _ is)
+  where
+    after : (x : Accepted) (u : Store) → IsSentTo s.store seat source key v x u → u.config ≡ s.store.config
+    after (Taken e) u sent = ap (λ (w : Store). w.config) sent.1
+    after Known u sent = ap (λ (w : Store). w.config) sent
+
+    keeps : KeepsConfig s.store (accept s.store seat source key v)
+    keeps x u given = after x u (accept_gives s.store seat source key v x u given)
 
 -- ---- the replicas of a range
 
 -- what is done with what a node keeps, where its replica is
-at_its : {T : Type 0} (n : ℕ) (reps : List Replica) (i : ℕ) (r : Replica) (call : State → Outcome T State) → IsHome n reps i → r ≡ get_or reps i r → at_home n call reps ≡ through (λ new. with_home n new reps) (call r.range)
+at_its : {T : Type 0} (n : ℕ) (reps : List Replica) (i : ℕ) (r : Replica) (call : Store → Outcome T Store) → IsHome n reps i → r ≡ get_or reps i r → at_home n call reps ≡ through (λ new. with_home n new reps) (call r.range)
 at_its n reps i r call its is = ap (in_home n reps call) (its.holds r ∙ ap (λ (q : Replica). Some q.range) (sym is))
 
-its_new : (n : ℕ) (reps : List Replica) (i : ℕ) (r new : Replica) (h : State) → IsHome n reps i → r ≡ get_or reps i r → keeping h r ≡ new → with_home n h reps ≡ set reps i new
+its_new : (n : ℕ) (reps : List Replica) (i : ℕ) (r new : Replica) (h : Store) → IsHome n reps i → r ≡ get_or reps i r → keeping h r ≡ new → with_home n h reps ≡ set reps i new
 its_new n reps i r new h its is kept = its.keeps h r ∙ (ap (λ (q : Replica). set reps i (keeping h q)) (sym is) ∙ ap (set reps i) kept)
 
-given : {T : Type 0} (n : ℕ) (reps : List Replica) (i : ℕ) (r new : Replica) (x : T) (o : Outcome T State) → IsHome n reps i → r ≡ get_or reps i r → in_replica r o ≡ gives x new → through (λ h. with_home n h reps) o ≡ gives x (set reps i new)
+given : {T : Type 0} (n : ℕ) (reps : List Replica) (i : ℕ) (r new : Replica) (x : T) (o : Outcome T Store) → IsHome n reps i → r ≡ get_or reps i r → in_replica r o ≡ gives x new → through (λ h. with_home n h reps) o ≡ gives x (set reps i new)
 given n reps i r new x (gives y h) its is e =
     let reply : y ≡ x = cc in
     let kept : keeping h r ≡ new = cc in
     ap (λ z. gives z (with_home n h reps)) reply ∙ ap (gives x) (its_new n reps i r new h its is kept)
 given n reps i r new x (refuses f) its is e = absurd (cc)
 
-turned_down : {T : Type 0} (n : ℕ) (reps : List Replica) (r : Replica) (e : Refusal) (o : Outcome T State) → in_replica r o ≡ refuses e → through (λ h. with_home n h reps) o ≡ refuses e
+turned_down : {T : Type 0} (n : ℕ) (reps : List Replica) (r : Replica) (e : Refusal) (o : Outcome T Store) → in_replica r o ≡ refuses e → through (λ h. with_home n h reps) o ≡ refuses e
 turned_down n reps r e (gives y h) is = absurd (cc)
 turned_down n reps r e (refuses f) is = cc
 
@@ -124,7 +106,7 @@ unchanged : (reps : List Replica) (i : ℕ) (r new : Replica) → r ≡ get_or r
 unchanged reps i r new is same = ap (set reps i) (same ∙ is) ∙ set-get_or reps i r
 
 -- a replica's call is one of the replicas
-pub homed : {T : Type 0} (n : ℕ) (reps : List Replica) (i : ℕ) (r new : Replica) (call : State → Outcome T State) (result : Result T Refusal) → IsHome n reps i → r ≡ get_or reps i r → DoesOrNoMemory result r new (in_replica r (call r.range)) → DoesOrNoMemory result reps (set reps i new) (at_home n call reps)
+pub homed : {T : Type 0} (n : ℕ) (reps : List Replica) (i : ℕ) (r new : Replica) (call : Store → Outcome T Store) (result : Result T Refusal) → IsHome n reps i → r ≡ get_or reps i r → DoesOrNoMemory result r new (in_replica r (call r.range)) → DoesOrNoMemory result reps (set reps i new) (at_home n call reps)
 homed n reps i r new call (Ok x) its is did = at_its n reps i r call its is ∙ given n reps i r new x (call r.range) its is did
 homed n reps i r new call (Err e) its is (same, inl m) = (unchanged reps i r new is same, inl m)
 homed n reps i r new call (Err e) its is (same, inr cause) = (unchanged reps i r new is same, inr (at_its n reps i r call its is ∙ turned_down n reps r e (call r.range) cause))

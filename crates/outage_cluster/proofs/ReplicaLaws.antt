@@ -11,10 +11,10 @@ use Rattle.version_set.proofs.ListLaws.{all-append}
 use Rattle.key_ring.specs.Ring.{Places, is_ring, is_node_number, preference_list}
 use Rattle.hash_tree.proofs.ChunkLaws.{all-drop, all-set, all-take}
 use Rattle.hash_tree.proofs.KeyLaws.{all_get}
-use Rattle.range_state.specs.Config.{Config}
+use Rattle.range_store.specs.Config.{Config}
 use Rattle.outage_cluster.specs.Homes.{AreOf, IsHome}
 use Rattle.snapshot.specs.RowMaps.{RowMap}
-use Rattle.range_state.specs.State as range
+use Rattle.range_store.specs.Store as range
 use Rattle.range_state.specs.Syncs.{IsOfRange}
 use Rattle.outage_cluster.specs.State.{Replica, empty_range, home, keeping, replica_at, at_node}
 use Rattle.outage_cluster.specs.Syncs.{synced_with}
@@ -85,16 +85,16 @@ pub of_set : (c : Config) (reps : List Replica) (i : ℕ) (new d : Replica) → 
 of_set c reps i new d are lt same = all-set (λ (r : Replica). r.range.config ≡ c) reps i new (same ∙ all_get (λ (r : Replica). r.range.config ≡ c) reps i d are lt) are
 
 -- what a node keeps is of that range
-pub home_of : (c : Config) (reps : List Replica) (n : ℕ) (h : range.State) → AreOf c reps → home n reps ≡ Some h → h.config ≡ c
+pub home_of : (c : Config) (reps : List Replica) (n : ℕ) (h : range.Store) → AreOf c reps → home n reps ≡ Some h → h.config ≡ c
 home_of c [] n h are e = cc
 home_of c (r ∷ reps) n h are e = by_case (nat_eq r.node n) (home_of c reps n h are.1) e
   where
     by_case : (b : Bool) → (home n reps ≡ Some h → h.config ≡ c) → option_map (λ (x : Replica). x.range) (cond b (Some r) (replica_at n reps)) ≡ Some h → h.config ≡ c
-    by_case true rest found = let same : r.range ≡ h = cc in sym (ap (λ (x : range.State). x.config) same) ∙ are.0
+    by_case true rest found = let same : r.range ≡ h = cc in sym (ap (λ (x : range.Store). x.config) same) ∙ are.0
     by_case false rest found = rest found
 
 -- so are the rows that it offers
-pub of_range : (h : range.State) (c : Config) (m : RowMap) → m ≡ range.rows_now h → h.config ≡ c → IsOfRange c m
+pub of_range : (h : range.Store) (c : Config) (m : RowMap) → m ≡ range.rows_now h → h.config ≡ c → IsOfRange c m
 of_range h c m rows same = record {
   format = ap (λ (x : RowMap). x.format) rows ∙ ap (λ (x : Config). x.format) same;
   bits = ap (λ (x : RowMap). x.bits) rows ∙ ap (λ (x : Config). x.bits) same;

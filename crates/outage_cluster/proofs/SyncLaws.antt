@@ -1,4 +1,4 @@
--- A replica as the script's definition has it: without the records of its sessions.
+-- A replica as the script's definition has it: its store, without the records of its sessions.
 use Rattle.vclock.specs.Answer.{Answers, AnswersOrNoMemory, first_fault}
 use Rattle.std.specs.Prelude.{⊤, Result, Ok, Err, IfOk, OnOk, OnErr, filter, nat_le, ◌||◌}
 use Rattle.std.proofs.Common.{◌≡◌, ◌⊎◌, inl, inr, ℕ, ◌+◌, ◌-◌, Bool, true, false, cond, Option, Some, None, List, [], ◌∷◌, length, refl, sym, ap, ◌∙◌}
@@ -8,27 +8,22 @@ use Rattle.vclock.specs.declared.format.Format.TheVariants.{One, Two}
 use Rattle.vclock.specs.declared.refusal.Refusal.{Refusal}
 use Rattle.vclock.specs.declared.refusal.Refusal.TheVariants.{Dirty, NoMemory, OtherRange, SessionsFull}
 use Rattle.snapshot.specs.RowMaps.{RowMap}
-use Rattle.range_tree.specs.Rehashes.{digests_below}
 use Rattle.range_tree.specs.Trees.{all_dirty}
-use Rattle.range_state.specs.Config.{Config}
-use Rattle.range_state.specs.State as range
-use Rattle.range_state.specs.Trees.{rehashed}
+use Rattle.range_journal.specs.declared.journal.Source.TheVariants.{Partner}
+use Rattle.range_store.specs.Config.{Config}
+use Rattle.range_store.specs.Store as range
+use Rattle.range_store.proofs.TakenLaws.{config_stays}
+use Rattle.range_state.specs.State.{State}
 use Rattle.range_state.specs.Records.{is_open_state}
 use Rattle.range_state.specs.Sessions.{taken_in, leaf_fault}
 use Rattle.range_state.specs.Syncs.{Progress, IsSyncedTo, IsPartWay, leaves_between, offers_at, known_in, taken_leaves, unless_refused}
 use Rattle.range_state.specs.declared.state.sync.Synced.{Synced}
-use Rattle.range_state.proofs.SyncStepLaws.{config_stays, taken_beside, fault_beside}
-use Rattle.outage_cluster.specs.State.{Replica, keeping, range_in, replica_of, without_records}
-use Rattle.outage_cluster.specs.Syncs.{IsReported, after_sync, synced_with, walk_fault}
+use Rattle.outage_cluster.specs.State.{Replica, range_in, replica_of}
+use Rattle.outage_cluster.specs.Syncs.{IsReported, synced_with, walk_fault}
 
 -- a replica that has a state is seen as that
-pub seen : (n : ℕ) (c : Config) (o : Option range.State) (s : range.State) (r : Replica) → replica_of n (range_in c o) ≡ r → o ≡ Some s → replica_of n s ≡ r
-seen n c o s r view is = ap (λ (x : Option range.State). replica_of n (range_in c x)) (sym is) ∙ view
-
--- a rehash does nothing with the records
-pub rehash_kept : (n : ℕ) (s : range.State) → replica_of n (rehashed s) ≡ keeping (rehashed (without_records s)) (replica_of n s)
-unfolding digests_below
-rehash_kept n s = refl
+pub seen : (n : ℕ) (c : Config) (o : Option State) (s : State) (r : Replica) → replica_of n (range_in c o) ≡ r → o ≡ Some s → replica_of n s ≡ r
+seen n c o s r view is = ap (λ (x : Option State). replica_of n (range_in c x)) (sym is) ∙ view
 
 -- a range that has accepted nothing has no clean node
 none_clean : (f : Format) → are_clean (all_dirty f) ≡ false
@@ -39,73 +34,51 @@ none_clean Two = refl
 pub fresh_dirty : (c : Config) → range.dirty_fault (range.fresh c) ≡ Some Dirty
 fresh_dirty c = ap (λ b. cond b None (Some Dirty)) (none_clean c.format)
 
-abbrev bare : Progress → Progress
-bare p = record { state = without_records p.state; known = p.known; fault = p.fault }
-
-bare_out : (f : Option Refusal) (s : range.State) (known : ℕ) (more : Progress) → unless_refused f (without_records s) known (bare more) ≡ bare (unless_refused f s known more)
-bare_out None s known more = refl
-bare_out (Some e) s known more = refl
-
--- leaves are taken without the records too
-taken_bare : (s : range.State) (seat : ℕ) (other : RowMap) (known : ℕ) (leaves : List Node) → taken_leaves (without_records s) seat other known leaves ≡ bare (taken_leaves s seat other known leaves)
-taken_bare s seat other known [] = refl
-taken_bare s seat other known (n ∷ leaves) =
-    let offers = offers_at other n in
-    let f = leaf_fault s seat offers in
-    ap (λ (x : Option Refusal). unless_refused x (without_records s) known (taken_leaves (taken_in (without_records s) seat offers) seat other (known + known_in (without_records s) seat offers) leaves)) (fault_beside s [] seat offers)
-    ∙ ap (λ (u : range.State). unless_refused f (without_records s) known (taken_leaves u seat other (known + ((length s.entries + length offers) - length u.entries)) leaves)) (taken_beside s [] seat offers)
-    ∙ ap (unless_refused f (without_records s) known) (taken_bare (taken_in s seat offers) seat other (known + known_in s seat offers) leaves)
-    ∙ bare_out f s known (taken_leaves (taken_in s seat offers) seat other (known + known_in s seat offers) leaves)
-
 -- a replica after a sync
-pub synced_replica : (n : ℕ) (s new : range.State) (other : RowMap) (a : Synced) → IsSyncedTo s 0 other new a → replica_of n new ≡ synced_with other (replica_of n s)
-synced_replica n s new other a is =
-    (λ i. record { node = n; range = record { config = is.config i; entries = is.entries i; marks = is.marks i; records = [] }; sessions = is.sessions i })
-    ∙ ap (λ (p : Progress). after_sync p (replica_of n s)) (sym (taken_bare s 0 other 0 (leaves_between (range.rows_now s) other)))
+pub synced_replica : (n : ℕ) (s new : State) (other : RowMap) (a : Synced) → IsSyncedTo s 0 other new a → replica_of n new ≡ synced_with other (replica_of n s)
+synced_replica n s new other a is = λ i. record { node = n; range = is.store i; sessions = is.sessions i }
 
 -- and what was counted
-pub counted : (n : ℕ) (s new : range.State) (other : RowMap) (a : Synced) → IsSyncedTo s 0 other new a → IsReported (replica_of n s) other a
-counted n s new other a is =
-    let same = sym (taken_bare s 0 other 0 (leaves_between (range.rows_now s) other)) in
-    record {
-      accepted = is.accepted ∙ ap length is.entries ∙ ap (λ (p : Progress). length p.state.entries) same;
-      asked = is.asked;
-      known = is.known ∙ ap (λ (p : Progress). p.known) same;
-      fault = is.fault ∙ ap (λ (p : Progress). p.fault) same;
-    }
+pub counted : (n : ℕ) (s new : State) (other : RowMap) (a : Synced) → IsSyncedTo s 0 other new a → IsReported (replica_of n s) other a
+counted n s new other a is = record {
+  accepted = is.accepted ∙ ap (λ (x : range.Store). length x.entries) is.store;
+  asked = is.asked;
+  known = is.known;
+  fault = is.fault;
+}
 
 -- ---- the range stays the same
 
-leaves_config : (s : range.State) (seat : ℕ) (other : RowMap) (known : ℕ) (leaves : List Node) → (taken_leaves s seat other known leaves).state.config ≡ s.config
+leaves_config : (s : range.Store) (seat : ℕ) (other : RowMap) (known : ℕ) (leaves : List Node) → (taken_leaves s seat other known leaves).store.config ≡ s.config
 leaves_config s seat other known [] = refl
 leaves_config s seat other known (n ∷ leaves) =
     by_case (leaf_fault s seat (offers_at other n)) (taken_leaves (taken_in s seat (offers_at other n)) seat other (known + known_in s seat (offers_at other n)) leaves)
-    (leaves_config (taken_in s seat (offers_at other n)) seat other (known + known_in s seat (offers_at other n)) leaves ∙ config_stays s seat (offers_at other n))
+    (leaves_config (taken_in s seat (offers_at other n)) seat other (known + known_in s seat (offers_at other n)) leaves ∙ config_stays s seat Partner (offers_at other n))
   where
-    by_case : (f : Option Refusal) (more : Progress) → more.state.config ≡ s.config → (unless_refused f s known more).state.config ≡ s.config
+    by_case : (f : Option Refusal) (more : Progress) → more.store.config ≡ s.config → (unless_refused f s known more).store.config ≡ s.config
     by_case None more h = h
     by_case (Some e) more h = refl
 
 -- whatever came of a sync
-pub sync_config : (s new : range.State) (partner : ℕ) (other : RowMap) (r : Result Synced Refusal) → IfOk r (λ a. IsSyncedTo s 0 other new a) → OnErr r ((new ≡ s) ⊎ IsPartWay s 0 partner other new) → new.config ≡ s.config
-sync_config s new partner other (Ok a) ok late = ok.config ∙ leaves_config s 0 other 0 (leaves_between (range.rows_now s) other)
+pub sync_config : (s new : State) (partner : ℕ) (other : RowMap) (r : Result Synced Refusal) → IfOk r (λ a. IsSyncedTo s 0 other new a) → OnErr r ((new ≡ s) ⊎ IsPartWay s 0 partner other new) → new.store.config ≡ s.store.config
+sync_config s new partner other (Ok a) ok late = ap (λ (x : range.Store). x.config) ok.store ∙ leaves_config s.store 0 other 0 (leaves_between (range.rows_now s.store) other)
 sync_config s new partner other (Err e) ok late = elim late [
-  | inl same ↦ ap (λ (x : range.State). x.config) same
-  | inr part ↦ part.config ∙ leaves_config s 0 other 0 part.leaves
+  | inl same ↦ ap (λ (x : State). x.store.config) same
+  | inr part ↦ ap (λ (x : range.Store). x.config) part.store ∙ leaves_config s.store 0 other 0 part.leaves
 ]
 
 -- a replica after a sync, if it was not refused
-pub sync_ok : (n : ℕ) (s new : range.State) (other : RowMap) (r : Result Synced Refusal) → IfOk r (λ a. IsSyncedTo s 0 other new a) → OnOk r (replica_of n new ≡ synced_with other (replica_of n s))
+pub sync_ok : (n : ℕ) (s new : State) (other : RowMap) (r : Result Synced Refusal) → IfOk r (λ a. IsSyncedTo s 0 other new a) → OnOk r (replica_of n new ≡ synced_with other (replica_of n s))
 sync_ok n s new other (Ok a) is = synced_replica n s new other a is
 sync_ok n s new other (Err e) is = tt
 
 -- what is returned
-pub sync_answers : (n : ℕ) (s new : range.State) (other : RowMap) (fault : Option Refusal) (r : Result Synced Refusal) → Answers r fault (λ _. ⊤) → IfOk r (λ a. IsSyncedTo s 0 other new a) → AnswersOrNoMemory r fault (IsReported (replica_of n s) other)
+pub sync_answers : (n : ℕ) (s new : State) (other : RowMap) (fault : Option Refusal) (r : Result Synced Refusal) → Answers r fault (λ _. ⊤) → IfOk r (λ a. IsSyncedTo s 0 other new a) → AnswersOrNoMemory r fault (IsReported (replica_of n s) other)
 sync_answers n s new other fault (Ok a) answers is = (answers.0, counted n s new other a is)
 sync_answers n s new other fault (Err e) answers is = elim answers [ inl memory ↦ inl memory.1 | inr cause ↦ inr cause ]
 
 -- a sync is refused for a cause that is no want of memory
-pub walk_is_no_memory : (partner : Option range.State) (own : Option Replica) → walk_fault partner own ≡ Some NoMemory → ⊥
+pub walk_is_no_memory : (partner : Option range.Store) (own : Option Replica) → walk_fault partner own ≡ Some NoMemory → ⊥
 walk_is_no_memory None own e = cc
 walk_is_no_memory (Some h) None e = dirty (are_clean h.marks) e
   where

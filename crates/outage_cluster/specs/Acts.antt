@@ -20,12 +20,12 @@ use Rattle.admission.specs.Admission.{Admission, lend}
 use Rattle.range_journal.specs.Journal.{held}
 use Rattle.range_journal.specs.declared.journal.Entry.{Entry}
 use Rattle.range_journal.specs.declared.journal.Source.TheVariants.{Copy}
-use Rattle.range_state.specs.Config.{Config, config_of}
-use Rattle.range_state.specs.Rows.{rows_of}
+use Rattle.range_store.specs.Config.{Config, config_of}
+use Rattle.range_store.specs.Rows.{rows_of}
+use Rattle.range_store.specs.Store as range
+use Rattle.range_store.specs.Trees.{rehashed}
+use Rattle.range_store.specs.declared.receipt.Accepted.{Accepted}
 use Rattle.range_state.specs.Sessions.{crowd_fault}
-use Rattle.range_state.specs.State as range
-use Rattle.range_state.specs.Trees.{rehashed}
-use Rattle.range_state.specs.declared.event.Accepted.{Accepted}
 use Rattle.tree_nodes.specs.Nodes.{tree_depth, place_at, kept_digest, dirty_count}
 use Rattle.hash_tree.specs.Texts.{node_digest}
 use Rattle.outage_commands.specs.declared.command.Command.{Command}
@@ -90,8 +90,8 @@ up_act n s = do
 abbrev pub put_fault : Put → Cluster → Option Refusal
 put_fault p s = first_fault (nodes_fault s p.node p.lose) (first_fault (pairs_fault p.context) (first_fault (key_fault p.key) (value_fault s.format p.kind p.value)))
 
--- a put into the state of its node: the script's seat is 0
-unfoldable pub put_by : Put → range.State → Outcome Entry range.State
+-- a put into the store of its node: the script's seat is 0
+unfoldable pub put_by : Put → range.Store → Outcome Entry range.Store
 put_by p h = range.put h 0 p.node p.key (clock_of p.context) p.kind p.value
 
 -- a replica is to have a put: it is another node, and not one that gets no copy
@@ -136,19 +136,19 @@ put_act p s = do
 
 -- ---- reads of a node
 
--- the answer about the state of a range at a node, if the node keeps the range
-abbrev pub shown : Cluster → (range.State → CommandAnswer) → Option range.State → Outcome CommandAnswer Cluster
+-- the answer about the store of a range at a node, if the node keeps the range
+abbrev pub shown : Cluster → (range.Store → CommandAnswer) → Option range.Store → Outcome CommandAnswer Cluster
 shown s show None = refuses OtherRange
 shown s show (Some h) = gives (show h) s
 
 -- the answer about a key at a node
-unfoldable pub key_act : (range.State → CommandAnswer) → Get → Cluster → Outcome CommandAnswer Cluster
+unfoldable pub key_act : (range.Store → CommandAnswer) → Get → Cluster → Outcome CommandAnswer Cluster
 key_act show g s = do
   nodes_fault s g.node []
   key_fault g.key
   shown s show (home g.node (replicas_of s g.key))
 
-abbrev pub held_at : Get → range.State → CommandAnswer
+abbrev pub held_at : Get → range.Store → CommandAnswer
 held_at g h = Answers.Versions (held h.entries g.key)
 
 -- a row's text in a format, or no bytes if no version is held
@@ -156,18 +156,18 @@ abbrev pub held_text : Format → List ℕ → List Version → List ℕ
 held_text format key [] = []
 held_text format key (v ∷ vs) = row_text format (record { key = key; versions = v ∷ vs })
 
-abbrev pub row_answer : Get → range.State → CommandAnswer
+abbrev pub row_answer : Get → range.Store → CommandAnswer
 row_answer g h = Answers.Row (held_text h.config.format g.key (held h.entries g.key))
 
--- the state of the range of that number at a node: None if the node does not keep it or the ring has no such range
-abbrev pub range_on : Cluster → ℕ → ℕ → Option range.State
+-- the store of the range of that number at a node: None if the node does not keep it or the ring has no such range
+abbrev pub range_on : Cluster → ℕ → ℕ → Option range.Store
 range_on s node r = home node (slice_index_or s.replicas r [])
 
 -- the digest of a node if it is clean: that of the node's text for the rows now
-abbrev pub shown_digest : ℕ → ℕ → range.State → Option (List ℕ)
+abbrev pub shown_digest : ℕ → ℕ → range.Store → Option (List ℕ)
 shown_digest depth index h = if is_some (kept_digest h.marks (place_at depth index)) then Some (node_digest h.config.format (range.leaf_in h.config) (rows_of h.entries) (tree_depth h.config.format - depth) index) else None
 
-abbrev pub node_at : ShowNode → range.State → CommandAnswer
+abbrev pub node_at : ShowNode → range.Store → CommandAnswer
 node_at q h = Answers.Node (shown_digest q.depth q.index h)
 
 unfoldable pub node_act : ShowNode → Cluster → Outcome CommandAnswer Cluster
@@ -178,7 +178,7 @@ node_act q s = do
 -- ---- background work
 
 -- the fault of a node that does not keep the range
-abbrev pub kept_fault : Option range.State → Option Refusal
+abbrev pub kept_fault : Option range.Store → Option Refusal
 kept_fault None = Some OtherRange
 kept_fault (Some h) = None
 
@@ -187,7 +187,7 @@ abbrev pub range_fault : Cluster → ℕ → ℕ → Option Refusal
 range_fault s node r = first_fault (nodes_fault s node []) (kept_fault (range_on s node r))
 
 -- all nodes of a range's tree made clean, and the number of those that were dirty
-abbrev pub clean_at : range.State → Outcome ℕ range.State
+abbrev pub clean_at : range.Store → Outcome ℕ range.Store
 clean_at h = gives (dirty_count h.marks) (rehashed h)
 
 -- a rehash of range r at a node
@@ -208,7 +208,7 @@ abbrev pub replica_in : Cluster → ℕ → ℕ → Option Replica
 replica_in s node r = replica_at node (slice_index_or s.replicas r [])
 
 -- a sync of a node's replica of range r with the range of another node
-abbrev pub synced_in : ℕ → ℕ → Cluster → Option range.State → Option Replica → Outcome CommandAnswer Cluster
+abbrev pub synced_in : ℕ → ℕ → Cluster → Option range.Store → Option Replica → Outcome CommandAnswer Cluster
 synced_in node r s None own = refuses OtherRange
 synced_in node r s (Some h) None = do
   range.dirty_fault h

@@ -7,9 +7,9 @@ use Rattle.key_ring.specs.Places.{range_at}
 use Rattle.key_ring.specs.Ring.{preference_list}
 use Rattle.range_journal.specs.declared.journal.Entry.{Entry}
 use Rattle.range_journal.specs.declared.journal.Source.TheVariants as Sources
-use Rattle.range_state.specs.State as range
-use Rattle.range_state.specs.declared.event.Accepted.{Accepted}
-use Rattle.range_state.specs.declared.event.Accepted.TheVariants.{Taken, Known}
+use Rattle.range_store.specs.Store as range
+use Rattle.range_store.specs.declared.receipt.Accepted.{Accepted}
+use Rattle.range_store.specs.declared.receipt.Accepted.TheVariants.{Taken, Known}
 use Rattle.hint_store.specs.Hints.{is_pending, pending_count, keep, confirmed, delivery_by}
 use Rattle.hint_store.specs.declared.hint.Hint.{Hint}
 use Rattle.hint_store.specs.declared.hint.Kept.{Kept}

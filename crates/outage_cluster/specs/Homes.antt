@@ -2,8 +2,8 @@
 use Rattle.std.specs.Prelude.{◌≡◌, ℕ, ◌<◌, length, List, [], slice_index_or, slice_set, Some}
 use Rattle.std.specs.List.{AllByRecursion}
 use Rattle.snapshot.specs.RowMaps.{RowMap}
-use Rattle.range_state.specs.Config.{Config}
-use Rattle.range_state.specs.State as range
+use Rattle.range_store.specs.Config.{Config}
+use Rattle.range_store.specs.Store as range
 use Rattle.outage_cluster.specs.declared.home.Home.{Home}
 use Rattle.outage_cluster.specs.State.{Cluster, Replica, keeping, replica_at, home, at_node, with_home}
 use Rattle.outage_cluster.specs.Syncs.{synced_with}
@@ -18,7 +18,7 @@ pub record IsHome (n : ℕ) (reps : List Replica) (i : ℕ) : Type 0 where
   pub node : (d : Replica) → (slice_index_or reps i d).node ≡ n
   pub is : (d : Replica) → replica_at n reps ≡ Some (slice_index_or reps i d)
   pub holds : (d : Replica) → home n reps ≡ Some (slice_index_or reps i d).range
-  pub keeps : (h : range.State) (d : Replica) → with_home n h reps ≡ slice_set reps i (keeping h (slice_index_or reps i d))
+  pub keeps : (h : range.Store) (d : Replica) → with_home n h reps ≡ slice_set reps i (keeping h (slice_index_or reps i d))
   pub syncs : (other : RowMap) (d : Replica) → at_node n (synced_with other) reps ≡ slice_set reps i (synced_with other (slice_index_or reps i d))
 
 -- there is a replica where a home says

@@ -1,7 +1,7 @@
 -- One step of a delivery.
 use Rattle.std.specs.Prelude.{ℕ, ◌+◌, Bool, true, false, List, Option, Some, None}
 use Rattle.vclock.specs.Outcome.{Outcome, gives, refuses}
-use Rattle.range_state.specs.declared.event.Accepted.{Accepted}
+use Rattle.range_store.specs.declared.receipt.Accepted.{Accepted}
 use Rattle.hint_store.specs.declared.hint.Fate.TheVariants.{Pending}
 use Rattle.hint_store.specs.declared.hint.Hint.{Hint}
 use Rattle.hint_store.specs.declared.hint.Kept.{Kept}

@@ -9,26 +9,23 @@ use Rattle.admission.specs.Admission.{Admission, fresh_admission}
 use Rattle.hint_store.specs.declared.hint.Kept.{Kept}
 use Rattle.key_ring.specs.Places.{range_at}
 use Rattle.key_ring.specs.Ring.{Places, preference_list}
-use Rattle.range_state.specs.Config.{Config}
+use Rattle.range_store.specs.Config.{Config}
+use Rattle.range_store.specs.Store as range
 use Rattle.range_state.specs.Sessions.{standings}
-use Rattle.range_state.specs.State as range
+use Rattle.range_state.specs.State.{State, fresh}
 use Rattle.sync_session.specs.declared.state.SessionState.{SessionState}
 
--- a node that keeps a range, with the state of the range: its number, the entries of the journal, and the clean nodes
+-- a node that keeps a range, with the store of the range: its number, the entries of the journal, and the clean nodes
 -- of its tree; and the state of each of its sessions, in the order in which they were opened. The sessions themselves
 -- are not kept.
 pub record Replica : Type 0 where
   pub node : ℕ
-  pub range : range.State
+  pub range : range.Store
   pub sessions : List SessionState
 
--- a range without the records of its sessions
-abbrev pub without_records : range.State → range.State
-without_records s = record { config = s.config; entries = s.entries; marks = s.marks; records = [] }
-
 -- the replica of a node that has this state of the range
-abbrev pub replica_of : ℕ → range.State → Replica
-replica_of n s = record { node = n; range = without_records s; sessions = standings s.records }
+abbrev pub replica_of : ℕ → State → Replica
+replica_of n s = record { node = n; range = s.store; sessions = standings s.records }
 
 -- the ring, its format, the nodes that are down, the hints of each node in the order of the ring, and range by range
 -- the replicas, in the order of the range's preference list
@@ -45,7 +42,7 @@ pub record ClusterState : Type 0 where
   pub slots : Admission
 
 -- the range of that number, with an empty journal and a tree whose nodes are all dirty
-abbrev pub empty_range : Config → ℕ → range.State
+abbrev pub empty_range : Config → ℕ → range.Store
 empty_range c r = range.fresh (record { format = c.format; bits = c.bits; range = r; limit = c.limit })
 
 -- the replicas of range r: the first nodes of its preference list
@@ -58,8 +55,8 @@ unfoldable pub made : Places → Config → Cluster
 made ring c = record { ring = ring; format = c.format; down = []; hints = replicate (length ring.nodes) []; replicas = map (replicas_made ring c) (range_with_len 0 (2 ^ ring.bits)) }
 
 -- a range that may have no state yet: then it has accepted nothing
-abbrev pub range_in : Config → Option range.State → range.State
-range_in c None = range.fresh c
+abbrev pub range_in : Config → Option State → State
+range_in c None = fresh c
 range_in c (Some s) = s
 
 -- a script begins with a ring of one node, number 1, with one range
@@ -93,8 +90,8 @@ abbrev pub replica_at : ℕ → List Replica → Option Replica
 replica_at n [] = None
 replica_at n (r ∷ reps) = if r.node == n then Some r else replica_at n reps
 
--- the state of the range at a node, if the node keeps it
-abbrev pub home : ℕ → List Replica → Option range.State
+-- the store of the range at a node, if the node keeps it
+abbrev pub home : ℕ → List Replica → Option range.Store
 home n reps = option_map (λ (r : Replica). r.range) (replica_at n reps)
 
 -- the replicas after a change of a node's replica by f
@@ -102,25 +99,25 @@ abbrev pub at_node : ℕ → (Replica → Replica) → List Replica → List Rep
 at_node n f [] = []
 at_node n f (r ∷ reps) = if r.node == n then f r ∷ reps else r ∷ at_node n f reps
 
--- a replica with another state of the range
-abbrev pub keeping : range.State → Replica → Replica
+-- a replica with another store of the range
+abbrev pub keeping : range.Store → Replica → Replica
 keeping h r = record { node = r.node; range = h; sessions = r.sessions }
 
--- the replicas with another state of the range at a node
-abbrev pub with_home : ℕ → range.State → List Replica → List Replica
+-- the replicas with another store of the range at a node
+abbrev pub with_home : ℕ → range.Store → List Replica → List Replica
 with_home n h reps = at_node n (keeping h) reps
 
--- a change of a range's state, as a change of the replica
-abbrev pub in_replica : {T : Type 0} → Replica → Outcome T range.State → Outcome T Replica
+-- a change of a range's store, as a change of the replica
+abbrev pub in_replica : {T : Type 0} → Replica → Outcome T range.Store → Outcome T Replica
 in_replica r done = through (λ h. keeping h r) done
 
--- a call on the state of a range at a node, as a change of the replicas; it is refused if the node does not keep the
+-- a call on the store of a range at a node, as a change of the replicas; it is refused if the node does not keep the
 -- range
-abbrev pub in_home : {T : Type 0} → ℕ → List Replica → (range.State → Outcome T range.State) → Option range.State → Outcome T (List Replica)
+abbrev pub in_home : {T : Type 0} → ℕ → List Replica → (range.Store → Outcome T range.Store) → Option range.Store → Outcome T (List Replica)
 in_home n reps call None = refuses OtherRange
 in_home n reps call (Some h) = through (λ new. with_home n new reps) (call h)
 
-abbrev pub at_home : {T : Type 0} → ℕ → (range.State → Outcome T range.State) → List Replica → Outcome T (List Replica)
+abbrev pub at_home : {T : Type 0} → ℕ → (range.Store → Outcome T range.Store) → List Replica → Outcome T (List Replica)
 at_home n call reps = in_home n reps call (home n reps)
 
 -- the state after a call: a refused call changes nothing

@@ -6,7 +6,8 @@ ghost use Rattle.vclock.specs.Outcome.{DoesOrNoMemory, DoesOrBreaksOff};
 ghost use Rattle.version_set.specs.Kind.{value_fault};
 ghost use Rattle.range_journal.specs.Journal.{held};
 ghost use Rattle.range_journal.specs.declared.journal.Source.{Source};
-ghost use Rattle.range_state.specs.State.{is_sent, dirty_fault, rows_now, fresh, accept, put};
+ghost use Rattle.range_store.specs.Store.{is_sent, dirty_fault, rows_now, accept, put};
+ghost use Rattle.range_state.specs.State.{fresh};
 ghost use Rattle.range_state.specs.Syncs.{IsOfRange};
 ghost use Rattle.std.specs.Arc.{arc_value};
 ghost use Rattle.outage_cluster.specs.Acts.{takes, after_copy, clean_at, gets_hint, is_sent_to, shown_digest};
@@ -44,7 +45,7 @@ impl Model for Replica {
 
     ghost view = { λ r. replica_of r.node (range_in r.config r.state) };
 
-    ghost invariant = { λ r. (1 ≤ r.node) × ((range_in r.config r.state).config ≡ r.config) };
+    ghost invariant = { λ r. (1 ≤ r.node) × ((range_in r.config r.state).store.config ≡ r.config) };
 }
 
 impl Replica {
@@ -98,7 +99,7 @@ impl Replica {
             (held self.now.range.entries key.now) }
     {
         match &self.state {
-            Some(state) => state.find(key),
+            Some(state) => state.store().find(key),
             None => Held::new(None),
         }
     }

@@ -8,10 +8,10 @@ ghost use Rattle.outage_cluster.specs.Acts.{takes, after_copy, clean_at, gets_hi
 ghost use Rattle.outage_cluster.specs.State.{at_home, home, replica_at, at_node, replicas_made};
 ghost use Rattle.outage_cluster.specs.Homes.{AreOf, IsHome};
 ghost use Rattle.outage_cluster.specs.Syncs.{IsReported, walk_fault, synced_with};
-ghost use Rattle.range_state.specs.Config.{Config};
+ghost use Rattle.range_store.specs.Config.{Config};
 ghost use Rattle.outage_cluster.specs.Handoff.{owners_of};
 ghost use Rattle.range_journal.specs.declared.journal.Source.{Source};
-ghost use Rattle.range_state.specs.State.{rows_now, accept, put};
+ghost use Rattle.range_store.specs.Store.{rows_now, accept, put};
 
 use crate::home::Home;
 use crate::replica::{Replica, gets_hint};

@@ -1,5 +1,5 @@
 use Rattle.std.proofs.Common.{◌≡◌, ◌≤◌, length, filter, take}
-use Rattle.range_state.specs.Config.{Config}
+use Rattle.range_store.specs.Config.{Config}
 use Rattle.outage_cluster.specs.Homes.{AreOf}
 use Rattle.outage_cluster.specs.Acts.{takes, after_copy}
 use Rattle.outage_cluster.proofs.ReplicaLaws.{changed}

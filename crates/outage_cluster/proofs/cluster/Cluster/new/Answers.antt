@@ -1,6 +1,6 @@
 use Rattle.std.proofs.Common.{rules, ◌≡◌, length, ap, ◌∙◌, arith}
 use Rattle.std.proofs.lemmas.List.{length-replicate}
-use Rattle.range_state.specs.Config.{Config}
+use Rattle.range_store.specs.Config.{Config}
 use Rattle.outage_cluster.specs.State.{replicas_made}
 use Rattle.outage_cluster.proofs.ReplicaLaws.{made_length, made_next}
 use Rattle.outage_cluster.proofs.cluster.Cluster.new.Goals as goal

@@ -2,7 +2,8 @@ use Rattle.std.proofs.Common.{◌≡◌, Option, Some, sym, ap, subst, inr, ◌�
 use Rattle.vclock.specs.Answer.{AnswersOrNoMemory, first_fault}
 use Rattle.vclock.specs.declared.refusal.Refusal.TheVariants.{Dirty}
 use Rattle.std.specs.Prelude.{OnOk}
-use Rattle.range_state.specs.State as range
+use Rattle.range_store.specs.Store as range
+use Rattle.range_state.specs.State.{State}
 use Rattle.range_state.specs.Sessions.{crowd_fault, standings}
 use Rattle.outage_cluster.specs.State.{Replica, range_in, replica_of}
 use Rattle.outage_cluster.specs.Syncs.{IsReported, synced_with}
@@ -12,7 +13,7 @@ use Rattle.outage_cluster.proofs.replica.Replica.sync_with.Goals as goal
 pub invariant_of-self : goal.invariant_of-self
 invariant_of-self c =
     let same = sync_config c.in-Some.state c.sync_with.new.self c.args.partner c.args.other.now c.sync_with.result c.sync_with.ensures.ok c.sync_with.ensures.late in
-    (c.self.invariant.0, same ∙ ap (λ (o : Option range.State). (range_in c.self.inside.config o).config) (sym c.in-Some.is) ∙ c.self.invariant.1)
+    (c.self.invariant.0, same ∙ ap (λ (o : Option State). (range_in c.self.inside.config o).store.config) (sym c.in-Some.is) ∙ c.self.invariant.1)
 
 pub returns-in-Some-clause-answers : goal.returns-in-Some-clause-answers
 returns-in-Some-clause-answers c =
@@ -20,7 +21,7 @@ returns-in-Some-clause-answers c =
     let s = c.in-Some.state in
     let here = seen n c.self.inside.config c.self.inside.state s c.args.self.now c.self.view_is c.in-Some.is in
     subst (λ (r : Replica). AnswersOrNoMemory c.sync_with.result (first_fault (crowd_fault r.sessions) (range.dirty_fault r.range)) (IsReported r c.args.other.now)) here
-    (sync_answers n s c.sync_with.new.self c.args.other.now (first_fault (crowd_fault (standings s.records)) (range.dirty_fault s)) c.sync_with.result c.sync_with.ensures.answers c.sync_with.ensures.ok)
+    (sync_answers n s c.sync_with.new.self c.args.other.now (first_fault (crowd_fault (standings s.records)) (range.dirty_fault s.store)) c.sync_with.result c.sync_with.ensures.answers c.sync_with.ensures.ok)
 
 pub returns-in-Some-clause-ok : goal.returns-in-Some-clause-ok
 returns-in-Some-clause-ok c =
@@ -38,5 +39,5 @@ returns-in-Some-clause-config c =
 pub returns-clause-answers : goal.returns-clause-answers
 returns-clause-answers c =
     let config = c.self.inside.config in
-    let here = ap (λ (o : Option range.State). replica_of c.self.inside.node (range_in config o)) (sym c.in_default.is) ∙ c.self.view_is in
+    let here = ap (λ (o : Option State). replica_of c.self.inside.node (range_in config o)) (sym c.in_default.is) ∙ c.self.view_is in
     inr (subst (λ (r : Replica). first_fault (crowd_fault r.sessions) (range.dirty_fault r.range) ≡ Some Dirty) here (fresh_dirty config))

@@ -1,6 +1,6 @@
 use Rattle.std.proofs.Common.{rules, ◌≡◌, ◌∙◌, ℕ, sym, ap, subst, List, get_or, slice_set}
 use Rattle.vclock.specs.Outcome.{DoesOrNoMemory}
-use Rattle.range_state.specs.State as range
+use Rattle.range_store.specs.Store as range
 use Rattle.outage_cluster.specs.Homes.{IsHome}
 use Rattle.outage_cluster.specs.State.{Replica, at_home, in_replica}
 use Rattle.outage_cluster.proofs.OutcomeSteps.{homed}
@@ -13,7 +13,7 @@ returns c =
     let n = c.args.at.node in
     let own = c.index_mut.result.now in
     let new = c.put.new.self in
-    let call = λ (h : range.State). range.put h 0 n c.args.key.now c.args.context.now c.args.kind c.args.value in
+    let call = λ (h : range.Store). range.put h 0 n c.args.key.now c.args.context.now c.args.kind c.args.value in
     let here = subst (λ (rs : List Replica). IsHome n rs i) (sym c.self.view_is) c.requires in
     let is : own ≡ get_or reps i own = search rules in
     let node : own.node ≡ n = ap (λ (r : Replica). r.node) is ∙ here.node own in

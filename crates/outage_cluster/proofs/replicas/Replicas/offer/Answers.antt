@@ -1,7 +1,7 @@
 use Rattle.std.proofs.Common.{rules, ◌≡◌, subst, List, get_or, slice_set}
 use Rattle.vclock.specs.Outcome.{DoesOrNoMemory}
 use Rattle.range_journal.specs.declared.journal.Source.TheVariants as Sources
-use Rattle.range_state.specs.State.{accept}
+use Rattle.range_store.specs.Store.{accept}
 use Rattle.outage_cluster.specs.Homes.{IsHome}
 use Rattle.outage_cluster.specs.State.{Replica, at_home}
 use Rattle.outage_cluster.proofs.OutcomeSteps.{homed}

@@ -1,6 +1,6 @@
 use Rattle.std.proofs.Common.{rules, ◌≡◌, ◌∙◌, sym, ap, subst, List, Some, get_or}
 use Rattle.hash_tree.proofs.KeyLaws.{all_get}
-use Rattle.range_state.specs.State.{rows_now}
+use Rattle.range_store.specs.Store.{rows_now}
 use Rattle.outage_cluster.specs.Homes.{IsHome}
 use Rattle.outage_cluster.specs.State.{Replica, home}
 use Rattle.outage_cluster.proofs.ReplicaLaws.{home_of, of_range}
