@@ -11,8 +11,8 @@ use Rattle.row_bytes.specs.Rows.{is_before}
 use Rattle.range_journal.specs.declared.journal.Entry.{Entry}
 use Rattle.hash_tree.specs.Leaves.{key_cmp, AscendByKey, rows_in_leaf}
 use Rattle.hash_tree.proofs.KeyLaws.{less_trans, ascend_pair}
-use Rattle.range_state.specs.Rows.{rows_of}
-use Rattle.range_state.proofs.RowLaws.{rows_of-ascend}
+use Rattle.range_store.specs.Rows.{rows_of}
+use Rattle.range_store.proofs.RowLaws.{rows_of-ascend}
 use Rattle.antientropy_c.specs.Keys.{key_after}
 
 pub leaf_ascends : (leaf : List ℕ → ℕ) (i : ℕ) (es : List Entry) → AscendByKey (rows_in_leaf leaf i (rows_of es))

@@ -10,8 +10,8 @@ use Rattle.version_set.specs.declared.version.Version.{Version}
 use Rattle.range_journal.specs.Counters.{top_counter, top_in}
 use Rattle.range_journal.specs.Journal.{held, versions_of}
 use Rattle.range_journal.specs.declared.journal.Entry.{Entry}
-use Rattle.range_state.specs.Config.{Config}
-use Rattle.range_state.specs.State.{IsOwn}
+use Rattle.range_store.specs.Config.{Config}
+use Rattle.range_store.specs.Store.{IsOwn}
 
 none : (c : Config) (es : List Entry) (key : List ℕ) → AllByRecursion (IsOwn c) es → key_fault key ≢ None → versions_of es key ≡ []
 none c [] key own bad = refl

@@ -4,8 +4,9 @@ use Rattle.vclock.specs.declared.refusal.Refusal.TheVariants.{BadKey, BadMessage
 use Rattle.row_bytes.specs.declared.row.Row.{Row}
 use Rattle.row_bytes.specs.Rows.{is_before}
 use Rattle.hash_tree.specs.Leaves.{rows_in_leaf}
-use Rattle.range_state.specs.Rows.{rows_of}
-use Rattle.range_state.specs.State.{State, leaf_in, leaf_count}
+use Rattle.range_store.specs.Rows.{rows_of}
+use Rattle.range_state.specs.State.{State}
+use Rattle.range_store.specs.Store.{leaf_in, leaf_count}
 use Rattle.antientropy_c.specs.Hands.{copied, copy_code, HandsOut, HandsAny}
 use Rattle.antientropy_c.specs.Numbers.{NO_VERSION}
 
@@ -16,8 +17,8 @@ key_after k (r ∷ rows) = if is_before k r.key then Some r.key else key_after k
 
 -- the least key of a leaf above k is handed out, if the tree has such a leaf
 abbrev pub HandsKeyAfter : State → ℕ → List ℕ → ℕ → ℕ × List ℕ → ℕ × List ℕ → Type 0
-HandsKeyAfter s leaf k code before after = MatchBool (nat_lt leaf (leaf_count s.config))
-    (HandsAny (key_after k (rows_in_leaf (leaf_in s.config) leaf (rows_of s.entries))) code before after)
+HandsKeyAfter s leaf k code before after = MatchBool (nat_lt leaf (leaf_count s.store.config))
+    (HandsAny (key_after k (rows_in_leaf (leaf_in s.store.config) leaf (rows_of s.store.entries))) code before after)
     (HandsOut (Err BadMessage) code before after)
 
 -- Bytes take the place of those at the front of a buffer if all of them fit, and their number is stored; otherwise
@@ -31,8 +32,8 @@ Replaces (Some bytes) code before after = (code ≡ copy_code bytes before.1)
 -- the least key of a leaf above the one at the front of a buffer takes its place, if the tree has such a leaf, and the
 -- buffer that many bytes
 abbrev pub HandsKeyNext : State → ℕ → ℕ → ℕ × List ℕ → ℕ × List ℕ → Type 0
-HandsKeyNext s leaf code before after = MatchBool (nat_lt leaf (leaf_count s.config))
+HandsKeyNext s leaf code before after = MatchBool (nat_lt leaf (leaf_count s.store.config))
     (MatchBool (nat_le before.0 (length before.1))
-    (Replaces (key_after (take before.0 before.1) (rows_in_leaf (leaf_in s.config) leaf (rows_of s.entries))) code before after)
+    (Replaces (key_after (take before.0 before.1) (rows_in_leaf (leaf_in s.store.config) leaf (rows_of s.store.entries))) code before after)
     (HandsOut (Err BadKey) code before after))
     (HandsOut (Err BadMessage) code before after)

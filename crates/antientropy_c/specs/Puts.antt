@@ -12,12 +12,11 @@ use Rattle.version_set.specs.declared.kind.Kind.{Kind}
 use Rattle.version_set.specs.declared.kind.Kind.TheVariants.{Live, Tombstone}
 use Rattle.range_journal.specs.declared.journal.Entry.{Entry}
 use Rattle.range_journal.specs.declared.journal.Source.TheVariants.{Copy}
-use Rattle.range_state.specs.ContextTests.{put_by}
-use Rattle.range_state.specs.State.{State, accept}
-use Rattle.range_state.specs.declared.context_test.ContextTest.{ContextTest}
-use Rattle.range_state.specs.declared.context_test.ContextTest.TheVariants.{Fresh, Read}
-use Rattle.range_state.specs.declared.event.Accepted.{Accepted}
-use Rattle.range_state.specs.declared.event.Accepted.TheVariants.{Taken, Known}
+use Rattle.range_state.specs.State.{State, accept, put_by}
+use Rattle.range_store.specs.declared.context_test.ContextTest.{ContextTest}
+use Rattle.range_store.specs.declared.context_test.ContextTest.TheVariants.{Fresh, Read}
+use Rattle.range_store.specs.declared.receipt.Accepted.{Accepted}
+use Rattle.range_store.specs.declared.receipt.Accepted.TheVariants.{Taken, Known}
 use Rattle.antientropy_c.specs.declared.puts.PutReceipt.{PutReceipt}
 
 -- the fault of a number that is not a node's: a node has a number from 1 to 65,535

@@ -13,4 +13,4 @@ row_of format key (v ∷ vs) = row_text format (record { key = key; versions = v
 
 -- the text of the versions that are held for a key
 abbrev pub row_shown : State → List ℕ → List ℕ
-row_shown s key = row_of s.config.format key (held s.entries key)
+row_shown s key = row_of s.store.config.format key (held s.store.entries key)

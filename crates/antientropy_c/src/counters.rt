@@ -31,7 +31,7 @@ pub extern "C" fn antientropy_top_counter(
 ) -> u32
     ensures { Calls result replica.old replica.new (counter.new ≡ counter.old)
         (λ s t. (t ≡ s) × Returns result (λ (r : Result ℕ Refusal).
-        AnswersAtOnce r (node_fault node) (λ n. n ≡ top_counter (take entries s.entries) key.now node)
+        AnswersAtOnce r (node_fault node) (λ n. n ≡ top_counter (take entries s.store.entries) key.now node)
         × TellsNumber r counter.old counter.new)) }
 {
     let Some(state) = replica.take(alloc) else {
@@ -46,7 +46,7 @@ pub extern "C" fn antientropy_top_counter(
 /// Returns the greatest counter of a node for a key, over the first entries: 0 for a key that isn't 1 to 255 bytes long,
 /// of which no byte is read. Refused: BadClock.
 fn top_counter(state: &RangeState, node: u64, key: &[u8], entries: u64) -> Result<u64, Refusal>
-    ensures { AnswersAtOnce result (node_fault node) (λ n. n ≡ top_counter (take entries state.now.entries) key.now node) }
+    ensures { AnswersAtOnce result (node_fault node) (λ n. n ≡ top_counter (take entries state.now.store.entries) key.now node) }
 {
     let node = node_of(node)?;
     let journal = state.journal();

@@ -52,8 +52,8 @@ fn count(state: &RangeState) -> Counts
 {
     Counts {
         entries: state.journal().len(),
-        limit: state.config().limit(),
-        dirty: state.dirty_count() as u64,
+        limit: state.store().config().limit(),
+        dirty: state.store().tree().dirty_count() as u64,
         sessions: state.records().len() as u64,
         open_sessions: state.open_sessions() as u64,
         first: 0,

@@ -25,7 +25,7 @@ pub extern "C" fn antientropy_entry_key(
     need: &mut u64,
 ) -> u32
     ensures { Calls result replica.old replica.new (HandsNothing (need.old, out.old) (need.new, out.new)) (λ s t. (t ≡ s)
-        × HandsAny (key_in (slice_get s.entries number)) result (need.old, out.old) (need.new, out.new)) }
+        × HandsAny (key_in (slice_get s.store.entries number)) result (need.old, out.old) (need.new, out.new)) }
 {
     let Some(state) = replica.take(alloc) else {
         return EMPTY;
@@ -37,7 +37,7 @@ pub extern "C" fn antientropy_entry_key(
 
 /// Copies out the key of an entry.
 fn show_key(state: &RangeState, number: u64, out: &mut [u8], need: &mut u64) -> u32
-    ensures { HandsAny (key_in (slice_get state.now.entries number)) result (need.old, out.old) (need.new, out.new) }
+    ensures { HandsAny (key_in (slice_get state.now.store.entries number)) result (need.old, out.old) (need.new, out.new) }
 {
     match state.journal().get(number) {
         Some(entry) => copy_out(entry.key.as_slice(), out, need),
@@ -60,7 +60,7 @@ pub extern "C" fn antientropy_entry_value(
 ) -> u32
     ensures { Calls result replica.old replica.new ((kind.new ≡ kind.old) × HandsNothing (need.old, out.old) (need.new, out.new))
         (λ s t. (t ≡ s)
-        × ShowsValue (version_in (slice_get s.entries number)) result kind.old kind.new (need.old, out.old) (need.new, out.new)) }
+        × ShowsValue (version_in (slice_get s.store.entries number)) result kind.old kind.new (need.old, out.old) (need.new, out.new)) }
 {
     let Some(state) = replica.take(alloc) else {
         return EMPTY;
@@ -72,7 +72,7 @@ pub extern "C" fn antientropy_entry_value(
 
 /// Copies out the value of an entry's version, and stores its kind.
 fn show_value(state: &RangeState, number: u64, kind: &mut u8, out: &mut [u8], need: &mut u64) -> u32
-    ensures { ShowsValue (version_in (slice_get state.now.entries number)) result kind.old kind.new
+    ensures { ShowsValue (version_in (slice_get state.now.store.entries number)) result kind.old kind.new
         (need.old, out.old) (need.new, out.new) }
 {
     let Some(entry) = state.journal().get(number) else {
@@ -94,7 +94,7 @@ pub extern "C" fn antientropy_entry_clock(
     need: &mut u64,
 ) -> u32
     ensures { Calls result replica.old replica.new (HandsNothing (need.old, out.old) (need.new, out.new)) (λ s t. (t ≡ s)
-        × ShowsClock (version_in (slice_get s.entries number)) result (need.old, out.old) (need.new, out.new)) }
+        × ShowsClock (version_in (slice_get s.store.entries number)) result (need.old, out.old) (need.new, out.new)) }
 {
     let Some(state) = replica.take(alloc) else {
         return EMPTY;
@@ -106,7 +106,7 @@ pub extern "C" fn antientropy_entry_clock(
 
 /// Copies out the pairs of the clock of an entry's version.
 fn show_clock(state: &RangeState, number: u64, out: &mut [Pair], need: &mut u64) -> u32
-    ensures { ShowsClock (version_in (slice_get state.now.entries number)) result (need.old, out.old) (need.new, out.new) }
+    ensures { ShowsClock (version_in (slice_get state.now.store.entries number)) result (need.old, out.old) (need.new, out.new) }
 {
     match state.journal().get(number) {
         Some(entry) => copy_pairs(entry.version.clock.pairs(), out, need),
@@ -125,7 +125,7 @@ pub extern "C" fn antientropy_entry_source(
     source: &mut u64,
 ) -> u32
     ensures { Calls result replica.old replica.new (source.new ≡ source.old) (λ s t. (t ≡ s)
-        × TellsAny (source_in (slice_get s.entries number)) result source.old source.new) }
+        × TellsAny (source_in (slice_get s.store.entries number)) result source.old source.new) }
 {
     let Some(state) = replica.take(alloc) else {
         return EMPTY;
@@ -137,7 +137,7 @@ pub extern "C" fn antientropy_entry_source(
 
 /// Stores the number of the source of an entry's version.
 fn show_source(state: &RangeState, number: u64, source: &mut u64) -> u32
-    ensures { TellsAny (source_in (slice_get state.now.entries number)) result source.old source.new }
+    ensures { TellsAny (source_in (slice_get state.now.store.entries number)) result source.old source.new }
 {
     let Some(entry) = state.journal().get(number) else {
         return NO_VERSION;

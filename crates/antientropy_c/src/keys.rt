@@ -2,8 +2,8 @@
 ghost use Rattle.std.specs.Prelude.{◌≡◌, ◌<◌, ◌≤◌, Some, IfSome, MatchOption, option_map};
 ghost use Rattle.row_bytes.specs.Rows.{is_before};
 ghost use Rattle.hash_tree.specs.Leaves.{AscendByKey, rows_in_leaf};
-ghost use Rattle.range_state.specs.Rows.{rows_of};
-ghost use Rattle.range_state.specs.State.{leaf_count, leaf_in};
+ghost use Rattle.range_store.specs.Rows.{rows_of};
+ghost use Rattle.range_store.specs.Store.{leaf_count, leaf_in};
 ghost use Rattle.antientropy_c.specs.Calls.{Calls};
 ghost use Rattle.antientropy_c.specs.Hands.{HandsNothing};
 ghost use Rattle.antientropy_c.specs.Keys.{key_after, HandsKeyAfter, HandsKeyNext, Replaces};
@@ -98,14 +98,14 @@ fn show_key_next(state: &RangeState, leaf: u64, key: &mut [u8], key_len: &mut u6
 
 /// Returns the rows of a leaf, or `None` if the tree has no such leaf.
 fn leaf_of(state: &RangeState, leaf: u64) -> Option<&SharedLeaf>
-    ensures rows { MatchOption result (leaf_count state.now.config ≤ leaf) (λ rows. (leaf < leaf_count state.now.config)
-        × (rows.now.rows ≡ rows_in_leaf (leaf_in state.now.config) leaf (rows_of state.now.entries))) }
+    ensures rows { MatchOption result (leaf_count state.now.store.config ≤ leaf) (λ rows. (leaf < leaf_count state.now.store.config)
+        × (rows.now.rows ≡ rows_in_leaf (leaf_in state.now.store.config) leaf (rows_of state.now.store.entries))) }
     ensures ascend { IfSome result (λ rows. AscendByKey rows.now.rows) }
 {
-    if leaf >= u64::from(leaf_count(state.config().format())) {
+    if leaf >= u64::from(leaf_count(state.store().config().format())) {
         return None;
     }
-    Some(state.rows(leaf as u16))
+    Some(state.store().tree().rows(leaf as u16))
 }
 
 /// Copies a key to the front of the room and stores its length, if it fits. Returns 0 or SMALL.

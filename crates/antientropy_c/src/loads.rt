@@ -9,9 +9,9 @@ ghost use Rattle.row_bytes.specs.Rows.{row_text};
 ghost use Rattle.hash_tree.specs.Leaves.{rows_in_leaf};
 ghost use Rattle.snapshot.specs.RowMaps.{leaf_in};
 ghost use Rattle.snapshot.specs.Snapshots.{leaf_fault};
-ghost use Rattle.range_state.specs.FormatLoads.{newer_fault};
+ghost use Rattle.range_store.specs.FormatLoads.{newer_fault};
 ghost use Rattle.range_state.specs.Loads.{load_text};
-ghost use Rattle.range_state.specs.declared.state.loading.Loaded.{Loaded};
+ghost use Rattle.range_store.specs.declared.store.loading.Loaded.{Loaded};
 ghost use Rattle.antientropy_c.specs.Calls.{Calls};
 ghost use Rattle.antientropy_c.specs.Hands.{HandsNothing, HandsOutRight};
 ghost use Rattle.antientropy_c.specs.Loads.{load_numbered, numbered_fault, TellsLoaded};
@@ -145,7 +145,7 @@ fn load_format(
     let Some(format) = Format::of_number(format) else {
         return Err(Refusal::BadRing);
     };
-    if is_newer(format, state.config().format()) {
+    if is_newer(format, state.store().config().format()) {
         return Err(Refusal::OtherFormat);
     }
     state.load_format(alloc, 0, format, rows)

@@ -4,7 +4,7 @@ ghost use Rattle.vclock.specs.Answer.{Answers};
 ghost use Rattle.walk_messages.specs.Messages.{message_text};
 ghost use Rattle.walk_messages.specs.declared.message.Message.TheVariants as messages;
 ghost use Rattle.snapshot.specs.RowMaps.{root_of};
-ghost use Rattle.range_state.specs.State.{rows_now, dirty_fault};
+ghost use Rattle.range_store.specs.Store.{rows_now, dirty_fault};
 ghost use Rattle.antientropy_c.specs.Calls.{Calls, Reads};
 ghost use Rattle.antientropy_c.specs.Hands.{HandsNothing, HandsOut, HandsOutRight};
 ghost use Rattle.antientropy_c.specs.Offers.{ShowsRows, Publishes, TakesRows, offer_numbered, ServesAsk, Serves};
@@ -31,7 +31,7 @@ pub extern "C" fn antientropy_snapshot(
     publication: &mut Publication,
 ) -> u32
     ensures { Calls result replica.old replica.new (publication.new ≡ publication.old) (λ s t. (t ≡ s)
-        × Publishes result publication.old publication.new (dirty_fault s) (rows_now s)) }
+        × Publishes result publication.old publication.new (dirty_fault s.store) (rows_now s.store)) }
 {
     let Some(state) = replica.take(alloc) else {
         return EMPTY;
@@ -44,7 +44,7 @@ pub extern "C" fn antientropy_snapshot(
 /// Publishes the rows of a replica.
 #[tactic(auto, using(crate::proofs::MakeLaws::already, crate::proofs::MakeLaws::made))]
 fn publish(alloc: Global, state: &RangeState, publication: &mut Publication) -> u32
-    ensures { Publishes result publication.old publication.new (dirty_fault state.now) (rows_now state.now) }
+    ensures { Publishes result publication.old publication.new (dirty_fault state.now.store) (rows_now state.now.store) }
 {
     if let Some(rows) = publication.take(alloc) {
         publication.hold(rows);
@@ -56,7 +56,7 @@ fn publish(alloc: Global, state: &RangeState, publication: &mut Publication) -> 
 /// Publishes the rows of a replica in an empty publication.
 fn make(alloc: Global, state: &RangeState, publication: &mut Publication) -> Result<(), Refusal>
     requires { publication.old.held ≡ false }
-    ensures { TakesRows publication.new (dirty_fault state.now) (rows_now state.now) result }
+    ensures { TakesRows publication.new (dirty_fault state.now.store) (rows_now state.now.store) result }
 {
     let rows = boxed(alloc, state)?;
     publication.hold(rows);
@@ -65,7 +65,7 @@ fn make(alloc: Global, state: &RangeState, publication: &mut Publication) -> Res
 
 /// Makes a box with the rows of a replica now.
 fn boxed(alloc: Global, state: &RangeState) -> Result<Box<Published, Global>, Refusal>
-    ensures { Answers result (dirty_fault state.now) (λ rows. rows.value ≡ rows_now state.now) }
+    ensures { Answers result (dirty_fault state.now.store) (λ rows. rows.value ≡ rows_now state.now.store) }
 {
     let snapshot = state.snapshot(alloc)?;
     Ok(Box::new(alloc, Published::new(snapshot))?)

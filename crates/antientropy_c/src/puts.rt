@@ -8,7 +8,7 @@ ghost use Rattle.range_journal.specs.declared.journal.Entry.{Entry};
 ghost use Rattle.antientropy_c.specs.Numbers.{Returns};
 ghost use Rattle.antientropy_c.specs.Calls.{Calls};
 ghost use Rattle.antientropy_c.specs.Pairs.{clock_pairs};
-ghost use Rattle.range_state.specs.declared.event.Accepted.{Accepted};
+ghost use Rattle.range_store.specs.declared.receipt.Accepted.{Accepted};
 ghost use Rattle.antientropy_c.specs.Puts.{node_fault, kind_fault, kind_numbered, parts_fault, put_at_by, put_at, put_read_at, accept_at, NoMemoryAfter, TellsPut, TellsAccepted};
 
 use crate::numbers::{EMPTY, code};
@@ -53,7 +53,7 @@ pub extern "C" fn antientropy_put(
         (λ s t. Returns result (λ (r : Result Entry Refusal).
         DoesOrNoMemory r s t (put_at s node key.now (clock_pairs context.now) kind value.now)
         × NoMemoryAfter (first_fault (node_fault node)
-        (parts_fault s.config.format key.now (clock_pairs context.now) kind value.now)) r
+        (parts_fault s.store.config.format key.now (clock_pairs context.now) kind value.now)) r
         × TellsPut node r receipt.old receipt.new)) }
 {
     let Some(mut state) = replica.take(alloc) else {
@@ -89,7 +89,7 @@ pub extern "C" fn antientropy_put_read(
         (λ s t. Returns result (λ (r : Result Entry Refusal).
         DoesOrNoMemory r s t (put_read_at s node key.now (clock_pairs context.now) kind value.now)
         × NoMemoryAfter (first_fault (node_fault node)
-        (parts_fault s.config.format key.now (clock_pairs context.now) kind value.now)) r
+        (parts_fault s.store.config.format key.now (clock_pairs context.now) kind value.now)) r
         × TellsPut node r receipt.old receipt.new)) }
 {
     let Some(mut state) = replica.take(alloc) else {
@@ -116,11 +116,11 @@ fn put(
     ensures does { DoesOrNoMemory result state.old state.new (put_at_by test state.old node key.now
         (clock_pairs context.now) kind value.now) }
     ensures early { NoMemoryAfter (first_fault (node_fault node)
-        (parts_fault state.old.config.format key.now (clock_pairs context.now) kind value.now)) result }
+        (parts_fault state.old.store.config.format key.now (clock_pairs context.now) kind value.now)) result }
     ensures node { OnOk result (node ≤ 65535) }
 {
     let node = node_of(node)?;
-    let kind = kind_of_parts(state.config().format(), key, context, kind, value)?;
+    let kind = kind_of_parts(state.store().config().format(), key, context, kind, value)?;
     let context = clock_of(alloc, context)?;
     let value = Bytes::copy_of(alloc, value)?;
     match test {
@@ -158,7 +158,7 @@ pub extern "C" fn antientropy_accept(
     ensures { Calls result replica.old replica.new (taken.new ≡ taken.old)
         (λ s t. Returns result (λ (r : Result Accepted Refusal).
         DoesOrNoMemory r s t (accept_at s key.now (clock_pairs clock.now) kind value.now)
-        × NoMemoryAfter (parts_fault s.config.format key.now (clock_pairs clock.now) kind value.now) r
+        × NoMemoryAfter (parts_fault s.store.config.format key.now (clock_pairs clock.now) kind value.now) r
         × TellsAccepted r taken.old taken.new)) }
 {
     let Some(mut state) = replica.take(alloc) else {
@@ -181,9 +181,9 @@ fn accept(
 ) -> Result<Accepted, Refusal>
     ensures does { DoesOrNoMemory result state.old state.new (accept_at state.old key.now (clock_pairs clock.now) kind value.now) }
     ensures early { NoMemoryAfter
-        (parts_fault state.old.config.format key.now (clock_pairs clock.now) kind value.now) result }
+        (parts_fault state.old.store.config.format key.now (clock_pairs clock.now) kind value.now) result }
 {
-    let kind = kind_of_parts(state.config().format(), key, clock, kind, value)?;
+    let kind = kind_of_parts(state.store().config().format(), key, clock, kind, value)?;
     let clock = clock_of(alloc, clock)?;
     let value = Bytes::copy_of(alloc, value)?;
     let version = Version { clock, kind, value };

@@ -42,7 +42,7 @@ pub extern "C" fn antientropy_read(
 ) -> u32
     ensures { Calls result replica.old replica.new ((reading.new ≡ reading.old) × (pairs.new ≡ pairs.old) × (value.new ≡ value.old))
         (λ s t. (t ≡ s)
-        × ReadsVersion (slice_get (held s.entries key.now) index) (length (held s.entries key.now)) result
+        × ReadsVersion (slice_get (held s.store.entries key.now) index) (length (held s.store.entries key.now)) result
         reading.old reading.new (pairs.old, value.old) (pairs.new, value.new)) }
 {
     let Some(state) = replica.take(alloc) else {
@@ -62,7 +62,7 @@ fn read(
     pairs: &mut [Pair],
     value: &mut [u8],
 ) -> u32
-    ensures { ReadsVersion (slice_get (held state.now.entries key.now) index) (length (held state.now.entries key.now))
+    ensures { ReadsVersion (slice_get (held state.now.store.entries key.now) index) (length (held state.now.store.entries key.now))
         result reading.old reading.new (pairs.old, value.old) (pairs.new, value.new) }
 {
     let versions = versions_of(state, key);

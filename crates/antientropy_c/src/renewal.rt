@@ -1,7 +1,8 @@
 //! New replicas that begin with the versions that others hold.
 ghost use Rattle.std.specs.Prelude.{◌≡◌, false};
 ghost use Rattle.vclock.specs.Answer.{Answers};
-ghost use Rattle.range_state.specs.Renewals.{renewed_by, renew_fault};
+ghost use Rattle.range_state.specs.Renewals.{renewed_by};
+ghost use Rattle.range_store.specs.Renewals.{renew_fault};
 ghost use Rattle.antientropy_c.specs.Calls.{Calls};
 ghost use Rattle.antientropy_c.specs.Makes.{Makes, TakesState};
 
@@ -25,7 +26,7 @@ pub extern "C" fn antientropy_renew(
     limit: u64,
 ) -> u32
     ensures { Calls result from.old from.new (into.new ≡ into.old) (λ s t. (t ≡ s)
-        × Makes result into.old into.new (renew_fault s limit) (λ new. new ≡ renewed_by s 0 limit)) }
+        × Makes result into.old into.new (renew_fault s.store limit) (λ new. new ≡ renewed_by s 0 limit)) }
 {
     let Some(state) = from.take(alloc) else {
         return EMPTY;
@@ -38,7 +39,7 @@ pub extern "C" fn antientropy_renew(
 /// Renews a replica into a handle.
 #[tactic(auto, using(crate::proofs::MakeLaws::already, crate::proofs::MakeLaws::made))]
 fn renew(alloc: Global, state: &RangeState, into: &mut Replica, limit: u64) -> u32
-    ensures { Makes result into.old into.new (renew_fault state.now limit) (λ new. new ≡ renewed_by state.now 0 limit) }
+    ensures { Makes result into.old into.new (renew_fault state.now.store limit) (λ new. new ≡ renewed_by state.now 0 limit) }
 {
     if let Some(held) = into.take(alloc) {
         into.hold(held);
@@ -50,7 +51,7 @@ fn renew(alloc: Global, state: &RangeState, into: &mut Replica, limit: u64) -> u
 /// Renews a replica into an empty handle.
 fn make(alloc: Global, state: &RangeState, into: &mut Replica, limit: u64) -> Result<(), Refusal>
     requires { into.old.held ≡ false }
-    ensures { TakesState into.new (renew_fault state.now limit) (λ new. new ≡ renewed_by state.now 0 limit) result }
+    ensures { TakesState into.new (renew_fault state.now.store limit) (λ new. new ≡ renewed_by state.now 0 limit) result }
 {
     let renewed = boxed(alloc, state, limit)?;
     into.hold(renewed);
@@ -59,7 +60,7 @@ fn make(alloc: Global, state: &RangeState, into: &mut Replica, limit: u64) -> Re
 
 /// Makes a box with the state of a renewed replica.
 fn boxed(alloc: Global, state: &RangeState, limit: u64) -> Result<Box<RangeState, Global>, Refusal>
-    ensures { Answers result (renew_fault state.now limit) (λ new. new.value ≡ renewed_by state.now 0 limit) }
+    ensures { Answers result (renew_fault state.now.store limit) (λ new. new.value ≡ renewed_by state.now 0 limit) }
 {
     let renewed = state.renewed(alloc, 0, limit)?;
     Ok(Box::new(alloc, renewed)?)

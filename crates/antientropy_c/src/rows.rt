@@ -53,7 +53,7 @@ fn row(alloc: Global, state: &RangeState, key: &[u8]) -> Result<Text, Refusal>
         key: Bytes::copy_of(alloc, key)?,
         versions,
     };
-    let text = write_row(alloc, state.config().format(), &row)?;
+    let text = write_row(alloc, state.store().config().format(), &row)?;
     Ok(Text::from(text))
 }
 
@@ -67,7 +67,7 @@ pub extern "C" fn antientropy_versions(
     count: &mut u64,
 ) -> u32
     ensures { Calls result replica.old replica.new (count.new ≡ count.old) (λ s t. (t ≡ s) × (result ≡ 0)
-        × (count.new ≡ length (held s.entries key.now))) }
+        × (count.new ≡ length (held s.store.entries key.now))) }
 {
     let Some(state) = replica.take(alloc) else {
         return EMPTY;

@@ -17,12 +17,12 @@ use version_set::Version;
 /// Returns the versions that are held for a key, in the order of their texts. No version is held for a key that isn't 1
 /// to 255 bytes long: no byte of it is read.
 pub(crate) fn versions_of<'a>(state: &'a RangeState, key: &[u8]) -> &'a [Version]
-    ensures { result.now ≡ held state.now.entries key.now }
+    ensures { result.now ≡ held state.now.store.entries key.now }
 {
     // Called for its clause alone: each entry's key is 1 to 255 bytes long.
     let _valid = state.journal();
     match check_key(key) {
-        Ok(()) => state.versions(key),
+        Ok(()) => state.store().versions(key),
         Err(_) => &[],
     }
 }
@@ -43,7 +43,7 @@ pub extern "C" fn antientropy_value(
 ) -> u32
     ensures { Calls result replica.old replica.new ((kind.new ≡ kind.old) × HandsNothing (need.old, out.old) (need.new, out.new))
         (λ s t. (t ≡ s)
-        × ShowsValue (slice_get (held s.entries key.now) index) result kind.old kind.new (need.old, out.old) (need.new, out.new)) }
+        × ShowsValue (slice_get (held s.store.entries key.now) index) result kind.old kind.new (need.old, out.old) (need.new, out.new)) }
 {
     let Some(state) = replica.take(alloc) else {
         return EMPTY;
@@ -62,7 +62,7 @@ fn show_value(
     out: &mut [u8],
     need: &mut u64,
 ) -> u32
-    ensures { ShowsValue (slice_get (held state.now.entries key.now) index) result kind.old kind.new
+    ensures { ShowsValue (slice_get (held state.now.store.entries key.now) index) result kind.old kind.new
         (need.old, out.old) (need.new, out.new) }
 {
     let versions = versions_of(state, key);
@@ -87,7 +87,7 @@ pub extern "C" fn antientropy_clock(
     need: &mut u64,
 ) -> u32
     ensures { Calls result replica.old replica.new (HandsNothing (need.old, out.old) (need.new, out.new)) (λ s t. (t ≡ s)
-        × ShowsClock (slice_get (held s.entries key.now) index) result (need.old, out.old) (need.new, out.new)) }
+        × ShowsClock (slice_get (held s.store.entries key.now) index) result (need.old, out.old) (need.new, out.new)) }
 {
     let Some(state) = replica.take(alloc) else {
         return EMPTY;
@@ -99,7 +99,7 @@ pub extern "C" fn antientropy_clock(
 
 /// Copies out the pairs of the clock of a version.
 fn show_clock(state: &RangeState, key: &[u8], index: u64, out: &mut [Pair], need: &mut u64) -> u32
-    ensures { ShowsClock (slice_get (held state.now.entries key.now) index) result (need.old, out.old) (need.new, out.new) }
+    ensures { ShowsClock (slice_get (held state.now.store.entries key.now) index) result (need.old, out.old) (need.new, out.new) }
 {
     let versions = versions_of(state, key);
     if index >= versions.len() as u64 {

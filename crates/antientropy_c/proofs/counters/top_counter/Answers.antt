@@ -7,5 +7,5 @@ use Rattle.antientropy_c.proofs.counters.top_counter.Goals as goal
 pub returns : goal.returns
 returns c = elim c.match-check_key.branch [
   | in-Ok w ↦ rw w.result-is (c.in_ok-node.ensures.0, w.top_counter.ensures ∙ (λ i. top_counter (take c.args.entries (c.journal-journal.ensures.entries i)) c.args.key.now (c.in_ok-node.ensures.1 i)))
-  | in-Err w ↦ rw w.result-is (c.in_ok-node.ensures.0, no_counter c.args.state.now.config c.args.entries c.args.state.now.entries c.args.key.now c.args.node c.journal-journal.ensures.valid.own (λ none. cc (none, w.in-Err.ensures)))
+  | in-Err w ↦ rw w.result-is (c.in_ok-node.ensures.0, no_counter c.args.state.now.store.config c.args.entries c.args.state.now.store.entries c.args.key.now c.args.node c.journal-journal.ensures.valid.store.own (λ none. cc (none, w.in-Err.ensures)))
 ]

@@ -1,4 +1,4 @@
-use Rattle.range_state.specs.Config.{config_of}
+use Rattle.range_store.specs.Config.{config_of}
 use Rattle.antientropy_c.specs.Calls.{replica_in}
 use Rattle.antientropy_c.specs.Makes.{config_fault, IsFresh}
 use Rattle.antientropy_c.proofs.MakeLaws.{made}

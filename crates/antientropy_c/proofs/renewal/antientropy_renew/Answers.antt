@@ -1,6 +1,7 @@
 use Rattle.std.proofs.Common.{◌≡◌, ℕ, refl, subst}
 use Rattle.range_state.specs.State.{State}
-use Rattle.range_state.specs.Renewals.{renewed_by, renew_fault}
+use Rattle.range_state.specs.Renewals.{renewed_by}
+use Rattle.range_store.specs.Renewals.{renew_fault}
 use Rattle.antientropy_c.specs.declared.replica.Replica.{Replica}
 use Rattle.antientropy_c.specs.Calls.{replica_in}
 use Rattle.antientropy_c.specs.Makes.{Makes}
@@ -8,7 +9,7 @@ use Rattle.antientropy_c.proofs.CallLaws.{held}
 use Rattle.antientropy_c.proofs.renewal.antientropy_renew.Goals as goal
 
 abbrev Renews : ℕ → Replica → Replica → ℕ → State → Type 0
-Renews code old new limit s = Makes code old new (renew_fault s limit) (λ t. t ≡ renewed_by s 0 limit)
+Renews code old new limit s = Makes code old new (renew_fault s.store limit) (λ t. t ≡ renewed_by s 0 limit)
 
 pub returns : goal.returns
 returns c =
