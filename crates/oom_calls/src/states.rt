@@ -13,7 +13,7 @@ const MOST_NODES: u16 = 4_096;
 /// If `before` and `after` are equal, the state equals both.
 pub(crate) fn is_between(state: &RangeState, before: &RangeState, after: &RangeState) -> bool {
     let entries = state.journal().entries();
-    state.config() == before.config()
+    state.store().config() == before.store().config()
         && begins(entries, before.journal().entries())
         && begins(after.journal().entries(), entries)
         && are_rows_between(state, before, after)
@@ -44,9 +44,9 @@ fn are_rows_between(state: &RangeState, before: &RangeState, after: &RangeState)
 }
 
 fn is_row_between(key: &[u8], state: &RangeState, before: &RangeState, after: &RangeState) -> bool {
-    let versions = state.versions(key);
-    are_same_versions(versions, before.versions(key))
-        || are_same_versions(versions, after.versions(key))
+    let versions = state.store().versions(key);
+    are_same_versions(versions, before.store().versions(key))
+        || are_same_versions(versions, after.store().versions(key))
 }
 
 fn are_same_versions(versions: &[Version], others: &[Version]) -> bool {

@@ -19,7 +19,7 @@ pub(crate) struct Range {
 impl Range {
     /// Returns the versions that are held for a key.
     pub(crate) fn versions(&self, key: &[u8]) -> &[Version] {
-        self.state.versions(key)
+        self.state.store().versions(key)
     }
 
     /// Returns the journal.
@@ -109,7 +109,7 @@ pub(crate) fn reconcile_ranges(
     (b, at_b): (&mut Range, u16),
     seat: u16,
 ) -> Result<Reconciled, Refusal> {
-    let (one, other) = (a.state.config(), b.state.config());
+    let (one, other) = (a.state.store().config(), b.state.store().config());
     if one.format() != other.format()
         || one.bits() != other.bits()
         || one.range() != other.range()

@@ -108,7 +108,7 @@ pub(crate) fn accept(
 
 /// Returns the number of versions that a range holds of a key.
 pub(crate) fn count_held(state: &RangeState, key: &[u8]) -> usize {
-    state.versions(key).len()
+    state.store().versions(key).len()
 }
 
 /// Hashes all dirty nodes, and returns their number.
@@ -166,7 +166,7 @@ pub(crate) fn load_rows(
 
 /// Returns the texts of the rows of a leaf.
 pub(crate) fn rows_text(alloc: Global, state: &RangeState, leaf: u16) -> Result<Vec<u8>, Refusal> {
-    state.rows_text(alloc, leaf)
+    state.store().tree().rows_text(alloc, leaf)
 }
 
 /// Returns the snapshot of a range whose nodes are all clean.

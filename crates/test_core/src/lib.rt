@@ -24,4 +24,6 @@ mod sessions;
 #[cfg(test)]
 mod snapshots;
 #[cfg(test)]
+mod stores;
+#[cfg(test)]
 mod trees;

@@ -26,7 +26,7 @@ fn expect_format_2(
 ) -> Result<(), Fail> {
     rehash(rt, alloc, state)?;
     migrate(alloc, state)?;
-    let is_two = state.config().format() == Format::Two;
+    let is_two = state.store().config().format() == Format::Two;
     expect(is_two, "the range is of format 2")?;
     expect(
         state.journal().len() == 1 && count_held(state, b"a") == 1,

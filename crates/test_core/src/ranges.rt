@@ -86,9 +86,10 @@ fn versions_with_equal_clocks_are_both_kept(rt: HostRuntime) -> Result<(), Fail>
 fn has_a(state: &RangeState, leaf: u16) -> bool
     requires { leaf < 256 }
 {
-    match state.config().format() {
-        Format::One => state.rows(leaf).find(b"a").is_some(),
-        Format::Two => state.rows(leaf).find(b"a").is_some(),
+    let store = state.store();
+    match store.config().format() {
+        Format::One => store.tree().rows(leaf).find(b"a").is_some(),
+        Format::Two => store.tree().rows(leaf).find(b"a").is_some(),
     }
 }
 

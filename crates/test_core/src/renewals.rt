@@ -37,7 +37,7 @@ fn expect_renewed(alloc: Global, state: &RangeState, old: &RangeState) -> Result
         count_held(state, b"a") == 2 && count_held(state, b"b") == 1,
         "the versions are held",
     )?;
-    expect(state.dirty_count() == 0, "no node is dirty")?;
+    expect(state.store().tree().dirty_count() == 0, "no node is dirty")?;
     expect(
         root_of(alloc, state)? == root_of(alloc, old)?,
         "the roots are equal",
@@ -47,7 +47,7 @@ fn expect_renewed(alloc: Global, state: &RangeState, old: &RangeState) -> Result
         "the new range has no session",
     )?;
     expect(
-        state.config().limit() == 3 && old.config().limit() == 1_000,
+        state.store().config().limit() == 3 && old.store().config().limit() == 1_000,
         "the new range has its limit",
     )
 }

@@ -142,7 +142,10 @@ fn expect_portion(
 ) -> Result<(), Fail> {
     let counted = state.rehash_some(alloc, most)?;
     expect(counted == left, "the nodes that are left are counted")?;
-    expect(state.dirty_count() == left, "only a portion is hashed")
+    expect(
+        state.store().tree().dirty_count() == left,
+        "only a portion is hashed",
+    )
 }
 
 /// Asserts that a new range is rehashed in portions, and has the root then that `rehash` makes: 100 of the 256 leaves; the

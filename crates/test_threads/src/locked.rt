@@ -10,7 +10,7 @@ use std::test::Fail;
 
 /// Returns the state of a range of format 1 that has accepted nothing, whose nodes are all clean.
 fn clean_state(alloc: Global) -> Result<RangeState, Fail>
-    ensures { IfOk result (λ state. state.entries ≡ []) }
+    ensures { IfOk result (λ state. state.store.entries ≡ []) }
 {
     let config = RangeConfig::new(1, 0, 0, 1_000).ok_or("no such range")?;
     let mut state = RangeState::new(alloc, config)?;

@@ -3,7 +3,6 @@ ghost use Rattle.std.specs.Prelude.{◌≡◌};
 
 use crate::locked::Locked;
 use caller_pass::{Book, LockedRange, Pass, Unclosed, open_passes};
-use key_ring::HashedKey;
 use range_journal::Source;
 use range_state::Accepted;
 use std::alloc::Global;
@@ -56,8 +55,8 @@ fn put<L: Ledger>(
 }
 
 /// Returns the number of versions of `a`, for no pass.
-fn count_held<L: Ledger>(alloc: Global, range: &LockedRange<L>) -> Result<usize, Refusal> {
-    Ok(range.look(alloc, &HashedKey::new(b"a"))?.len())
+fn count_held<L: Ledger>(range: &LockedRange<L>) -> usize {
+    range.store().versions(b"a").len()
 }
 
 /// Returns the number of entries of a range.
@@ -72,7 +71,7 @@ fn write<L: Ledger>(
     one: &mut Pass<L>,
 ) -> Result<(), Fail> {
     expect(put(alloc, range, one)? == 0, "the put has the first entry")?;
-    expect(count_held(alloc, range)? == 1, "a look shows it")?;
+    expect(count_held(range) == 1, "a look shows it")?;
     expect(count_entries(range) == 1, "one entry is counted")?;
     let held = range.get(alloc, one, b"a")?;
     expect(held.len() == 1, "one version is held")?;

@@ -89,7 +89,7 @@ fn reconcile_both(
     a: &mut RangeState,
     b: &mut RangeState,
 ) -> Result<Reconciled, Refusal> {
-    let (one, other) = (a.config(), b.config());
+    let (one, other) = (a.store().config(), b.store().config());
     if one.format() != other.format()
         || one.bits() != other.bits()
         || one.range() != other.range()

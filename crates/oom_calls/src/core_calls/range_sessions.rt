@@ -25,10 +25,14 @@ pub(crate) fn show_all<R: Print + AllocGlobal + Threads + Sync>(
     )?;
     show(
         rt,
-        "RangeState::take_answer, Tree::with_leaf and Leaves::with_leaf",
+        "RangeState::take_answer, RangeStore::prepare, Tree::with_leaf and Leaves::with_leaf",
         take_answer(rt, alloc, partner),
     )?;
-    show(rt, "RangeState::sync_with", sync_with(rt, alloc, partner))
+    show(
+        rt,
+        "RangeState::sync_with and RangeStore::kept_snapshot",
+        sync_with(rt, alloc, partner),
+    )
 }
 
 /// Returns the clean range with this number of sessions.
@@ -143,7 +147,7 @@ fn sync_with(
 
 /// Syncs a range with a partner of the same range.
 fn sync(alloc: Global, state: &mut RangeState, partner: &Snapshot) -> Result<Synced, Refusal> {
-    let config = state.config();
+    let config = state.store().config();
     if config.format() != partner.format()
         || config.bits() != partner.bits()
         || config.range() != partner.range()

@@ -25,30 +25,46 @@ pub(crate) fn show_all<R: Print + AllocGlobal>(rt: &R) -> io::Result<()> {
     let alloc = rt.alloc();
     show(
         rt,
-        "RangeState::new, Tree::empty and Leaves::empty",
+        "RangeState::new, RangeStore::new, Tree::empty and Leaves::empty",
         new(alloc),
     )?;
     show(
         rt,
-        "RangeState::put, Tree::offer and Leaves::offer",
+        "RangeState::put, RangeStore::put, Tree::offer and Leaves::offer",
         put(alloc),
     )?;
     show(rt, "RangeState::put, stale", stale_put(alloc))?;
     show(rt, "RangeState::put_read", put_read(alloc))?;
     show(rt, "RangeState::put_read, unread", unread_put(alloc))?;
-    show(rt, "RangeState::accept", accept(alloc))?;
-    show(rt, "RangeState::get", get(alloc))?;
-    show(rt, "RangeState::migrate", migrate(alloc))?;
     show(
         rt,
-        "RangeState::renewed, Tree::share and Marks::try_clone",
+        "RangeState::accept and RangeStore::accept",
+        accept(alloc),
+    )?;
+    show(rt, "RangeState::get and RangeStore::get", get(alloc))?;
+    show(
+        rt,
+        "RangeState::migrate and RangeStore::migrate",
+        migrate(alloc),
+    )?;
+    show(
+        rt,
+        "RangeState::renewed, RangeStore::renewed, Tree::share and Marks::try_clone",
         renewed(alloc),
     )?;
-    show(rt, "RangeState::load_rows", load_rows(alloc))?;
-    show(rt, "RangeState::load_format", load_format(alloc))?;
     show(
         rt,
-        "RangeState::rows_text, Tree::rows_text and SharedLeaf::put_rows",
+        "RangeState::load_rows and RangeStore::load_rows",
+        load_rows(alloc),
+    )?;
+    show(
+        rt,
+        "RangeState::load_format and RangeStore::load_format",
+        load_format(alloc),
+    )?;
+    show(
+        rt,
+        "Tree::rows_text and SharedLeaf::put_rows",
         rows_text(alloc),
     )?;
     show(rt, "Replay::advance", replay(alloc))
@@ -183,7 +199,7 @@ fn get(alloc: Global) -> Result<u64, Refusal> {
 fn migrate(alloc: Global) -> Result<u64, Refusal> {
     let mut state = range_before(alloc, 4)?;
     match state.migrate(alloc) {
-        Ok(()) => Ok(u64::from(state.config().format().number())),
+        Ok(()) => Ok(u64::from(state.store().config().format().number())),
         Err(refusal) => Err(unchanged(refusal, is_before(alloc, &state, 4))),
     }
 }
@@ -215,7 +231,8 @@ fn load_format(alloc: Global) -> Result<u64, Refusal> {
 
 /// Returns the length of the texts of the rows of the leaf of `a`.
 fn rows_text(alloc: Global) -> Result<u64, Refusal> {
-    Ok(range_before(alloc, 4)?.rows_text(alloc, 12)?.len() as u64)
+    let state = range_before(alloc, 4)?;
+    Ok(state.store().tree().rows_text(alloc, 12)?.len() as u64)
 }
 
 /// Replays the journal of a range, and returns 1 if the replay then has the versions that the range holds.

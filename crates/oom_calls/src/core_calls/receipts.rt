@@ -22,12 +22,24 @@ pub(crate) fn show_all<R: Print + AllocGlobal + Threads + Sync>(
     both: &Snapshots,
 ) -> io::Result<()> {
     let alloc = rt.alloc();
-    show(rt, "RangeState::put_into", put(alloc))?;
-    show(rt, "RangeState::accept_into", accept(alloc))?;
-    show(rt, "LeafRows::read and RangeState::load_into", load(alloc))?;
     show(
         rt,
-        "RangeState::take_answer_into",
+        "RangeState::put_into and RangeStore::put_into",
+        put(alloc),
+    )?;
+    show(
+        rt,
+        "RangeState::accept_into and RangeStore::accept_into",
+        accept(alloc),
+    )?;
+    show(
+        rt,
+        "LeafRows::read, RangeState::load_into and RangeStore::load_into",
+        load(alloc),
+    )?;
+    show(
+        rt,
+        "RangeState::take_answer_into, RangeStore::accept_batch and receipts_beside",
         take_answer(rt, alloc, &both.partner),
     )
 }
@@ -95,7 +107,7 @@ fn accept(alloc: Global) -> Result<u64, Refusal> {
 fn load(alloc: Global) -> Result<u64, Refusal> {
     let mut state = range(alloc)?;
     let mut told = Vec::new(alloc);
-    let rows = LeafRows::read(alloc, state.config(), TWO_VERSIONS)?;
+    let rows = LeafRows::read(alloc, state.store().config(), TWO_VERSIONS)?;
     if let Err(refusal) = state.load_into(alloc, &mut told, 0, &rows) {
         let is_same = has_told(&told, &state);
         return Err(unchanged(refusal, all(is_same, is_before(alloc, &state, 2))));

@@ -155,5 +155,6 @@ fn take_leaf_first(
     if node.depth < tree_depth(session.own().format()) {
         return Err(Refusal::Stale);
     }
-    session.take_leaf(node, text)
+    session.take_leaf(node, text);
+    Ok(())
 }

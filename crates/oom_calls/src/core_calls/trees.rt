@@ -41,15 +41,19 @@ pub(crate) fn show_all<R: Print + AllocGlobal + Threads + Sync>(rt: &R) -> io::R
     )?;
     show(rt, "hash_all", hash_some(rt, alloc))?;
     show(rt, "hash_here", hash_some_here(alloc))?;
-    show(rt, "RangeState::rehash and Tree::rehash", rehash(rt, alloc))?;
     show(
         rt,
-        "RangeState::rehash_here and Tree::rehash_here",
+        "RangeState::rehash, RangeStore::rehash and Tree::rehash",
+        rehash(rt, alloc),
+    )?;
+    show(
+        rt,
+        "RangeState::rehash_here, RangeStore::rehash_here and Tree::rehash_here",
         rehash_here(rt, alloc),
     )?;
     show(
         rt,
-        "RangeState::rehash_some and Tree::rehash_some",
+        "RangeState::rehash_some, RangeStore::rehash_some and Tree::rehash_some",
         rehash_some(alloc),
     )
 }
@@ -157,10 +161,10 @@ fn rehash_here(rt: &(impl Threads + Sync), alloc: Global) -> Result<u64, Refusal
 /// Hashes twenty nodes of a range, and returns the number of nodes that are dirty then.
 fn rehash_some(alloc: Global) -> Result<u64, Refusal> {
     let mut state = range(alloc)?;
-    let dirty = state.dirty_count();
+    let dirty = state.store().tree().dirty_count();
     match state.rehash_some(alloc, 20) {
         Ok(left) => Ok(left as u64),
-        Err(refusal) => Err(unchanged(refusal, Ok(state.dirty_count() == dirty))),
+        Err(refusal) => Err(unchanged(refusal, Ok(state.store().tree().dirty_count() == dirty))),
     }
 }
 

@@ -3,8 +3,9 @@
 /// A call on a locked range. The byte is the key.
 #[derive(Clone, Copy)]
 pub(crate) enum LockedCall {
-    /// `take_job` and `install`, until all nodes are clean.
+    /// `take_job` of the tree and `install`, until all nodes are clean.
     Hash,
+    /// A snapshot of the tree.
     Snapshot,
     OpenSession,
     TakeAnswer,
@@ -17,6 +18,7 @@ pub(crate) enum LockedCall {
     Index,
     Get(u8),
     Read(u8),
+    /// A read of the store, for no pass.
     Look(u8),
     /// Loads a row of two versions.
     Load,
@@ -137,8 +139,8 @@ impl Call {
 impl LockedCall {
     fn name(self) -> &'static str {
         match self {
-            LockedCall::Hash => "LockedRange::take_job and install",
-            LockedCall::Snapshot => "LockedRange::snapshot",
+            LockedCall::Hash => "Tree::take_job and LockedRange::install",
+            LockedCall::Snapshot => "Tree::snapshot of a LockedRange",
             LockedCall::OpenSession => "LockedRange::open_session",
             LockedCall::TakeAnswer => "LockedRange::take_answer and LockedRange::take_answer_next",
             LockedCall::Put(_) => "LockedRange::put and LockedRange::put_hashed",
@@ -148,7 +150,7 @@ impl LockedCall {
             LockedCall::Index => "Pass::index",
             LockedCall::Get(_) => "LockedRange::get",
             LockedCall::Read(_) => "LockedRange::read",
-            LockedCall::Look(_) => "LockedRange::look",
+            LockedCall::Look(_) => "RangeStore::get of a LockedRange",
             LockedCall::Load => "LockedRange::load_rows and LockedRange::load_read",
             LockedCall::Migrate => "LockedRange::migrate",
         }

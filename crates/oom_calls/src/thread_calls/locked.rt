@@ -59,7 +59,10 @@ impl<L: Ledger> Locked<L> {
     ) -> Result<u64, Refusal> {
         match call {
             LockedCall::Hash => self.hash(alloc),
-            LockedCall::Snapshot => Ok(u64::from(self.range.snapshot(alloc)?.format().number())),
+            LockedCall::Snapshot => {
+                let snapshot = self.range.store().tree().snapshot(alloc)?;
+                Ok(u64::from(snapshot.format().number()))
+            }
             LockedCall::OpenSession => {
                 let offer = partner.snapshot.offer(1);
                 self.range.open_session(alloc, 2, offer)
@@ -72,9 +75,7 @@ impl<L: Ledger> Locked<L> {
             LockedCall::Index => self.index(),
             LockedCall::Get(key) => self.get(alloc, key),
             LockedCall::Read(key) => self.read(alloc, key),
-            LockedCall::Look(key) => {
-                Ok(self.range.look(alloc, &HashedKey::new(&[key]))?.len() as u64)
-            }
+            LockedCall::Look(key) => Ok(self.range.store().get(alloc, &[key])?.len() as u64),
             LockedCall::Load => self.load(alloc),
             LockedCall::Migrate => self.migrate(alloc),
         }
@@ -84,7 +85,7 @@ impl<L: Ledger> Locked<L> {
     fn hash(&mut self, alloc: Global) -> Result<u64, Refusal> {
         let mut count = 0u64;
         for _ in 0..TURNS {
-            let Some(job) = self.range.take_job(alloc, 0)? else {
+            let Some(job) = self.range.store().tree().take_job(alloc, 0)? else {
                 break;
             };
             let node = job.node();
@@ -179,7 +180,7 @@ impl<L: Ledger> Locked<L> {
     /// Migrates the range to format 2, and returns the format's number.
     fn migrate(&mut self, alloc: Global) -> Result<u64, Refusal> {
         self.range.migrate(alloc)?;
-        Ok(u64::from(self.range.config().format().number()))
+        Ok(u64::from(self.range.store().config().format().number()))
     }
 }
 
